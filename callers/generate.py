@@ -14,7 +14,7 @@ HERE = pathlib.Path(__file__).resolve().parent
 CRATES = HERE.parent / "crates"
 LIBRARY = "goblin_pe_c"
 # The enums of numbers, and the types that callers name otherwise than Rattle; the Pe before a record is always left out.
-ENUMS = ("Kind", "State", "Forwards", "Status", "CauseNumber", "Counted", "ReadRefusal", "DataDirectoryType")
+ENUMS = ("Kind", "RawPointerRule", "State", "Forwards", "Status", "CauseNumber", "Counted", "ReadRefusal", "DataDirectoryType")
 NAMES = {"CauseNumber": "Cause", "ReadRefusal": "ReadFault", "DataDirectoryType": "DirectoryType", "WindowsFields64": "WindowsFields"}
 CONSTANTS = ("goblin_pe_head/src/header/machine", "goblin_pe_head/src/characteristic", "goblin_pe_head/src/optional_header/magic",
              "goblin_pe_head/src/subsystem", "goblin_pe_head/src/dll_characteristic", "goblin_pe_sect/src/section_table/constants",
@@ -22,6 +22,11 @@ CONSTANTS = ("goblin_pe_head/src/header/machine", "goblin_pe_head/src/characteri
 # The numbers: the size of each, its type in C, and that in ctypes.
 NUMBERS = {"bool": (1, "bool", "c_bool"), "usize": (8, "size_t", "c_size_t"), "i16": (2, "int16_t", "c_int16"),
            **{"u%d" % bits: (bits // 8, "uint%d_t" % bits, "c_uint%d" % bits) for bits in (8, 16, 32, 64)}}
+# Constants whose names are shown, by their beginning: those of numbers, and of flags.
+SHOWN = {"machines": "COFF_MACHINE_", "subsystems": "IMAGE_SUBSYSTEM_", "file_flags": "IMAGE_FILE_",
+         "dll_flags": "IMAGE_DLLCHARACTERISTICS_", "section_flags": "IMAGE_SCN_"}
+# Where the names of ordinals stand, for the hash of imports.
+ORDINALS = HERE / "python/goblin_pe/_imphash.py"
 MADE = "callers/generate.py makes this file of what the proved crates declare."
 
 
@@ -211,7 +216,7 @@ class Interface:
                 raise Refused("a second enum " + enum[1])
             self.enums[named(enum[1])] = enum_of(doc, text)
         elif text.startswith("pub fn default_options() -> PeOptions\n"):
-            self.defaults = dict(re.findall(r"^ {8}(\w+): (true|false),$", text, re.M))
+            self.defaults = dict(re.findall(r"^ {8}(\w+): (true|false|\d+),$", text, re.M))
         elif 'extern "C" fn goblin_pe_' in text:
             self.calls.append(call_of(text))
             if self.calls[-1].name == "goblin_pe_interface":
@@ -279,11 +284,12 @@ def c_files(it: Interface) -> Dict[str, str]:
     def kind(of: Type) -> str:
         return NUMBERS[of.name][1] if of.name in NUMBERS else "struct " + name_of(of.name)
 
-    def field(f: Item) -> str:
+    def field(owner: Declared, f: Item) -> str:
         if f.type.form == "pointer":
             return "const uint8_t *%s;" % f.name
-        if f.type.form == "table":
-            return "const %s *%s;\n    size_t %s_count;" % (kind(f.type), f.name, singular(f.name))
+        if f.type.form == "table":  # (what is handed over, its owner may change)
+            const = "" if owner.name in it.handed_over else "const "
+            return "%s%s *%s;\n    size_t %s_count;" % (const, kind(f.type), f.name, singular(f.name))
         return "%s %s%s;" % (kind(f.type), f.name, "[%d]" % f.type.length if f.type.length else "")
 
     def taken(p: Item) -> str:
@@ -297,7 +303,7 @@ def c_files(it: Interface) -> Dict[str, str]:
         return comment(e.doc) + "enum %s {\n%s\n};\n" % (name_of(e.name), ",\n".join(rows))
 
     def record(r: Declared) -> str:
-        fields = "".join(comment(f.doc, "    ") + "    %s\n" % field(f) for f in r.items)
+        fields = "".join(comment(f.doc, "    ") + "    %s\n" % field(r, f) for f in r.items)
         return comment(r.doc) + "struct %s {\n%s};\n" % (name_of(r.name), fields)
 
     def call(d: Declared) -> str:
@@ -448,8 +454,19 @@ def rust_files(it: Interface) -> Dict[str, str]:
     def constant(c: Item) -> str:
         return comment(c.doc) + "pub const %s: %s = %s;\n" % (c.name, c.type.name, c.number)
 
+    def shown(name: str, beginning: str) -> str:
+        rows = [c for file in it.constants for c in file.items if c.name.startswith(beginning) and not c.name.endswith("_MASK")]
+        return "pub const %s: &[(&str, u32)] = &[\n%s];\n" % (name.upper(), "".join('    ("%s", %s),\n' % (c.name, c.number) for c in rows))
+
+    def ordinals(name: str) -> str:
+        table, = re.findall(r'(?s)\n%s = """(.*?)"""' % name, ORDINALS.read_text("utf-8"))
+        words = table.lower().split()
+        return "pub const %s: &[(u16, &str)] = &[\n%s];\n" % (name, "".join('    (%s, "%s"),\n' % row for row in zip(words[::2], words[1::2])))
+
     records = [r for r in it.records.values() if r.name != "Text"]
     return {
+        "rust/src/tables.rs": "//! The names of numbers and flags, and those of ordinals by which imports are hashed.\n//! %s\n\n"
+        "%s" % (MADE, "\n".join([*(shown(*row) for row in SHOWN.items()), *map(ordinals, ("SOCKETS", "AUTOMATION"))])),
         "rust/src/records.rs": RUST_RECORDS % (
             MADE, it.version, "\n".join(map(record, records)), "".join("        %s: %s,\n" % row for row in it.defaults.items()),
             "".join(facts(r.name) for r in records), "\n".join(map(call, it.calls))),

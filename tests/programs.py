@@ -168,6 +168,13 @@ def package():
     return importlib.import_module("goblin_pe")
 
 
+def options(**how):
+    """Options of the package, with the rule for raw pointers by its name."""
+    if "raw_pointer_rule" in how:
+        how["raw_pointer_rule"] = package().RawPointerRule[how["raw_pointer_rule"]]
+    return package().Options(**how)
+
+
 def told(refused):
     """A refusal as rows have it: the names of its status and its cause, and its two numbers. None stays None."""
     return refused and (refused.status.name, getattr(refused.cause, "name", refused.cause), refused.first, refused.second)

@@ -121,6 +121,13 @@ class Programs(Case):
         source = self.written("readme.c", README % program.encode())
         succeed([CC, "-std=c11", *FLAGS, *STRICT, "-I", library(), "-c", "-o", self.folder / "readme.o", source])
 
+    def test_the_program_of_its_own_readme(self):
+        program, = re.findall(r"(?s)```c\n(.*?)```", (CALLERS / "c/README.md").read_text("utf-8"))
+        self.written("some.dll", BY_NAME.read_bytes())
+        source, made = self.written("readme.c", program.encode()), self.folder / "readme"
+        succeed([CC, "-std=c11", *FLAGS, *STRICT, "-I", library(), "-o", made, source, library() / "libgoblin_pe.a"])
+        self.assertEqual(succeed([made], cwd=self.folder), "GetTickCount from KERNEL32.dll\n")
+
     def test_calls_answer_alike(self):
         succeed([built("calls"), *IMAGES, *OBJECTS, *TERSE])
 
@@ -320,6 +327,24 @@ class Patch(Case):
                 place = data.index(b".text\0\0\0", header)
                 data[header + 8: header + 12], data[place: place + 8] = b"\x78\x56\x34\x12", b".code\0\0\0"
                 self.assertEqual(to.read_bytes(), data)
+
+    def test_an_image_with_a_checksum(self):
+        """The sum of its words in 16 bits, with each carry added, and its length."""
+        def checksum(data, field):
+            padded = data[:field] + bytes(4) + data[field + 4:] + bytes(len(data) % 2)
+            found = sum(struct.unpack("<%dH" % (len(padded) // 2), padded))
+            while found >> 16:
+                found = (found & 0xFFFF) + (found >> 16)
+            return found + len(data)
+
+        for more in 0, 1:  # (a byte that is left is a word, too)
+            data, to = bytearray(BY_NAME.read_bytes() + b"\x07" * more), self.folder / "patched.dll"
+            header = int.from_bytes(data[0x3C:0x40], "little")
+            data[header + 88: header + 92] = checksum(data, header + 88).to_bytes(4, "little")
+            self.assert_runs([built("patch"), self.written("summed.dll", data), "0x12345678", ".text", ".code", to], (0, b"0x12345678 .code\n", b""))
+            made = to.read_bytes()
+            self.assertNotEqual(made[header + 88: header + 92], data[header + 88: header + 92])
+            self.assertEqual(int.from_bytes(made[header + 88: header + 92], "little"), checksum(made, header + 88))
 
     def test_an_image_with_few_directories(self):
         """The section table follows the six directories that it has."""

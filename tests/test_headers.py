@@ -218,10 +218,10 @@ def opened(file, mode="strict"):
     records = package().records
     how = records.Options(mode == "permissive", True, False, True)
     found = types.SimpleNamespace(file=records.File(), directories=(records.Directory * 16)())
-    with records.Tables() as tables:
-        raw("goblin_pe_raw_open", file, len(file), ctypes.byref(how), ctypes.byref(found.file), found.directories, 16, ctypes.byref(tables))
-        found.stub = ctypes.string_at(tables.dos_stub.bytes, tables.dos_stub.length)
-        found.sections = [records.Section.from_buffer_copy(it) for it in tables.records("sections")]
+    tables = records.Tables()
+    raw("goblin_pe_raw_open", file, len(file), ctypes.byref(how), ctypes.byref(found.file), found.directories, 16, ctypes.byref(tables))
+    found.stub = ctypes.string_at(tables.dos_stub.bytes, tables.dos_stub.length)
+    found.sections = [records.Section.from_buffer_copy(it) for it in tables.records("sections")]
     return found
 
 

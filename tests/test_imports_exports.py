@@ -7,7 +7,7 @@ from unittest import mock
 
 from tests import images
 from tests.images import sample, with_parts
-from tests.programs import CC, need, package, refusal, told
+from tests.programs import CC, need, options, package, refusal, told
 
 
 def wide_sample():
@@ -158,7 +158,7 @@ def modes():
 
 
 def read(data, **how):
-    return package().Pe(data, package().Options(**how))
+    return package().Pe(data, options(**how))
 
 
 class Read(unittest.TestCase):
@@ -226,26 +226,26 @@ class Exports(Read):
             with self.subTest(text):
                 pe = read(images.library(b"a.dll", [(b"f", text)]))
                 self.assertEqual((pe.exports, [it.forwards for it in pe.export_addresses]), ([], [True]))
+                self.assertEqual(pe.damage.left_out_exports, 1)
 
 
 class Damage(Read):
     def damage(self, data, how):
         """The damage of a file. It replaces the sample after that was opened, since strict mode would not open it."""
-        held = bytearray(sample())
-        pe = package().Pe(held, how)
-        held[:] = data
+        pe = package().Pe(sample(), how)
+        pe._data = bytes(data)
         return pe.damage
 
     def test_libraries_and_entries_that_are_left_out_are_counted_whatever_the_mode(self):
         for name, data, wanted in LEFT_OUT:
             for how in modes():
                 with self.subTest(name, how=how):
-                    self.assertEqual(self.damage(data, how)[5:], wanted)
+                    self.assertEqual(self.damage(data, how)[5:], (*wanted, 0))
 
     def test_a_sound_file_has_no_damage_in_either_mode(self):
         for how in modes():
             with self.subTest(how=how):
-                self.assertEqual(self.damage(sample(), how), (None, None, None, None, None, 0, 0))
+                self.assertEqual(self.damage(sample(), how), (None, None, None, None, None, 0, 0, 0))
 
     def test_damage_is_told_part_by_part(self):
         for name, data, part, refused, left_out in DAMAGED:
@@ -253,7 +253,7 @@ class Damage(Read):
                 self.assert_refused(data, refused)
                 damage = read(data, is_permissive=True).damage
                 self.assertEqual({it: told(why) for it, why in zip(damage._fields, damage[:5]) if why}, {part: refused})
-                self.assertEqual(damage[5:], left_out)
+                self.assertEqual(damage[5:], (*left_out, 0))
 
 
 class WholeFiles(Read):
@@ -273,7 +273,7 @@ class WholeFiles(Read):
     def test_a_raw_pointer_that_is_no_multiple_of_512_is_rounded_where_that_is_asked_for(self):
         data = sample((0x14C, b"\x10"))
         for is_permissive in (False, True):
-            pe = read(data, is_permissive=is_permissive, rounds_raw_pointers=True)
+            pe = read(data, is_permissive=is_permissive, raw_pointer_rule="ROUNDED_TO512")
             self.assert_imports(pe, [GO, SEVEN])
             self.assert_exports(pe, [PLAIN, FORWARDED])
         pe = read(data, is_permissive=True)
@@ -285,12 +285,12 @@ class OverlappingSections(Read):
     """Each reader takes what stands where find_offset says: in the first section that has the address."""
 
     def test_sections_in_many_orders(self):
-        for rounds in (False, True):
+        for rule in ("AS_STORED", "ROUNDED_TO512", "BY_FILE_ALIGNMENT"):
             for where, before, after in OTHERS:
                 for name, two, held in ORDERS:
-                    with self.subTest(name, others=where, rounds=rounds):
-                        data = overlapping([*before, *two, *after], 0x10 if rounds else 0)
-                        self.assert_found(read(data, rounds_raw_pointers=rounds), *held)
+                    with self.subTest(name, others=where, rule=rule):
+                        data = overlapping([*before, *two, *after], 0 if rule == "AS_STORED" else 0x10)
+                        self.assert_found(read(data, raw_pointer_rule=rule), *held)
 
     def assert_found(self, pe, begin, name, address, hint, imported, exported):
         for rva in (0x1210, 0x1220, 0x1240, 0x1250, 0x1280):

@@ -45,6 +45,24 @@ class Library(Case):
         install("/usr", DESTDIR=str(self.folder))
         self.assertIn("prefix=/usr\n", (self.folder / "usr/lib/pkgconfig/goblin_pe.pc").read_text("ascii"))
 
+    def test_all_packages_have_one_version(self):
+        install(self.folder)
+        found = {it: re.findall(r'(?m)^version = "(.*)"$', (CALLERS / it).read_text("utf-8"))[0] for it in
+                 ("rust/Cargo.toml", "rust/Cargo.lock", "python/pyproject.toml")}
+        found["pkg-config"] = succeed(["pkg-config", "--modversion", "goblin_pe"], env=environment(PKG_CONFIG_PATH=f"{self.folder}/lib/pkgconfig")).strip()
+        self.assertEqual(len(set(found.values())), 1, found)
+
+    def test_the_examples_that_the_header_names(self):
+        """They are installed, with a text, and built where they are."""
+        install(self.folder)
+        doc = self.folder / "share/doc/goblin-pe"
+        named = re.search(r"(?s)(\S+\.c, .*) are such programs", (self.folder / "include/goblin_pe.h").read_text("ascii")).group(1)
+        names = re.findall(r"\w+\.c", named)
+        self.assertEqual(sorted(names), sorted(it.name for it in (doc / "examples").iterdir()))
+        for name in names:
+            self.assertIn(f"`{name}`", (doc / "README.md").read_text("utf-8"))
+            succeed([CC, "-std=c11", *FLAGS, "-I", self.folder / "include", "-o", self.folder / "it", doc / "examples" / name, library() / "libgoblin_pe.a"])
+
 
 class Crate(Case):
     """What cargo packs, with the library that pkg-config tells of, with another one, or with none."""
@@ -78,9 +96,45 @@ class Crate(Case):
         self.assert_lists_by(PKG_CONFIG_LIBDIR=str(self.other))
 
     def test_without_a_library(self):
-        status, _, said = self.build(PKG_CONFIG_LIBDIR=str(self.other))
+        """It is checked and documented, and where it is built, cargo says what is lacking."""
+        env = environment(PKG_CONFIG_LIBDIR=str(self.other), CARGO_TARGET_DIR=str(self.folder))
+        for words in (["check", "--all-targets"], ["doc", "--no-deps"]):
+            succeed([*CARGO, *words, "--manifest-path", self.manifest], env=env)
+        status, _, said = run(["cargo", *CARGO[2:], "build", "--manifest-path", self.manifest], env=env)
         self.assertNotEqual(status, 0)
         self.assertIn(b"run callers/build", said)
+        # it is built as soon as there is one
+        (self.folder / "lib").mkdir()
+        shutil.copy(library() / "libgoblin_pe.a", self.folder / "lib")
+        self.assert_lists_by(PKG_CONFIG_LIBDIR=str(self.other))
+
+    def test_for_another_target(self):
+        """What is beside the crate is this machine's, and not taken; what is named is."""
+        succeed(["rustc", "--edition", "2024", "-o", self.folder / "build", self.manifest.with_name("build.rs")])
+        (self.manifest.parent / "lib").mkdir()
+        (self.manifest.parent / "lib/libgoblin_pe.a").touch()
+        here = {"CARGO_MANIFEST_DIR": str(self.manifest.parent), "HOST": "x86_64-unknown-linux-gnu"}
+        lib = str(self.manifest.parent / "lib")
+        for target, named, is_found in (("x86_64-unknown-linux-gnu", {}, True), ("x86_64-unknown-linux-musl", {}, True),
+                                        ("aarch64-unknown-linux-gnu", {}, False), ("x86_64-pc-windows-msvc", {}, False),
+                                        ("aarch64-unknown-linux-gnu", {"GOBLIN_PE_LIB": lib}, True)):
+            with self.subTest(target=target, named=named):
+                told = succeed([self.folder / "build"], env=environment(TARGET=target, **here, **named))
+                self.assertEqual((f"link-search=native={lib}" in told, f"libgoblin_pe for {target} is not there" in told), (is_found, not is_found))
+
+    def test_in_a_workspace_of_its_user(self):
+        shutil.copytree(self.manifest.parent, self.folder / "user/goblin_pe")
+        (self.folder / "user/src").mkdir()
+        self.written("user/src/main.rs", b"fn main() { assert!(goblin_pe::Pe::read(b\"\", &goblin_pe::Options::default()).is_err()) }\n")
+        self.written("user/Cargo.toml", b'[package]\nname = "user"\nedition = "2024"\n[dependencies]\ngoblin_pe.path = "goblin_pe"\n'
+                     b'[workspace]\nmembers = ["goblin_pe"]\n')
+        succeed(["cargo", "-q", "--offline", "run", "--manifest-path", self.folder / "user/Cargo.toml"],
+                env=environment(GOBLIN_PE_LIB=str(library()), CARGO_TARGET_DIR=str(self.folder)))
+
+    def test_what_is_packed(self):
+        packed = {str(it.relative_to(self.manifest.parent)) for it in self.manifest.parent.rglob("*")}
+        self.assertEqual((self.manifest.parent / "LICENSE").read_bytes(), (CALLERS.parent / "LICENSE").read_bytes())
+        self.assertLessEqual({"LICENSE", "README.md", "build.rs", "src/lib.rs", "examples/list.rs"}, packed)
 
     def test_over_another_interface(self):
         need(CC, "ar")

@@ -65,7 +65,7 @@ class Packages(Case):
 
     def assert_links(self, **where):
         """The example, built as pkg-config tells, has to list over the shared library, and over the archive."""
-        example = shutil.copy(CALLERS / "c/list.c", self.folder)
+        example, = self.folder.rglob("examples/list.c")
         shared, = (it.parent for it in self.folder.rglob("libgoblin_pe.so.*"))
         for flags, told, env in ([], [], {"LD_LIBRARY_PATH": str(shared)}), (["-static"], ["--static"], {}):
             words = succeed([*away(), "pkg-config", "--cflags", "--libs", *told, "goblin_pe"], env=environment(**where)).split()
@@ -95,6 +95,21 @@ class Packages(Case):
         for crate in ("goblin_base", "goblin_pe_c"):  # as the text tells
             listed = text[text.index("cd crates/CRATE"):].replace("CRATE", crate)
             self.assertIn("%s  %s\n" % (succeed(["sh", "-c", listed], cwd=CRATES.parent).split()[0], crate), text)
+
+    def test_each_has_a_text_and_examples(self):
+        unpacked = self.unpacked()
+        files = {str(it.relative_to(unpacked)) for it in unpacked.rglob("*")}
+        self.assertLessEqual({"LICENSE", "PROVED", "rust/README.md", "rust/LICENSE", "rust/examples/scan.rs", "share/doc/goblin-pe/README.md",
+                              "share/doc/goblin-pe/examples/loader.c"}, files)
+        wheel = zipfile.ZipFile(package(".whl"))
+        metadata, = (it for it in wheel.namelist() if it.endswith("/METADATA"))
+        self.assertIn((CALLERS / "python/README.md").read_text("utf-8"), wheel.read(metadata).decode())
+        need("dpkg-deb")
+        succeed(["dpkg-deb", "-x", package(".deb"), self.folder / "root"])
+        doc = self.folder / "root/usr/share/doc/goblin-pe"
+        self.assertEqual(sorted(it.name for it in doc.iterdir()),
+                         ["PROVED", "README.md", "README.python.md", "README.rust.md", "copyright", "examples"])
+        self.assertIn("triage.py", [it.name for it in (doc / "examples").iterdir()])
 
     def test_the_wheel(self):
         made = self.folder / "environment"

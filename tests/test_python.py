@@ -1,38 +1,62 @@
 """The package for callers in Python."""
 import json
 import os
+import pathlib
 import pty
 import re
+import signal
+import struct
 import subprocess
 import sys
 
 from tests import images
-from tests.programs import (BY_NAME, CALLERS, CC, FLAGS, IMAGES, OBJECTS, SAMPLES, TERSE, TOP, Case, beside, environment, library, need, run,
-                            succeed)
+from tests.programs import (BY_NAME, CALLERS, CC, FLAGS, IMAGES, OBJECTS, SAMPLES, TERSE, TOP, Case, beside, environment, library, need,
+                            package, run, succeed, with_memory)
 
 PYTHON = [sys.executable, "-X", "dev"]
 LISTS = [*PYTHON, "-m", "goblin_pe"]
-# A Terse Executable whose signature tells whether the interpreter's lock is held while it is read.
-TELLS_THE_LOCK = b"""#include "goblin_pe.h"
-int PyGILState_Check(void);
+# A library that, once it is called, waits until it is told to go on, at most five seconds.
+WAITS = b"""#include "goblin_pe.h"
+#include <unistd.h>
+volatile int turn;
 uint32_t goblin_pe_interface(void) { return GOBLIN_PE_INTERFACE; }
 struct goblin_pe_fault goblin_pe_raw_read_te(
     const uint8_t *bytes, size_t length, struct goblin_pe_te_header *header, struct goblin_pe_section *sections, size_t section_room)
 {
     static const struct goblin_pe_te_header none;
-    (void)bytes, (void)length, (void)sections, (void)section_room;
+    (void)length, (void)sections, (void)section_room;
+    turn = 1;
+    for (int i = 0; i < 5000 && turn == 1; i++)
+        usleep(1000);
     *header = none;
-    header->signature = PyGILState_Check();
+    header->signature = bytes[0];
     return (struct goblin_pe_fault) { 0 };
 }
 """
+# Walks over each file, with 100 MB more than Python and the file have.
+WALKS = """import itertools, resource, sys
+from goblin_pe import Options, Pe
+
+for path in sys.argv[1:]:
+    with open(path, "rb") as file:
+        data = file.read()
+    with open("/proc/self/statm") as numbers:
+        size = int(numbers.read().split()[0]) * resource.getpagesize()
+    resource.setrlimit(resource.RLIMIT_AS, (size + (100 << 20), resource.RLIM_INFINITY))
+    maps = path.rpartition("/")[2] != "names"
+    pe = Pe(data, Options(is_permissive=True, parse_imports=False, resolve_rva=maps))
+    walks = itertools.islice(pe.walk_imports(), 200000), pe.walk_exports()
+    print(path, *(sum(1 for _ in it) for it in walks))
+    del pe
+    resource.setrlimit(resource.RLIMIT_AS, (resource.RLIM_INFINITY,) * 2)
+"""
 # A program whose types are right.
-TYPED = b"""from typing import Dict, List, Optional
-from goblin_pe import DataDirectory, Options, Pe, Refused, State, Status
+TYPED = b"""from typing import List, Mapping, Optional
+from goblin_pe import AuxWeakExternal, DataDirectory, ObjectFile, Options, Pe, Refused, State, Status
 
 def names(data: bytes) -> Optional[List[bytes]]:
     pe = Pe(data, Options(is_permissive=True))
-    directories: Dict[int, DataDirectory] = pe.data_directories
+    directories: Mapping[int, DataDirectory] = pe.data_directories
     if pe.export_table == State.REFUSED or not directories or pe.optional_header is None:
         return None
     return [x.dll + b"." + (x.name or b"%d" % x.ordinal) for x in pe.imports]
@@ -40,7 +64,12 @@ def names(data: bytes) -> Optional[List[bytes]]:
 def is_out_of_memory(error: Refused) -> bool:
     return error.status == Status.MEMORY
 
+def default_of(data: bytes) -> Optional[AuxWeakExternal]:
+    return ObjectFile(data).symbols[0].aux(AuxWeakExternal)
+
 """
+# What pefile 2023.2.7 tells of the images of the triage.
+TOLD_BY_PEFILE = pathlib.Path(__file__).with_name("told_by_pefile.json")
 # What analysts do: each file of a folder is looked at by threads; then each is changed and written, and read again.
 TRIAGE = """import concurrent.futures, mmap, os, sys
 from goblin_pe import Kind, Options, Pe, Refused, kind
@@ -55,10 +84,10 @@ def triaged(name):
                 section = pe.sections[0]._replace(raw_name=b".patched")
                 written = pe.write(pe.coff_header._replace(time_date_stamp=7), sections=[section, *pe.sections[1:]])
                 again = Pe(written, Options(is_permissive=True))
+                patched = again.coff_header.time_date_stamp, again.sections[0].name, sum(a != b for a, b in zip(data[:], written)) <= 12
+                assert (patched, again.imports, len(data)) == ((7, b".patched", True), pe.imports, len(written))
         except Refused as refused:
             return name, str(refused)
-        patched = again.coff_header.time_date_stamp, again.sections[0].name, sum(a != b for a, b in zip(data[:], written)) <= 12
-        assert (patched, again.imports, len(data)) == ((7, b".patched", True), pe.imports, len(written))
         return name, pe.imphash(), *damaged
 
 with concurrent.futures.ThreadPoolExecutor(8) as threads:
@@ -68,22 +97,102 @@ with concurrent.futures.ThreadPoolExecutor(8) as threads:
 # The hashes of imports as pefile 2023.2.7 tells them; those of the other samples are empty.
 HASHES = {"imports_by_name_x64.dll": "27abfd9cfda7519d5efb3f08a2a4f3ce", "imports_by_name_x86.dll": "5fd9bbcd68e633c2417c6dd0c112ae23",
           "imports_by_ordinal_x64.dll": "149d2e96f294661822cac53bee31923e", "imports_by_ordinal_x86.dll": "149d2e96f294661822cac53bee31923e"}
-READS_BUFFERS = """import array, ctypes, mmap, pickle, goblin_pe
+READS_BUFFERS = """import array, ctypes, mmap, os, pickle, threading, time, goblin_pe
+turn = ctypes.c_int.in_dll(ctypes.CDLL(os.environ["GOBLIN_PE_SO"]), "turn")
+
+def change(owner):
+    while turn.value != 1:
+        time.sleep(0.001)
+    with memoryview(owner) as view, view.cast("B") as single:
+        single[0] = 7
+    turn.value = 2
+
 data = bytearray(b"VZ")
-mapped, read_only = mmap.mmap(-1, 2), mmap.mmap(-1, 2, access=mmap.ACCESS_READ)
-free = [bytes(data), memoryview(bytes(data)), memoryview(memoryview(bytes(data))), read_only, memoryview(read_only)]
-writable = [data, array.array("B", data), (ctypes.c_char * 2)(), mapped]
-views = [memoryview(it).cast("B").toreadonly() for it in writable]
-views += [pickle.PickleBuffer(it) for it in views]
-for buffers, is_held in (free, 0), (writable, 1), (views, 1), ([memoryview(it) for it in views], 1):
-    for it in buffers:
-        assert goblin_pe.Te(it).header.signature == is_held, it
+for owner in data, array.array("B", data), (ctypes.c_char * 2)(*data), mmap.mmap(-1, 2):
+    for view in (lambda it: it), lambda it: memoryview(it).cast("B").toreadonly(), lambda it: pickle.PickleBuffer(memoryview(it).toreadonly()):
+        with memoryview(owner) as whole, whole.cast("B") as single:
+            single[0] = ord("V")
+        turn.value, thread = 0, threading.Thread(target=change, args=[owner])
+        thread.start()
+        read = goblin_pe.Te(view(owner))
+        assert turn.value == 2, "no other thread runs meanwhile"
+        thread.join()
+        assert read.header.signature == ord("V"), (owner, read.header.signature)
 """
 
 
 def setUpModule():
     need(CC)  # (for the shared library)
     library()
+
+
+def triaged_by_pefile(pefile, data):
+    """What pefile tells of an image, by the names of the example."""
+    pe = pefile.PE(data=bytes(data))
+    exports = pe.DIRECTORY_ENTRY_EXPORT.symbols if hasattr(pe, "DIRECTORY_ENTRY_EXPORT") else ()
+    return {
+        "time_date_stamp": pe.FILE_HEADER.TimeDateStamp, "is_64": pe.PE_TYPE == pefile.OPTIONAL_HEADER_MAGIC_PE_PLUS, "is_lib": pe.is_dll(),
+        "entry": pe.OPTIONAL_HEADER.AddressOfEntryPoint, "image_base": pe.OPTIONAL_HEADER.ImageBase, "imphash": pe.get_imphash(),
+        "libraries": {it.dll.decode().lower(): len(it.imports) for it in getattr(pe, "DIRECTORY_ENTRY_IMPORT", ())},
+        "exports": sum(it.name is not None for it in exports), "rich_hash": pe.get_rich_header_hash() or None,
+        "overlay": pe.get_overlay_data_start_offset(),
+        "sections": [{"name": it.Name.rstrip(b"\0").decode(), "entropy": round(it.get_entropy(), 3), "md5": it.get_hash_md5()}
+                     for it in pe.sections]}
+
+
+def triaged_images():
+    """The samples, and one with a Rich header, where pefile looks for it, and an overlay."""
+    data = BY_NAME.read_bytes()
+    signature, size = data.index(b"PE\0\0"), 0x400
+    moved = bytearray(data[:signature] + bytes(0x80 - signature) + data[signature: size - (0x80 - signature)] + data[size:])
+    moved[0x3C] = 0x80
+    rich = images.with_rich_header(moved, 0x12345678, [(0x1047809, 3), (0x930001, 7)])
+    return {**{it.name: it.read_bytes() for it in IMAGES}, "rich.dll": bytes(rich) + b"an overlay"}
+
+
+class Triage(Case):
+    """The example, beside what pefile 2023.2.7 tells of the same images."""
+
+    def setUp(self):
+        super().setUp()
+        self.env = environment(PYTHONPATH=str(CALLERS / "python"), PYTHONDONTWRITEBYTECODE="1", GOBLIN_PE_SO=str(library() / "libgoblin_pe.so"))
+
+    def triaged(self):
+        told = succeed([*PYTHON, CALLERS / "python/examples/triage.py", self.folder], env=self.env).splitlines()
+        return {it.pop("file"): it for it in map(json.loads, told)}
+
+    def test_images_beside_pefile(self):
+        for name, data in triaged_images().items():
+            self.written(name, data)
+        found, wanted = self.triaged(), json.loads(TOLD_BY_PEFILE.read_text("utf-8"))
+        self.assertEqual(sorted(found), sorted(wanted))
+        for name, values in wanted.items():
+            with self.subTest(name):
+                told = {key: found[name][key] for key in values}
+                told["sections"] = [{key: it[key] for key in ("name", "entropy", "md5")} for it in told["sections"]]
+                self.assertEqual(told, values)
+                self.assertEqual((found[name]["kind"], found[name]["damage"]), ("image", {}))
+
+    def test_the_table_is_what_pefile_tells(self):
+        try:
+            import pefile
+        except ImportError:
+            self.skipTest("no pefile")
+        self.assertEqual({name: triaged_by_pefile(pefile, data) for name, data in triaged_images().items()},
+                         json.loads(TOLD_BY_PEFILE.read_text("utf-8")))
+
+    def test_what_is_no_image_and_what_is_damaged(self):
+        self.written("damaged.dll", images.with_directory(BY_NAME.read_bytes(), 0, 0x9000, 40))
+        self.written("empty.dll", b"")
+        self.written("refused.dll", b"MZ" + bytes(100))
+        self.written("object.obj", OBJECTS[0].read_bytes())
+        self.written("hostile.dll", images.own_tables(1609))
+        found = self.triaged()
+        self.assertEqual((list(found["damaged.dll"]["damage"]), found["damaged.dll"]["exports"]), (["exports"], 0))
+        self.assertIn("empty", found["empty.dll"]["refused"])
+        self.assertEqual(found["refused.dll"], {"refused": "the DOS header leads to 0x5a4d in place of the PE signature"})
+        self.assertEqual(found["object.obj"], {"kind": "object"})
+        self.assertEqual((sum(found["hostile.dll"]["libraries"].values()), found["hostile.dll"]["imphash"]), (100000, None))
 
 
 class Package(Case):
@@ -132,6 +241,23 @@ class Package(Case):
         found = json.loads(succeed([*LISTS, "--json", "--symbols", OBJECTS[0]], env=self.env))
         self.assertEqual(len(found["symbols"]), beside(OBJECTS[0], "symbols").count(b"symbol "))
 
+    def test_what_json_has_by_the_options(self):
+        """The exports of the image are damaged, and the first section's raw pointer is no multiple of 512."""
+        data = bytearray(images.with_directory(BY_NAME.read_bytes(), 0, 0x9000, 40))
+        place = data.index(b".text\0\0\0") + 20
+        data[place] |= 0x10
+        image = self.written("damaged.dll", data)
+        found = json.loads(succeed([*LISTS, "--json", "--permissive", image], env=self.env))
+        self.assertEqual((found["damage"]["imports"], found["damage"]["exports"]["cause"], found["export_table"], len(found["imports"])),
+                         (None, "UNMAPPED", "REFUSED", 1))
+        words = ["--json", "--permissive", "--no-imports", "--raw-pointers", "rounded"]
+        found = json.loads(succeed([*LISTS, *words, image], env=self.env))
+        self.assertEqual((found["import_table"], found["imports"], found["damage"]["left_out_entries"]), ("ABSENT", [], 0))
+        by_name = json.loads(succeed([*LISTS, "--json", *words[2:], BY_NAME], env=self.env))
+        told = json.loads(succeed([sys.executable, "-c", "import sys; from goblin_pe import *; print(to_json(Pe.open(sys.argv[1], "
+                                   "Options(parse_imports=False))))", BY_NAME], env=self.env))
+        self.assertEqual({**by_name, "file": None}, {**told, "file": None})
+
     def test_a_terminal_is_told_how_far_it_is(self):
         terminal, end = pty.openpty()
         with os.fdopen(terminal, "rb", buffering=0) as told, os.fdopen(end, "wb") as end:
@@ -140,8 +266,13 @@ class Package(Case):
             self.assertEqual(told.read(1000), b"\r1 of 2 files\r2 of 2 files\r\n")
 
     def test_the_programs_of_its_readme(self):
-        told = self.told_by(CALLERS / "python/README.md")
-        self.assertEqual(told[:3], ["b'KERNEL32.dll' b'GetTickCount'", "x86-64", "b'.text' 1.23"])
+        """Of an image one section of which is all zeros."""
+        pe, data = package().Pe(BY_NAME.read_bytes()), bytearray(BY_NAME.read_bytes())
+        zeros, = (s for s in pe.sections if s.name == b".data")
+        data[zeros.pointer_to_raw_data: zeros.pointer_to_raw_data + zeros.size_of_raw_data] = bytes(zeros.size_of_raw_data)
+        told = self.told_by(CALLERS / "python/README.md", data)
+        self.assertIn("b'.data' 0.00", told)
+        self.assertEqual(told[:3], ["b'KERNEL32.dll' b'GetTickCount'", "COFF_MACHINE_X86_64", "b'.text' 1.23"])
         self.assertEqual(told[-1], "0 []")
 
     def test_the_program_of_the_readme_of_all(self):
@@ -149,10 +280,10 @@ class Package(Case):
         self.assertEqual(first, "b'KERNEL32.dll' b'GetTickCount'")
         self.assertRegex(last, "^None [0-9a-f]{64}$")
 
-    def told_by(self, readme):
+    def told_by(self, readme, data=BY_NAME.read_bytes()):
         """What the programs of a text print, of a file that they name."""
         programs = re.findall(r"(?s)```python\n(.*?)```", readme.read_text("utf-8"))
-        self.written("some.dll", BY_NAME.read_bytes())
+        self.written("some.dll", data)
         return succeed([sys.executable, "-c", "\n".join(programs)], env=self.env, cwd=self.folder).splitlines()
 
     def test_fields_of_headers(self):
@@ -162,12 +293,56 @@ class Package(Case):
         succeed([*PYTHON, "-m", "unittest", "-q", "test_goblin_pe"], env=self.env)
 
     def test_too_little_memory_is_told(self):
-        self.assert_says_no_memory([sys.executable, "-m", "goblin_pe"], env=self.env)
+        """Of an image that asks for more than there is: in JSON, which lists it. Its lines come one by one."""
+        image = self.written("hostile.dll", images.shared_image(libraries=2000, functions=50000))
+        words = [sys.executable, "-m", "goblin_pe"]
+        status, out, said = run(with_memory(2000000, [*words, "--json", image]), env=self.env)
+        self.assertEqual((status, json.loads(out)["refused"]["status"], said), (1, "MEMORY", b""))
+        lines = ["sh", "-c", '"$@" | head -n 1000', "sh", *with_memory(300000, [*words, image])]
+        status, out, said = run(lines, env=self.env)
+        self.assertEqual((status, out.splitlines()[2], out.count(b"\nimport offset")), (0, b"imports 100000000", 997))
+        self.assertEqual(said, b"write failed: [Errno 32] Broken pipe\n")
+
+    def test_an_image_that_is_refused_late_has_no_lines(self):
+        """In strict mode, where the name of the third of four libraries stands at an address that no section maps."""
+        image = images.shared_image(libraries=4, functions=3)
+        image[0x200 + 20 * 2 + 12: 0x200 + 20 * 2 + 16] = b"\0\x90\0\0"
+        status, out, said = run([*LISTS, self.written("late.dll", image)], env=self.env)
+        self.assertEqual((status, out, said[:9]), (1, b"", b"refused: "))
+        listed = succeed([*LISTS, "--permissive", self.folder / "late.dll"], env=self.env).splitlines()
+        pe = package().Pe(bytes(image), package().Options(is_permissive=True))
+        self.assertEqual([it for it in listed if it.startswith("import")][0], "imports %d" % len(pe.imports))
+        self.assertEqual(sum(it.startswith("import ") for it in listed), len(pe.imports))
+        self.assertIn("imports absent", succeed([*LISTS, "--no-imports", BY_NAME], env=self.env))
 
     def test_a_listing_that_can_not_be_written(self):
         status, _, said = run(["sh", "-c", 'exec "$@" > /dev/full', "sh", *LISTS, BY_NAME], env=self.env)
         self.assertEqual(status, 1)
         self.assertRegex(said, rb"(?m)^write failed: ")
+
+    def test_hostile_files_are_walked_in_little_memory(self):
+        names = 40000
+        text = struct.pack("<IIHHIIIIIII", 0, 0, 0, 0, 0x400, 1, 1, names, 0x400, 0x408, 0x408 + 4 * names) + bytes(8)
+        text += struct.pack("<%dI" % names, *range(0x408 + 6 * names, 0x408 + 7 * names)) + bytes(2 * names) + b"n" * (2 * names)
+        long_names = images.image_headers(0x3D8, 0, 0x1000, ((0, 0x3D8, 40),)) + text
+        files = {"shared": (images.shared_image(libraries=20000, functions=50000), 200000, 0),
+                 "own": (images.own_tables(1609), 200000, 0), "nowhere": (images.pointers_to_nowhere(1000000), 0, 1),
+                 "names": (long_names, 0, names), "sections": (images.one_long_name(60000, 1 << 16), 0, 0)}
+        told = succeed([*PYTHON, "-c", WALKS, *(self.written(name, data) for name, (data, *_) in files.items())], env=self.env)
+        self.assertEqual(told.splitlines(), ["%s %d %d" % (self.folder / name, *counts) for name, (_, *counts) in files.items()])
+
+    def test_a_closed_output(self):
+        for words in [], ["--json"]:
+            status, out, said = run(["sh", "-c", 'exec "$@" >&-', "sh", *LISTS, *words, BY_NAME], env=self.env)
+            self.assertEqual((status, out, said), (1, b"", b"write failed: standard output is closed\n"))
+
+    def test_an_interrupt_ends_it_at_once(self):
+        """In the midst of a call that takes much longer."""
+        image = self.written("hostile.dll", images.shared_image(libraries=60000, functions=50000))
+        with subprocess.Popen(with_memory(8000000, [*LISTS, "--json", image]), stdout=subprocess.PIPE, stderr=subprocess.PIPE, env=self.env) as it:
+            self.assertRaises(subprocess.TimeoutExpired, it.wait, 1)
+            it.send_signal(signal.SIGINT)
+            self.assertEqual((it.wait(1), *it.communicate()), (-signal.SIGINT, b"", b""))
 
     def test_another_interface_is_refused(self):
         made = self.folder / "other.so"
@@ -176,18 +351,18 @@ class Package(Case):
         self.assertNotEqual(status, 0)
         self.assertRegex(said, rb"ImportError: .*another interface")
 
-    def test_no_thread_runs_while_bytes_are_read_that_it_could_write(self):
+    def test_threads_run_while_bytes_are_read_and_what_they_write_is_not_read(self):
         declared = set(re.findall(r'"(goblin_pe_\w+)":', (CALLERS / "python/goblin_pe/records.py").read_text("utf-8")))
         others = b"".join(b"void %s(void) {}\n" % name.encode() for name in declared - {"goblin_pe_interface", "goblin_pe_raw_read_te"})
-        made = self.folder / "tells.so"
-        succeed([CC, *FLAGS, "-shared", "-fPIC", "-I", CALLERS / "c", "-o", made, self.written("tells.c", TELLS_THE_LOCK),
+        made = self.folder / "waits.so"
+        succeed([CC, *FLAGS, "-shared", "-fPIC", "-I", CALLERS / "c", "-o", made, self.written("waits.c", WAITS),
                  self.written("others.c", others)])
         succeed([*PYTHON, "-c", READS_BUFFERS], env={**self.env, "GOBLIN_PE_SO": str(made)})
 
     def test_type_hints(self):
         need("mypy")
         check, env = ["mypy", "--strict", "--cache-dir=/dev/null"], {**self.env, "MYPYPATH": str(CALLERS / "python")}
-        succeed([*check, CALLERS / "python/goblin_pe", CALLERS / "beside_objdump.py"], env=env)
+        succeed([*check, CALLERS / "python/goblin_pe", CALLERS / "python/examples", CALLERS / "beside_objdump.py"], env=env)
         succeed([*check, self.written("right.py", TYPED)], env=env)
         for line, wrong in ((b"Options(is_permissive=1)", b"arg-type"), (b"Pe(b'').coff_header.machine = 1", b"misc"),
                             (b"Pe(b'').imports[0].name.lower()", b"union-attr")):

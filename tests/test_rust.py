@@ -5,7 +5,8 @@ import re
 import shutil
 
 from tests import images
-from tests.programs import BY_NAME, CALLERS, IMAGES, SAMPLES, TOP, Case, beside, environment, folder, library, need, run, succeed
+from tests.programs import BY_NAME, CALLERS, IMAGES, SAMPLES, TOP, Case, beside, environment, folder, library, need, package, run, succeed, with_memory
+from tests.test_python import HASHES
 
 REGISTRY = pathlib.Path("/usr/share/cargo/registry")
 # What stands around the programs of a README.
@@ -48,15 +49,27 @@ class Crate(Case):
         """Each has a line, in the order of the words: it counts what stands in the listing beside a sample."""
         data = BY_NAME.read_bytes()
         damaged, lost = self.written("damaged.dll", images.with_directory(data, 0, 0x9000, 40)), self.folder / "lost.dll"
-        files = [*IMAGES, *IMAGES, damaged, CALLERS / "build", lost]
-        lines = succeed([example("scan"), *files]).splitlines()
+        hostile = [self.written(f"{name}.dll", image) for name, image in (
+            ("own", images.own_tables(1609)), ("shared", images.shared_image(libraries=20000, functions=50000)),
+            ("nowhere", images.pointers_to_nowhere(1000000)), ("sections", images.one_long_name(60000, 1 << 16)))]
+        files = [*IMAGES, *IMAGES, *hostile, damaged, CALLERS / "build", lost]
+        lines = succeed(with_memory(200000, [example("scan"), *files])).splitlines()
         for sample, line in zip(IMAGES * 2, lines):
             listed = beside(sample, "permissive").splitlines()
             imports, exports = (sum(it.startswith(kind) for it in listed) for kind in (b"import ", b"export "))
-            self.assertEqual(line, f"{sample}: {imports} imports, {exports} exports")
+            imphash = f", imphash {HASHES[sample.name]}" if imports else ""
+            self.assertEqual(line, f"{sample}: {imports} imports, {exports} exports{imphash}")
         self.assertEqual(len(lines), len(files))
-        for line, wanted in zip(lines[-3:], (f"{damaged}: 1 imports, 0 exports, exports: .", f"{CALLERS}/build: refused: .", f"{lost}: read failed: .")):
-            self.assertRegex(line, f"^{wanted}")
+        told = ("more than 100000 imports$", "more than 100000 imports$", "0 imports, 1 exports$", "0 imports, 0 exports$")
+        wanted = (*(f"{it}: {line}" for it, line in zip(hostile, told)),
+                  f"{damaged}: 1 imports, 0 exports, imphash {HASHES[BY_NAME.name]}, exports: .",
+                  f"{CALLERS}/build: refused: .", f"{lost}: read failed: .")
+        for line, it in zip(lines[-7:], wanted, strict=True):
+            self.assertRegex(line, f"^{it}")
+
+    def test_its_fingerprints_are_those_of_the_package_for_python(self):
+        told = succeed([example("fingerprint"), *IMAGES]).splitlines()
+        self.assertEqual(told, [package().Pe(it.read_bytes()).fingerprint() for it in IMAGES])
 
     def test_the_programs_of_the_readmes(self):
         """That of the repository has the crate's program, and one in Rattle."""
@@ -64,12 +77,15 @@ class Crate(Case):
         succeed(["cargo", "new", "-q", "--vcs", "none", user])
         succeed(["cargo", "add", "-q", "--offline", "--manifest-path", user / "Cargo.toml", "--path", CALLERS / "rust"], env=env)
         image = self.written("some.dll", BY_NAME.read_bytes())
-        for readme, count in ((TOP / "README.md", 1), (CALLERS / "rust/README.md", 2)):
+        first = "GetTickCount from KERNEL32.dll\n"
+        hashes = r"Some\(Hash\(%s\)\) [0-9a-f]{64}\n" % HASHES[BY_NAME.name]
+        for readme, count, wanted in ((TOP / "README.md", 1, first),
+                                      (CALLERS / "rust/README.md", 3, first + "COFF_MACHINE_X86_64, 64 bits, library: true\n" + hashes)):
             with self.subTest(readme=readme):
                 programs = re.findall(r"(?s)```rust\n(.*?)```", readme.read_text("utf-8"))[:count]
                 (user / "src/main.rs").write_text(README % "".join(programs), "utf-8")
                 command = ["cargo", "run", "-q", "--offline", "--manifest-path", user / "Cargo.toml", image.name]
-                self.assertEqual(succeed(command, env=env, cwd=self.folder), "GetTickCount from KERNEL32.dll\n")
+                self.assertRegex(succeed(command, env=env, cwd=self.folder), f"^{wanted}$")
 
     def test_its_documentation(self):
         cargo("doc", RUSTDOCFLAGS="-D warnings")
@@ -78,6 +94,7 @@ class Crate(Case):
         if run(["cargo", "clippy", "--version"])[0]:
             self.skipTest("no clippy")
         cargo("clippy", "--all-targets", "--", "-D", "warnings")
+        cargo("clippy", "--lib", "--", "-D", "warnings", "-W", "clippy::pedantic")
 
 
 class BesideGoblin(Case):

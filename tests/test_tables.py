@@ -1,9 +1,10 @@
 """Rich headers, symbols, relocations, and where addresses lie in a file: worked values, which the library for callers reads."""
+import ctypes
 import struct
 import unittest
 
 from tests import images
-from tests.programs import CC, need, package, refusal, told
+from tests.programs import CC, need, options, package, refusal, told
 
 # The parts of a small file with a Rich header, by their offsets: one entry under the key 1, before a signature.
 SMALL = [(0, b"MZ"), (0x3C, b"\x60"), (0x40, b"\x45\x61\x6E\x53\x01\0\0\0\x01\0\0\0\x01\0\0\0"),
@@ -61,6 +62,14 @@ NAMES = [
     ("a text at 4, whatever stands before the number", b"\0ABC\x08\0\0\0", b"\x0C\0\0\0abc\0def\0", b"def"),
     ("the first text of a table that has no bytes", b"\0\0\0\0\x04\0\0\0", b"\x04\0\0\0", None),
 ]
+# The bytes of a string table that nothing has tested, an offset in it, and the name there.
+UNTESTED = [
+    ("a text before bytes that are none", b"abc\0\xFF", 0, b"abc"),
+    ("bytes that are no text", b"abc\0\xFF", 4, None),
+    ("the middle of a character", b"\xC3\xA9\0", 1, None),
+    ("the end, after a text without a NUL", b"ab", 2, b""),
+    ("the end, after a NUL", b"ab\0", 3, None),
+]
 # How many auxiliary records the first symbol says it has, how many records there are, and the indexes of the symbols.
 INDEXES = [(1, 3, [0, 2]), (0xFF, 1, [0])]
 
@@ -94,7 +103,8 @@ HIGH = (0x1000, 0x200, 0x200, 0x800)
 LESS_DATA_THAN_MEMORY = (0x1000, 0x600, 0x400, 0x200)
 AT_NO_MULTIPLE = (0x1000, 0x100, 0x100, 0x210)
 WITHOUT_DATA = (0x1FB000, 0x28590, 0, 0)
-ROUNDED, AS_OFFSETS = {"rounds_raw_pointers": True}, {"resolve_rva": False}
+ROUNDED, BY_ALIGNMENT = ({"raw_pointer_rule": name} for name in ("ROUNDED_TO512", "BY_FILE_ALIGNMENT"))
+AS_OFFSETS = {"resolve_rva": False}
 # Sections, the file alignment, options, an address, and its offset in the file.
 OFFSETS = [
     ([LESS_DATA_THAN_MEMORY], 0x200, {}, 0x1123, 0x323),
@@ -110,6 +120,11 @@ OFFSETS = [
     ([AT_NO_MULTIPLE], 0x200, ROUNDED, 0x1000, 0x200),
     ([AT_NO_MULTIPLE], 0x200, ROUNDED, 0x11FF, 0x3FF),
     ([AT_NO_MULTIPLE], 0x200, ROUNDED, 0x1200, None),
+    ([AT_NO_MULTIPLE], 0x100, ROUNDED, 0x1000, 0x200),
+    ([AT_NO_MULTIPLE], 0x200, BY_ALIGNMENT, 0x1000, 0x200),
+    ([AT_NO_MULTIPLE], 0x1000, BY_ALIGNMENT, 0x1001, 0x201),
+    ([AT_NO_MULTIPLE], 0x100, BY_ALIGNMENT, 0x1000, 0x210),
+    ([AT_NO_MULTIPLE], 0, BY_ALIGNMENT, 0x1000, None),
     ([WIDE], 0, AS_OFFSETS, 0x1100, 0x1100),
     ([NARROW, WIDE], 0x200, {}, 0, None),
     ([NARROW, WIDE], 0x200, {}, 0xFFF, None),
@@ -122,6 +137,33 @@ OFFSETS = [
     ([LOW, HIGH], 0x200, {}, 0x1010, 0x410),
     ([HIGH, LOW], 0x200, {}, 0x1010, 0x810),
     ([], 0x200, {}, 0, None),
+]
+# Sections, options, an offset, its address, and the index of the section that this lies in.
+ADDRESSES = [
+    ([LESS_DATA_THAN_MEMORY], {}, 0x1FF, None, None),
+    ([LESS_DATA_THAN_MEMORY], {}, 0x200, 0x1000, 0),
+    ([LESS_DATA_THAN_MEMORY], {}, 0x5FF, 0x13FF, 0),
+    ([LESS_DATA_THAN_MEMORY], {}, 0x600, None, None),
+    ([AT_NO_MULTIPLE], {}, 0x20F, None, None),
+    ([AT_NO_MULTIPLE], ROUNDED, 0x200, 0x1000, 0),
+    ([WITHOUT_DATA], {}, 0, None, None),
+    ([NARROW, WIDE], {}, 0x450, 0x1250, 0),
+    ([NARROW, WIDE], {}, 0xA50, None, None),
+    ([NARROW, WIDE], {}, 0xD00, 0x1500, 1),
+    ([WIDE, NARROW], {}, 0x450, None, None),
+    ([LOW, HIGH], {}, 0x810, None, None),
+    ([WIDE], AS_OFFSETS, 0x1100, 0x1100, 0),
+    ([WIDE], AS_OFFSETS, 0x5000, 0x5000, None),
+]
+# Sections whose data begins at the file's end, where it has six bytes: one with zeros after them, one with more data than memory, one
+# without a virtual size, one without data, and one whose data is not there. An address, a size, and what a loader sees: bytes of the
+# file and a number of zeros.
+IN_MEMORY = [(0x1000, 16, 6, 0x210), (0x2000, 4, 6, 0x210), (0x3000, 0, 6, 0x210), (0x4000, 8, 0, 0), (0x5000, 8, 8, 0x210)]
+SEEN = [
+    (0x1000, 16, (b"stored", 10)), (0x1002, 3, (b"ore", 0)), (0x1004, 4, (b"ed", 2)), (0x1006, 10, (b"", 10)), (0x100F, 1, (b"", 1)),
+    (0x1000, 0, (b"", 0)), (0x1000, 17, None), (0x100F, 2, None), (0x1010, 0, None), (0xFFF, 1, None),
+    (0x2000, 4, (b"stor", 0)), (0x2000, 5, None), (0x2004, 1, None), (0x3000, 6, (b"stored", 0)), (0x3000, 7, None),
+    (0x4000, 8, (b"", 8)), (0x5000, 6, (b"stored", 0)), (0x5000, 7, None), (0x5000, 8, None),
 ]
 # Bytes at the end of a file, at the address 0x1000 of a section of 16 bytes; an address; a size; and the text and so many bytes there.
 CONTENTS = [
@@ -211,6 +253,29 @@ class Tables(unittest.TestCase):
             with self.subTest(name):
                 self.assertEqual([it.name for it in symbols_of(symbol_record(stored), strings)], [wanted])
 
+    def test_a_name_is_tested_where_it_lies(self):
+        calls, records = package()._library.LIB, package().records
+        for name, strings, offset, wanted in UNTESTED:
+            with self.subTest(name):
+                file = b"\0" + symbol_record(struct.pack("<II", 0, offset + 4)) + strings
+                table, symbol = records.SymbolTable(1, 1, 19, len(strings)), records.NamedSymbol()
+                self.assertTrue(calls.goblin_pe_raw_symbol_at(file, len(file), ctypes.byref(table), 0, ctypes.byref(symbol)))
+                found = ctypes.string_at(symbol.name.bytes, symbol.name.length) if symbol.has_name else None
+                self.assertEqual(found, wanted)
+
+    def test_a_table_that_is_not_in_the_file_has_no_symbols(self):
+        calls, records = package()._library.LIB, package().records
+        file, symbol, position, count = bytes(40), records.NamedSymbol(), ctypes.c_size_t(), ctypes.c_size_t(7)
+        most = 2 ** 64 - 1
+        for status, table in ((0, (0, most >> 32, most, most)), (0, (1, 2, 40, 0)), (4, (40, 0, 40, 0)), (4, (1, most >> 32, 0, 0)),
+                              (1, (1, 2, 40, 1)), (1, (1, 2, most, most))):
+            with self.subTest(table=table):
+                said = records.SymbolTable(*table)
+                fault = calls.goblin_pe_raw_next_symbols(
+                    file, len(file), ctypes.byref(said), ctypes.byref(position), ctypes.byref(symbol), 0, ctypes.byref(count))
+                is_there = calls.goblin_pe_raw_symbol_at(file, len(file), ctypes.byref(said), 0, ctypes.byref(symbol))
+                self.assertEqual((fault.status, is_there, position.value), (status, table == (1, 2, 40, 0), 0))
+
     def test_a_string_table_is_as_long_as_its_length_field_at_least(self):
         self.assertEqual(symbols_of(b"", b"\x04\0\0\0"), [])
         self.assertEqual(refusal(symbols_of, b"", b"\x01\0\0\0"), ("MALFORMED", "COFF_LENGTH", 0, 0))
@@ -241,8 +306,24 @@ class Tables(unittest.TestCase):
     def test_an_address_belongs_to_the_first_section_whose_window_holds_it(self):
         for sections, alignment, how, rva, wanted in OFFSETS:
             with self.subTest(sections=sections, alignment=alignment, rva=hex(rva), **how):
-                pe = package().Pe(with_sections(sections, alignment), package().Options(**how))
+                pe = package().Pe(with_sections(sections, alignment), options(**how))
                 self.assertEqual(pe.find_offset(rva), wanted)
+                if wanted is not None:
+                    self.assertEqual(pe.find_offset(pe.find_rva(wanted)), wanted)
+
+    def test_the_address_of_an_offset_and_the_section_of_an_address(self):
+        for sections, how, offset, rva, section in ADDRESSES:
+            with self.subTest(sections=sections, offset=hex(offset), **how):
+                pe = package().Pe(with_sections(sections, 0x200), options(**how))
+                self.assertEqual(pe.find_rva(offset), rva)
+                if rva is not None:
+                    self.assertEqual(pe.section_at(rva), None if section is None else pe.sections[section])
+
+    def test_what_a_loader_sees_at_an_address(self):
+        for rva, size, wanted in SEEN:
+            with self.subTest(rva=hex(rva), size=size):
+                pe = package().Pe(with_sections(IN_MEMORY) + b"stored")
+                self.assertEqual(pe.memory_at(rva, size), wanted)
 
     def test_what_stands_at_an_address(self):
         for data, rva, size, text, wanted in CONTENTS:

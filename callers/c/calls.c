@@ -3,6 +3,7 @@
 #include "goblin_pe.h"
 
 #include <stdio.h>
+#include <stdlib.h>
 #include <string.h>
 
 static uint8_t bytes[1 << 20];
@@ -56,16 +57,30 @@ static bool has_auxiliary(const struct goblin_pe_named_symbol *s)
                goblin_pe_read_aux_file(s->auxiliary, &file);
 }
 
+/* Whether the symbol at an index is the one that a walk gave. */
+static bool is_found(const struct goblin_pe_symbol_table *table, const struct goblin_pe_named_symbol *symbol)
+{
+    struct goblin_pe_named_symbol found;
+    return goblin_pe_symbol_at(bytes, length, table, symbol->index, &found) && found.index == symbol->index &&
+           found.name.bytes == symbol->name.bytes && found.name.length == symbol->name.length &&
+           found.auxiliary.bytes == symbol->auxiliary.bytes && found.has_name == symbol->has_name;
+}
+
 /* Whether each symbol is read, one at a time, and has its auxiliary records. */
 static bool has_symbols(const struct goblin_pe_coff_header *header)
 {
+    struct goblin_pe_symbol_table table;
     struct goblin_pe_named_symbol symbol;
     size_t position = 0, count = 0, next = 0;
+    if (goblin_pe_read_symbol_table(bytes, length, header, &table).status != GOBLIN_PE_STATUS_OK)
+        return false;
     for (;;) {
-        if (goblin_pe_next_symbols(bytes, length, header, &position, &symbol, 1, &count).status != GOBLIN_PE_STATUS_OK)
+        if (goblin_pe_next_symbols(bytes, length, &table, &position, &symbol, 1, &count).status != GOBLIN_PE_STATUS_OK)
             return false;
         if (!count)
-            return next == header->number_of_symbol_table || !header->pointer_to_symbol_table;
+            return next == table.record_count && !goblin_pe_symbol_at(bytes, length, &table, next, &symbol);
+        if (!is_found(&table, &symbol))
+            return false;
         if (symbol.index != next || position != next + 1 + symbol.symbol.number_of_aux_symbols || !has_auxiliary(&symbol))
             return false;
         if (!is_in_file(symbol.name) || !is_in_file(symbol.auxiliary))
@@ -107,14 +122,63 @@ static bool is_sound(void)
     return fault.status == GOBLIN_PE_STATUS_OK && damage.dos_stub.status == GOBLIN_PE_STATUS_OK &&
            damage.section_names.status == GOBLIN_PE_STATUS_OK && damage.imports.status == GOBLIN_PE_STATUS_OK &&
            damage.exports.status == GOBLIN_PE_STATUS_OK && damage.relocations.status == GOBLIN_PE_STATUS_OK &&
-           !damage.left_out_libraries && !damage.left_out_entries;
+           !damage.left_out_libraries && !damage.left_out_entries && !damage.left_out_exports;
+}
+
+/* Whether a header takes as many bytes as is told, in no less room, and the section table follows those that it has. */
+static bool is_written(const struct goblin_pe_file *file, const struct goblin_pe_directory *directories,
+                       const struct goblin_pe_tables *tables)
+{
+    static uint8_t out[1 << 16];
+    size_t size = goblin_pe_header_size(file, tables->dos_stub.length), table = goblin_pe_section_table(file), written = 7;
+    return size <= sizeof out && table <= length - 40 * tables->section_count &&
+           goblin_pe_write_header(file, directories, file->directories, tables->dos_stub, out, size - 1, &written).status !=
+               GOBLIN_PE_STATUS_OK &&
+           written == 7 &&
+           goblin_pe_write_header(file, directories, file->directories, tables->dos_stub, out, size, &written).status ==
+               GOBLIN_PE_STATUS_OK &&
+           written == size && !memcmp(out, bytes, size < table ? size : table) &&
+           (!tables->section_count || !memcmp(tables->sections[0].name, bytes + table, 8));
+}
+
+static int by_hint_from_the_last(const void *left, const void *right)
+{
+    const struct goblin_pe_export *x = left, *y = right;
+    return (x->hint < y->hint) - (x->hint > y->hint);
+}
+
+/* Whether the caller may sort what is handed over. */
+static bool is_sorted(struct goblin_pe_tables *tables)
+{
+    if (tables->export_count)
+        qsort(tables->exports, tables->export_count, sizeof *tables->exports, by_hint_from_the_last);
+    return !tables->export_count || (tables->exports[0].hint == tables->export_count - 1 &&
+                                     !tables->exports[tables->export_count - 1].hint);
+}
+
+/* Whether the text of a refusal is the same with a NUL, and fits the room for each. */
+static bool is_told(void)
+{
+    struct goblin_pe_file file;
+    struct goblin_pe_tables tables;
+    char text[GOBLIN_PE_FAULT_ROOM];
+    struct goblin_pe_fault refused = goblin_pe_open(NULL, 0, NULL, &file, NULL, 0, &tables);
+    struct goblin_pe_fault longest = { GOBLIN_PE_STATUS_MALFORMED, 0, UINT64_MAX, UINT64_MAX };
+    bool is_right = !strcmp(goblin_pe_fault_string(&refused, text), "the file is too short for the DOS signature");
+    for (; longest.cause < 100; longest.cause++) {
+        uint8_t bare[160];
+        size_t size = goblin_pe_fault_text(&longest, bare, sizeof bare);
+        is_right &= size <= sizeof bare && strlen(goblin_pe_fault_string(&longest, text)) == size && !memcmp(text, bare, size);
+    }
+    return is_right;
 }
 
 static bool is_image(void)
 {
     struct goblin_pe_file file;
+    struct goblin_pe_directory directories[16];
     struct goblin_pe_tables tables;
-    if (!is_sound() || goblin_pe_open(bytes, length, NULL, &file, NULL, 0, &tables).status != GOBLIN_PE_STATUS_OK)
+    if (!is_sound() || goblin_pe_open(bytes, length, NULL, &file, directories, 16, &tables).status != GOBLIN_PE_STATUS_OK)
         return false;
     struct goblin_pe_image image = goblin_pe_image_of(bytes, length, NULL, &file, &tables);
     bool is_right = has_symbols(&file.coff_header) && are_mapped(&image, 0) && are_mapped(&image, SIZE_MAX);
@@ -127,6 +191,7 @@ static bool is_image(void)
         is_right &= !x->is_by_name || (goblin_pe_text_at(&image, x->rva + 2, &name).status == GOBLIN_PE_STATUS_OK &&
                                        name.bytes == x->name.bytes && name.length == x->name.length);
     }
+    is_right &= is_written(&file, directories, &tables) && is_sorted(&tables);
     goblin_pe_free(&tables);
     return is_right;
 }
@@ -145,11 +210,18 @@ static bool sets_names(void)
     struct goblin_pe_section section;
     memset(&section, 0, sizeof section);
     bool is_long = goblin_pe_set_name(&section, "ninebytes", 9);
-    bool is_zero = goblin_pe_set_name_offset(&section, 0).status == GOBLIN_PE_STATUS_OK && !section.real_name.bytes;
+    bool is_zero = goblin_pe_set_name_offset(&section, 0).status == GOBLIN_PE_STATUS_OK && !section.real_name.length;
     bool is_set = goblin_pe_set_name(&section, ".text", 5) && !memcmp(section.name, ".text\0\0\0", 8);
     bool is_offset = goblin_pe_set_name_offset(&section, 1234).status == GOBLIN_PE_STATUS_OK;
-    return !is_long && is_zero && is_set && is_offset && !memcmp(section.name, "/1234\0\0\0", 8) &&
-           goblin_pe_set_name_offset(&section, SIZE_MAX).cause == GOBLIN_PE_CAUSE_NAME_OFFSET && section.name[1] == '1';
+    const struct goblin_pe_text old = { bytes, 4 };
+    section.real_name = old;
+    section.has_real_name = true;
+    bool is_kept = goblin_pe_set_name_offset(&section, SIZE_MAX).cause == GOBLIN_PE_CAUSE_NAME_OFFSET && section.has_real_name &&
+                   section.real_name.length == 4;
+    bool is_cleared = goblin_pe_set_name_offset(&section, 1234).status == GOBLIN_PE_STATUS_OK && !section.has_real_name &&
+                      !section.real_name.length;
+    return is_kept && is_cleared && !is_long && is_zero && is_set && is_offset && !memcmp(section.name, "/1234\0\0\0", 8) &&
+           section.name[1] == '1';
 }
 
 /* Whether an address is mapped by sections whose records a caller made, zeros but for what maps them, and the data of
@@ -176,7 +248,7 @@ static bool maps_by_records_of_zeros(void)
     if (goblin_pe_text_at(&image, 0x2034, &text).status != GOBLIN_PE_STATUS_OK || text.bytes != file + 0x634 || text.length != 5)
         return false;
     sections[1].pointer_to_raw_data += 0x34;
-    image.options.rounds_raw_pointers = true;
+    image.options.raw_pointer_rule = GOBLIN_PE_RAW_POINTER_RULE_ROUNDED_TO512;
     return goblin_pe_find_offset(&image, 0x2034, &offset) && offset == 0x634 &&
            goblin_pe_bytes_at(&image, 0x2034, 5, &found).status == GOBLIN_PE_STATUS_OK && found.bytes == file + 0x634 &&
            found.length == 5 && goblin_pe_read_section_data(&image, &sections[1], &data).status == GOBLIN_PE_STATUS_OK &&
@@ -185,7 +257,7 @@ static bool maps_by_records_of_zeros(void)
 
 int main(int argc, char **argv)
 {
-    if (!sets_names() || !maps_by_records_of_zeros() || goblin_pe_kind_of(NULL, 0) != GOBLIN_PE_KIND_UNKNOWN)
+    if (!sets_names() || !is_told() || !maps_by_records_of_zeros() || goblin_pe_kind_of(NULL, 0) != GOBLIN_PE_KIND_UNKNOWN)
         return 4;
     for (int i = 1; i < argc; i++) {
         FILE *from = fopen(argv[i], "rb");

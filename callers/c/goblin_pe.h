@@ -5,12 +5,13 @@
 
        cc -I callers/lib -o program program.c callers/lib/libgoblin_pe.a
 
-   callers/c/list.c, loader.c, patch.c and walk.c are such programs.
+   list.c, loader.c, patch.c and walk.c are such programs: in callers/c, or where the library was installed in
+   share/doc/goblin-pe/examples. README.md beside them has the first steps.
 
    A call reads a file that lies in memory. It borrows the caller's bytes; a text in a record is a pointer
    into those bytes and a length, so no text is copied, and the texts stay good as long as the bytes do.
-   The tables of an image, and the ranges of a footprint, are memory of their own, which goblin_pe_free
-   and goblin_pe_free_ranges give back; all else is filled into the caller's records.
+   The tables of an image, and the ranges of a footprint, are memory of their own, which the caller may sort and
+   change, and goblin_pe_free and goblin_pe_free_ranges give back; all else is filled into the caller's records.
 
    The file offset of a text is the difference of two pointers: each lies in the file, but for a DOS stub
    that permissive mode replaced. One that is absent, as its record says, or that permissive mode could not
@@ -106,12 +107,10 @@ static inline struct goblin_pe_fault goblin_pe_open(
 }
 
 /* Frees a block of so many records. */
-static inline void goblin_pe_free_block(const void *block, size_t count)
+static inline void goblin_pe_free_block(void *block, size_t count)
 {
-    void *writable;
-    memcpy(&writable, &block, sizeof writable);
     if (count)
-        free(writable);
+        free(block);
 }
 
 /* Frees the tables of an image, and leaves zeros. Tables of zeros have nothing to be freed. */
@@ -188,8 +187,8 @@ static inline struct goblin_pe_fault goblin_pe_next_exports(
 
 /* Reads an object, which begins with a COFF header: says in `object` how many sections there are, and fills
    their records as far as there is room. No machine is tested, so a file that is no object may be read as one
-   with sections that make no sense: ask goblin_pe_kind_of before. Of the options only the mode counts. Memory
-   is taken for the sections, and given back. */
+   with sections that make no sense: ask goblin_pe_kind_of before. Of the options only the mode counts. No memory
+   is taken. */
 static inline struct goblin_pe_fault goblin_pe_read_object(
     const uint8_t *bytes, size_t length, const struct goblin_pe_options *options, struct goblin_pe_object *object,
     struct goblin_pe_section *sections, size_t room)
@@ -200,7 +199,7 @@ static inline struct goblin_pe_fault goblin_pe_read_object(
 }
 
 /* Reads a Terse Executable: its header, which says how many sections there are, and those as far as
-   there is room. The signature is not looked at. Memory is taken for the sections, and given back. */
+   there is room. The signature is not looked at. No memory is taken. */
 static inline struct goblin_pe_fault goblin_pe_read_te(
     const uint8_t *bytes, size_t length, struct goblin_pe_te_header *header, struct goblin_pe_section *sections,
     size_t room)
@@ -209,21 +208,40 @@ static inline struct goblin_pe_fault goblin_pe_read_te(
         GOBLIN_PE_BYTES(bytes), length, header, GOBLIN_PE_SOME(struct goblin_pe_section, sections), room);
 }
 
-/* Goes on with the walk over the symbols of an image or an object, by its COFF header, from the record at
-   the index `position` on, 0 at the beginning: fills as many records as there is room for, says in `count`
-   how many, and leaves in `position` the index of the record that is read next. The count 0 without a refusal
-   is the end, where there is room; so it is of a file without a symbol table. The record at the position is
-   read as a symbol, even where it is an auxiliary one of the symbol before it. Refused is a file that is too
-   short for its symbol table or the string table after it, and one whose string table is not UTF-8, or says a
-   length below 4. Each call reads the whole string table, so room for some hundreds is better than for one. No
-   memory is taken. */
+/* Tests the symbol table and the string table of an image or an object, by its COFF header, and says in `table`
+   where they lie: zeros for a file without them. The whole string table is read here, and by no call that takes
+   the table. Refused is a file that is too short for its symbol table or the string table after it, and one whose
+   string table is not UTF-8, or says a length below 4. No memory is taken. */
+static inline struct goblin_pe_fault goblin_pe_read_symbol_table(
+    const uint8_t *bytes, size_t length, const struct goblin_pe_coff_header *header,
+    struct goblin_pe_symbol_table *table)
+{
+    return goblin_pe_raw_read_symbol_table(GOBLIN_PE_BYTES(bytes), length, header, table);
+}
+
+/* Goes on with the walk over the symbols of a table, from the record at the index `position` on, 0 at the
+   beginning: fills as many records as there is room for, says in `count` how many, and leaves in `position` the
+   index of the record that is read next. The count 0 without a refusal is the end, where there is room; so it is
+   of a table of zeros. The record at the position is read as a symbol, even where it is an auxiliary one of the
+   symbol before it. Of a table that goblin_pe_read_symbol_table did not fill, only what is named is tested; one
+   that does not lie in the file is refused. No memory is taken. */
 static inline struct goblin_pe_fault goblin_pe_next_symbols(
-    const uint8_t *bytes, size_t length, const struct goblin_pe_coff_header *header, size_t *position,
+    const uint8_t *bytes, size_t length, const struct goblin_pe_symbol_table *table, size_t *position,
     struct goblin_pe_named_symbol *symbols, size_t room, size_t *count)
 {
     return goblin_pe_raw_next_symbols(
-        GOBLIN_PE_BYTES(bytes), length, header, position, GOBLIN_PE_SOME(struct goblin_pe_named_symbol, symbols), room,
+        GOBLIN_PE_BYTES(bytes), length, table, position, GOBLIN_PE_SOME(struct goblin_pe_named_symbol, symbols), room,
         count);
+}
+
+/* Puts the symbol whose record has this index into `symbol`, and answers whether there is one: relocations and
+   weak externals name symbols so. The record is read as a symbol, even where it is an auxiliary one. No memory is
+   taken. */
+static inline bool goblin_pe_symbol_at(
+    const uint8_t *bytes, size_t length, const struct goblin_pe_symbol_table *table, size_t index,
+    struct goblin_pe_named_symbol *symbol)
+{
+    return goblin_pe_raw_symbol_at(GOBLIN_PE_BYTES(bytes), length, table, index, symbol);
 }
 
 /* Reads the first auxiliary record of a symbol, by the kind that its class says; each answers false, and
@@ -261,9 +279,11 @@ static inline bool goblin_pe_read_aux_file(struct goblin_pe_text auxiliary, stru
 }
 
 /* Reads the relocations of a section of an object: says in `count` how many there are, and fills as many
-   records as there is room for. These are as many as the section's record says, at most 65,535. Refused is a
-   file that is too short for them, and one in which they begin at or past the end, even where there are none.
-   No memory is taken. */
+   records as there is room for. These are as many as the section's record says, at most 65,535. Where it says
+   so many and has the flag IMAGE_SCN_LNK_NRELOC_OVFL, the section has more than these: the first record is none
+   of them, and its virtual_address tells how many follow one another there, itself among them. Refused is a file
+   that is too short for them, and one in which they begin at or past the end, even where there are none. No memory
+   is taken. */
 static inline struct goblin_pe_fault goblin_pe_read_relocations(
     const uint8_t *bytes, size_t length, const struct goblin_pe_section *section,
     struct goblin_pe_relocation *relocations, size_t room, size_t *count)
@@ -297,6 +317,35 @@ static inline bool goblin_pe_find_offset(const struct goblin_pe_image *image, si
     return goblin_pe_raw_find_offset(&sound, rva, offset);
 }
 
+/* Puts the index of the section of an address into `index`, and answers whether it lies in one: the first by
+   which the address is mapped. The options are not looked at. */
+static inline bool goblin_pe_section_at(const struct goblin_pe_image *image, size_t rva, size_t *index)
+{
+    struct goblin_pe_image sound = goblin_pe_sound_image(image);
+    return goblin_pe_raw_section_at(&sound, rva, index);
+}
+
+/* Puts the address of a file offset into `rva`, and answers whether there is one, which goblin_pe_find_offset
+   maps to the offset: that in the first section that has one. Where the options say that addresses are offsets,
+   it is the offset itself. It takes one walk over the sections, and one more for each whose data holds the
+   offset. */
+static inline bool goblin_pe_find_rva(const struct goblin_pe_image *image, size_t offset, size_t *rva)
+{
+    struct goblin_pe_image sound = goblin_pe_sound_image(image);
+    return goblin_pe_raw_find_rva(&sound, offset, rva);
+}
+
+/* The bytes that a loader sees at an address: those that the file has, and how many zeros follow them. They lie
+   in the memory of the first section that holds the address, which has as many bytes as its virtual size says,
+   or its raw size where that is 0; a header lies in none. Refused are an address that no section's memory holds,
+   bytes that pass the section's memory, and bytes that the file does not have. No memory is taken. */
+static inline struct goblin_pe_fault goblin_pe_memory_at(
+    const struct goblin_pe_image *image, size_t rva, size_t size, struct goblin_pe_section_data *contents)
+{
+    struct goblin_pe_image sound = goblin_pe_sound_image(image);
+    return goblin_pe_raw_memory_at(&sound, rva, size, contents);
+}
+
 /* The text at an address, up to its NUL or the end of the file. Refused are an address without an offset in
    the file, an offset at or past the file's end, and bytes that are not UTF-8. No memory is taken. */
 static inline struct goblin_pe_fault goblin_pe_text_at(
@@ -306,9 +355,10 @@ static inline struct goblin_pe_fault goblin_pe_text_at(
     return goblin_pe_raw_text_at(&sound, rva, text);
 }
 
-/* So many bytes at an address. Refused are an address without an offset in the file, an offset at or past
-   the file's end, even if no bytes are asked for, and bytes that pass that end. The end of a section is not looked
-   at. No memory is taken. */
+/* So many bytes of the file from the offset of an address on. The end of its section is not looked at, so where they
+   pass that, what comes is what follows in the file, which a loader maps elsewhere or not at all; goblin_pe_memory_at
+   gives what a loader sees. Refused are an address without an offset in the file, an offset at or past the file's
+   end, even if no bytes are asked for, and bytes that pass that end. No memory is taken. */
 static inline struct goblin_pe_fault goblin_pe_bytes_at(
     const struct goblin_pe_image *image, size_t rva, size_t size, struct goblin_pe_text *bytes)
 {
@@ -316,10 +366,10 @@ static inline struct goblin_pe_fault goblin_pe_bytes_at(
     return goblin_pe_raw_bytes_at(&sound, rva, size, bytes);
 }
 
-/* The data of a section: its bytes in the file, from its raw pointer, as stored or rounded down to 512 as the
-   image's options say, and how many zeros follow them up to the size in memory; none where the file has at
-   least as many bytes, which are not cut then. Of the image only the bytes and the options are looked at, so
-   for an object one with its bytes and else zeros will do. Refused is a file that is too short for it, and one
+/* The data of a section: its bytes in the file, from its raw pointer, as stored or rounded down to 512 by the
+   rule of the image's options, and how many zeros follow them up to the size in memory; none where the file has
+   at least as many bytes, which are not cut then. Of the image only the bytes, the options and the file
+   alignment are looked at, so for an object one with its bytes and else zeros will do. Refused is a file that is too short for it, and one
    in which it begins past the end, even where it has no bytes. No memory is taken. */
 static inline struct goblin_pe_fault goblin_pe_read_section_data(
     const struct goblin_pe_image *image, const struct goblin_pe_section *section, struct goblin_pe_section_data *data)
@@ -329,12 +379,35 @@ static inline struct goblin_pe_fault goblin_pe_read_section_data(
     return goblin_pe_raw_read_section_data(&sound, &sound_section, data);
 }
 
+/* The checksum of an image, whose field, check_sum of the optional header, stands at the file offset `field`: 88 bytes after
+   pe_pointer. It is the sum of the little-endian words of two bytes, in 16 bits and with each carry added, and the
+   length, in 32 bits; the bytes of the field count as zeros. Whoever changes an image of which Windows tests it,
+   as of drivers, writes it anew. */
+static inline uint32_t goblin_pe_checksum(const uint8_t *bytes, size_t length, size_t field)
+{
+    return goblin_pe_raw_checksum(GOBLIN_PE_BYTES(bytes), length, field);
+}
+
+/* The file offset of the section table of an image, which follows the optional header. */
+static inline size_t goblin_pe_section_table(const struct goblin_pe_file *file)
+{
+    size_t signature = file->dos_header.pe_pointer;
+    return signature + 24 + file->coff_header.size_of_optional_header; /* (the signature and the COFF header have 24 bytes) */
+}
+
+/* How many bytes goblin_pe_write_header writes of a header with a stub of so many bytes. */
+static inline size_t goblin_pe_header_size(const struct goblin_pe_file *file, size_t stub_length)
+{
+    /* (the DOS header, the PE signature and the COFF header; the fields of the two widths, and sixteen directories) */
+    bool is_wide = file->optional_header.standard_fields.magic == GOBLIN_PE_MAGIC_64;
+    return 64 + stub_length + 24 + (file->directories ? (is_wide ? 112u : 96u) + 16 * 8 : 0);
+}
+
 /* Writes the header of an image to the front of `out`, and says in `written` how many bytes it has: the DOS
    header, the stub, the PE signature, the COFF header, and an optional header with sixteen data directories
    unless file->directories is 0. Where strict mode read them, these are the bytes of the file up to the last
    of its directories, and zeros for those that it lacks of sixteen. In the file the section table may stand
-   where these zeros are. So write elsewhere, and copy at most the first pe_pointer + 24 + size_of_optional_header
-   bytes into the file, as callers/c/patch.c does. The signature follows the stub, whatever pe_pointer says:
+   where these zeros are. So write elsewhere, and copy at most the bytes before goblin_pe_section_table into the file, as patch.c does. The signature follows the stub, whatever pe_pointer says:
    where permissive mode replaced the stub, the headers after it do not stand at their places. The stub may not
    lie in `out`. Refused are a magic that is neither of the two, a field that does not fit an optional header for
    32 bits, and too little room; nothing is written then. */
@@ -356,6 +429,14 @@ static inline struct goblin_pe_fault goblin_pe_write_section(
     return goblin_pe_raw_write_section(&sound, GOBLIN_PE_SOME(uint8_t, out), room, written);
 }
 
+/* Takes the name from the string table out of the record of a section. */
+static inline void goblin_pe_clear_real_name(struct goblin_pe_section *section)
+{
+    section->real_name.bytes = GOBLIN_PE_BYTES(section->real_name.bytes);
+    section->real_name.length = 0;
+    section->has_real_name = false;
+}
+
 /* Puts a short name, of at most eight bytes, into the record of a section, which has none from the string
    table then; a record of zeros is one that calls take from then on. Answers whether it is short enough; where
    not, nothing is changed. */
@@ -366,19 +447,21 @@ static inline bool goblin_pe_set_name(struct goblin_pe_section *section, const c
     memset(section->name, 0, sizeof section->name);
     if (length)
         memcpy(section->name, text, length);
-    section->real_name.bytes = GOBLIN_PE_BYTES(section->real_name.bytes);
-    section->real_name.length = 0;
-    section->has_real_name = false;
+    goblin_pe_clear_real_name(section);
     return true;
 }
 
-/* Puts into the eight bytes of name of a section that its name stands at this offset of the string table.
-   Refused is an offset that they can't hold. */
+/* Puts into the eight bytes of name of a section that its name stands at this offset of the string table. That
+   name is not read, so the record has none from there then, as by goblin_pe_set_name. Refused is an offset that
+   the eight bytes can't hold; nothing is changed then. */
 static inline struct goblin_pe_fault goblin_pe_set_name_offset(struct goblin_pe_section *section, size_t offset)
 {
     struct goblin_pe_section sound = goblin_pe_sound_section(section);
     struct goblin_pe_fault fault = goblin_pe_raw_set_name_offset(&sound, offset);
-    memcpy(section->name, sound.name, sizeof section->name);
+    if (fault.status == GOBLIN_PE_STATUS_OK) {
+        memcpy(section->name, sound.name, sizeof section->name);
+        goblin_pe_clear_real_name(section);
+    }
     return fault;
 }
 
@@ -387,6 +470,21 @@ static inline struct goblin_pe_fault goblin_pe_set_name_offset(struct goblin_pe_
 static inline size_t goblin_pe_fault_text(const struct goblin_pe_fault *fault, uint8_t *text, size_t room)
 {
     return goblin_pe_raw_fault_text(fault, GOBLIN_PE_SOME(uint8_t, text), room);
+}
+
+/* How much room the text of each refusal has enough of, with a NUL. */
+#define GOBLIN_PE_FAULT_ROOM 161
+
+/* The text of a refusal, which ends in a NUL, in this room; it answers the room. */
+static inline const char *goblin_pe_fault_string(const struct goblin_pe_fault *fault, char text[GOBLIN_PE_FAULT_ROOM])
+{
+    uint8_t bytes[GOBLIN_PE_FAULT_ROOM - 1];
+    size_t length = goblin_pe_raw_fault_text(fault, bytes, sizeof bytes);
+    if (length > sizeof bytes)
+        length = sizeof bytes;
+    memcpy(text, bytes, length);
+    text[length] = 0;
+    return text;
 }
 
 #undef GOBLIN_PE_BYTES

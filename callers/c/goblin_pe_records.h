@@ -36,6 +36,23 @@ enum goblin_pe_kind {
     GOBLIN_PE_KIND_BIG_OBJECT = 6
 };
 
+/* Where the raw data of a section begins, for addresses and for its data.
+
+   Where the raw pointer is a multiple of 512, as the PE/COFF specification asks for the usual file
+   alignments, all rules say the same. Else rounding is right where `section_alignment` is 4,096 or
+   more, and pointers as stored where it is less, since the Windows loader maps such an image as one
+   flat view of the file. */
+enum goblin_pe_raw_pointer_rule {
+    /* At the raw pointer, as goblin maps. */
+    GOBLIN_PE_RAW_POINTER_RULE_AS_STORED = 0,
+    /* At the greatest multiple of 512 that is at most the raw pointer. */
+    GOBLIN_PE_RAW_POINTER_RULE_ROUNDED_TO512 = 1,
+    /* By the file alignment, as pefile maps: rounded where that is 512 or more, else as stored. In
+       a lawful image it is below 512 only where it equals a `section_alignment` below 4,096, so
+       this is right for each such image, without a look at its header before. */
+    GOBLIN_PE_RAW_POINTER_RULE_BY_FILE_ALIGNMENT = 2
+};
+
 /* How a table of the file stands. */
 enum goblin_pe_state {
     /* The file has no such table, or it was not asked for. */
@@ -314,11 +331,9 @@ struct goblin_pe_options {
     bool is_permissive;
     /* Whether an address is mapped to a file offset by the sections; where not, it is the offset. */
     bool resolve_rva;
-    /* Whether the raw pointer of a section is rounded down to 512, for addresses and for its data;
-       where not, it is taken as stored. Rounding is right where `section_alignment` is 4,096 or
-       more, and pointers as stored where it is less, since the Windows loader maps such an image as
-       one flat view of the file. */
-    bool rounds_raw_pointers;
+    /* Where the raw data of a section begins, for addresses and for its data: the number of a
+       `goblin_pe_raw_pointer_rule`; any other number is taken as 0. */
+    uint8_t raw_pointer_rule;
     /* Whether the imports are read; where not, their table is absent. */
     bool parse_imports;
 };
@@ -749,23 +764,23 @@ struct goblin_pe_export_directory {
    it are in the file's bytes. */
 struct goblin_pe_tables {
     /* The entries of the Rich header. */
-    const struct goblin_pe_rich_metadata *rich_entries;
+    struct goblin_pe_rich_metadata *rich_entries;
     size_t rich_entry_count;
     /* The sections. */
-    const struct goblin_pe_section *sections;
+    struct goblin_pe_section *sections;
     size_t section_count;
     /* The imports. */
-    const struct goblin_pe_import *imports;
+    struct goblin_pe_import *imports;
     size_t import_count;
     /* The exports, in the order of their name pointers. */
-    const struct goblin_pe_export *exports;
+    struct goblin_pe_export *exports;
     size_t export_count;
     /* The entries of the export address table: that at index i has the ordinal i plus the ordinal
        base. */
-    const struct goblin_pe_export_address *export_addresses;
+    struct goblin_pe_export_address *export_addresses;
     size_t export_address_count;
     /* The blocks of base relocations. */
-    const struct goblin_pe_block *blocks;
+    struct goblin_pe_block *blocks;
     size_t block_count;
     /* What the export directory says; zeros where the exports are not read. */
     struct goblin_pe_export_directory export_directory;
@@ -778,9 +793,9 @@ struct goblin_pe_tables {
 struct goblin_pe_import_position {
     /* The file offset of a library's record; the greatest number once the end has been reached,
        also of a file without imports. */
-    size_t record;
+    size_t record_offset;
     /* The file offset of the slot that is read next, or 0 before the library's first. */
-    size_t slot;
+    size_t slot_offset;
 };
 
 /* What strict mode would refuse of a file, part by part: for each part a fault of the status 0
@@ -801,6 +816,10 @@ struct goblin_pe_damage {
     size_t left_out_libraries;
     /* How many entries of the other libraries it leaves out. */
     size_t left_out_entries;
+    /* How many name pointers of the export directory give no export, in either mode: there is no
+       ordinal, the ordinal lies past the address table, or it leads to a forwarder whose text
+       cannot be read. 0 where the exports are refused. */
+    size_t left_out_exports;
 };
 
 /* A range of the file. */
@@ -814,7 +833,7 @@ struct goblin_pe_range {
 /* Ranges of the file: a block of memory of its own, or none where there is no range. */
 struct goblin_pe_ranges {
     /* The ranges. */
-    const struct goblin_pe_range *ranges;
+    struct goblin_pe_range *ranges;
     size_t range_count;
 };
 
@@ -847,6 +866,19 @@ struct goblin_pe_object {
     size_t sections;
     /* The COFF header. */
     struct goblin_pe_coff_header coff_header;
+};
+
+/* Where the symbol table and the string table of an image or an object lie. Zeros say that there
+   are none. */
+struct goblin_pe_symbol_table {
+    /* The file offset of the first record of the symbol table, in bytes; 0 where there is none. */
+    uint32_t offset;
+    /* How many records it has, the auxiliary ones too. */
+    uint32_t record_count;
+    /* The file offset of the texts of the string table, in bytes: after the four of its length. */
+    size_t strings_offset;
+    /* How many bytes these texts have. */
+    size_t strings_length;
 };
 
 /* A symbol, as its record describes it.
@@ -947,6 +979,7 @@ bool goblin_pe_raw_read_aux_section_definition(
     const uint8_t *bytes, size_t byte_count, struct goblin_pe_aux_section_definition *definition);
 bool goblin_pe_raw_read_aux_file(
     const uint8_t *bytes, size_t byte_count, struct goblin_pe_text *name);
+uint32_t goblin_pe_raw_checksum(const uint8_t *bytes, size_t byte_count, size_t field);
 size_t goblin_pe_raw_fault_text(
     const struct goblin_pe_fault *fault, uint8_t *text, size_t text_room);
 uint32_t goblin_pe_interface(void);
@@ -976,12 +1009,23 @@ struct goblin_pe_fault goblin_pe_raw_bytes_at(
 struct goblin_pe_fault goblin_pe_raw_read_section_data(
     const struct goblin_pe_image *image, const struct goblin_pe_section *section,
     struct goblin_pe_section_data *contents);
+bool goblin_pe_raw_section_at(const struct goblin_pe_image *image, size_t rva, size_t *index);
+bool goblin_pe_raw_find_rva(const struct goblin_pe_image *image, size_t offset, size_t *rva);
+struct goblin_pe_fault goblin_pe_raw_memory_at(
+    const struct goblin_pe_image *image, size_t rva, size_t size,
+    struct goblin_pe_section_data *contents);
 struct goblin_pe_fault goblin_pe_raw_read_object(
     const uint8_t *bytes, size_t byte_count, const struct goblin_pe_options *options,
     struct goblin_pe_object *object, struct goblin_pe_section *sections, size_t section_room);
-struct goblin_pe_fault goblin_pe_raw_next_symbols(
+struct goblin_pe_fault goblin_pe_raw_read_symbol_table(
     const uint8_t *bytes, size_t byte_count, const struct goblin_pe_coff_header *header,
+    struct goblin_pe_symbol_table *table);
+struct goblin_pe_fault goblin_pe_raw_next_symbols(
+    const uint8_t *bytes, size_t byte_count, const struct goblin_pe_symbol_table *table,
     size_t *position, struct goblin_pe_named_symbol *records, size_t record_room, size_t *count);
+bool goblin_pe_raw_symbol_at(
+    const uint8_t *bytes, size_t byte_count, const struct goblin_pe_symbol_table *table,
+    size_t index, struct goblin_pe_named_symbol *symbol);
 struct goblin_pe_fault goblin_pe_raw_read_relocations(
     const uint8_t *bytes, size_t byte_count, const struct goblin_pe_section *section,
     struct goblin_pe_relocation *records, size_t record_room, size_t *count);
@@ -998,7 +1042,7 @@ struct goblin_pe_fault goblin_pe_raw_set_name_offset(
     struct goblin_pe_section *section, size_t offset);
 
 /* Strictly, with addresses mapped by the sections from their raw pointers as stored, and imports. */
-#define GOBLIN_PE_DEFAULT_OPTIONS { false, true, false, true }
+#define GOBLIN_PE_DEFAULT_OPTIONS { false, true, 0, true }
 
 /* How the records lie in memory, where the language can test it. */
 #if defined(__cplusplus) && __cplusplus >= 201103L
@@ -1055,7 +1099,7 @@ GOBLIN_PE_IS_AT(fault, second, 16);
 GOBLIN_PE_HAS_SIZE(options, 4, 1);
 GOBLIN_PE_IS_AT(options, is_permissive, 0);
 GOBLIN_PE_IS_AT(options, resolve_rva, 1);
-GOBLIN_PE_IS_AT(options, rounds_raw_pointers, 2);
+GOBLIN_PE_IS_AT(options, raw_pointer_rule, 2);
 GOBLIN_PE_IS_AT(options, parse_imports, 3);
 
 GOBLIN_PE_HAS_SIZE(standard_fields, 56, 8);
@@ -1252,10 +1296,10 @@ GOBLIN_PE_IS_AT(tables, export_directory, 96);
 GOBLIN_PE_IS_AT(tables, dos_stub, 160);
 
 GOBLIN_PE_HAS_SIZE(import_position, 16, 8);
-GOBLIN_PE_IS_AT(import_position, record, 0);
-GOBLIN_PE_IS_AT(import_position, slot, 8);
+GOBLIN_PE_IS_AT(import_position, record_offset, 0);
+GOBLIN_PE_IS_AT(import_position, slot_offset, 8);
 
-GOBLIN_PE_HAS_SIZE(damage, 136, 8);
+GOBLIN_PE_HAS_SIZE(damage, 144, 8);
 GOBLIN_PE_IS_AT(damage, dos_stub, 0);
 GOBLIN_PE_IS_AT(damage, section_names, 24);
 GOBLIN_PE_IS_AT(damage, imports, 48);
@@ -1263,6 +1307,7 @@ GOBLIN_PE_IS_AT(damage, exports, 72);
 GOBLIN_PE_IS_AT(damage, relocations, 96);
 GOBLIN_PE_IS_AT(damage, left_out_libraries, 120);
 GOBLIN_PE_IS_AT(damage, left_out_entries, 128);
+GOBLIN_PE_IS_AT(damage, left_out_exports, 136);
 
 GOBLIN_PE_HAS_SIZE(range, 16, 8);
 GOBLIN_PE_IS_AT(range, offset, 0);
@@ -1286,6 +1331,12 @@ GOBLIN_PE_IS_AT(section_data, zeros, 16);
 GOBLIN_PE_HAS_SIZE(object, 32, 8);
 GOBLIN_PE_IS_AT(object, sections, 0);
 GOBLIN_PE_IS_AT(object, coff_header, 8);
+
+GOBLIN_PE_HAS_SIZE(symbol_table, 24, 8);
+GOBLIN_PE_IS_AT(symbol_table, offset, 0);
+GOBLIN_PE_IS_AT(symbol_table, record_count, 4);
+GOBLIN_PE_IS_AT(symbol_table, strings_offset, 8);
+GOBLIN_PE_IS_AT(symbol_table, strings_length, 16);
 
 GOBLIN_PE_HAS_SIZE(symbol, 20, 4);
 GOBLIN_PE_IS_AT(symbol, name, 0);

@@ -61,9 +61,8 @@ static bool is_wide(const struct module *m)
 
 static int refused(const struct module *m, struct goblin_pe_fault fault)
 {
-    uint8_t text[160];
-    size_t length = goblin_pe_fault_text(&fault, text, sizeof text);
-    fprintf(stderr, "%s: %.*s\n", m->name, (int)(length < sizeof text ? length : sizeof text), (const char *)text);
+    char text[GOBLIN_PE_FAULT_ROOM];
+    fprintf(stderr, "%s: %s\n", m->name, goblin_pe_fault_string(&fault, text));
     return 1;
 }
 
@@ -160,7 +159,7 @@ static struct goblin_pe_fault open_image(struct module *m)
     if (fault.status != GOBLIN_PE_STATUS_OK)
         return fault;
     goblin_pe_free(&m->tables);
-    options.rounds_raw_pointers = is_in_pages(m);
+    options.raw_pointer_rule = is_in_pages(m) ? GOBLIN_PE_RAW_POINTER_RULE_ROUNDED_TO512 : GOBLIN_PE_RAW_POINTER_RULE_AS_STORED;
     fault = goblin_pe_open(m->bytes, m->length, &options, &m->file, NULL, 0, &m->tables);
     if (fault.status == GOBLIN_PE_STATUS_OK)
         m->image = goblin_pe_image_of(m->bytes, m->length, &options, &m->file, &m->tables);

@@ -1,5 +1,6 @@
 /* Gives an image another time stamp and a section another name: patch FROM STAMP SECTION NAME TO. It reads the header
-   and the section, changes their fields, writes them back at their places, and reads again what it wrote. */
+   and the section, changes their fields, writes them back at their places, with the checksum where the image has one, and
+   reads again what it wrote. */
 #include "goblin_pe.h"
 
 #include <stdio.h>
@@ -10,9 +11,8 @@ static uint8_t bytes[16 << 20], header[1 << 20];
 
 static int refused(struct goblin_pe_fault fault)
 {
-    uint8_t text[160];
-    size_t length = goblin_pe_fault_text(&fault, text, sizeof text);
-    fprintf(stderr, "refused: %.*s\n", (int)(length < sizeof text ? length : sizeof text), (const char *)text);
+    char text[GOBLIN_PE_FAULT_ROOM];
+    fprintf(stderr, "refused: %s\n", goblin_pe_fault_string(&fault, text));
     return 1;
 }
 
@@ -25,26 +25,37 @@ static size_t section_named(const struct goblin_pe_tables *tables, const char *n
     return i;
 }
 
-/* Changes what was opened, and writes it into the file. */
+/* Writes the header into the file. The stub lies there, so it is written elsewhere first; and where the file has fewer than
+   sixteen directories, the zeros for the others would pass the section table. */
+static struct goblin_pe_fault write_header(const struct goblin_pe_file *file, const struct goblin_pe_directory *directories,
+                                           const struct goblin_pe_tables *tables)
+{
+    size_t table = goblin_pe_section_table(file), written;
+    struct goblin_pe_fault fault = goblin_pe_write_header(file, directories, file->directories, tables->dos_stub, header,
+                                                          sizeof header, &written);
+    if (fault.status == GOBLIN_PE_STATUS_OK)
+        memcpy(bytes, header, written < table ? written : table);
+    return fault;
+}
+
+/* Changes what was opened, and writes it into the file; where that has a checksum, with the new one. */
 static struct goblin_pe_fault write_back(size_t length, struct goblin_pe_file *file,
                                          const struct goblin_pe_directory *directories,
                                          const struct goblin_pe_tables *tables, size_t index, char **words)
 {
-    /* The section table follows the optional header, whose end the COFF header says. */
-    size_t table = file->dos_header.pe_pointer + 24u + file->coff_header.size_of_optional_header;
+    size_t place = goblin_pe_section_table(file) + 40 * index, written;
+    struct goblin_pe_windows_fields *fields = &file->optional_header.windows_fields;
     struct goblin_pe_section section = tables->sections[index];
-    size_t written;
     file->coff_header.time_date_stamp = (uint32_t)strtoul(words[0], NULL, 0);
     if (!goblin_pe_set_name(&section, words[2], strlen(words[2])))
         return goblin_pe_set_name_offset(&section, SIZE_MAX); /* which no record can hold */
-    /* The stub lies in the file, so the header is written elsewhere first; and where the file has fewer than sixteen
-       directories, the zeros for the others would pass the section table. */
-    struct goblin_pe_fault fault = goblin_pe_write_header(file, directories, file->directories, tables->dos_stub, header,
-                                                          sizeof header, &written);
-    if (fault.status != GOBLIN_PE_STATUS_OK)
+    struct goblin_pe_fault fault = write_header(file, directories, tables);
+    if (fault.status == GOBLIN_PE_STATUS_OK)
+        fault = goblin_pe_write_section(&section, bytes + place, length - place, &written);
+    if (fault.status != GOBLIN_PE_STATUS_OK || !fields->check_sum)
         return fault;
-    memcpy(bytes, header, written < table ? written : table);
-    return goblin_pe_write_section(&section, bytes + table + 40 * index, length - table - 40 * index, &written);
+    fields->check_sum = goblin_pe_checksum(bytes, length, file->dos_header.pe_pointer + (size_t)88);
+    return write_header(file, directories, tables);
 }
 
 int main(int argc, char **argv)

@@ -132,7 +132,7 @@ static bool has_addresses(const struct goblin_pe_tables *tables)
 static bool is_written(const struct goblin_pe_file *file, const struct goblin_pe_directory *directories,
                        const struct goblin_pe_tables *tables)
 {
-    size_t count = 0, table = file->dos_header.pe_pointer + 24u + file->coff_header.size_of_optional_header;
+    size_t count = 0, table = goblin_pe_section_table(file);
     if (goblin_pe_write_header(file, directories, file->directories, tables->dos_stub, written, sizeof written, &count)
             .status != GOBLIN_PE_STATUS_OK)
         return false;

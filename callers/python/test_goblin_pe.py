@@ -4,9 +4,11 @@ import concurrent.futures
 import copy
 import ctypes
 import dataclasses
+import itertools
 import mmap
 import multiprocessing
 import os
+import pathlib
 import pickle
 import pydoc
 import re
@@ -17,8 +19,8 @@ import unittest
 import unittest.mock
 
 import goblin_pe
-from goblin_pe import (AuxSectionDefinition, Cause, DirectoryType, Kind, ObjectFile, Options, Pe, ReadFault, Refused, State, Status, Te,
-                       kind)
+from goblin_pe import (AuxBeginAndEndFunction, AuxFunctionDefinition, AuxSectionDefinition, AuxWeakExternal, Cause, DataDirectory,
+                       DirectoryType, Kind, ObjectFile, Options, Pe, RawPointerRule, ReadFault, Refused, State, Status, Te, kind)
 from goblin_pe.records import Text
 from goblin_pe.rows import Rows
 
@@ -51,6 +53,15 @@ class Refusals(unittest.TestCase):
             refused = made(caught.exception)
             self.assert_no_image(refused)
             self.assertEqual(refused.path, "a.dll")
+
+    def test_refusals_of_the_same_numbers_are_equal(self):
+        made = Refused(1, 3, 0x6F6E)
+        with self.assertRaises(Refused) as caught:
+            Pe(b"no image")
+        self.assertEqual(caught.exception, made)
+        self.assertEqual(len({made, caught.exception}), 1)
+        for other in (Refused(1, 3, 0x6F6D), Refused(1, 4, 0x6F6E), Refused(4, 3, 0x6F6E), str(made), None):
+            self.assertNotEqual(made, other)
 
     def test_a_pool_hands_on_the_refusal_of_one_file(self):
         with multiprocessing.Pool(2) as pool:
@@ -85,17 +96,9 @@ class Texts(unittest.TestCase):
 
     def begins(self, data):
         """Where the texts begin, by their length."""
-        begins, take_tables = [], Pe._take_tables
-
-        def take(pe, file, tables, rows):
-            for table, fields in self.TEXTS.items():
-                texts = [getattr(record, field) for record in tables.records(table) for field in fields]
-                begins.extend((rows._begin(text), text.length) for text in texts)
-            take_tables(pe, file, tables, rows)
-
-        with unittest.mock.patch.object(Pe, "_take_tables", take):
-            Pe(data, Options(is_permissive=True))
-        return begins
+        pe = Pe(data, Options(is_permissive=True))
+        texts = [getattr(record, field) for table, fields in self.TEXTS.items() for record in pe._tables.records(table) for field in fields]
+        return [(text.bytes - pe._address, text.length) for text in texts]
 
     def test_each_text_lies_in_the_file(self):
         for name in os.listdir(SAMPLES):
@@ -146,13 +149,41 @@ class Buffers(unittest.TestCase):
             wanted = Pe(data)
             self.assertEqual((pe.sections, pe.imports, pe.exports, pe.blocks), (wanted.sections, wanted.imports, wanted.exports, wanted.blocks))
 
-    def test_no_buffer_is_copied(self):
-        data = bytearray(sample("imports_by_name_x64.dll")) + bytearray(1 << 26)
-        tracemalloc.start()
-        Pe(data).footprint()
-        self.assertLess(tracemalloc.get_traced_memory()[1], 1 << 20)
-        tracemalloc.stop()
-        data.append(0)  # no buffer is held any more
+    def test_only_a_buffer_that_could_be_written_is_copied(self):
+        data = sample("imports_by_name_x64.dll") + bytes(1 << 26)
+        with mmap.mmap(-1, len(data), access=mmap.ACCESS_READ) as mapped:
+            for buffer, copies in ((data, 0), (memoryview(data), 0), (memoryview(memoryview(data)).cast("H"), 0), (mapped, 0),
+                                   (bytearray(data), 1), (memoryview(bytearray(data)).toreadonly(), 1)):
+                tracemalloc.start()
+                if buffer is mapped:
+                    self.assertRaises(Refused, Pe, buffer)  # (it has no bytes but zeros)
+                else:
+                    self.assertTrue(Pe(buffer).footprint())
+                most = tracemalloc.get_traced_memory()[1]
+                tracemalloc.stop()
+                self.assertLess(most, copies * len(data) + (1 << 20))
+        data = bytearray(data)
+        pe = Pe(data)
+        data.append(0)  # the buffer is not held
+        self.assertEqual(pe.imports[0].dll, b"KERNEL32.dll")
+
+    def test_a_buffer_that_changes_is_read_as_it_was(self):
+        """It changes as soon as the library has read it, and again for each call."""
+        data, call = sample("imports_by_name_x64.dll"), goblin_pe._LIB.goblin_pe_raw_open
+        for buffer in (bytearray(data), array.array("B", data), mmap.mmap(-1, len(data))):
+            with self.subTest(type(buffer)), memoryview(buffer) as whole:
+                whole[:] = data
+
+                def changes(*arguments):
+                    fault = call(*arguments)
+                    whole[:] = bytes(~it & 0xFF for it in data)
+                    return fault
+
+                with unittest.mock.patch.object(goblin_pe._LIB, "goblin_pe_raw_open", changes):
+                    pe = Pe(buffer)
+                self.assertEqual((pe.imports, pe.exports, pe.blocks, pe.sections, pe.footprint()),
+                                 (Pe(data).imports, Pe(data).exports, Pe(data).blocks, Pe(data).sections, Pe(data).footprint()))
+                self.assertRaises(Refused, Pe, buffer)
 
     def test_what_is_no_buffer_is_refused(self):
         self.assertRaises(BufferError, Pe, memoryview(sample("imports_by_name_x64.dll"))[::2])
@@ -160,15 +191,82 @@ class Buffers(unittest.TestCase):
 
     def test_with(self):
         with Pe(sample("imports_by_name_x64.dll")) as pe:
-            self.assertTrue(pe.footprint())
-        self.assertRaises(ValueError, pe.footprint)
-        self.assertEqual([x.dll for x in pe.imports], [b"KERNEL32.dll"])
+            self.assertTrue(pe.footprint() and pe.imports)
+        for closed in (pe.footprint, lambda: pe.exports, pe.walk_imports, pe.write):
+            self.assertRaises(ValueError, closed)
+        # what was asked for stays, and what maps addresses
+        self.assertEqual(([x.dll for x in pe.imports], pe.imphash(), pe.find_offset(0x1020)),
+                         ([b"KERNEL32.dll"], "27abfd9cfda7519d5efb3f08a2a4f3ce", 0x420))
+        self.assertRegex(repr(pe), "imports=1 exports=2")
+
+    def test_threads_ask_for_rows_while_another_closes(self):
+        data = sample("forwarders_x64.dll")
+        wanted = Pe(data).exports
+
+        def asked(pe):
+            try:
+                return pe.exports
+            except ValueError:
+                return "closed"
+
+        with concurrent.futures.ThreadPoolExecutor(8) as threads:
+            for _ in range(300):
+                pe = Pe(data)
+                tasks = [threads.submit(call, pe) for call in (asked, asked, Pe.close, asked)]
+                for it in (tasks[0], tasks[1], tasks[3]):
+                    self.assertIn(it.result(), (wanted, "closed"))
 
     def test_what_was_read_is_shown_by_its_numbers(self):
         shown = (Pe(sample("imports_by_name_x64.dll")), ObjectFile(sample("object_x64.obj")), Te(sample("firmware_x64.te")))
         for read, wanted in zip(shown, ("<Pe machine=0x8664 sections=4 imports=1 exports=2 blocks=1>",
                                         r"<ObjectFile machine=0x8664 sections=\d+ symbols=\d+>", r"<Te machine=0x8664 sections=\d+>")):
             self.assertRegex(repr(read), wanted)
+
+
+def with_names(count, length):
+    """An image, to be read without its sections, with so many exports: their names begin at each byte of one long text."""
+    data = bytearray(sample("forwarders_x64.dll"))
+    begin, directory = len(data), int.from_bytes(data[0x3C:0x40], "little") + 24 + 112
+    struct.pack_into("<I", data, directory, begin)
+    address, names = begin + 40, begin + 44
+    ordinals, text = names + 4 * count, names + 6 * count
+    data += struct.pack("<IIHHIIIIIII", 0, 0, 0, 0, text, 1, 1, count, address, names, ordinals) + struct.pack("<I", 0x1000)
+    data += struct.pack("<%dI" % count, *range(text, text + count)) + bytes(2 * count) + b"x" * length + bytes(1)
+    return bytes(data)
+
+
+class Memory(unittest.TestCase):
+    """Of files that list much: 256 KiB whose names have 1.6 GB."""
+
+    HOW = Options(is_permissive=True, resolve_rva=False, parse_imports=False)
+
+    def most(self, call):
+        """How much memory of Python's a call takes, in megabytes."""
+        tracemalloc.start()
+        call()
+        most = tracemalloc.get_traced_memory()[1]
+        tracemalloc.stop()
+        return most / 1e6
+
+    def test_rows_are_made_when_they_are_asked_for(self):
+        data = with_names(count=18000, length=150000)
+        self.assertLess(len(data), 1 << 18)
+        self.assertLess(self.most(lambda: Pe(data, self.HOW)), 1)
+        pe = Pe(data, self.HOW)
+        self.assertEqual(sum(len(it.name) for it in itertools.islice(pe.walk_exports(), 100)), sum(range(150000, 150000 - 100, -1)))
+        self.assertLess(self.most(lambda: [None for _ in itertools.islice(pe.walk_exports(), 2000)]), 10)
+        self.assertLess(self.most(lambda: (repr(pe), pe.find_offset(0), pe.imphash(), pe.export_addresses, pe.damage)), 1)
+
+    def test_a_text_of_one_place_is_one_object(self):
+        data = with_names(count=2, length=10)
+        address = data.index(b"x" * 10)
+        for it in (address + 1, address):
+            data = data.replace(struct.pack("<I", it), struct.pack("<I", address))
+        pe = Pe(data, self.HOW)
+        first, second = pe.exports
+        self.assertEqual(first.name, b"x" * 10)
+        self.assertIs(first.name, second.name)
+        self.assertIs(pe.exports, pe.exports)
 
 
 class Headers(unittest.TestCase):
@@ -204,10 +302,19 @@ class HowFilesAreRead(unittest.TestCase):
     def test_options_are_those_of_the_library_but_for_what_is_said(self):
         with open(os.path.join(HERE, "../c/goblin_pe_records.h"), encoding="ascii") as file:
             stored = re.search(r"GOBLIN_PE_DEFAULT_OPTIONS \{(.*)\}", file.read()).group(1)
-        self.assertEqual(str(dataclasses.astuple(Options())).lower().strip("()"), stored.strip())
+        values = ", ".join("%d" % it if isinstance(it, RawPointerRule) else str(it).lower() for it in dataclasses.astuple(Options()))
+        self.assertEqual(values, stored.strip())
         data = sample("imports_by_name_x64.dll")
         self.assertEqual(Pe(data, Options(is_permissive=True)).imports, Pe(data).imports)
         self.assertEqual(Pe(data, Options(parse_imports=False)).import_table, State.ABSENT)
+
+    def test_a_file_is_opened_by_its_path(self):
+        path = os.path.join(SAMPLES, "imports_by_name_x64.dll")
+        self.assertEqual(Pe.open(path).imports, Pe(sample("imports_by_name_x64.dll")).imports)
+        self.assertEqual(Pe.open(pathlib.Path(path), options=Options(parse_imports=False)).import_table, State.ABSENT)
+        self.assertEqual(Pe(sample("imports_by_name_x64.dll"), options=Options(parse_imports=False)).imports, [])
+        self.assertRaises(OSError, Pe.open, path + ".not")
+        self.assertRaises(Refused, Pe.open, os.path.join(SAMPLES, "object_x64.obj"))
 
     def test_options_are_bools(self):
         for wrong in (1, 0, "no", None):
@@ -274,6 +381,13 @@ class Files(unittest.TestCase):
             self.assertEqual((list(pe.walk_imports()), list(pe.walk_exports())), (pe.imports, pe.exports))
             self.assertEqual((unlisted.imports, list(unlisted.walk_imports()), unlisted.imphash()), ([], pe.imports, pe.imphash()))
 
+    def test_libraries_have_records(self):
+        data = bytearray(sample("imports_by_name_x64.dll"))
+        record = Pe(data).find_offset(Pe(data).data_directories[DirectoryType.IMPORT_TABLE].virtual_address)
+        struct.pack_into("<II", data, record + 4, 1, 2)
+        self.assertEqual(list(Pe(data, Options(parse_imports=False)).walk_libraries()), [(b"KERNEL32.dll", record, 1, 2)])
+        self.assertEqual(list(Pe(sample("forwarders_x64.dll")).walk_libraries()), [])
+
     def test_a_walk_ends_with_the_refusal_of_a_read(self):
         data = bytearray(sample("imports_by_name_x64.dll"))
         pe = Pe(data)
@@ -284,7 +398,7 @@ class Files(unittest.TestCase):
             next(walk)
         self.assertEqual((caught.exception.cause, caught.exception.first), (Cause.UNMAPPED, 0x9000))
         damage = Pe(data, Options(is_permissive=True)).damage
-        self.assertEqual((str(damage.imports), damage[:2], damage[3:]), (str(caught.exception), (None, None), (None, None, 0, 0)))
+        self.assertEqual((str(damage.imports), damage[:2], damage[3:]), (str(caught.exception), (None, None), (None, None, 0, 0, 0)))
 
     def test_what_permissive_mode_counts_as_read(self):
         data = sample("imports_by_name_x64.dll")
@@ -317,7 +431,7 @@ class Files(unittest.TestCase):
         headers = Pe(unaligned)
         table = headers.dos_header.pe_pointer + 24 + headers.coff_header.size_of_optional_header
         unaligned[table + 20] |= 0x10  # (the raw pointer of the first)
-        pe = Pe(unaligned, Options(rounds_raw_pointers=True))
+        pe = Pe(unaligned, Options(raw_pointer_rule=RawPointerRule.ROUNDED_TO512))
         first = pe.sections[0]
         self.assertEqual(pe.section_data(first).data[:16], pe.bytes_at(first.virtual_address, 16))
         self.assertNotEqual(first.pointer_to_raw_data, pe.find_offset(first.virtual_address))
@@ -360,6 +474,30 @@ class Files(unittest.TestCase):
         header = data.index(b"PE\0\0")
         self.assertRaises(ValueError, Pe(data[:header + 20] + bytes(2) + data[header + 22:]).write, None, pe.optional_header)
 
+    def test_what_is_written_is_what_the_arguments_say(self):
+        data = sample("imports_by_name_x64.dll")
+        pe, header = Pe(data), data.index(b"PE\0\0")
+        for place, width, made in (
+                (0x1C, 2, pe.write(dos_header=pe.dos_header._replace(reserved=(7, 0, 0, 0)))),
+                (header + 8, 4, pe.write(coff_header=pe.coff_header._replace(time_date_stamp=7))),
+                (header + 24 + 64, 4, pe.write(optional_header=pe.optional_header._replace(
+                    windows_fields=pe.optional_header.windows_fields._replace(check_sum=7)))),
+                (header + 24 + 112 + 8 * DirectoryType.DEBUG_TABLE, 4, pe.write(
+                    data_directories={**pe.data_directories, DirectoryType.DEBUG_TABLE: DataDirectory(7, 0)}))):
+            wanted = bytearray(data)
+            wanted[place: place + width] = (7).to_bytes(width, "little")
+            self.assertEqual(made, wanted)
+        self.assertEqual(Pe(pe.write(data_directories={}), Options(is_permissive=True)).data_directories, {})
+        self.assertRaises(ValueError, pe.write, data_directories={16: DataDirectory(1, 2)})
+        self.assertRaises(ValueError, pe.write, dos_header=pe.dos_header._replace(pe_pointer=header + 8))
+        # and not what the object was made to say: that can't be
+        for name in ("dos_header", "coff_header", "optional_header", "data_directories", "sections"):
+            self.assertRaises(AttributeError, setattr, pe, name, None)
+        with self.assertRaises(TypeError):
+            pe.data_directories[DirectoryType.DEBUG_TABLE] = DataDirectory(7, 0)
+        pe.sections.clear()
+        self.assertEqual(pe.write(), data)
+
     def test_a_header_inside_the_dos_header(self):
         data = bytearray(sample("imports_by_name_x64.dll"))
         header = data.index(b"PE\0\0")
@@ -368,7 +506,7 @@ class Files(unittest.TestCase):
         with self.assertRaises(Refused) as caught:
             Pe(data)
         pe = Pe(data, Options(is_permissive=True))
-        self.assertEqual((str(pe.damage.dos_stub), pe.damage[1:]), (str(caught.exception), (None, None, None, None, 0, 0)))
+        self.assertEqual((str(pe.damage.dos_stub), pe.damage[1:]), (str(caught.exception), (None, None, None, None, 0, 0, 0)))
         self.assertEqual(caught.exception.cause, Cause.STUB_BEFORE_START)
         self.assertRaises(ValueError, pe.write)
 
@@ -384,14 +522,59 @@ class Files(unittest.TestCase):
                 if s.storage_class == 3 and s.number_of_aux_symbols == 1:
                     definition = s.aux(AuxSectionDefinition)
                     self.assertEqual(definition.length, found.sections[s.section_number - 1].size_of_raw_data)
+                    self.assertTrue(s.is_section_definition)
                 elif not s.auxiliary:
                     self.assertEqual((s.aux(AuxSectionDefinition), s.aux_file()), (None, None))
-        self.assertEqual(Pe(sample("imports_by_name_x64.dll")).symbols, [])
+            self.assertTrue(all(found.symbol_at(s.index) is s for s in found.symbols))
+            self.assertIsNone(found.symbol_at(found.coff_header.number_of_symbol_table))
+        pe = Pe(sample("imports_by_name_x64.dll"))
+        self.assertEqual((pe.symbols, pe.symbol_at(0)), ([], None))
+
+    def test_a_symbol_has_auxiliary_records_of_its_kind_alone(self):
+        record = struct.pack("<IIIIH", 1, 2, 3, 4, 0)
+        kinds = (AuxFunctionDefinition, AuxBeginAndEndFunction, AuxWeakExternal, AuxSectionDefinition)
+        # (the storage class, the type, the section and the value: which of the kinds it has, and whether a file's name)
+        for row, has in (((2, 0x20, 1, 0x10), (True, False, False, False, False)), ((2, 0, 1, 0x10), (False,) * 5),
+                         ((101, 0, 1, 5), (False, True, False, False, False)), ((105, 0, 0, 0), (False, False, True, False, False)),
+                         ((2, 0, 0, 0), (False, False, True, False, False)), ((2, 0, 0, 8), (False,) * 5),
+                         ((3, 0, 1, 0), (False, False, False, True, False)), ((103, 0, -2, 0), (False,) * 4 + (True,))):
+            with self.subTest(row):
+                storage_class, typ, section, value = row
+                records = struct.pack("<8sIhHBB", b"name", value, section, typ, storage_class, 1) + record
+                header = struct.pack("<HHIIIHH", 0x8664, 0, 0, 20, 2, 0, 0)
+                symbol, = ObjectFile(header + records + struct.pack("<I", 4)).symbols
+                found = [symbol.aux(it) for it in kinds]
+                self.assertEqual((*(it is not None for it in found), symbol.aux_file() is not None), has)
+                self.assertEqual({it[0] if it._fields[0] != "unused1" else it.line_number for it in found if it} - {1, 2}, set())
+                self.assertEqual((symbol.is_function_definition, symbol.is_weak_external, symbol.is_section_definition, symbol.is_file),
+                                 (has[0], storage_class == 105, has[3], has[4]))
 
     def test_kinds(self):
         names = ("firmware_x64.efi", "object_x86.obj", "firmware_x64.te")
         self.assertEqual([kind(sample(it)) for it in names], [Kind.IMAGE, Kind.OBJECT, Kind.TE])
         self.assertEqual([kind(b""), kind(bytearray(b"\0\0"))], [Kind.UNKNOWN] * 2)
+
+    def test_what_an_image_is(self):
+        """By goblin's names."""
+        for name, wanted in (("imports_by_name_x64.dll", (True, True, b"imports_by_name_x64.dll", [b"KERNEL32.dll"])),
+                             ("imports_by_ordinal_x86.dll", (False, True, b"imports_by_ordinal_x86.dll", [b"KERNEL32.dll"])),
+                             ("program_x86.exe", (False, False, b"program_x86.exe", []))):
+            data = sample(name)
+            pe, optional = Pe(data), int.from_bytes(data[0x3C:0x40], "little") + 24
+            self.assertEqual((pe.is_64, pe.is_lib, pe.name, pe.libraries), wanted)
+            form, place = ("<Q", 24) if pe.is_64 else ("<I", 28)
+            self.assertEqual((pe.entry, pe.image_base), struct.unpack_from("<I", data, optional + 16) + struct.unpack_from(form, data, optional + place))
+
+    def test_names_of_numbers_and_flags(self):
+        for number, kind, wanted in ((0x8664, "machine", ["COFF_MACHINE_X86_64"]), (1, "machine", ["0x1"]),
+                                     (3, "subsystem", ["IMAGE_SUBSYSTEM_WINDOWS_CUI"]), (0, "file", []),
+                                     (0x2002, "file", ["IMAGE_FILE_EXECUTABLE_IMAGE", "IMAGE_FILE_DLL"]),
+                                     (0x41, "dll", ["IMAGE_DLLCHARACTERISTICS_DYNAMIC_BASE", "0x1"]),
+                                     (0x60500024, "section", ["IMAGE_SCN_CNT_CODE", "IMAGE_SCN_ALIGN_16BYTES", "IMAGE_SCN_MEM_EXECUTE",
+                                                              "IMAGE_SCN_MEM_READ", "0x4"])):
+            self.assertEqual(goblin_pe.names_of(number, kind), wanted)
+        self.assertEqual(goblin_pe.names_of(0x60000020), goblin_pe.names_of(Pe(sample("program_x64.exe")).sections[0].characteristics))
+        self.assertRaises(KeyError, goblin_pe.names_of, 1, "symbol")
 
     def test_the_hash_of_imports_is_that_of_other_tools(self):
         # (told by pefile 2023.2.7)
@@ -415,15 +598,26 @@ class Files(unittest.TestCase):
                 data = data.replace(struct.pack("<Q", 1 << 63 | 901), struct.pack("<Q", 1 << 63 | ordinal))
                 self.assertEqual(Pe(data).imphash(), wanted)
 
-    def test_all_that_is_for_users_is_named(self):
-        public = {name for name, it in vars(goblin_pe).items() if not name.startswith("_") and getattr(it, "__module__", "").startswith("goblin_pe")}
-        self.assertEqual(public - {"options"}, set(goblin_pe.__all__) - {"Data"})
+    def test_what_is_offered_is_for_users(self):
+        """By a console, which completes a name, and where all is imported."""
+        offered = {it for it in dir(goblin_pe) if not it.startswith("__")}
+        for name in offered - {"constants", "Data"}:
+            self.assertTrue(getattr(goblin_pe, name).__module__.startswith("goblin_pe"), name)
+        self.assertLessEqual({"Pe", "ObjectFile", "Te", "Options", "Refused", "Section", "AuxWeakExternal", "kind", "to_json"}, offered)
+        found = {}
+        exec("from goblin_pe import *", found)
+        self.assertEqual(set(found) - offered, {"__builtins__", "options", "numbers", "records", "rows"})
+
+    def test_the_version_is_that_of_the_package(self):
+        with open(os.path.join(HERE, "pyproject.toml"), encoding="utf-8") as file:
+            self.assertIn('version = "%s"\n' % goblin_pe.__version__, file.read())
 
     def test_help_names_what_is_for_users(self):
         text = pydoc.plain(pydoc.render_doc(goblin_pe))
-        for name in ("class Pe", "class ObjectFile", "class Te", "class Refused", "class Options", "footprint(", "walk_imports(", "write("):
+        for name in ("class Pe", "class ObjectFile", "class Te", "class Refused", "class Options", "footprint(", "walk_imports(", "write(", "names_of(", "to_json("):
             self.assertIn(name, text)
         self.assertNotIn("ctypes", text)
+        self.assertLess(len(text.splitlines()), 1000)
 
 
 if __name__ == "__main__":

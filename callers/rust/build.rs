@@ -1,5 +1,7 @@
-//! Links the library: from the folder that the variable GOBLIN_PE_LIB names, else from the folder lib that comes
-//! with the crate, else from that into which callers/build puts it, else from where pkg-config finds it.
+//! Links the library: from the folder that the variable `GOBLIN_PE_LIB` names, else from the folder lib that comes
+//! with the crate, else from that into which callers/build puts it, else from where pkg-config finds it. What is found
+//! by itself is this machine's own, so for another target the variable has to name it. Where there is none, programs
+//! can be checked and documented, and not linked.
 use std::env;
 use std::path::{Path, PathBuf};
 use std::process::Command;
@@ -10,19 +12,34 @@ fn main() {
     println!("cargo::rerun-if-env-changed=PKG_CONFIG_LIBDIR");
     let folder = match env::var_os("GOBLIN_PE_LIB") {
         Some(named) => Some(PathBuf::from(named)),
+        None if is_for_another() => None,
         None => beside().or_else(installed),
     };
-    match folder.as_deref().and_then(|it| Some((it, kind_in(it)?))) {
-        Some((folder, (kind, name))) => {
-            println!("cargo::rustc-link-search=native={}", folder.display());
-            println!("cargo::rustc-link-lib={kind}=goblin_pe");
-            println!("cargo::rerun-if-changed={}", folder.join(name).display());
-        }
-        None => println!(
-            "cargo::error=the library libgoblin_pe is not there: run callers/build of its repository, \
-             or name the folder with libgoblin_pe.a by the variable GOBLIN_PE_LIB"
-        ),
+    if let Some((folder, (kind, name))) = folder.as_deref().and_then(|it| Some((it, kind_in(it)?)))
+    {
+        println!("cargo::rustc-link-search=native={}", folder.display());
+        println!("cargo::rustc-link-lib={kind}=goblin_pe");
+        println!("cargo::rerun-if-changed={}", folder.join(name).display());
+    } else {
+        // (what has to be linked then is not found, and as no such file is there, the next build looks again)
+        println!("cargo::rustc-link-lib=static=goblin_pe");
+        println!("cargo::rerun-if-changed=lib/libgoblin_pe.a");
+        println!(
+            "cargo::warning=the library libgoblin_pe for {} is not there: run callers/build of its repository, \
+             or name the folder with libgoblin_pe.a by the variable GOBLIN_PE_LIB",
+            env::var("TARGET").unwrap_or_default()
+        );
     }
+}
+
+// Whether the target has another processor or system than this machine.
+fn is_for_another() -> bool {
+    let of = |triple: &str| {
+        let triple = env::var(triple).unwrap_or_default();
+        let mut words = triple.split('-').map(String::from);
+        (words.next(), words.nth(1))
+    };
+    of("TARGET") != of("HOST")
 }
 
 // How the library in a folder is linked, and its file there; the archive where there are both.

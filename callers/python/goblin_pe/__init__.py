@@ -15,61 +15,91 @@ relocations, objects with their symbols, and Terse Executables.
 
 `python -m goblin_pe FILE` lists a file, and with --json many of them.
 
-Pe, ObjectFile and Te read bytes, a memoryview, a mapped file or any other buffer that lies in one piece, and copy
-none of it; Options say how. What was read is Python's own: it stays when the buffer is gone. Texts are bytes. Addresses
-(rva) are relative to the image's base, offsets are file offsets, both in bytes. `kind` tells what a file is.
+Pe, ObjectFile and Te read bytes, a memoryview, a mapped file or any other buffer that lies in one piece; Options say how.
+Texts are bytes. Addresses (rva) are relative to the image's base, offsets are file offsets, both in bytes. `kind` tells what
+a file is.
 
-The bytes must not change while the library reads them. Other threads of Python run on meanwhile only where the bytes are
-those of a `bytes` object or of a file mapped with ACCESS_READ, or of a memoryview of these. No thread of Python runs
-while it reads any other buffer, as a bytearray or a writable mapping: also not where the buffer is a view for reading,
-since its bytes could be written past it. A mapped file must not be written or cut meanwhile, by whatever way.
+What is read is a `bytes` object, a file mapped with ACCESS_READ, or a memoryview of these: as nothing of Python's can change
+them, none of it is copied, and other threads run on meanwhile. Any other buffer, as a bytearray, a writable mapping or a
+view of one, is copied first. A mapped file must not be written or cut by whatever other way.
 
-A file of 256 KiB can have more than 800 million imports. Where memory can't be limited, read it by
-Options(parse_imports=False) and use Pe.walk_imports, which keeps none of them.
+The rows of a table are made when they are first asked for, of the file's bytes, and are Python's own then: they stay when
+the bytes are gone. A file of 256 KiB can have more than 800 million imports, and exports whose names have 2 GB. Where
+memory can't be limited, read it by Options(parse_imports=False), and use Pe.walk_imports and Pe.walk_exports, which keep no
+row.
 
 A refusal raises Refused, also where the library is refused memory: its status is then Status.MEMORY. MemoryError
 comes from Python alone, where there is no memory for what was read.
 
 The rows Section, Import, Export, Block, Symbol, Range and others are named tuples, and so are the headers, whose fields
 are those of the format: a changed copy is made by _replace, and Pe.write writes it. State, Status, Kind, Cause, Counted,
-ReadFault and DirectoryType name numbers. All of them can be imported from here; goblin_pe.constants has the numbers of the
-formats, such as IMAGE_FILE_DLL.
+ReadFault and DirectoryType name numbers. All of them can be imported from here, and help(goblin_pe.Section) explains one;
+goblin_pe.constants has the numbers of the formats, such as IMAGE_FILE_DLL.
 
 The reader is the proved library goblin_pe. Its shared library stands beside an installed module; in the repository
 callers/build puts it into callers/lib. The variable GOBLIN_PE_SO names another when the module is imported.
 """
-import ctypes as c
-import dataclasses
-import hashlib
-import operator
-from typing import Any, Callable, Dict, Iterable, Iterator, List, NamedTuple, Optional
+import bisect as _bisect
+import ctypes as _c
+import dataclasses as _dataclasses
+import hashlib as _hashlib
+import itertools as _itertools
+import operator as _operator
+import os as _os
+import struct as _struct
+import types as _types
+import typing as _t
 
 from . import _laid_out, records
 from ._imphash import imphash as _imphash
-from ._library import LIB as _LIB, Data, held as _held
-from ._refused import Refused, named as _named, refusal as _refusal, test as _test
-from .numbers import Cause, Counted, DirectoryType, Kind, ReadFault, State, Status
-from .records import (AuxBeginAndEndFunction, AuxFunctionDefinition, AuxSectionDefinition, AuxWeakExternal, CoffHeader, DataDirectory,
-                      DosHeader, ExportDirectoryTable, OptionalHeader, Relocation, RichMetadata, StandardFields, TeHeader, WindowsFields)
-from .rows import (Block, Export, ExportAddress, ExportDirectory, Import, Range, RichHeader, Rows as _Rows, Section, SectionData,
-                   Symbol, data_of as _data_of, record_of as _section_record, room as _room)
+from ._names import names_of as names_of
+from ._library import LIB as _LIB, Data as Data, Kept as _Kept, held as _held, kept as _kept
+from ._refused import Refused as Refused, named as _named, refusal as _refusal, test as _test
+from .constants import IMAGE_FILE_DLL as _IMAGE_FILE_DLL, MAGIC_64 as _MAGIC_64
+from .numbers import (
+    Cause as Cause, Counted as Counted, DirectoryType as DirectoryType, Kind as Kind,
+    RawPointerRule as RawPointerRule, ReadFault as ReadFault,
+    State as State, Status as Status)
+from .records import (
+    AuxBeginAndEndFunction as AuxBeginAndEndFunction, AuxFunctionDefinition as AuxFunctionDefinition,
+    AuxSectionDefinition as AuxSectionDefinition, AuxWeakExternal as AuxWeakExternal, CoffHeader as CoffHeader,
+    DataDirectory as DataDirectory, DosHeader as DosHeader, ExportDirectoryTable as ExportDirectoryTable,
+    OptionalHeader as OptionalHeader, Relocation as Relocation, RichMetadata as RichMetadata,
+    StandardFields as StandardFields, TeHeader as TeHeader, WindowsFields as WindowsFields)
+from .rows import (
+    NO_TEXT as _NO_TEXT, Block as Block, Export as Export, ExportAddress as ExportAddress,
+    ExportDirectory as ExportDirectory, Import as Import, Library as Library, Range as Range, RichHeader as RichHeader, Rows as _Rows,
+    Section as Section, SectionData as SectionData, Symbol as Symbol, data_of as _data_of, record_of as _section_record,
+    room as _room)
 
-__all__ = ["Pe", "ObjectFile", "Te", "Options", "Refused", "Damage", "Data", "kind", "DosHeader", "CoffHeader", "OptionalHeader",
-           "StandardFields", "WindowsFields", "DataDirectory", "RichHeader", "RichMetadata", "TeHeader", "ExportDirectoryTable", "Section",
-           "SectionData", "Relocation", "Import", "Export", "ExportAddress", "ExportDirectory", "Block", "Symbol", "AuxFunctionDefinition",
-           "AuxBeginAndEndFunction", "AuxWeakExternal", "AuxSectionDefinition", "Range", "State", "Status", "Kind", "Cause", "Counted",
-           "ReadFault", "DirectoryType"]
+__version__ = "0.3.0"
 
 
-def _records_of(sections: List[Section]) -> Any:
+def __dir__() -> _t.List[str]:
+    # what is for users, as a console offers it (there is no __all__, as help() would then explain each row at length)
+    public = {name for name, it in globals().items() if not name.startswith("_") and not isinstance(it, _types.ModuleType)}
+    return sorted([*public - {"options"}, "constants", "__doc__", "__version__"])
+
+
+def _records_of(sections: _t.List[Section]) -> _t.Any:
     # sections, for the mapping of addresses; one more than there are
     return (records.Section * (len(sections) + 1))(*map(_section_record, sections))
 
 
+def _mapping_of(tables: records.Tables) -> _t.Any:
+    # the same of those that were read: their records, without their names, which are in the file
+    count = tables.count("sections")
+    mapping = (records.Section * (count + 1))()
+    _c.memmove(mapping, tables.sections, count * _c.sizeof(records.Section))
+    for it in mapping:
+        it.real_name, it.has_real_name = _NO_TEXT, False
+    return mapping
+
+
 def _size(number: int) -> int:
     # an address or a size, which the library takes without a look at what is past 64 bits
-    number = operator.index(number)
-    number.to_bytes(c.sizeof(c.c_size_t), "little")
+    number = _operator.index(number)
+    number.to_bytes(_c.sizeof(_c.c_size_t), "little")
     return number
 
 
@@ -77,32 +107,50 @@ def _size(number: int) -> int:
 _BATCH = 256
 
 
-def _walk(data: Data, kind: Any, row: str, call: Callable[..., records.Fault], position: Any) -> Iterator[Any]:
-    # the rows of a walk: `call` takes the calls, the address, the length, the position, the room and the count
-    room, count = _room(kind, _BATCH), c.c_size_t()
+# How many bytes of texts a walk keeps, of those that may come again.
+_MOST_KEPT = 1 << 20
+
+
+def _walk(data: _Kept, kind: _t.Any, row: str, call: _t.Callable[..., records.Fault], position: _t.Any) -> _t.Iterator[_t.Any]:
+    # the rows of a walk, each made when it is asked for: `call` takes the address, the length, the position, the room and
+    # the count
+    room, count = _room(kind, _BATCH), _c.c_size_t()
     while True:
-        with memoryview(data) as view, _held(view) as (calls, address, length), view.cast("B") as in_bytes:
-            _test(call(calls, address, length, c.byref(position), room, _BATCH, c.byref(count)))
-            rows = _Rows(in_bytes, address)
-            batch = [getattr(rows, row)(it) for it in room[: count.value]]
-        yield from batch
-        if not batch:
+        with _held(data) as (address, length):
+            _test(call(address, length, _c.byref(position), room, _BATCH, _c.byref(count)))
+        if not count.value:
             return
+        yield from map(getattr(_Rows(data, address, _MOST_KEPT), row), room[: count.value])
 
 
-def _symbols(data: Data, header: CoffHeader) -> List[Symbol]:
-    coff = _laid_out.laid_out(CoffHeader)(*header)
-    return list(_walk(data, records.NamedSymbol, "symbol", lambda calls, address, length, *to: calls.goblin_pe_raw_next_symbols(
-        address, length, c.byref(coff), *to), c.c_size_t()))
+def _symbol_table(data: _Kept, header: CoffHeader) -> records.SymbolTable:
+    # where the symbols lie; the string table is read here alone
+    coff, table = _laid_out.laid_out(CoffHeader)(*header), records.SymbolTable()
+    with _held(data) as (address, length):
+        _test(_LIB.goblin_pe_raw_read_symbol_table(address, length, _c.byref(coff), _c.byref(table)))
+    return table
+
+
+def _symbols(data: _Kept, table: records.SymbolTable) -> _t.List[Symbol]:
+    return list(_walk(data, records.NamedSymbol, "symbol", lambda address, length, *to: _LIB.goblin_pe_raw_next_symbols(
+        address, length, _c.byref(table), *to), _c.c_size_t()))
 
 
 def kind(data: Data) -> Kind:
     """What a file is, by its first bytes."""
-    with memoryview(data) as view, _held(view) as (calls, address, length):
-        return Kind(calls.goblin_pe_raw_kind_of(address, length))
+    with memoryview(data) as view, view.cast("B") as in_bytes, _held(_kept(in_bytes[:64])) as (address, length):
+        return Kind(_LIB.goblin_pe_raw_kind_of(address, length))
 
 
-class Damage(NamedTuple):
+def checksum(data: Data, field: int) -> int:
+    """The checksum of an image, whose field stands at the file offset `field`: 88 bytes after pe_pointer. It is the sum of the
+    little-endian words of two bytes, in 16 bits and with each carry added, and the length, in 32 bits; the bytes of the field
+    count as zeros. Windows loads a driver only where the field has this value."""
+    with _held(_kept(data)) as (address, length):
+        return int(_LIB.goblin_pe_raw_checksum(address, length, _size(field)))
+
+
+class Damage(_t.NamedTuple):
     """What strict mode would refuse of an image, part by part, each for itself, as a Refused; None is no damage. A file
     without damage is one that strict mode reads, and permissive mode alike; but an import directory at file offset 0 is an
     empty list there, without damage.
@@ -113,122 +161,241 @@ class Damage(NamedTuple):
     relocations: of the base relocations: of their directory, not of its blocks.
     left_out_libraries: how many libraries permissive mode leaves out of the imports: those without an address table.
     left_out_entries: how many entries of the other libraries it leaves out.
+    left_out_exports: how many name pointers of the export directory give no export, in either mode: there is no ordinal, it lies
+        past the address table, or it leads to a forwarder whose text can't be read. 0 where the exports are refused.
     """
 
-    dos_stub: Optional[Refused]
-    section_names: Optional[Refused]
-    imports: Optional[Refused]
-    exports: Optional[Refused]
-    relocations: Optional[Refused]
+    dos_stub: _t.Optional[Refused]
+    section_names: _t.Optional[Refused]
+    imports: _t.Optional[Refused]
+    exports: _t.Optional[Refused]
+    relocations: _t.Optional[Refused]
     left_out_libraries: int
     left_out_entries: int
+    left_out_exports: int
 
 
-@dataclasses.dataclass(frozen=True)
+@_dataclasses.dataclass(frozen=True)
 class Options:
-    """How a file is read; by default strictly, with all its tables. Each is a bool; TypeError is raised where it is not.
+    """How a file is read; by default strictly, with all its tables. Each but the rule is a bool; TypeError is raised
+    where one is not.
 
     is_permissive: whether damaged parts are passed over, in permissive mode; an import directory at file offset 0 is an
         empty list there, without damage.
     resolve_rva: whether an address is mapped to a file offset by the sections; where not, it is the offset.
-    rounds_raw_pointers: whether the raw pointer of a section is rounded down to 512, for addresses and for its data; where
-        not, it is taken as stored. Rounding is right where `section_alignment` is 4,096 or more, and pointers as stored where
-        it is less, since the Windows loader maps such an image as one flat view of the file.
+    raw_pointer_rule: where the raw data of a section begins, for addresses and for its data: a RawPointerRule. Rounding is
+        right where `section_alignment` is 4,096 or more, and pointers as stored where it is less, since the Windows loader
+        maps such an image as one flat view of the file; by the file alignment pefile maps.
     parse_imports: whether the imports are read; where not, their table is absent.
     """
 
     is_permissive: bool = False
     resolve_rva: bool = True
-    rounds_raw_pointers: bool = False
+    raw_pointer_rule: RawPointerRule = RawPointerRule.AS_STORED
     parse_imports: bool = True
 
     def __post_init__(self) -> None:
         for name, value in vars(self).items():
-            if not isinstance(value, bool):
-                raise TypeError("%s has to be a bool, not %r" % (name, value))
+            kind = RawPointerRule if name == "raw_pointer_rule" else bool
+            if not isinstance(value, kind):
+                raise TypeError("%s has to be a %s, not %r" % (name, kind.__name__, value))
 
 
 # The name before there was a class.
 options = Options
 
 
-def _record_of(how: Optional[Options]) -> records.Options:
+def _record_of(how: _t.Optional[Options]) -> records.Options:
     # the options as the library takes them
     how = Options() if how is None else how
     if not isinstance(how, Options):
         raise TypeError("options have to be Options, not %r" % (how,))
-    return records.Options(how.is_permissive, how.resolve_rva, how.rounds_raw_pointers, how.parse_imports)
+    return records.Options(how.is_permissive, how.resolve_rva, how.raw_pointer_rule, how.parse_imports)
 
 
 class Pe:
-    """An image that was read: Pe(data, how), where `data` are the file's bytes and `how` are Options. A file that is
+    """An image that was read: Pe(data, options), where `data` are the file's bytes and `options` are Options. A file that is
     refused raises Refused.
 
-    dos_header, coff_header: the headers.
-    optional_header, rich_header: the same, or None where the file has none.
-    rich_entries: the entries of the Rich header.
-    rich_rest: why the rest that follows these entries is no entry, as a Refused; None where there is no rest.
-    data_directories: the directories that are there, by their index, which is a DirectoryType below 15.
-    sections: a list of Section.
-    import_table, export_table, relocation_table: a State; only what was read has entries.
-    imports, exports, blocks: lists of Import, of Export and of Block.
-    export_directory: the ExportDirectory; None where the exports were not read.
-    export_addresses: a list of ExportAddress, by rising ordinals, also of those without a name.
-    block_rest: why the rest that follows the blocks is no block, as a Refused; None where there is no rest.
-
-    It keeps `data` for symbols, damage and the methods, until close() or the end of a `with`: these raise ValueError then,
-    but find_offset and the hash of imports that were listed need it no longer. A copy, as it is sent to another process,
-    has all but `data`.
+    It keeps `data`, or the copy of a buffer that could be written, until close() or the end of a `with`. Tables whose rows were
+    not asked for before, symbols, damage and the methods raise ValueError then, but find_offset needs the bytes no longer. A
+    copy, as it is sent to another process, has all but `data`.
     """
 
-    def __init__(self, data: Data, how: Optional[Options] = None):
-        self._data: Optional[Data] = data
-        self._options = _record_of(how)
+    def __init__(self, data: Data, options: _t.Optional[Options] = None):
+        self._data: _t.Optional[_Kept] = _kept(data)
+        self._options = _record_of(options)
+        self._symbol_table: _t.Optional[records.SymbolTable] = None  # (until a symbol is asked for)
         file, directories, tables = records.File(), (records.Directory * 16)(), records.Tables()
-        with memoryview(data) as view, _held(view) as (calls, address, length), tables:
-            _test(calls.goblin_pe_raw_open(address, length, c.byref(self._options), c.byref(file), directories, 16, c.byref(tables)))
-            with view.cast("B") as in_bytes:
-                self._take_headers(file, directories[: file.directories])
-                self._take_tables(file, tables, _Rows(in_bytes, address))
+        with _held(self._data) as (address, length):
+            _test(_LIB.goblin_pe_raw_open(address, length, _c.byref(self._options), _c.byref(file), directories, 16, _c.byref(tables)))
+        # (the library's own, which lie where the file's bytes did; and the rows that were made of them)
+        self._tables: _t.Optional[records.Tables] = tables
+        self._address = address
+        self._made: _t.Dict[str, _t.List[_t.Any]] = {}
+        self._counts = {name: tables.count(name) for name in tables.KINDS}
+        self._mapping = _mapping_of(tables)
+        self._take_headers(file, directories[: file.directories])
+        self._stub = _c.string_at(tables.dos_stub.bytes, tables.dos_stub.length)  # (it need not lie in the file)
+        self._export_directory = _Rows(self._data, address).export_directory(tables.export_directory)
 
-    def _take_headers(self, file: records.File, directories: List[records.Directory]) -> None:
-        self._header = file.optional_header
-        self.dos_header: DosHeader = file.dos_header
-        self.coff_header: CoffHeader = file.coff_header
-        self.optional_header: Optional[OptionalHeader] = self._header if directories else None
+    def _take_headers(self, file: records.File, directories: _t.List[records.Directory]) -> None:
+        self._dos_header, self._coff_header, self._header = file.dos_header, file.coff_header, file.optional_header
+        self._directories = {_named(DirectoryType, index): d.directory for index, d in enumerate(directories) if d.is_present}
+        self._has_directories = bool(directories)
         rich = file.rich_header
-        self.rich_header: Optional[RichHeader] = (
-            RichHeader(rich.key, rich.padding_size, rich.start_offset, rich.end_offset) if rich.is_present else None)
-        self.rich_rest = _refusal(rich.rest)
-        self.data_directories: Dict[int, DataDirectory] = {
-            _named(DirectoryType, index): d.directory for index, d in enumerate(directories) if d.is_present}
+        self._rich_header = RichHeader(rich.key, rich.padding_size, rich.start_offset, rich.end_offset) if rich.is_present else None
+        self._rests = _refusal(rich.rest), _refusal(file.relocations.rest)
+        self._states = State(file.imports.state), State(file.exports.state), State(file.relocations.blocks.state)
 
-    def _take_tables(self, file: records.File, tables: records.Tables, rows: _Rows) -> None:
-        self.sections: List[Section] = [rows.section(s) for s in tables.records("sections")]
-        self._mapping = _records_of(self.sections)
-        self._stub = c.string_at(tables.dos_stub.bytes, tables.dos_stub.length)  # (it need not lie in the file)
-        self.rich_entries: List[RichMetadata] = [_laid_out.read(RichMetadata, entry) for entry in tables.records("rich_entries")]
-        self.import_table = State(file.imports.state)
-        self.imports: List[Import] = [rows.imported(x) for x in tables.records("imports")]
-        self.export_table = State(file.exports.state)
-        self.exports: List[Export] = [rows.exported(x) for x in tables.records("exports")]
-        directory = rows.export_directory(tables.export_directory)
-        self.export_directory: Optional[ExportDirectory] = directory if self.export_table == State.READ else None
-        self.export_addresses: List[ExportAddress] = [
-            ExportAddress(ordinal, it.rva, it.forwards)
-            for ordinal, it in enumerate(tables.records("export_addresses"), directory.table.ordinal_base)]
-        self.relocation_table = State(file.relocations.blocks.state)
-        self.blocks: List[Block] = [rows.block(b) for b in tables.records("blocks")]
-        self.block_rest = _refusal(file.relocations.rest)
+    @classmethod
+    def open(cls, path: _t.Union[str, "_os.PathLike[str]"], options: _t.Optional[Options] = None) -> "Pe":
+        """The image in a file, which is read whole. OSError is raised where it can't be read."""
+        with open(path, "rb") as file:
+            return cls(file.read(), options)
+
+    @property
+    def dos_header(self) -> DosHeader:
+        """The DOS header."""
+        return self._dos_header
+
+    @property
+    def coff_header(self) -> CoffHeader:
+        """The COFF header."""
+        return self._coff_header
+
+    @property
+    def optional_header(self) -> _t.Optional[OptionalHeader]:
+        """The optional header; None where the file has none."""
+        return self._header if self._has_directories else None
+
+    @property
+    def data_directories(self) -> _t.Mapping[int, DataDirectory]:
+        """The data directories that are there, by their index, which is a DirectoryType below 15."""
+        return _types.MappingProxyType(self._directories)
+
+    @property
+    def is_64(self) -> bool:
+        """Whether the optional header is one for 64 bits."""
+        return self._has_directories and self._header.standard_fields.magic == _MAGIC_64
+
+    @property
+    def is_lib(self) -> bool:
+        """Whether the file says that it is a dynamic-link library."""
+        return bool(self.coff_header.characteristics & _IMAGE_FILE_DLL)
+
+    @property
+    def entry(self) -> int:
+        """The address of the entry point, relative to the image's base; 0 where there is none."""
+        return self._header.standard_fields.address_of_entry_point if self._has_directories else 0
+
+    @property
+    def image_base(self) -> int:
+        """The address at which the image is best loaded; 0 where it has no optional header."""
+        return self._header.windows_fields.image_base if self._has_directories else 0
+
+    @property
+    def name(self) -> _t.Optional[bytes]:
+        """The name with which it was linked as a library; None where it has none."""
+        return self.export_directory.name if self.export_directory else None
+
+    @property
+    def libraries(self) -> _t.List[bytes]:
+        """The names of the libraries of which something is imported, sorted, each once."""
+        return sorted({x.dll for x in self.imports})
+
+    @property
+    def rich_header(self) -> _t.Optional[RichHeader]:
+        """The Rich header; None where the file has none."""
+        return self._rich_header
+
+    @property
+    def rich_entries(self) -> _t.List[RichMetadata]:
+        """The entries of the Rich header."""
+        return self._rows("rich_entries")
+
+    @property
+    def rich_rest(self) -> _t.Optional[Refused]:
+        """Why the rest that follows these entries is no entry; None where there is no rest."""
+        return self._rests[0]
+
+    @property
+    def sections(self) -> _t.List[Section]:
+        """The sections."""
+        return self._rows("sections")
+
+    @property
+    def import_table(self) -> State:
+        """How the imports stand; only what was read has entries."""
+        return self._states[0]
+
+    @property
+    def imports(self) -> _t.List[Import]:
+        """The imports."""
+        return self._rows("imports")
+
+    @property
+    def export_table(self) -> State:
+        """How the exports stand."""
+        return self._states[1]
+
+    @property
+    def exports(self) -> _t.List[Export]:
+        """The exports."""
+        return self._rows("exports")
+
+    @property
+    def export_directory(self) -> _t.Optional[ExportDirectory]:
+        """The record of the exports; None where these were not read."""
+        return self._export_directory if self.export_table == State.READ else None
+
+    @property
+    def export_addresses(self) -> _t.List[ExportAddress]:
+        """The entries of the export address table, by rising ordinals, also those without a name."""
+        return self._rows("export_addresses")
+
+    @property
+    def relocation_table(self) -> State:
+        """How the base relocations stand."""
+        return self._states[2]
+
+    @property
+    def blocks(self) -> _t.List[Block]:
+        """The blocks of base relocations."""
+        return self._rows("blocks")
+
+    @property
+    def block_rest(self) -> _t.Optional[Refused]:
+        """Why the rest that follows the blocks is no block; None where there is no rest."""
+        return self._rests[1]
+
+    def _each(self, table: str, most_kept: _t.Optional[int] = _MOST_KEPT) -> _t.Iterator[_t.Any]:
+        # the rows of a table, one by one (the tables stay while they are gone through)
+        tables, data = self._tables, self._bytes()
+        rows = _Rows(data, self._address, most_kept)
+        ordinals = _itertools.count(self._export_directory.table.ordinal_base)
+        rows_of: _t.Dict[str, _t.Callable[[_t.Any], _t.Any]] = {
+            "rich_entries": lambda entry: _laid_out.read(RichMetadata, entry), "sections": rows.section, "imports": rows.imported,
+            "exports": rows.exported, "export_addresses": lambda it: ExportAddress(next(ordinals), it.rva, it.forwards),
+            "blocks": rows.block}
+        return map(rows_of[table], tables.records(table)) if tables else iter(())
+
+    def _rows(self, table: str) -> _t.List[_t.Any]:
+        # the rows of a table, made when they are first asked for
+        if table not in self._made:
+            self._made[table] = list(self._each(table, None)) if self._counts[table] else []
+        return self._made[table]
 
     def __repr__(self) -> str:
         return "<Pe machine=%#x sections=%d imports=%d exports=%d blocks=%d>" % (
-            self.coff_header.machine, len(self.sections), len(self.imports), len(self.exports), len(self.blocks))
+            self.coff_header.machine, *(self._counts[it] for it in ("sections", "imports", "exports", "blocks")))
 
-    def __getstate__(self) -> Dict[str, Any]:
-        return {name: it for name, it in self.__dict__.items() if name != "_mapping"} | {"_data": None}
+    def __getstate__(self) -> _t.Dict[str, _t.Any]:
+        rows = {name: getattr(self, name) for name in self._counts}
+        left = {name: it for name, it in self.__dict__.items() if name != "_mapping"}
+        return {**left, "_made": rows, "_data": None, "_tables": None}
 
-    def __setstate__(self, state: Dict[str, Any]) -> None:
+    def __setstate__(self, state: _t.Dict[str, _t.Any]) -> None:
         self.__dict__.update(state)
         self._mapping = _records_of(self.sections)
 
@@ -239,167 +406,282 @@ class Pe:
         self.close()
 
     def close(self) -> None:
-        """Lets go of the file's bytes."""
-        self._data = None
+        """Lets go of the file's bytes, and of the tables whose rows were not asked for."""
+        self._data = self._tables = None
 
-    def _bytes(self) -> Data:
+    def _bytes(self) -> _Kept:
         if self._data is None:
-            raise ValueError("the file's bytes are no longer here")
+            raise ValueError("the file's bytes are no longer here: what is not asked for before close() is not there after it")
         return self._data
 
     def _image(self, address: int, length: int) -> records.Image:
         # what maps addresses
         sections, alignment = self._mapping, self._header.windows_fields.file_alignment
-        return records.Image(records.Text(address, length), c.addressof(sections), len(sections) - 1, alignment, self._options)
+        return records.Image(records.Text(address, length), _c.addressof(sections), len(sections) - 1, alignment, self._options)
 
-    def find_offset(self, rva: int) -> Optional[int]:
+    def find_offset(self, rva: int) -> _t.Optional[int]:
         """The file offset of an address: None where no section maps it or the file alignment is no power of two;
         the address itself where the options say that addresses are offsets. It can lie past the file's end. OverflowError
         is raised where the address has more than 64 bits or a sign."""
-        offset = c.c_size_t()
-        is_found = _LIB.goblin_pe_raw_find_offset(c.byref(self._image(_laid_out.NOWHERE, 0)), _size(rva), c.byref(offset))
+        offset = _c.c_size_t()
+        is_found = _LIB.goblin_pe_raw_find_offset(_c.byref(self._image(_laid_out.NOWHERE, 0)), _size(rva), _c.byref(offset))
         return offset.value if is_found else None
 
-    def text_at(self, rva: int) -> Optional[bytes]:
+    def text_at(self, rva: int) -> _t.Optional[bytes]:
         """The text at an address, up to its NUL or the end of the file: None where the address has no offset in the file,
         this lies at or past its end, or no UTF-8 stands there."""
-        text = records.Text()
-        with memoryview(self._bytes()) as view, _held(view) as (calls, address, length), view.cast("B") as in_bytes:
-            refused = calls.goblin_pe_raw_text_at(c.byref(self._image(address, length)), _size(rva), c.byref(text)).status
-            return None if refused else _Rows(in_bytes, address).text(text)
+        text, data = records.Text(), self._bytes()
+        with _held(data) as (address, length):
+            refused = _LIB.goblin_pe_raw_text_at(_c.byref(self._image(address, length)), _size(rva), _c.byref(text)).status
+            return None if refused else _Rows(data, address).text(text)
 
-    def bytes_at(self, rva: int, size: int) -> Optional[bytes]:
-        """So many bytes at an address: None where the address has no offset in the file, this lies at or past its end, or
-        the bytes pass it."""
-        text = records.Text()
-        with memoryview(self._bytes()) as view, _held(view) as (calls, address, length), view.cast("B") as in_bytes:
+    def bytes_at(self, rva: int, size: int) -> _t.Optional[bytes]:
+        """So many bytes of the file from the offset of an address on: None where the address has no offset in the file, this
+        lies at or past its end, or the bytes pass it. The end of its section is not looked at, so where they pass that, what
+        comes is what follows in the file, which a loader maps elsewhere or not at all."""
+        text, data = records.Text(), self._bytes()
+        with _held(data) as (address, length):
             image = self._image(address, length)
-            refused = calls.goblin_pe_raw_bytes_at(c.byref(image), _size(rva), _size(size), c.byref(text)).status
-            return None if refused else _Rows(in_bytes, address).text(text)
+            refused = _LIB.goblin_pe_raw_bytes_at(_c.byref(image), _size(rva), _size(size), _c.byref(text)).status
+            return None if refused else _Rows(data, address).text(text)
+
+    def memory_at(self, rva: int, size: int) -> _t.Optional[SectionData]:
+        """The bytes that a loader sees at an address: those that the file has, and how many zeros follow them. They lie in the
+        memory of the first section that holds the address, which has as many bytes as its virtual size says, or its raw
+        size where that is 0; a header lies in none. None where no section's memory holds the address, the bytes pass the
+        section's memory, or the file does not have its bytes."""
+        seen, data = records.SectionData(), self._bytes()
+        with _held(data) as (address, length):
+            image = self._image(address, length)
+            refused = _LIB.goblin_pe_raw_memory_at(_c.byref(image), _size(rva), _size(size), _c.byref(seen)).status
+            return None if refused else SectionData(_Rows(data, address).text(seen.bytes), seen.zeros)
+
+    def section_at(self, rva: int) -> _t.Optional[Section]:
+        """The section of an address: the first by which it is mapped; None where there is none."""
+        index = _c.c_size_t()
+        is_found = _LIB.goblin_pe_raw_section_at(_c.byref(self._image(_laid_out.NOWHERE, 0)), _size(rva), _c.byref(index))
+        return self.sections[index.value] if is_found else None
+
+    def find_rva(self, offset: int) -> _t.Optional[int]:
+        """The address of a file offset, which find_offset maps to it: that in the first section that has one; None where
+        there is none."""
+        rva = _c.c_size_t()
+        is_found = _LIB.goblin_pe_raw_find_rva(_c.byref(self._image(_laid_out.NOWHERE, 0)), _size(offset), _c.byref(rva))
+        return rva.value if is_found else None
 
     def section_data(self, section: Section) -> SectionData:
         """The data of one of its sections, and how many zeros follow it in memory. It begins at the raw pointer, which the
         options may round down to 512, as they do for find_offset."""
-        return _data_of(section, self._bytes(), self._options)
+        return _data_of(section, self._bytes(), self._options, self._header.windows_fields.file_alignment)
 
-    def walk_imports(self) -> Iterator[Import]:
+    def _next_imports(self) -> _t.Callable[..., records.Fault]:
+        # the call of walks over imports, by the options, but with imports
+        how = self._options
+        asked = records.Options(how.is_permissive, how.resolve_rva, how.raw_pointer_rule, True)
+        return lambda address, length, *to: _LIB.goblin_pe_raw_next_imports(address, length, _c.byref(asked), *to)
+
+    def _count_imports(self) -> _t.Optional[int]:
+        # how many the walk over imports gives, of which none becomes a row; None where the file has no table of them
+        if DirectoryType.IMPORT_TABLE not in self._directories:
+            return None
+        most, found = 4096, 0
+        position, room, count = records.ImportPosition(), _room(records.Import, most), _c.c_size_t()
+        call, data = self._next_imports(), self._bytes()
+        while True:
+            with _held(data) as (address, length):
+                _test(call(address, length, _c.byref(position), room, most, _c.byref(count)))
+            if not count.value:
+                return found
+            found += count.value
+
+    def walk_imports(self) -> _t.Iterator[Import]:
         """The imports one by one, of which none is kept: also where the options left them out. In strict mode Refused is
         raised where it would be of the list, after what comes before; no law says on which bytes that depends."""
-        how = self._options
-        asked = records.Options(how.is_permissive, how.resolve_rva, how.rounds_raw_pointers, True)
-        return _walk(self._bytes(), records.Import, "imported", lambda calls, address, length, *to: calls.goblin_pe_raw_next_imports(
-            address, length, c.byref(asked), *to), records.ImportPosition())
+        return _walk(self._bytes(), records.Import, "imported", self._next_imports(), records.ImportPosition())
 
-    def walk_exports(self) -> Iterator[Export]:
+    def walk_libraries(self) -> _t.Iterator[Library]:
+        """The libraries of which something is imported one by one, in the order of their records, as walk_imports gives imports.
+        One library may have several records."""
+        return self._libraries(self._bytes(), self._next_imports())
+
+    def _libraries(self, data: _Kept, call: _t.Callable[..., records.Fault]) -> _t.Iterator[Library]:
+        # of each library the first import is read, and then the next record
+        position, first, count = records.ImportPosition(), _room(records.Import, 1), _c.c_size_t()
+        while True:
+            with _held(data) as (address, length):
+                _test(call(address, length, _c.byref(position), first, 1, _c.byref(count)))
+            if not count.value:
+                return
+            stamp, chain = _struct.unpack_from("<II", data, position.record_offset + 4)
+            yield Library(_Rows(data, address).text(first[0].dll), position.record_offset, stamp, chain)
+            position = records.ImportPosition(position.record_offset + 20, 0)
+
+    def walk_exports(self) -> _t.Iterator[Export]:
         """The exports one by one, of which none is kept."""
-        return _walk(self._bytes(), records.Export, "exported", lambda calls, address, length, *to: calls.goblin_pe_raw_next_exports(
-            address, length, c.byref(self._options), *to), c.c_size_t())
+        return _walk(self._bytes(), records.Export, "exported", lambda address, length, *to: _LIB.goblin_pe_raw_next_exports(
+            address, length, _c.byref(self._options), *to), _c.c_size_t())
 
     @property
-    def symbols(self) -> List[Symbol]:
+    def symbols(self) -> _t.List[Symbol]:
         """The symbols, which few images have. Refused is raised where the file is too short for their table or its string
         table, and where the string table is not UTF-8, or says a length below 4."""
-        return _symbols(self._bytes(), self.coff_header)
+        return _symbols(self._bytes(), self._found_symbols())
+
+    def symbol_at(self, index: int) -> _t.Optional[Symbol]:
+        """The symbol whose record has this index: relocations and weak externals name symbols so. None where the table ends
+        before it; an auxiliary record is read as a symbol, too. Refused is raised as by `symbols`. The string table is read
+        whole the first time, and then never again."""
+        table, symbol = self._found_symbols(), records.NamedSymbol()
+        with _held(self._bytes()) as (address, length):
+            is_there = _LIB.goblin_pe_raw_symbol_at(address, length, _c.byref(table), _size(index), _c.byref(symbol))
+        return _Rows(self._bytes(), address).symbol(symbol) if is_there else None
+
+    def _found_symbols(self) -> records.SymbolTable:
+        # where the symbols lie, tested once
+        if self._symbol_table is None:
+            self._symbol_table = _symbol_table(self._bytes(), self.coff_header)
+        return self._symbol_table
 
     @property
     def damage(self) -> Damage:
         """What strict mode would refuse of the file, part by part."""
         d = records.Damage()
-        with memoryview(self._bytes()) as view, _held(view) as (calls, address, length):
-            _test(calls.goblin_pe_raw_read_damage(address, length, c.byref(self._options), c.byref(d)))
+        with _held(self._bytes()) as (address, length):
+            _test(_LIB.goblin_pe_raw_read_damage(address, length, _c.byref(self._options), _c.byref(d)))
         return Damage(_refusal(d.dos_stub), _refusal(d.section_names), _refusal(d.imports), _refusal(d.exports),
-                      _refusal(d.relocations), d.left_out_libraries, d.left_out_entries)
+                      _refusal(d.relocations), d.left_out_libraries, d.left_out_entries, d.left_out_exports)
 
     def imphash(self) -> str:
         """The hash of the imports that analysts compare: the MD5 in hexadecimal, or an empty text where there are no
         imports. Other tools tell the same where they see the same imports. Where the options left the imports out, it
         walks over them, and keeps none."""
-        return _imphash(self.imports if self._options.parse_imports else self.walk_imports())
+        if not self._options.parse_imports:
+            return _imphash(self.walk_imports())
+        is_made = "imports" in self._made or not self._counts["imports"]
+        return _imphash(self.imports if is_made else self._each("imports"))
 
-    def footprint(self) -> List[Range]:
+    def footprint(self) -> _t.List[Range]:
         """The bytes of the file on which what Pe lists depends, its attributes but for symbols and damage: a file of the same
         length that has the same bytes in these ranges is read alike, by the same options. It does not cover what is read
         later: walk_imports and imphash where the options leave the imports out, damage of an import directory at file offset
         0, symbols, texts and bytes at addresses, and the data of sections. The ranges come in order, with a byte between each
         and the next; none is empty, and none passes the file. So footprints of the same bytes are equal."""
-        with memoryview(self._bytes()) as view, _held(view) as (calls, address, length), records.Ranges() as ranges:
-            _test(calls.goblin_pe_raw_footprint(address, length, c.byref(self._options), c.byref(ranges)))
-            return [Range(it.offset, it.length) for it in ranges.records("ranges")]
+        ranges = records.Ranges()
+        with _held(self._bytes()) as (address, length):
+            _test(_LIB.goblin_pe_raw_footprint(address, length, _c.byref(self._options), _c.byref(ranges)))
+        return [Range(it.offset, it.length) for it in ranges.records("ranges")]
 
     def fingerprint(self) -> str:
         """A key of what Pe lists, for one choice of Options: the SHA-256, in hexadecimal, of the length of the file and of its
         footprint, the ranges and their bytes. Files that have the same are read alike by the same options. It covers what
         the footprint does."""
         with memoryview(self._bytes()) as view, view.cast("B") as in_bytes:
-            digest = hashlib.sha256(b"%d" % len(in_bytes))
+            digest = _hashlib.sha256(b"%d" % len(in_bytes))
             for begin, length in self.footprint():
                 digest.update(b" %d %d " % (begin, begin + length))
                 digest.update(in_bytes[begin: begin + length])
         return digest.hexdigest()
 
-    def write(self, coff_header: Optional[CoffHeader] = None, optional_header: Optional[OptionalHeader] = None,
-              sections: Optional[Iterable[Section]] = None) -> bytes:
-        """The file with these in place of its own: the headers up to the section table, and the records of sections, each
-        with its raw_name. Refused is raised where a header can't be written, OverflowError where a number does not fit its
-        field, and ValueError where the sections pass the file, where permissive mode replaced the DOS stub, and where an
-        optional header is given of which the file has none."""
+    def write(self, coff_header: _t.Optional[CoffHeader] = None, optional_header: _t.Optional[OptionalHeader] = None,
+              sections: _t.Optional[_t.Iterable[Section]] = None, data_directories: _t.Optional[_t.Mapping[int, DataDirectory]] = None,
+              dos_header: _t.Optional[DosHeader] = None) -> bytes:
+        """The file with these in place of its own, and else as it was read. Of the headers all up to the section table is
+        written, and of sections the records of the first ones, each with its raw_name; nothing else of the file changes. Data
+        directories are given by their index, and those that are left out are zeros then.
+
+        Refused is raised where a header can't be written, OverflowError where a number does not fit its field, and ValueError
+        where the sections pass the file, where permissive mode replaced the DOS stub, where an optional header or a directory is
+        given for which the file has no place, and where a DOS header leads elsewhere than the file's own."""
         if optional_header is not None and self.optional_header is None:
             raise ValueError("the file has no optional header")
-        coff = self.coff_header if coff_header is None else coff_header
-        optional = self._header if optional_header is None else optional_header
-        with memoryview(self._bytes()) as view, view.cast("B") as in_bytes:
-            out = bytearray(in_bytes)
+        directories = self._directories if data_directories is None else data_directories
+        header = self._written_header(dos_header or self.dos_header, coff_header or self.coff_header, optional_header or self._header,
+                                      directories)
+        with memoryview(self._bytes()) as view:
+            out = bytearray(view)
         place = self.dos_header.pe_pointer + 24 + self.coff_header.size_of_optional_header
-        header = self._written_header(coff, optional)[:place]
+        header = header[:place]
         out[: len(header)] = header
-        for s in self.sections if sections is None else sections:
+        for s in sections or ():
             if place + 40 > len(out):
                 raise ValueError("there is no room for so many sections")
-            room, written = (c.c_uint8 * 40)(), c.c_size_t()
-            _test(_LIB.goblin_pe_raw_write_section(c.byref(_section_record(s)), room, 40, c.byref(written)))
+            room, written = (_c.c_uint8 * 40)(), _c.c_size_t()
+            _test(_LIB.goblin_pe_raw_write_section(_c.byref(_section_record(s)), room, 40, _c.byref(written)))
             out[place: place + 40] = room
             place += 40
         return bytes(out)
 
-    def _written_header(self, coff: CoffHeader, optional: OptionalHeader) -> bytes:
+    def _written_header(self, dos: DosHeader, coff: CoffHeader, optional: OptionalHeader, given: _t.Mapping[int, DataDirectory]) -> bytes:
         if 64 + len(self._stub) != self.dos_header.pe_pointer:
             raise ValueError("permissive mode replaced the DOS stub, so the headers can't be written at their places")
+        if dos.pe_pointer != self.dos_header.pe_pointer:
+            raise ValueError("the PE signature of the file stands at %#x" % self.dos_header.pe_pointer)
         count, none = 16 if self.optional_header else 0, DataDirectory(0, 0)
+        own = min(count, self._header.windows_fields.number_of_rva_and_sizes)
+        for index in given:
+            if index not in range(own):
+                raise ValueError("the file has no place for the data directory %d: it has %d" % (index, own))
         directories = (records.Directory * 16)(*(
-            records.Directory(0, _laid_out.record_of(DataDirectory, self.data_directories.get(index, none)), index in self.data_directories)
-            for index in range(16)))
+            records.Directory(0, _laid_out.record_of(DataDirectory, given.get(index, none)), index in given) for index in range(16)))
         file = records.File(
             optional_header=_laid_out.record_of(OptionalHeader, optional), directories=count,
-            dos_header=_laid_out.record_of(DosHeader, self.dos_header), coff_header=_laid_out.record_of(CoffHeader, coff))
-        size, written = self.dos_header.pe_pointer + 512, c.c_size_t()
-        room = (c.c_uint8 * size)()
-        _test(_LIB.goblin_pe_raw_write_header(c.byref(file), directories, count, self._stub, len(self._stub), room, size, c.byref(written)))
-        lacking = max(0, count - optional.windows_fields.number_of_rva_and_sizes)  # (of sixteen, for which zeros are written)
-        return bytes(room[: written.value - 8 * lacking])
+            dos_header=_laid_out.record_of(DosHeader, dos), coff_header=_laid_out.record_of(CoffHeader, coff))
+        size, written = self.dos_header.pe_pointer + 512, _c.c_size_t()
+        room = (_c.c_uint8 * size)()
+        _test(_LIB.goblin_pe_raw_write_header(_c.byref(file), directories, count, self._stub, len(self._stub), room, size, _c.byref(written)))
+        return bytes(room[: written.value - 8 * (count - own)])
 
 
 class ObjectFile:
-    """An object that was read: ObjectFile(data, how); of the Options only is_permissive counts. A file that is refused
+    """An object that was read: ObjectFile(data, options); of the Options only is_permissive counts. A file that is refused
     raises Refused. No machine is tested, so a file that is no object may be read as one with sections that make no sense:
     ask `kind` before.
-
-    coff_header: the header.
-    sections, symbols: lists of Section and of Symbol.
     """
 
-    def __init__(self, data: Data, how: Optional[Options] = None):
-        asked, found = _record_of(how), records.Object()
-        with memoryview(data) as view, _held(view) as (calls, address, length), view.cast("B") as in_bytes:
+    def __init__(self, data: Data, options: _t.Optional[Options] = None):
+        asked, found = _record_of(options), records.Object()
+        self._data = _kept(data)
+        with _held(self._data) as (address, length):
             for _ in range(2):
                 sections, count = _room(records.Section, found.sections), found.sections
-                _test(calls.goblin_pe_raw_read_object(address, length, c.byref(asked), c.byref(found), sections, count))
-            self.coff_header: CoffHeader = found.coff_header
-            self.sections: List[Section] = [_Rows(in_bytes, address).section(s) for s in sections[: found.sections]]
-        self.symbols: List[Symbol] = _symbols(data, self.coff_header)
+                _test(_LIB.goblin_pe_raw_read_object(address, length, _c.byref(asked), _c.byref(found), sections, count))
+        self._coff_header: CoffHeader = found.coff_header
+        self._symbol_table = _symbol_table(self._data, found.coff_header)
+        self._sections, self._count, self._address = sections, found.sections, address
+        self._made: _t.Dict[str, _t.List[_t.Any]] = {}
+
+    @property
+    def coff_header(self) -> CoffHeader:
+        """The COFF header."""
+        return self._coff_header
+
+    @property
+    def sections(self) -> _t.List[Section]:
+        """The sections."""
+        if "sections" not in self._made:
+            self._made["sections"] = list(map(_Rows(self._data, self._address).section, self._sections[: self._count]))
+        return self._made["sections"]
+
+    @property
+    def symbols(self) -> _t.List[Symbol]:
+        """The symbols."""
+        if "symbols" not in self._made:
+            self._made["symbols"] = _symbols(self._data, self._symbol_table)
+        return self._made["symbols"]
+
+    def __getstate__(self) -> _t.Dict[str, _t.Any]:
+        rows = {"sections": self.sections, "symbols": self.symbols}
+        return {**self.__dict__, "_made": rows, "_data": b"", "_sections": ()}
+
+    def symbol_at(self, index: int) -> _t.Optional[Symbol]:
+        """The symbol whose record has this index: relocations and weak externals name symbols so. None where there is none,
+        also where the record is an auxiliary one."""
+        place = _bisect.bisect_left(self.symbols, (index,))
+        return next((s for s in self.symbols[place: place + 1] if s.index == index), None)
 
     def __repr__(self) -> str:
         return "<ObjectFile machine=%#x sections=%d symbols=%d>" % (
-            self.coff_header.machine, len(self.sections), len(self.symbols))
+            self.coff_header.machine, self._count, len(self.symbols))
 
 
 class Te:
@@ -411,11 +693,14 @@ class Te:
 
     def __init__(self, data: Data):
         header, sections = _laid_out.laid_out(TeHeader)(), _room(records.Section, 255)
-        with memoryview(data) as view, _held(view) as (calls, address, length), view.cast("B") as in_bytes:
-            _test(calls.goblin_pe_raw_read_te(address, length, c.byref(header), sections, 255))
-            rows = _Rows(in_bytes, address)
+        read = _kept(data)
+        with _held(read) as (address, length):
+            _test(_LIB.goblin_pe_raw_read_te(address, length, _c.byref(header), sections, 255))
             self.header: TeHeader = _laid_out.read(TeHeader, header)
-            self.sections: List[Section] = [rows.section(s) for s in sections[: self.header.number_of_sections]]
+            self.sections: _t.List[Section] = list(map(_Rows(read, address).section, sections[: self.header.number_of_sections]))
 
     def __repr__(self) -> str:
         return "<Te machine=%#x sections=%d>" % (self.header.machine, len(self.sections))
+
+
+from ._described import to_json as to_json  # noqa: E402  # (it tells of what is above)

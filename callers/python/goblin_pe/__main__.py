@@ -1,14 +1,17 @@
 """Lists a file as pe_list does. With --symbols it lists the symbols of an object, and with --te the header of a Terse
-Executable, as beside the samples. With --json it writes all that was read of each of many files, as an object on a line."""
+Executable, as beside the samples. With --json it writes all that was read of each of many files, and what is damaged, as an
+object on a line."""
 import argparse
+import dataclasses
+import functools
 import json
 import os
+import signal
 import sys
-from typing import Any, Callable, Iterator, List, Sequence
+from typing import Any, Callable, Iterator, List, Optional
 
-from ._described import described
-from . import Export, ObjectFile, Options, Pe, Refused, State, Te
-from .constants import MAGIC_64
+from ._described import described_file
+from . import Export, ObjectFile, Options, Pe, RawPointerRule, Refused, State, Te
 
 
 def shown(text: bytes) -> str:
@@ -16,9 +19,9 @@ def shown(text: bytes) -> str:
     return "".join(chr(it) if 0x20 <= it <= 0x7E and it != 0x5C else "\\x%02x" % it for it in text)
 
 
-def heading(label: str, state: State, entries: Sequence[object]) -> str:
+def heading(label: str, state: State, entries: int) -> str:
     """How a table stands."""
-    return "%s %s" % (label, len(entries) if state == State.READ else state.name.lower())
+    return "%s %s" % (label, entries if state == State.READ else state.name.lower())
 
 
 def export(x: Export) -> str:
@@ -32,26 +35,32 @@ def export(x: Export) -> str:
     return line + (" name=" + shown(x.name) if x.name is not None else "")
 
 
-def image(pe: Pe) -> Iterator[str]:
-    """The lines of an image."""
-    line = "header machine=%#x sections=%d" % (pe.coff_header.machine, len(pe.sections))
+def image(pe: Pe, has_imports: bool = True) -> Iterator[str]:
+    """The lines of an image, of which none is kept. Imports come by walks: one that counts them, and is refused before there
+    is a line, and one that gives them."""
+    return lines_of(pe, pe._count_imports() if has_imports else None)
+
+
+def lines_of(pe: Pe, imports: Optional[int]) -> Iterator[str]:
+    """The lines of an image that has so many imports, or None of them."""
+    line = "header machine=%#x sections=%d" % (pe.coff_header.machine, pe._counts["sections"])
     if pe.optional_header:
         fields = pe.optional_header.standard_fields
         line += " magic=%#x entry=%#x" % (fields.magic, fields.address_of_entry_point)
     yield line
-    for s in pe.sections:
+    for s in pe._each("sections"):
         yield "section va=%#x vsize=%#x raw=%#x ptr=%#x name=%s" % (
             s.virtual_address, s.virtual_size, s.size_of_raw_data, s.pointer_to_raw_data, shown(s.name))
-    size = 8 if pe.optional_header and pe.optional_header.standard_fields.magic == MAGIC_64 else 4
-    yield heading("imports", pe.import_table, pe.imports)
-    for x in pe.imports:
+    size = 8 if pe.is_64 else 4
+    yield "imports %s" % ("absent" if imports is None else imports)
+    for x in pe.walk_imports() if imports else ():
         name = shown(x.name) if x.name is not None else "ORDINAL %d" % x.ordinal
         yield "import offset=%#x ordinal=%d rva=%#x size=%d slot=%d dll=%s name=%s" % (
             x.slot_rva, x.ordinal, x.rva, size, x.slot, shown(x.dll), name)
-    yield heading("exports", pe.export_table, pe.exports)
-    yield from map(export, pe.exports)
-    yield heading("relocations", pe.relocation_table, pe.blocks)
-    for b in pe.blocks:
+    yield heading("exports", pe.export_table, pe._counts["exports"])
+    yield from map(export, pe.walk_exports())
+    yield heading("relocations", pe.relocation_table, pe._counts["blocks"])
+    for b in pe._each("blocks"):
         yield "block rva=%#x size=%#x words=%d" % (b.rva, b.size, len(b.words))
     if pe.block_rest:
         yield "block refused"
@@ -79,19 +88,14 @@ def te(found: Te) -> Iterator[str]:
             shown(s.name), s.virtual_address, s.virtual_size, s.size_of_raw_data, s.pointer_to_raw_data, s.characteristics)
 
 
-def permissively(data: bytes) -> Pe:
-    """An image, damaged parts passed over."""
-    return Pe(data, Options(is_permissive=True))
-
-
 def show(path: str, read: Callable[[bytes], Any], lines: Callable[[Any], Iterator[str]]) -> int:
-    """Writes the lines of a file, all of them or none, and answers the status of the program."""
+    """Writes the lines of a file, where it is not refused, and answers the status of the program."""
     try:
         with open(path, "rb") as file:
-            listing = "\n".join(lines(read(file.read())))
+            listing = lines(read(file.read()))
     except (OSError, Refused) as error:
         return complain("refused" if isinstance(error, Refused) else "read failed", error)
-    print(listing)
+    sys.stdout.writelines(line + "\n" for line in listing)
     return 0
 
 
@@ -103,7 +107,7 @@ def describe(paths: List[str], read: Callable[[bytes], Any]) -> int:
     for number, path in enumerate(paths, 1):
         if is_told:
             print("\r%d of %d files" % (number, len(paths)), end="", file=sys.stderr, flush=True)
-        found = described(path, read)
+        found = described_file(path, read)
         status |= "refused" in found or "error" in found
         print(json.dumps(found))
     if is_told:
@@ -111,21 +115,46 @@ def describe(paths: List[str], read: Callable[[bytes], Any]) -> int:
     return status
 
 
-def main(words: List[str]) -> int:
-    """Lists what the words name, and answers the status of the program."""
+# What the words --raw-pointers say.
+RAW_POINTERS = {"stored": RawPointerRule.AS_STORED, "rounded": RawPointerRule.ROUNDED_TO512,
+                "by-file-alignment": RawPointerRule.BY_FILE_ALIGNMENT}
+
+
+def asked_of(words: List[str]) -> argparse.Namespace:
+    """What the words ask for."""
     parser = argparse.ArgumentParser(prog="python -m goblin_pe", description="Lists a PE file.")
     kind = parser.add_mutually_exclusive_group()
-    for name, how, what in [("--permissive", (permissively, image), "pass over damaged parts"),
-                            ("--symbols", (ObjectFile, symbols), "list the symbols of an object"),
-                            ("--te", (Te, te), "list a Terse Executable")]:
-        kind.add_argument(name, dest="how", action="store_const", const=how, help=what)
+    kind.add_argument("--symbols", dest="how", action="store_const", const=(ObjectFile, symbols), help="list the symbols of an object")
+    kind.add_argument("--te", dest="how", action="store_const", const=(lambda data, how: Te(data), te), help="list a Terse Executable")
+    parser.add_argument("--permissive", action="store_true", help="pass over damaged parts")
+    parser.add_argument("--raw-pointers", choices=sorted(RAW_POINTERS), default="stored",
+                        help="how the raw pointers of sections are taken: as stored (as by default), rounded down to 512, or "
+                             "rounded where the file alignment is at least 512, as pefile does")
+    parser.add_argument("--no-imports", action="store_true", help="leave the imports out, of which a small file can list many")
     parser.add_argument("--json", action="store_true", help="write a line of JSON for each of many files")
     parser.add_argument("files", metavar="FILE", nargs="+")
     parser.set_defaults(how=(Pe, image))
     asked = parser.parse_args(words)
-    read, lines = asked.how
     if not asked.json and len(asked.files) > 1:
         parser.error("only --json takes many files")
+    return asked
+
+
+def main(words: List[str]) -> int:
+    """Lists what the words name, and answers the status of the program."""
+    if sys.stdout is None:
+        return complain("write failed", OSError("standard output is closed"))
+    asked = asked_of(words)
+    options = Options(is_permissive=asked.permissive, raw_pointer_rule=RAW_POINTERS[asked.raw_pointers],
+                      parse_imports=not asked.no_imports)
+    kind, lines = asked.how
+    if not asked.json and kind is Pe:
+        lines = functools.partial(image, has_imports=options.parse_imports)
+        options = dataclasses.replace(options, parse_imports=False)  # (which come by walks)
+
+    def read(data: bytes) -> Any:
+        return kind(data, options)
+
     try:
         status = describe(asked.files, read) if asked.json else show(asked.files[0], read, lines)
         sys.stdout.flush()
@@ -137,9 +166,12 @@ def main(words: List[str]) -> int:
 
 def complain(what: str, error: Exception) -> int:
     """A line on standard error, and the status of the program."""
-    print("%s: %s" % (what, error), file=sys.stderr)
+    if sys.stderr is not None:
+        print("%s: %s" % (what, error), file=sys.stderr)
     return 1
 
 
 if __name__ == "__main__":
+    # An interrupt ends the program at once, also in a call of the library, which can take long.
+    signal.signal(signal.SIGINT, signal.SIG_DFL)
     sys.exit(main(sys.argv[1:]))

@@ -1,8 +1,18 @@
 """What was read of a file as values that JSON has."""
+import collections.abc
 import enum
-from typing import Any, Callable, Dict
+import json
+from typing import Any, Callable, Dict, Union
 
-from . import Block, Pe, Refused
+from . import Block, ObjectFile, Pe, Refused, Te
+
+# What a text tells of each that was read.
+FIELDS: Dict[Any, str] = {
+    Pe: "dos_header coff_header optional_header rich_header rich_entries rich_rest data_directories sections import_table imports "
+        "export_table exports export_directory export_addresses relocation_table blocks block_rest damage",
+    ObjectFile: "coff_header sections symbols",
+    Te: "header sections",
+}
 
 
 def plain(value: Any) -> Any:
@@ -18,20 +28,33 @@ def plain(value: Any) -> Any:
         return {"rva": value.rva, "size": value.size, "words": len(value.words)}
     if hasattr(value, "_asdict"):
         return plain(value._asdict())
-    if isinstance(value, dict):
+    if isinstance(value, collections.abc.Mapping):
         return {str(plain(key)): plain(it) for key, it in value.items()}
     return [plain(it) for it in value] if isinstance(value, (list, tuple)) else value
 
 
-def described(path: str, read: Callable[[bytes], Any]) -> Dict[str, Any]:
-    """The path of a file, and what was read of it: the attributes of what `read` makes of its bytes, and the hash of its
-    imports. Or why it was refused, or could not be read."""
+def described(found: Union[Pe, ObjectFile, Te]) -> Dict[str, Any]:
+    """What was read, by the names of its attributes; of an image with its damage and the hash of its imports."""
+    told = {name: plain(getattr(found, name)) for name in FIELDS[type(found)].split()}
+    return {**told, "imphash": found.imphash()} if isinstance(found, Pe) else told
+
+
+def to_json(found: Union[Pe, ObjectFile, Te]) -> str:
+    """What was read as an object of JSON, by the names of its attributes; of an image with its damage and the hash of its
+    imports. Rows are objects by their fields, numbers that have names those, and of the words of a block it is told how many
+    there are. Texts have a backslash, x and two digits for each byte that is not UTF-8."""
+    return json.dumps(described(found))
+
+
+to_json.__module__ = "goblin_pe"  # (where it is explained)
+
+
+def described_file(path: str, read: Callable[[bytes], Any]) -> Dict[str, Any]:
+    """The path of a file, and what `read` makes of its bytes. Or why it was refused, or could not be read."""
     try:
         with open(path, "rb") as file:
-            found = read(file.read())
+            return {"file": path, **described(read(file.read()))}
     except Refused as refused:
         return {"file": path, "refused": plain(refused)}
     except (OSError, MemoryError) as error:
         return {"file": path, "error": str(error) or "out of memory"}
-    attributes = {name: value for name, value in vars(found).items() if not name.startswith("_")}
-    return {"file": path, **plain(attributes), **({"imphash": found.imphash()} if isinstance(found, Pe) else {})}

@@ -3,7 +3,7 @@ that stands in a record is read as its named tuple."""
 import ctypes as c
 import functools
 import operator
-from typing import Annotated, Any, Dict, List, Tuple, Type, TypeVar
+from typing import Annotated, Any, Dict, Iterator, List, Tuple, Type, TypeVar
 
 # A pointer.
 Address = Annotated[int, c.c_void_p]
@@ -86,7 +86,7 @@ _free.restype, _free.argtypes = None, [c.c_void_p]
 
 class HandedOver(Record):
     """Tables that the library hands over, each a block of memory of its own where it is not empty. They are
-    empty before, and freed at the end of a `with`."""
+    empty before, and freed when nobody has them any more."""
 
     # Of each table the name of its count, and its records.
     KINDS: Dict[str, Tuple[str, Any]] = {}
@@ -94,18 +94,21 @@ class HandedOver(Record):
     def __init__(self) -> None:
         super().__init__(*(it for _, kind in self.KINDS.values() for it in (c.cast(NOWHERE, to(kind)), 0)))
 
-    def records(self, name: str) -> List[Any]:
-        """The records of a table, good until it is freed."""
-        found: List[Any] = getattr(self, name)[: getattr(self, self.KINDS[name][0])]
+    def count(self, name: str) -> int:
+        """How many records a table has."""
+        found: int = getattr(self, self.KINDS[name][0])
         return found
 
-    def __enter__(self) -> "HandedOver":
-        return self
+    def records(self, name: str) -> Iterator[Any]:
+        """The records of a table, good as long as the tables are there. Of many at once only some hundred are objects."""
+        first, count = getattr(self, name), self.count(name)
+        for begin in range(0, count, 256):
+            yield from first[begin: min(begin + 256, count)]
 
-    def __exit__(self, *error: object) -> None:
-        for name, (count, _) in self.KINDS.items():
-            if getattr(self, count):
-                _free(getattr(self, name))
+    def __del__(self, free: Any = _free) -> None:
+        for name in self.KINDS:
+            if self.count(name):
+                free(getattr(self, name))
 
 
 def tables(kinds: Dict[str, Tuple[str, Any]]) -> List[Tuple[str, Any]]:

@@ -1,10 +1,10 @@
-"""The shared library: where it is, its calls, and the memory of what is handed to it."""
+"""The shared library: where it is, its calls, and the bytes that are handed to it."""
 import contextlib
 import ctypes as c
 import mmap
 import os
 import sys
-from typing import Iterator, Tuple, Type, Union
+from typing import Iterator, Tuple, Union
 
 from ._laid_out import NOWHERE
 from .records import CALLS, INTERFACE, Fault
@@ -28,8 +28,8 @@ def _path() -> str:
     raise ImportError("there is no %s: run callers/build, or say by the variable GOBLIN_PE_SO where it is" % places[-1])
 
 
-def _load(how: Type[c.CDLL]) -> c.CDLL:
-    library = how(_path())
+def _load() -> c.CDLL:
+    library = c.CDLL(_path())
     if library.goblin_pe_interface() != INTERFACE:
         raise ImportError("%s has another interface than this module" % library._name)
     for name, (answer, arguments) in CALLS.items():
@@ -39,9 +39,7 @@ def _load(how: Type[c.CDLL]) -> c.CDLL:
 
 
 # The calls; each lets other threads run meanwhile.
-LIB = _load(c.CDLL)
-# The same calls, each of which keeps the interpreter's lock, so that no thread of Python runs meanwhile.
-_LOCKED = _load(c.PyDLL)
+LIB = _load()
 
 
 def text_of(fault: Fault) -> str:
@@ -77,14 +75,28 @@ def _is_writable(view: memoryview) -> bool:
     return not isinstance(owner, bytes)
 
 
+# Bytes of a file that no thread of Python changes; a slice of them has single bytes.
+Kept = Union[bytes, mmap.mmap, memoryview]
+
+
+def kept(data: Data) -> Kept:
+    """The bytes of a buffer: themselves where no thread can write into them, and else a copy. BufferError is raised where
+    they don't lie in one piece."""
+    with memoryview(data) as view:
+        if not view.c_contiguous:
+            raise BufferError("the bytes don't lie in one piece")
+        if _is_writable(view):
+            return view.tobytes()
+        return data if isinstance(data, (bytes, mmap.mmap)) else view.cast("B")
+
+
 @contextlib.contextmanager
-def held(view: memoryview) -> Iterator[Tuple[c.CDLL, int, int]]:
-    """The calls to make with the bytes of a buffer, their address and their length. The bytes are not copied, and stay
-    where they are meanwhile. Where a thread could write into them, be it past this view of them, the calls let none
-    run."""
+def held(data: Kept) -> Iterator[Tuple[int, int]]:
+    """The address of the bytes and their length. They stay where they are meanwhile."""
     buffer = _Buffer()
-    _get_buffer(view, c.byref(buffer), 0)
-    try:
-        yield _LOCKED if _is_writable(view) else LIB, buffer.buf or NOWHERE, buffer.len
-    finally:
-        _release_buffer(c.byref(buffer))
+    with memoryview(data) as view:
+        _get_buffer(view, c.byref(buffer), 0)
+        try:
+            yield buffer.buf or NOWHERE, buffer.len
+        finally:
+            _release_buffer(c.byref(buffer))

@@ -17,7 +17,7 @@ def named(kind: Any, number: int) -> Any:
 class Refused(ValueError):
     """A call was refused. The error's text is that of the refusal; `status` is a Status, `cause` by the status
     a Cause, a Counted or a ReadFault, else 0, and `first` and `second` are the numbers of the cause. A number
-    that has no name here is an int."""
+    that has no name here is an int. Refusals of the same numbers are equal."""
 
     __module__ = "goblin_pe"
     _CAUSES: Dict[int, Any] = {Status.MALFORMED: Cause, Status.BUFFER_TOO_SHORT: Counted, Status.READ: ReadFault}
@@ -28,9 +28,18 @@ class Refused(ValueError):
         self.cause: Union[Cause, Counted, ReadFault, int] = named(self._CAUSES.get(self.status, int), cause)
         self.first, self.second = first, second
 
+    def _numbers(self) -> Tuple[int, ...]:
+        return self.status, self.cause, self.first, self.second
+
+    def __eq__(self, other: object) -> bool:
+        return isinstance(other, Refused) and self._numbers() == other._numbers()
+
+    def __hash__(self) -> int:
+        return hash(self._numbers())
+
     def __reduce__(self) -> Tuple[Any, ...]:
         # copied and sent between processes by its numbers, which are what it is made of
-        return type(self), (self.status, self.cause, self.first, self.second), self.__dict__
+        return type(self), self._numbers(), self.__dict__
 
 
 def refusal(fault: records.Fault) -> Optional[Refused]:

@@ -25,6 +25,24 @@ class Kind(Number):
     BIG_OBJECT = 6
 
 
+class RawPointerRule(Number):
+    """Where the raw data of a section begins, for addresses and for its data.
+
+    Where the raw pointer is a multiple of 512, as the PE/COFF specification asks for the usual file
+    alignments, all rules say the same. Else rounding is right where `section_alignment` is 4,096 or
+    more, and pointers as stored where it is less, since the Windows loader maps such an image as
+    one flat view of the file."""
+
+    # At the raw pointer, as goblin maps.
+    AS_STORED = 0
+    # At the greatest multiple of 512 that is at most the raw pointer.
+    ROUNDED_TO512 = 1
+    # By the file alignment, as pefile maps: rounded where that is 512 or more, else as stored. In a
+    # lawful image it is below 512 only where it equals a `section_alignment` below 4,096, so this
+    # is right for each such image, without a look at its header before.
+    BY_FILE_ALIGNMENT = 2
+
+
 class State(Number):
     """How a table of the file stands."""
 

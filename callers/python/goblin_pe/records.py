@@ -137,16 +137,14 @@ class Options(Record):
         file offset 0 is an empty list there, without damage.
     resolve_rva: Whether an address is mapped to a file offset by the sections; where not, it is the
         offset.
-    rounds_raw_pointers: Whether the raw pointer of a section is rounded down to 512, for addresses
-        and for its data; where not, it is taken as stored. Rounding is right where
-        `section_alignment` is 4,096 or more, and pointers as stored where it is less, since the
-        Windows loader maps such an image as one flat view of the file.
+    raw_pointer_rule: Where the raw data of a section begins, for addresses and for its data: the
+        number of a `RawPointerRule`; any other number is taken as 0.
     parse_imports: Whether the imports are read; where not, their table is absent.
     """
 
     is_permissive: Annotated[bool, c.c_bool]
     resolve_rva: Annotated[bool, c.c_bool]
-    rounds_raw_pointers: Annotated[bool, c.c_bool]
+    raw_pointer_rule: Annotated[int, c.c_uint8]
     parse_imports: Annotated[bool, c.c_bool]
 
 
@@ -683,13 +681,13 @@ class Tables(HandedOver):
 class ImportPosition(Record):
     """Where a walk over imports goes on; zeros are the beginning. It may be kept, and copied.
 
-    record: The file offset of a library's record; the greatest number once the end has been
+    record_offset: The file offset of a library's record; the greatest number once the end has been
         reached, also of a file without imports.
-    slot: The file offset of the slot that is read next, or 0 before the library's first.
+    slot_offset: The file offset of the slot that is read next, or 0 before the library's first.
     """
 
-    record: Annotated[int, c.c_size_t]
-    slot: Annotated[int, c.c_size_t]
+    record_offset: Annotated[int, c.c_size_t]
+    slot_offset: Annotated[int, c.c_size_t]
 
 
 @record
@@ -706,6 +704,9 @@ class Damage(Record):
     left_out_libraries: How many libraries permissive mode leaves out of the imports: those without
         an address table.
     left_out_entries: How many entries of the other libraries it leaves out.
+    left_out_exports: How many name pointers of the export directory give no export, in either mode:
+        there is no ordinal, the ordinal lies past the address table, or it leads to a forwarder
+        whose text cannot be read. 0 where the exports are refused.
     """
 
     dos_stub: Fault
@@ -715,6 +716,7 @@ class Damage(Record):
     relocations: Fault
     left_out_libraries: Annotated[int, c.c_size_t]
     left_out_entries: Annotated[int, c.c_size_t]
+    left_out_exports: Annotated[int, c.c_size_t]
 
 
 @record
@@ -781,6 +783,25 @@ class Object(Record):
 
     sections: Annotated[int, c.c_size_t]
     coff_header: CoffHeader
+
+
+@record
+class SymbolTable(Record):
+    """Where the symbol table and the string table of an image or an object lie. Zeros say that
+    there are none.
+
+    offset: The file offset of the first record of the symbol table, in bytes; 0 where there is
+        none.
+    record_count: How many records it has, the auxiliary ones too.
+    strings_offset: The file offset of the texts of the string table, in bytes: after the four of
+        its length.
+    strings_length: How many bytes these texts have.
+    """
+
+    offset: Annotated[int, c.c_uint32]
+    record_count: Annotated[int, c.c_uint32]
+    strings_offset: Annotated[int, c.c_size_t]
+    strings_length: Annotated[int, c.c_size_t]
 
 
 @header
@@ -901,6 +922,8 @@ CALLS: Dict[str, Tuple[Any, List[Any]]] = {
         (c.c_bool, [c.c_void_p, c.c_size_t, to(AuxSectionDefinition)]),
     "goblin_pe_raw_read_aux_file":
         (c.c_bool, [c.c_void_p, c.c_size_t, to(Text)]),
+    "goblin_pe_raw_checksum":
+        (c.c_uint32, [c.c_void_p, c.c_size_t, c.c_size_t]),
     "goblin_pe_raw_fault_text":
         (c.c_size_t, [to(Fault), c.c_void_p, c.c_size_t]),
     "goblin_pe_interface":
@@ -925,10 +948,20 @@ CALLS: Dict[str, Tuple[Any, List[Any]]] = {
         (Fault, [to(Image), c.c_size_t, c.c_size_t, to(Text)]),
     "goblin_pe_raw_read_section_data":
         (Fault, [to(Image), to(Section), to(SectionData)]),
+    "goblin_pe_raw_section_at":
+        (c.c_bool, [to(Image), c.c_size_t, to(c.c_size_t)]),
+    "goblin_pe_raw_find_rva":
+        (c.c_bool, [to(Image), c.c_size_t, to(c.c_size_t)]),
+    "goblin_pe_raw_memory_at":
+        (Fault, [to(Image), c.c_size_t, c.c_size_t, to(SectionData)]),
     "goblin_pe_raw_read_object":
         (Fault, [c.c_void_p, c.c_size_t, to(Options), to(Object), to(Section), c.c_size_t]),
+    "goblin_pe_raw_read_symbol_table":
+        (Fault, [c.c_void_p, c.c_size_t, to(CoffHeader), to(SymbolTable)]),
     "goblin_pe_raw_next_symbols":
-        (Fault, [c.c_void_p, c.c_size_t, to(CoffHeader), to(c.c_size_t), to(NamedSymbol), c.c_size_t, to(c.c_size_t)]),
+        (Fault, [c.c_void_p, c.c_size_t, to(SymbolTable), to(c.c_size_t), to(NamedSymbol), c.c_size_t, to(c.c_size_t)]),
+    "goblin_pe_raw_symbol_at":
+        (c.c_bool, [c.c_void_p, c.c_size_t, to(SymbolTable), c.c_size_t, to(NamedSymbol)]),
     "goblin_pe_raw_read_relocations":
         (Fault, [c.c_void_p, c.c_size_t, to(Section), to(Relocation), c.c_size_t, to(c.c_size_t)]),
     "goblin_pe_raw_read_te":

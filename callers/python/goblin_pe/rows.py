@@ -2,11 +2,13 @@
 import ctypes as c
 import operator
 import struct
-from typing import Any, Dict, List, NamedTuple, Optional, Tuple, Union
+from typing import Any, Callable, Dict, List, NamedTuple, Optional, Tuple, Type, TypeVar, Union
 
 from . import _laid_out, records
-from ._library import LIB, Data, held
+from ._library import LIB, Data, Kept, held, kept
 from ._refused import test
+from .constants import (IMAGE_SYM_CLASS_EXTERNAL, IMAGE_SYM_CLASS_FILE, IMAGE_SYM_CLASS_FUNCTION, IMAGE_SYM_CLASS_STATIC,
+                        IMAGE_SYM_CLASS_WEAK_EXTERNAL, IMAGE_SYM_DTYPE_FUNCTION, IMAGE_SYM_DTYPE_SHIFT)
 from .numbers import Forwards
 from .records import (AuxBeginAndEndFunction, AuxFunctionDefinition, AuxSectionDefinition, AuxWeakExternal, ExportDirectoryTable,
                       Relocation)
@@ -49,16 +51,18 @@ class Section(NamedTuple):
     def data(self, file: Data) -> SectionData:
         """Its data in the file: the bytes from the raw pointer as stored, and how many zeros follow them in memory. Refused is
         raised where the bytes pass the file, and where they begin past its end, even if there are none."""
-        return data_of(self, file, records.Options())
+        return data_of(self, kept(file), records.Options(), 0)
 
     def relocations(self, file: Data) -> List[Relocation]:
-        """Its relocations in the object. Refused is raised where the file is too short for them, and where they begin at or
+        """Its relocations in the object: as many as number_of_relocations says, so at most 65,535. Where that is 65,535, and
+        characteristics have the flag IMAGE_SCN_LNK_NRELOC_OVFL, the section has more than these: the first row is none of
+        them, and its virtual_address tells how many follow one another there, itself among them. Refused is raised where the file is too short for them, and where they begin at or
         past its end, even if there are none."""
         count, kind = c.c_size_t(), _laid_out.laid_out(Relocation)
-        with memoryview(file) as view, held(view) as (calls, address, length):
+        with held(kept(file)) as (address, length):
             for _ in range(2):
                 found, record = room(kind, count.value), record_of(self)
-                test(calls.goblin_pe_raw_read_relocations(address, length, c.byref(record), found, count.value, c.byref(count)))
+                test(LIB.goblin_pe_raw_read_relocations(address, length, c.byref(record), found, count.value, c.byref(count)))
         return [_laid_out.read(Relocation, it) for it in found[: count.value]]
 
 
@@ -73,6 +77,17 @@ class Import(NamedTuple):
     slot_rva: int
     rva: int
     slot: int
+
+
+class Library(NamedTuple):
+    """A library of which something is imported: its name, the file offset of its record, and two numbers of that: the time
+    stamp, which is 0 where its imports are not bound, and the index of the first import that it forwards, where they are
+    bound in the old way. The name is empty where permissive mode could not read it."""
+
+    name: bytes
+    record_offset: int
+    time_date_stamp: int
+    forwarder_chain: int
 
 
 class Export(NamedTuple):
@@ -112,9 +127,12 @@ class Block(NamedTuple):
     words: List[int]
 
 
+_Kind = TypeVar("_Kind")
+
+
 class Symbol(NamedTuple):
     """A symbol of an image or an object. A name that can't be read is None. The auxiliary are the bytes of its auxiliary
-    records, 18 each."""
+    records, 18 each. What a symbol is for, and so what these are, its class tells, and its type and section."""
 
     index: int  # type: ignore[assignment]  # (it takes the place of the method of that name)
     name: Optional[bytes]
@@ -125,20 +143,42 @@ class Symbol(NamedTuple):
     number_of_aux_symbols: int
     auxiliary: bytes
 
-    def aux(self, kind: Any) -> Any:
-        """The first auxiliary record as one of the kinds AuxFunctionDefinition, AuxBeginAndEndFunction, AuxWeakExternal and
-        AuxSectionDefinition, by the class of the symbol; None where it has none."""
+    @property
+    def is_function_definition(self) -> bool:
+        """Whether it defines a function: an external symbol of a section, whose type is a function."""
+        return (self.storage_class == IMAGE_SYM_CLASS_EXTERNAL and self.section_number > 0
+                and self.typ >> IMAGE_SYM_DTYPE_SHIFT == IMAGE_SYM_DTYPE_FUNCTION)
+
+    @property
+    def is_weak_external(self) -> bool:
+        """Whether another symbol is taken where it is not found."""
+        return self.storage_class == IMAGE_SYM_CLASS_WEAK_EXTERNAL
+
+    @property
+    def is_section_definition(self) -> bool:
+        """Whether it defines a section: a static symbol that auxiliary records follow."""
+        return self.storage_class == IMAGE_SYM_CLASS_STATIC and self.number_of_aux_symbols > 0
+
+    @property
+    def is_file(self) -> bool:
+        """Whether it stands for a source file."""
+        return self.storage_class == IMAGE_SYM_CLASS_FILE
+
+    def aux(self, kind: Type[_Kind]) -> Optional[_Kind]:
+        """The first auxiliary record, as AuxFunctionDefinition, AuxBeginAndEndFunction, AuxWeakExternal or
+        AuxSectionDefinition; None where the symbol has none, or is of another kind. An external symbol of no section and of
+        the value 0 may have that of a weak external, too."""
+        is_such, read = AUX_KINDS[kind]
         record = _laid_out.laid_out(kind)()
-        is_there = AUX_CALLS[kind](self.auxiliary, len(self.auxiliary), c.byref(record))
+        is_there = is_such(self) and read(self.auxiliary, len(self.auxiliary), c.byref(record))
         return _laid_out.read(kind, record) if is_there else None
 
     def aux_file(self) -> Optional[bytes]:
-        """The name of a source file in the auxiliary records of a symbol of class IMAGE_SYM_CLASS_FILE; None where it has
-        none."""
+        """The name of a source file in the auxiliary records; None where the symbol has none, or stands for no file."""
         name = records.Text()
-        with memoryview(self.auxiliary) as view, held(view) as (calls, address, length):
-            is_there = calls.goblin_pe_raw_read_aux_file(address, length, c.byref(name))
-            return Rows(view, address).text(name) if is_there else None
+        with held(self.auxiliary) as (address, length):
+            is_there = self.is_file and LIB.goblin_pe_raw_read_aux_file(address, length, c.byref(name))
+            return Rows(self.auxiliary, address).text(name) if is_there else None
 
 
 class Range(NamedTuple):
@@ -148,37 +188,43 @@ class Range(NamedTuple):
     length: int
 
 
-# The calls that read auxiliary records.
-AUX_CALLS: Dict[Any, Any] = {
-    AuxFunctionDefinition: LIB.goblin_pe_raw_read_aux_function_definition,
-    AuxBeginAndEndFunction: LIB.goblin_pe_raw_read_aux_begin_and_end_function,
-    AuxWeakExternal: LIB.goblin_pe_raw_read_aux_weak_external,
-    AuxSectionDefinition: LIB.goblin_pe_raw_read_aux_section_definition,
+def _has_weak_external(s: Symbol) -> bool:
+    is_undefined = s.storage_class == IMAGE_SYM_CLASS_EXTERNAL and not s.section_number and not s.value
+    return s.is_weak_external or is_undefined
+
+
+# Of each kind of auxiliary records, which symbols have it, and the call that reads it.
+AUX_KINDS: Dict[Any, Tuple[Callable[[Symbol], bool], Any]] = {
+    AuxFunctionDefinition: (lambda s: s.is_function_definition, LIB.goblin_pe_raw_read_aux_function_definition),
+    AuxBeginAndEndFunction: (
+        lambda s: s.storage_class == IMAGE_SYM_CLASS_FUNCTION, LIB.goblin_pe_raw_read_aux_begin_and_end_function),
+    AuxWeakExternal: (_has_weak_external, LIB.goblin_pe_raw_read_aux_weak_external),
+    AuxSectionDefinition: (lambda s: s.is_section_definition, LIB.goblin_pe_raw_read_aux_section_definition),
 }
 
 # The numbers in the record of a section.
 _NUMBERS = operator.attrgetter(*Section._fields[1:-1])
 
 # Where there is no text.
-_NO_TEXT = records.Text(_laid_out.NOWHERE, 0)
+NO_TEXT = records.Text(_laid_out.NOWHERE, 0)
 
 
 def record_of(s: Section) -> records.Section:
     """The record of a section, without its name from the string table."""
     if len(s.raw_name) > 8:
         raise ValueError("a raw_name has at most eight bytes: %r" % (s.raw_name,))
-    record = records.Section(_NO_TEXT, tuple(s.raw_name.ljust(8, b"\0")), *s[1:-1], False)
+    record = records.Section(NO_TEXT, tuple(s.raw_name.ljust(8, b"\0")), *s[1:-1], False)
     _laid_out.test_widths(s[1:-1], _NUMBERS(record))
     return record
 
 
-def data_of(s: Section, file: Data, options: records.Options) -> SectionData:
+def data_of(s: Section, file: Kept, options: records.Options, file_alignment: int) -> SectionData:
     """The data of a section in the file, from where the options have its raw pointer."""
     found = records.SectionData()
-    with memoryview(file) as view, held(view) as (calls, address, length), view.cast("B") as in_bytes:
-        image = records.Image(records.Text(address, length), _laid_out.NOWHERE, 0, 0, options)
-        test(calls.goblin_pe_raw_read_section_data(c.byref(image), c.byref(record_of(s)), c.byref(found)))
-        return SectionData(Rows(in_bytes, address).text(found.bytes), found.zeros)
+    with held(file) as (address, length):
+        image = records.Image(records.Text(address, length), _laid_out.NOWHERE, 0, file_alignment, options)
+        test(LIB.goblin_pe_raw_read_section_data(c.byref(image), c.byref(record_of(s)), c.byref(found)))
+        return SectionData(Rows(file, address).text(found.bytes), found.zeros)
 
 
 def room(kind: Any, count: int) -> Any:
@@ -187,17 +233,33 @@ def room(kind: Any, count: int) -> Any:
 
 
 class Rows:
-    """Makes rows of records whose texts point into the bytes of a file that is held at an address."""
+    """Makes rows of records whose texts point into the bytes of a file, from the address of these on. A text that stands at
+    one place is one object, as long as it is kept: in a walk, until others have taken its room."""
 
-    def __init__(self, data: memoryview, address: int):
-        self._data, self._address = data, address
+    def __init__(self, data: Kept, address: int, most_kept: Optional[int] = None):
+        self._data, self._address, self._most_kept = data, address, most_kept
+        self._texts: Dict[Tuple[int, int], bytes] = {}
+        self._kept = 0
 
     def _begin(self, text: records.Text) -> int:
-        return text.bytes - self._address
+        begin: int = text.bytes - self._address
+        return begin
 
     def text(self, text: records.Text) -> bytes:
-        """A text, copied."""
-        return self._data[self._begin(text): self._begin(text) + text.length].tobytes() if text.length else b""
+        """A text, copied the first time."""
+        place = text.bytes - self._address, text.length
+        found = self._texts.get(place)
+        return self._taken(*place) if found is None else found
+
+    def _taken(self, begin: int, length: int) -> bytes:
+        # a text that is not kept yet
+        found = bytes(self._data[begin: begin + length]) if length else b""
+        self._kept += length
+        if self._most_kept is not None and self._kept > self._most_kept:
+            self._texts.clear()
+            self._kept = length
+        self._texts[begin, length] = found
+        return found
 
     def section(self, s: records.Section) -> Section:
         """The row of a section."""

@@ -1,7 +1,6 @@
 //! Lists a file as pe_list does: list [--permissive] FILE. With --symbols the symbols of an object, and
 //! with --te the header of a Terse Executable, as beside the samples.
-use goblin_pe::constants::MAGIC_64;
-use goblin_pe::{Forwarder, Object, OptionalHeader, Options, Part, Pe, Te};
+use goblin_pe::{Forwarder, Object, Options, Part, Pe, Te};
 use std::error::Error;
 
 fn main() -> Result<(), Box<dyn Error>> {
@@ -28,10 +27,7 @@ fn heading(label: &str, part: Part, count: usize) -> String {
 }
 
 fn image(bytes: &[u8], is_permissive: bool) -> Result<String, goblin_pe::Error> {
-    let options = match is_permissive {
-        true => Options::permissive(),
-        false => Options::default(),
-    };
+    let options = Options::default().with_is_permissive(is_permissive);
     let pe = Pe::read(bytes, &options)?;
     let coff = pe.coff_header();
     let mut text = format!(
@@ -52,12 +48,7 @@ fn image(bytes: &[u8], is_permissive: bool) -> Result<String, goblin_pe::Error> 
         );
     }
     text += &heading("imports", pe.import_table(), pe.imports().len());
-    let is_wide = |it: &OptionalHeader| it.standard_fields.magic == MAGIC_64;
-    let size = if pe.optional_header().is_some_and(is_wide) {
-        8
-    } else {
-        4
-    };
+    let size = if pe.is_64() { 8 } else { 4 };
     for x in pe.imports() {
         text += &format!(
             "import offset={:#x} ordinal={} rva={:#x} size={} slot={} dll={} name={}\n",

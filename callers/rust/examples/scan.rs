@@ -1,19 +1,29 @@
-//! Scans files by as many threads as there are processors: scan FILE.. tells of each image, in the order of the
-//! words, how many imports and exports it has and what is damaged, or why it was refused.
+//! Scans files by four threads: scan FILE.. tells of each image, in the order of the words, how many imports and exports
+//! it has, the hash of its imports and what is damaged, or why it was refused. Of an image that lists more imports than a
+//! limit says, only so many are looked at: it takes no memory for them.
 use goblin_pe::{Error, Options, Pe};
 use std::thread;
 
+const THREADS: usize = 4;
+const MOST_IMPORTS: usize = 100_000;
+
 fn found(bytes: &[u8]) -> Result<String, Error> {
-    let pe = Pe::read(bytes, &Options::permissive())?;
+    let options = Options::permissive();
+    let unlisted = Pe::read(bytes, &options.with_parse_imports(false))?;
+    let walked = unlisted.walk_imports().take(MOST_IMPORTS + 1).count();
+    if walked > MOST_IMPORTS {
+        return Ok(format!("more than {MOST_IMPORTS} imports"));
+    }
+    let pe = Pe::read(bytes, &options)?;
     let (imports, exports) = (pe.imports().len(), pe.exports().len());
-    let damage = pe.damage()?;
-    let damaged = damage
-        .parts()
-        .map(|(part, error)| format!(", {part}: {error}"));
-    Ok(format!(
-        "{imports} imports, {exports} exports{}",
-        damaged.collect::<String>()
-    ))
+    let mut text = format!("{imports} imports, {exports} exports");
+    if let Some(hash) = pe.imphash()? {
+        text += &format!(", imphash {hash}");
+    }
+    for (part, error) in pe.damage()?.parts() {
+        text += &format!(", {part}: {error}");
+    }
+    Ok(text)
 }
 
 fn line(path: &str) -> String {
@@ -26,9 +36,8 @@ fn line(path: &str) -> String {
 
 fn main() {
     let paths: Vec<String> = std::env::args().skip(1).collect();
-    let threads = thread::available_parallelism().map_or(1, |it| it.get());
     let mut lines = vec![String::new(); paths.len()];
-    let each = paths.len().div_ceil(threads).max(1);
+    let each = paths.len().div_ceil(THREADS).max(1);
     thread::scope(|scope| {
         for (paths, lines) in paths.chunks(each).zip(lines.chunks_mut(each)) {
             scope.spawn(move || {

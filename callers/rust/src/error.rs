@@ -47,6 +47,7 @@ impl Error {
     /// let refused = goblin_pe::Te::read(&bytes).err();
     /// let is_out_of_memory = refused.is_some_and(|it| it.kind() == goblin_pe::ErrorKind::Memory);
     /// ```
+    #[must_use]
     pub fn kind(&self) -> ErrorKind {
         ErrorKind::try_from(self.0.status).unwrap_or(ErrorKind::Unknown)
     }
@@ -61,6 +62,7 @@ impl Error {
     ///     println!("{cause} {first:#x} {second:#x}");
     /// }
     /// ```
+    #[must_use]
     pub fn numbers(&self) -> (u32, u64, u64) {
         (self.0.cause, self.0.first, self.0.second)
     }
@@ -72,6 +74,7 @@ impl Error {
     /// let refused = goblin_pe::Pe::read(&bytes, &goblin_pe::Options::default()).err();
     /// let is_image = refused.and_then(|it| it.named_cause()) != Some(goblin_pe::Cause::DosMagic);
     /// ```
+    #[must_use]
     pub fn named_cause(&self) -> Option<Cause> {
         self.named(ErrorKind::Malformed)
     }
@@ -84,6 +87,7 @@ impl Error {
     ///     println!("too short for {:?}", error.counted());
     /// }
     /// ```
+    #[must_use]
     pub fn counted(&self) -> Option<Counted> {
         self.named(ErrorKind::BufferTooShort)
     }
@@ -95,6 +99,7 @@ impl Error {
     /// let refused = goblin_pe::Te::read(&bytes).err();
     /// let is_cut = refused.is_some_and(|it| it.read_fault().is_some());
     /// ```
+    #[must_use]
     pub fn read_fault(&self) -> Option<ReadFault> {
         self.named(ErrorKind::Read)
     }
@@ -129,11 +134,11 @@ impl From<Error> for io::Error {
     /// An error of the kind [`io::ErrorKind::OutOfMemory`] where memory was refused, else of
     /// [`io::ErrorKind::InvalidData`].
     fn from(error: Error) -> io::Error {
-        let kind = match error.kind() {
-            ErrorKind::Memory => io::ErrorKind::OutOfMemory,
-            _ => io::ErrorKind::InvalidData,
-        };
-        io::Error::new(kind, error)
+        match error.kind() {
+            // (which takes no memory)
+            ErrorKind::Memory => io::ErrorKind::OutOfMemory.into(),
+            _ => io::Error::new(io::ErrorKind::InvalidData, error),
+        }
     }
 }
 

@@ -7,8 +7,10 @@ use std::ops::Range;
 use std::slice::{ChunksExact, Iter};
 
 use crate::error::Error;
+use crate::memory::grown;
 use crate::raw::{self, CoffHeader, Fault, Options};
-use crate::rows::{Block, Export, ExportAddress, Import, Section, Symbol};
+use crate::rows::{Block, Export, ExportAddress, Import, Library, Section, Symbol};
+use crate::text::Text;
 
 // Iterators that make a row of each item of another one.
 macro_rules! iterators {
@@ -105,6 +107,60 @@ fn word(bytes: &[u8]) -> (u8, u16) {
     ((word >> 12) as u8, word & 0xFFF)
 }
 
+/// The imports of an image, which the image was given up for.
+#[derive(Clone)]
+pub struct IntoImports<'a> {
+    list: raw::List<'a, raw::Import<'a>>,
+    left: Range<usize>,
+}
+
+impl<'a> IntoImports<'a> {
+    pub(crate) fn of(list: raw::List<'a, raw::Import<'a>>) -> Self {
+        let left = 0..list.get().len();
+        IntoImports { list, left }
+    }
+
+    fn at(&self, index: usize) -> Import<'a> {
+        Import::from(&self.list.get()[index])
+    }
+}
+
+impl<'a> Iterator for IntoImports<'a> {
+    type Item = Import<'a>;
+
+    fn next(&mut self) -> Option<Import<'a>> {
+        self.left.next().map(|index| self.at(index))
+    }
+
+    fn size_hint(&self) -> (usize, Option<usize>) {
+        self.left.size_hint()
+    }
+
+    fn nth(&mut self, count: usize) -> Option<Import<'a>> {
+        self.left.nth(count).map(|index| self.at(index))
+    }
+}
+
+impl DoubleEndedIterator for IntoImports<'_> {
+    fn next_back(&mut self) -> Option<Self::Item> {
+        self.left.next_back().map(|index| self.at(index))
+    }
+}
+
+impl ExactSizeIterator for IntoImports<'_> {}
+
+impl FusedIterator for IntoImports<'_> {}
+
+impl fmt::Debug for IntoImports<'_> {
+    /// What is still to come.
+    fn fmt(&self, f: &mut fmt::Formatter<'_>) -> fmt::Result {
+        let left = &self.list.get()[self.left.clone()];
+        f.debug_list()
+            .entries(left.iter().map(Import::from))
+            .finish()
+    }
+}
+
 /// The data directories that are there, as pairs (index, directory), by rising index.
 #[derive(Clone, Debug)]
 pub struct DataDirectories<'p>(pub(crate) Enumerate<Iter<'p, raw::Directory>>);
@@ -143,7 +199,7 @@ trait Position: Default {
 impl Position for raw::ImportPosition {
     // (a batch that is not full may come before a refusal)
     fn is_end(&self, count: usize, _room: usize) -> bool {
-        count == 0 || self.record == usize::MAX
+        count == 0 || self.record_offset == usize::MAX
     }
 }
 
@@ -180,7 +236,8 @@ impl<T: Copy, P: Position> Batches<T, P> {
         room == 0 || self.next == self.count && !self.position.is_end(self.count, room)
     }
 
-    // Reads the next records, at first so many of them, and answers whether that was refused.
+    // Reads the next records, at first so many of them, and answers whether that was refused. Where only memory
+    // for more of them is refused, it reads as many as before.
     fn fill(
         &mut self,
         first: usize,
@@ -192,7 +249,7 @@ impl<T: Copy, P: Position> Batches<T, P> {
         } else {
             BATCH
         };
-        self.records.resize(room, empty);
+        grown(&mut self.records, empty, room)?;
         (self.next, self.count) = (0, 0);
         let fault = call(&mut self.position, &mut self.records, &mut self.count);
         Error::test(fault)
@@ -262,20 +319,103 @@ walks! {
     WalkExports by raw::next_exports, Export from usize => Export<'a>;
 }
 
+/// A walk over the libraries of which an image imports something, in constant memory.
+#[derive(Clone)]
+pub struct WalkLibraries<'a> {
+    bytes: &'a [u8],
+    options: Options,
+    position: Option<raw::ImportPosition>,
+}
+
+impl<'a> WalkLibraries<'a> {
+    pub(crate) fn of(bytes: &'a [u8], options: Options) -> Self {
+        let position = Some(raw::ImportPosition::default());
+        WalkLibraries {
+            bytes,
+            options,
+            position,
+        }
+    }
+
+    // The library of the next import, whose others are passed over: the walk then goes on with the next record.
+    fn next_from(
+        &self,
+        mut position: raw::ImportPosition,
+    ) -> Result<Option<(Library<'a>, raw::ImportPosition)>, Error> {
+        let mut first = [raw::Import::default()];
+        let mut count = 0;
+        let fault = raw::next_imports(
+            self.bytes,
+            &self.options,
+            &mut position,
+            &mut first,
+            &mut count,
+        );
+        Error::test(fault)?;
+        if count == 0 {
+            return Ok(None);
+        }
+        let record_offset = position.record_offset;
+        let library = Library {
+            name: Text(first[0].dll.get()),
+            record_offset,
+            time_date_stamp: self.number_at(record_offset + 4),
+            forwarder_chain: self.number_at(record_offset + 8),
+        };
+        let next = raw::ImportPosition {
+            record_offset: record_offset + IMPORT_RECORD,
+            slot_offset: 0,
+        };
+        Ok(Some((library, next)))
+    }
+
+    // A number of a record that was read.
+    fn number_at(&self, offset: usize) -> u32 {
+        let stored = self.bytes.get(offset..).and_then(<[u8]>::first_chunk);
+        stored.map_or(0, |it| u32::from_le_bytes(*it))
+    }
+}
+
+// The size of a library's record in the file, in bytes.
+const IMPORT_RECORD: usize = 20;
+
+impl<'a> Iterator for WalkLibraries<'a> {
+    type Item = Result<Library<'a>, Error>;
+
+    fn next(&mut self) -> Option<Result<Library<'a>, Error>> {
+        let position = self.position.take()?;
+        let found = self.next_from(position).transpose()?;
+        Some(found.map(|(library, next)| {
+            self.position = Some(next);
+            library
+        }))
+    }
+}
+
+impl FusedIterator for WalkLibraries<'_> {}
+
+impl fmt::Debug for WalkLibraries<'_> {
+    fn fmt(&self, f: &mut fmt::Formatter<'_>) -> fmt::Result {
+        f.debug_struct("WalkLibraries").finish_non_exhaustive()
+    }
+}
+
 /// A walk over the symbols of an image or an object, in constant memory.
 #[derive(Clone)]
 pub struct Symbols<'a> {
     bytes: &'a [u8],
-    header: CoffHeader,
+    table: raw::SymbolTable,
     batches: Batches<raw::NamedSymbol<'a>, usize>,
 }
 
 impl<'a> Symbols<'a> {
     // Those that a COFF header tells of, the first of them read.
     pub(crate) fn of(bytes: &'a [u8], header: &CoffHeader) -> Result<Self, Error> {
+        let mut table = raw::SymbolTable::default();
+        Error::test(raw::read_symbol_table(bytes, header, &mut table))?;
         let mut symbols = Symbols {
             bytes,
-            header: *header,
+            table,
             batches: Batches::new(),
         };
         symbols.fill()?;
@@ -283,13 +423,32 @@ impl<'a> Symbols<'a> {
     }
 
     fn fill(&mut self) -> Result<(), Error> {
-        let (bytes, header) = (self.bytes, &self.header);
-        // (each call reads the whole string table)
+        let (bytes, table) = (self.bytes, &self.table);
         self.batches.fill(
-            BATCH,
+            FIRST,
             raw::NamedSymbol::default(),
-            |position, records, count| raw::next_symbols(bytes, header, position, records, count),
+            |position, records, count| raw::next_symbols(bytes, table, position, records, count),
         )
+    }
+
+    /// The symbol whose record has this index in the symbol table, wherever the walk is: relocations and weak
+    /// externals name symbols so. `None` where the table ends before it; a record that says more of the symbol
+    /// before it is read as a symbol, too. It takes no longer for a large table.
+    ///
+    /// ```no_run
+    /// # let bytes = [];
+    /// let object = goblin_pe::Object::read(&bytes, &goblin_pe::Options::default())?;
+    /// let symbols = object.symbols()?;
+    /// for section in object.sections() {
+    ///     for relocation in section.relocations(&bytes)? {
+    ///         let symbol = symbols.at_index(relocation.symbol_table_index as usize);
+    ///         println!("{}", symbol.and_then(|s| s.name).unwrap_or_default());
+    ///     }
+    /// }
+    /// # Ok::<(), goblin_pe::Error>(())
+    /// ```
+    pub fn at_index(&self, index: usize) -> Option<Symbol<'a>> {
+        raw::symbol_at(self.bytes, &self.table, index).map(|it| Symbol::from(&it))
     }
 }
 

@@ -11,7 +11,25 @@
 //!
 //! `callers/build` makes the library that this crate links, in `callers/lib`, or `callers/install` puts
 //! it where pkg-config finds it; the variable `GOBLIN_PE_LIB` names another folder with it. A crate names
-//! this one by its path: `goblin_pe = { path = ".../callers/rust" }`.
+//! this one by its path: `goblin_pe = { path = ".../callers/rust" }`. It can be checked and documented
+//! without the library.
+//!
+//! # Platforms
+//!
+//! The library is built for x86-64 Linux, and needs the C library alone, static or shared. This crate needs
+//! `std`, Rust 1.85 and no other crate.
+//!
+//! # What it costs
+//!
+//! | Call | Time | Memory |
+//! |---|---|---|
+//! | [`Pe::read`] | as long as what it lists, some microseconds for a small file | a record for each row, of 8 to 96 bytes |
+//! | [`Pe::walk_imports`], [`Pe::walk_exports`], [`Pe::symbols`] | as they go on | room for 256 rows; an index of more than 96 sections |
+//! | [`Pe::damage`] | as a read | an index of more than 96 sections |
+//! | [`Pe::footprint`], [`Pe::fingerprint`] | as two reads | a bit for each byte of the file, and the ranges |
+//! | [`Pe::find_offset`] and what is at an address | a walk over the sections | none |
+//! | [`Object::read`], [`Te::read`] | as many sections as there are | a record for each section |
+//! | rows, names and texts | none: they are places in the bytes | none |
 //!
 //! ```no_run
 //! use goblin_pe::{Options, Pe};
@@ -36,29 +54,38 @@
 #![deny(unsafe_code)]
 #![warn(missing_docs)]
 
+#[allow(clippy::doc_markdown)] // (processors are called PowerPC and the like)
 pub mod constants;
+mod digest;
 mod error;
 mod footprint;
+mod imphash;
 mod iterators;
 mod memory;
+mod names;
 mod numbers;
 mod object;
 mod pe;
 #[allow(unsafe_code)]
 mod raw;
-#[allow(unsafe_code)]
+#[allow(unsafe_code, clippy::struct_field_names)]
 mod records;
 mod rows;
+mod tables;
 mod te;
 mod text;
 
+pub use digest::Hash;
 pub use error::Error;
 pub use footprint::Footprint;
 pub use iterators::{
-    Blocks, DataDirectories, ExportAddresses, Exports, FootprintRanges, Imports, Sections, Symbols,
-    WalkExports, WalkImports, Words,
+    Blocks, DataDirectories, ExportAddresses, Exports, FootprintRanges, Imports, IntoImports,
+    Sections, Symbols, WalkExports, WalkImports, WalkLibraries, Words,
 };
-pub use numbers::{Cause, Counted, DirectoryType, ErrorKind, Kind, Part, ReadFault};
+pub use names::{DllFlags, FileFlags, Machine, SectionFlags, Subsystem};
+pub use numbers::{
+    Cause, Counted, DirectoryType, ErrorKind, Kind, Part, RawPointerRule, ReadFault,
+};
 pub use object::Object;
 pub use pe::Pe;
 pub use records::{
@@ -68,7 +95,7 @@ pub use records::{
 };
 pub use rows::{
     Block, Damage, Export, ExportAddress, ExportDirectory, Forwarder, Header, Import, Imported,
-    RichHeader, Section, Symbol,
+    Library, RichHeader, Section, Symbol,
 };
 pub use te::Te;
 pub use text::Text;
@@ -86,8 +113,27 @@ pub use text::Text;
 /// }
 /// # Ok::<(), std::io::Error>(())
 /// ```
+#[must_use]
 pub fn kind(bytes: &[u8]) -> Kind {
     Kind::try_from(raw::kind(bytes)).unwrap_or(Kind::Unknown)
+}
+
+/// The checksum of an image, whose field stands at the file offset `field`: 88 bytes after `pe_pointer`. It
+/// is the sum of the little-endian words of two bytes, in 16 bits and with each carry added, and the
+/// length, in 32 bits; the bytes of the field count as zeros. Windows loads a driver only where the field
+/// has this value.
+///
+/// ```no_run
+/// # use goblin_pe::{Options, Pe};
+/// let mut bytes = std::fs::read("some.sys")?;
+/// let field = Pe::read(&bytes, &Options::default())?.dos_header().pe_pointer as usize + 88;
+/// let sum = goblin_pe::checksum(&bytes, field);
+/// bytes[field..][..4].copy_from_slice(&sum.to_le_bytes());
+/// # Ok::<(), Box<dyn std::error::Error>>(())
+/// ```
+#[must_use]
+pub fn checksum(bytes: &[u8], field: usize) -> u32 {
+    raw::checksum(bytes, field)
 }
 
 /// Whether the library that is linked has the interface that this crate declares. Each read asks so, and
@@ -96,6 +142,7 @@ pub fn kind(bytes: &[u8]) -> Kind {
 /// ```no_run
 /// assert!(goblin_pe::is_linked_as_declared());
 /// ```
+#[must_use]
 pub fn is_linked_as_declared() -> bool {
     raw::is_linked_as_declared()
 }

@@ -15,3 +15,18 @@ pub fn records<T: Clone>(empty: T, count: usize) -> Result<Vec<T>, Error> {
     records.resize(count, empty);
     Ok(records)
 }
+
+/// Records to be filled in the place of these, at least as many as before: so many, where memory for them is not
+/// refused; else those that there are.
+///
+/// # Errors
+/// Where there are none yet, and memory for so many is refused.
+pub fn grown<T: Clone>(had: &mut Vec<T>, empty: T, count: usize) -> Result<(), Error> {
+    let more = count.saturating_sub(had.len());
+    match had.try_reserve_exact(more) {
+        Ok(()) => had.resize(had.len() + more, empty),
+        Err(_) if had.is_empty() => return Err(Error::MEMORY),
+        Err(_) => {}
+    }
+    Ok(())
+}

@@ -55,6 +55,50 @@ impl From<Kind> for u32 {
     }
 }
 
+/// Where the raw data of a section begins, for addresses and for its data.
+///
+/// Where the raw pointer is a multiple of 512, as the PE/COFF specification asks for the usual file
+/// alignments, all rules say the same. Else rounding is right where `section_alignment` is 4,096 or
+/// more, and pointers as stored where it is less, since the Windows loader maps such an image as
+/// one flat view of the file.
+#[repr(u32)]
+#[derive(Clone, Copy, Debug, PartialEq, Eq, PartialOrd, Ord, Hash)]
+#[non_exhaustive]
+pub enum RawPointerRule {
+    /// At the raw pointer, as goblin maps.
+    AsStored = 0,
+    /// At the greatest multiple of 512 that is at most the raw pointer.
+    RoundedTo512 = 1,
+    /// By the file alignment, as pefile maps: rounded where that is 512 or more, else as stored. In
+    /// a lawful image it is below 512 only where it equals a `section_alignment` below 4,096, so
+    /// this is right for each such image, without a look at its header before.
+    ByFileAlignment = 2,
+}
+
+impl TryFrom<u32> for RawPointerRule {
+    type Error = u32;
+
+    /// What has this number.
+    ///
+    /// # Errors
+    /// The number, where nothing has it.
+    fn try_from(number: u32) -> Result<RawPointerRule, u32> {
+        match number {
+            0 => Ok(RawPointerRule::AsStored),
+            1 => Ok(RawPointerRule::RoundedTo512),
+            2 => Ok(RawPointerRule::ByFileAlignment),
+            _ => Err(number),
+        }
+    }
+}
+
+impl From<RawPointerRule> for u32 {
+    /// Its number.
+    fn from(it: RawPointerRule) -> u32 {
+        it as u32
+    }
+}
+
 /// How a table of the file stands.
 #[repr(u32)]
 #[derive(Clone, Copy, Debug, PartialEq, Eq, PartialOrd, Ord, Hash)]

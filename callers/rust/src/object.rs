@@ -26,7 +26,7 @@ const COFF_HEADER: usize = 20;
 #[derive(Clone)]
 pub struct Object<'a> {
     bytes: &'a [u8],
-    object: raw::Object,
+    found: raw::Object,
     sections: Vec<raw::Section<'a>>,
 }
 
@@ -45,13 +45,13 @@ impl<'a> Object<'a> {
     /// # Ok::<(), goblin_pe::Error>(())
     /// ```
     pub fn read(bytes: &'a [u8], options: &Options) -> Result<Object<'a>, Error> {
-        let mut object = raw::Object::default();
-        Error::test(raw::read_object(bytes, options, &mut object, &mut []))?;
-        let mut sections = records(raw::Section::default(), object.sections)?;
-        Error::test(raw::read_object(bytes, options, &mut object, &mut sections))?;
+        let mut found = raw::Object::default();
+        Error::test(raw::read_object(bytes, options, &mut found, &mut []))?;
+        let mut sections = records(raw::Section::default(), found.sections)?;
+        Error::test(raw::read_object(bytes, options, &mut found, &mut sections))?;
         Ok(Object {
             bytes,
-            object,
+            found,
             sections,
         })
     }
@@ -64,8 +64,9 @@ impl<'a> Object<'a> {
     /// let is_for_x64 = object.coff_header().machine == goblin_pe::constants::COFF_MACHINE_X86_64;
     /// # Ok::<(), goblin_pe::Error>(())
     /// ```
+    #[must_use]
     pub fn coff_header(&self) -> &CoffHeader {
-        &self.object.coff_header
+        &self.found.coff_header
     }
 
     /// The sections.
@@ -76,8 +77,9 @@ impl<'a> Object<'a> {
     /// let names: Vec<_> = object.sections().map(|s| s.name).collect();
     /// # Ok::<(), goblin_pe::Error>(())
     /// ```
+    #[must_use]
     pub fn sections(&self) -> Sections<'_, 'a> {
-        let size = usize::from(self.object.coff_header.size_of_optional_header);
+        let size = usize::from(self.found.coff_header.size_of_optional_header);
         Sections::at(self.bytes, COFF_HEADER + size, &self.sections)
     }
 

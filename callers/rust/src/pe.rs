@@ -2,11 +2,14 @@
 
 use std::fmt;
 
+use crate::constants::{IMAGE_FILE_DLL, MAGIC_64};
+use crate::digest::Hash;
 use crate::error::Error;
 use crate::footprint::Footprint;
+use crate::imphash::imphash;
 use crate::iterators::{
-    Blocks, DataDirectories, ExportAddresses, Exports, Imports, Sections, Symbols, WalkExports,
-    WalkImports,
+    Blocks, DataDirectories, ExportAddresses, Exports, Imports, IntoImports, Sections, Symbols,
+    WalkExports, WalkImports, WalkLibraries,
 };
 use crate::numbers::{DirectoryType, Part};
 use crate::raw::{
@@ -36,6 +39,19 @@ impl From<raw::Table> for Part {
 ///     println!("its exports are damaged");
 /// }
 /// # Ok::<(), std::io::Error>(())
+/// ```
+///
+/// It may be dropped after the bytes, as what a `match` at the end of a function is about:
+///
+/// ```no_run,edition2021
+/// # use goblin_pe::{Options, Pe};
+/// fn main() {
+///     let bytes = std::fs::read("some.dll").unwrap_or_default();
+///     match Pe::read(&bytes, &Options::default()) {
+///         Ok(pe) => println!("{} imports", pe.imports().len()),
+///         Err(error) => println!("{error}"),
+///     }
+/// }
 /// ```
 #[derive(Clone)]
 pub struct Pe<'a> {
@@ -77,6 +93,114 @@ impl<'a> Pe<'a> {
         Ok(pe)
     }
 
+    /// Reads an image that lies in memory, by the default options: strictly, with all its tables.
+    ///
+    /// # Errors
+    /// Why it was refused.
+    ///
+    /// ```no_run
+    /// # let bytes = [];
+    /// let pe = goblin_pe::Pe::parse(&bytes)?;
+    /// println!("{} imports", pe.imports().len());
+    /// # Ok::<(), goblin_pe::Error>(())
+    /// ```
+    pub fn parse(bytes: &'a [u8]) -> Result<Pe<'a>, Error> {
+        Pe::read(bytes, &Options::default())
+    }
+
+    /// Whether the optional header is one for 64 bits.
+    ///
+    /// ```no_run
+    /// # let bytes = [];
+    /// let pe = goblin_pe::Pe::parse(&bytes)?;
+    /// let width = if pe.is_64() { 8 } else { 4 };
+    /// # Ok::<(), goblin_pe::Error>(())
+    /// ```
+    #[must_use]
+    pub fn is_64(&self) -> bool {
+        self.optional_header()
+            .is_some_and(|it| it.standard_fields.magic == MAGIC_64)
+    }
+
+    /// Whether the file says that it is a dynamic-link library.
+    ///
+    /// ```no_run
+    /// # let bytes = [];
+    /// let pe = goblin_pe::Pe::parse(&bytes)?;
+    /// println!("{}", if pe.is_lib() { "library" } else { "program" });
+    /// # Ok::<(), goblin_pe::Error>(())
+    /// ```
+    #[must_use]
+    pub fn is_lib(&self) -> bool {
+        self.coff_header().characteristics & IMAGE_FILE_DLL != 0
+    }
+
+    /// The address of the entry point, relative to the image's base; 0 where there is none.
+    ///
+    /// ```no_run
+    /// # let bytes = [];
+    /// let pe = goblin_pe::Pe::parse(&bytes)?;
+    /// let offset = pe.find_offset(pe.entry() as usize);
+    /// # Ok::<(), goblin_pe::Error>(())
+    /// ```
+    #[must_use]
+    pub fn entry(&self) -> u32 {
+        self.optional_header()
+            .map_or(0, |it| it.standard_fields.address_of_entry_point)
+    }
+
+    /// The address at which the image is best loaded; 0 where it has no optional header.
+    ///
+    /// ```no_run
+    /// # let bytes = [];
+    /// let pe = goblin_pe::Pe::parse(&bytes)?;
+    /// println!("it begins at {:#x}", pe.image_base() + u64::from(pe.entry()));
+    /// # Ok::<(), goblin_pe::Error>(())
+    /// ```
+    #[must_use]
+    pub fn image_base(&self) -> u64 {
+        self.optional_header()
+            .map_or(0, |it| it.windows_fields.image_base)
+    }
+
+    /// The name with which it was linked as a library; `None` where it has none.
+    ///
+    /// ```no_run
+    /// # let bytes = [];
+    /// let pe = goblin_pe::Pe::parse(&bytes)?;
+    /// println!("{}", pe.name().unwrap_or_default());
+    /// # Ok::<(), goblin_pe::Error>(())
+    /// ```
+    #[must_use]
+    pub fn name(&self) -> Option<Text<'a>> {
+        self.export_directory()?.name
+    }
+
+    /// The names of the libraries of which something is imported, sorted, each once.
+    ///
+    /// # Errors
+    /// [`ErrorKind::Memory`](crate::ErrorKind::Memory) alone.
+    ///
+    /// ```no_run
+    /// # let bytes = [];
+    /// let pe = goblin_pe::Pe::parse(&bytes)?;
+    /// let has_sockets = pe.libraries()?.iter().any(|it| it.eq_ignore_ascii_case(b"ws2_32.dll"));
+    /// # Ok::<(), goblin_pe::Error>(())
+    /// ```
+    pub fn libraries(&self) -> Result<Vec<Text<'a>>, Error> {
+        let mut libraries: Vec<Text> = Vec::new();
+        // (the imports of a library follow one another)
+        for import in self.imports() {
+            if libraries.last() != Some(&import.dll) {
+                libraries.try_reserve(1).map_err(|_| Error::MEMORY)?;
+                libraries.push(import.dll);
+            }
+        }
+        libraries.sort_unstable();
+        libraries.dedup();
+        Ok(libraries)
+    }
+
     /// The DOS header.
     ///
     /// ```no_run
@@ -85,6 +209,7 @@ impl<'a> Pe<'a> {
     /// println!("the PE signature stands at {:#x}", pe.dos_header().pe_pointer);
     /// # Ok::<(), goblin_pe::Error>(())
     /// ```
+    #[must_use]
     pub fn dos_header(&self) -> &DosHeader {
         &self.file.dos_header
     }
@@ -97,6 +222,7 @@ impl<'a> Pe<'a> {
     /// let is_library = pe.coff_header().characteristics & goblin_pe::constants::IMAGE_FILE_DLL != 0;
     /// # Ok::<(), goblin_pe::Error>(())
     /// ```
+    #[must_use]
     pub fn coff_header(&self) -> &CoffHeader {
         &self.file.coff_header
     }
@@ -109,6 +235,7 @@ impl<'a> Pe<'a> {
     /// let subsystem = pe.optional_header().map(|it| it.windows_fields.subsystem);
     /// # Ok::<(), goblin_pe::Error>(())
     /// ```
+    #[must_use]
     pub fn optional_header(&self) -> Option<&OptionalHeader> {
         (self.file.coff_header.size_of_optional_header != 0).then_some(&self.file.optional_header)
     }
@@ -121,6 +248,7 @@ impl<'a> Pe<'a> {
     /// let key = pe.rich_header().map(|it| it.key);
     /// # Ok::<(), goblin_pe::Error>(())
     /// ```
+    #[must_use]
     pub fn rich_header(&self) -> Option<RichHeader> {
         let rich = &self.file.rich_header;
         rich.is_present.then_some(RichHeader {
@@ -142,6 +270,7 @@ impl<'a> Pe<'a> {
     /// }
     /// # Ok::<(), goblin_pe::Error>(())
     /// ```
+    #[must_use]
     pub fn rich_entries(&self) -> &[RichMetadata] {
         self.tables.rich_entries.get()
     }
@@ -157,6 +286,7 @@ impl<'a> Pe<'a> {
     /// }
     /// # Ok::<(), goblin_pe::Error>(())
     /// ```
+    #[must_use]
     pub fn rich_rest(&self) -> Option<Error> {
         Error::of(self.file.rich_header.rest)
     }
@@ -170,6 +300,7 @@ impl<'a> Pe<'a> {
     /// let is_managed = pe.data_directory(DirectoryType::ClrRuntimeHeader).is_some();
     /// # Ok::<(), goblin_pe::Error>(())
     /// ```
+    #[must_use]
     pub fn data_directory(&self, kind: DirectoryType) -> Option<DataDirectory> {
         let mut directories = self.data_directories();
         let found = directories.find(|(index, _)| *index == kind as usize);
@@ -187,6 +318,7 @@ impl<'a> Pe<'a> {
     /// }
     /// # Ok::<(), goblin_pe::Error>(())
     /// ```
+    #[must_use]
     pub fn data_directories(&self) -> DataDirectories<'_> {
         DataDirectories(self.directory_records().iter().enumerate())
     }
@@ -204,6 +336,7 @@ impl<'a> Pe<'a> {
     /// let size: u64 = pe.sections().map(|s| u64::from(s.size_of_raw_data)).sum();
     /// # Ok::<(), goblin_pe::Error>(())
     /// ```
+    #[must_use]
     pub fn sections(&self) -> Sections<'_, 'a> {
         let table = section_table(&self.file.dos_header, &self.file.coff_header);
         Sections::at(self.bytes, table, self.section_records())
@@ -251,6 +384,7 @@ impl<'a> Pe<'a> {
     /// println!("{:?}: {} imports", pe.import_table(), pe.imports().len());
     /// # Ok::<(), goblin_pe::Error>(())
     /// ```
+    #[must_use]
     pub fn import_table(&self) -> Part {
         Part::from(self.file.imports)
     }
@@ -267,8 +401,45 @@ impl<'a> Pe<'a> {
     /// }
     /// # Ok::<(), goblin_pe::Error>(())
     /// ```
+    #[must_use]
     pub fn imports(&self) -> Imports<'_, 'a> {
         Imports(self.tables.imports.get().iter())
+    }
+
+    /// The imports, for which the rest is given up: they may be handed on alone.
+    ///
+    /// ```no_run
+    /// # use goblin_pe::{Error, Import, Pe};
+    /// fn names(bytes: &[u8]) -> Result<impl Iterator<Item = Import<'_>>, Error> {
+    ///     Ok(Pe::parse(bytes)?.into_imports())
+    /// }
+    /// ```
+    #[must_use]
+    pub fn into_imports(self) -> IntoImports<'a> {
+        IntoImports::of(self.tables.imports)
+    }
+
+    /// The hash of the imports that analysts compare, an MD5; `None` where there are no imports. Other tools
+    /// tell the same where they see the same imports. Where the options left the imports out, it walks over
+    /// them.
+    ///
+    /// # Errors
+    /// As of [`Pe::walk_imports`], where the options left the imports out.
+    ///
+    /// ```no_run
+    /// # let bytes = [];
+    /// let pe = goblin_pe::Pe::parse(&bytes)?;
+    /// if let Some(hash) = pe.imphash()? {
+    ///     println!("{hash}");
+    /// }
+    /// # Ok::<(), goblin_pe::Error>(())
+    /// ```
+    pub fn imphash(&self) -> Result<Option<Hash<16>>, Error> {
+        if self.options.parse_imports {
+            imphash(self.imports().map(Ok))
+        } else {
+            imphash(self.walk_imports())
+        }
     }
 
     /// A walk over the imports, in constant memory, which reads the file as it goes on: also where the
@@ -285,8 +456,26 @@ impl<'a> Pe<'a> {
     /// }
     /// # Ok::<(), goblin_pe::Error>(())
     /// ```
+    #[must_use]
     pub fn walk_imports(&self) -> WalkImports<'a> {
         WalkImports::of(self.bytes, self.options.with_parse_imports(true))
+    }
+
+    /// A walk over the libraries of which something is imported, in the order of their records, as
+    /// [`Pe::walk_imports`] is over imports. One library may have several records.
+    ///
+    /// ```no_run
+    /// # let bytes = [];
+    /// let pe = goblin_pe::Pe::parse(&bytes)?;
+    /// for library in pe.walk_libraries() {
+    ///     let library = library?;
+    ///     println!("{} {}", library.name, library.time_date_stamp);
+    /// }
+    /// # Ok::<(), goblin_pe::Error>(())
+    /// ```
+    #[must_use]
+    pub fn walk_libraries(&self) -> WalkLibraries<'a> {
+        WalkLibraries::of(self.bytes, self.options.with_parse_imports(true))
     }
 
     /// How the exports stand.
@@ -297,6 +486,7 @@ impl<'a> Pe<'a> {
     /// println!("{:?}: {} exports", pe.export_table(), pe.exports().len());
     /// # Ok::<(), goblin_pe::Error>(())
     /// ```
+    #[must_use]
     pub fn export_table(&self) -> Part {
         Part::from(self.file.exports)
     }
@@ -310,6 +500,7 @@ impl<'a> Pe<'a> {
     /// let names: Vec<_> = pe.exports().filter_map(|export| export.name).collect();
     /// # Ok::<(), goblin_pe::Error>(())
     /// ```
+    #[must_use]
     pub fn exports(&self) -> Exports<'_, 'a> {
         Exports(self.tables.exports.get().iter())
     }
@@ -324,6 +515,7 @@ impl<'a> Pe<'a> {
     /// }
     /// # Ok::<(), goblin_pe::Error>(())
     /// ```
+    #[must_use]
     pub fn walk_exports(&self) -> WalkExports<'a> {
         WalkExports::of(self.bytes, self.options)
     }
@@ -354,6 +546,7 @@ impl<'a> Pe<'a> {
     /// }
     /// # Ok::<(), goblin_pe::Error>(())
     /// ```
+    #[must_use]
     pub fn find_export_by_ordinal(&self, ordinal: usize) -> Option<ExportAddress> {
         let index = ordinal.checked_sub(self.ordinal_base())?;
         self.export_addresses()
@@ -370,6 +563,7 @@ impl<'a> Pe<'a> {
     /// let used = pe.export_addresses().filter(|it| it.rva != 0).count();
     /// # Ok::<(), goblin_pe::Error>(())
     /// ```
+    #[must_use]
     pub fn export_addresses(&self) -> ExportAddresses<'_> {
         let base = self.ordinal_base();
         let records = self.tables.export_addresses.get();
@@ -388,6 +582,7 @@ impl<'a> Pe<'a> {
     /// let name = pe.export_directory().and_then(|it| it.name);
     /// # Ok::<(), goblin_pe::Error>(())
     /// ```
+    #[must_use]
     pub fn export_directory(&self) -> Option<ExportDirectory<'a>> {
         let directory = &self.tables.export_directory;
         (self.export_table() == Part::Read).then(|| ExportDirectory {
@@ -423,6 +618,7 @@ impl<'a> Pe<'a> {
     /// let can_be_moved = pe.relocation_table() == goblin_pe::Part::Read;
     /// # Ok::<(), goblin_pe::Error>(())
     /// ```
+    #[must_use]
     pub fn relocation_table(&self) -> Part {
         Part::from(self.file.relocations.blocks)
     }
@@ -437,6 +633,7 @@ impl<'a> Pe<'a> {
     /// }
     /// # Ok::<(), goblin_pe::Error>(())
     /// ```
+    #[must_use]
     pub fn blocks(&self) -> Blocks<'_, 'a> {
         Blocks(self.tables.blocks.get().iter())
     }
@@ -452,6 +649,7 @@ impl<'a> Pe<'a> {
     /// }
     /// # Ok::<(), goblin_pe::Error>(())
     /// ```
+    #[must_use]
     pub fn block_rest(&self) -> Option<Error> {
         Error::of(self.file.relocations.rest)
     }
@@ -469,6 +667,7 @@ impl<'a> Pe<'a> {
     /// let code = entry.and_then(|rva| pe.find_offset(rva)).and_then(|offset| bytes.get(offset..));
     /// # Ok::<(), goblin_pe::Error>(())
     /// ```
+    #[must_use]
     pub fn find_offset(&self, rva: usize) -> Option<usize> {
         raw::find_offset(&self.image(), rva)
     }
@@ -494,7 +693,9 @@ impl<'a> Pe<'a> {
         Ok(Text(text.get()))
     }
 
-    /// So many bytes at an address.
+    /// So many bytes of the file from the offset of an address on. The end of its section is not looked at, so
+    /// where they pass that, what comes is what follows in the file, which a loader maps elsewhere or not at
+    /// all.
     ///
     /// # Errors
     /// Where the address has no offset in the file, where this lies at or past the file's end, even if no
@@ -512,6 +713,59 @@ impl<'a> Pe<'a> {
         let mut bytes = raw::Slice::default();
         Error::test(raw::bytes_at(&self.image(), rva, size, &mut bytes))?;
         Ok(bytes.get())
+    }
+
+    /// The pair (bytes in the file, how many zeros follow them) of the `size` bytes that a loader sees at an
+    /// address. They lie in the memory of the first section that holds the address, which has as many
+    /// bytes as its virtual size says, or its raw size where that is 0; a header lies in none.
+    ///
+    /// # Errors
+    /// Where no section's memory holds the address, where the bytes pass the section's memory, and where
+    /// the file does not have its bytes.
+    ///
+    /// ```no_run
+    /// # use goblin_pe::{Options, Pe};
+    /// # let bytes = [];
+    /// let pe = Pe::read(&bytes, &Options::default())?;
+    /// let (code, zeros) = pe.memory_at(0x1000, 64)?;
+    /// assert_eq!(code.len() + zeros, 64);
+    /// # Ok::<(), goblin_pe::Error>(())
+    /// ```
+    pub fn memory_at(&self, rva: usize, size: usize) -> Result<(&'a [u8], usize), Error> {
+        let mut data = raw::SectionData::default();
+        Error::test(raw::memory_at(&self.image(), rva, size, &mut data))?;
+        Ok((data.bytes.get(), data.zeros))
+    }
+
+    /// The section of an address: the first by which it is mapped; `None` where there is none.
+    ///
+    /// ```no_run
+    /// # use goblin_pe::{Options, Pe};
+    /// # let bytes = [];
+    /// let pe = Pe::read(&bytes, &Options::default())?;
+    /// let entry = pe.optional_header().map(|it| it.standard_fields.address_of_entry_point);
+    /// let section = entry.and_then(|entry| pe.section_at(entry as usize));
+    /// # Ok::<(), goblin_pe::Error>(())
+    /// ```
+    #[must_use]
+    pub fn section_at(&self, rva: usize) -> Option<Section<'a>> {
+        let index = raw::section_at(&self.image(), rva)?;
+        self.sections().nth(index)
+    }
+
+    /// The address of a file offset, which [`Pe::find_offset`] maps to it: that in the first section that has
+    /// one; `None` where there is none.
+    ///
+    /// ```no_run
+    /// # use goblin_pe::{Options, Pe};
+    /// # let bytes = [];
+    /// let pe = Pe::read(&bytes, &Options::default())?;
+    /// let rva = pe.find_rva(0x400);
+    /// # Ok::<(), goblin_pe::Error>(())
+    /// ```
+    #[must_use]
+    pub fn find_rva(&self, offset: usize) -> Option<usize> {
+        raw::find_rva(&self.image(), offset)
     }
 
     fn image(&self) -> raw::Image<'_, 'a> {
@@ -532,6 +786,7 @@ impl<'a> Pe<'a> {
     /// header.coff_header.time_date_stamp = 0;
     /// # Ok::<(), goblin_pe::Error>(())
     /// ```
+    #[must_use]
     pub fn header(&self) -> Header<'a> {
         let mut data_directories = [None; 16];
         for (index, directory) in self.data_directories() {
@@ -554,7 +809,7 @@ impl<'a> Pe<'a> {
     /// ```no_run
     /// # let bytes = [];
     /// let pe = goblin_pe::Pe::read(&bytes, &goblin_pe::Options::default())?;
-    /// let mut out = vec![0; pe.header().section_table() + 256];
+    /// let mut out = vec![0; pe.header().size()];
     /// let size = pe.write_header(&mut out)?;
     /// # Ok::<(), goblin_pe::Error>(())
     /// ```
@@ -599,7 +854,34 @@ impl<'a> Pe<'a> {
     /// # Ok::<(), goblin_pe::Error>(())
     /// ```
     pub fn footprint(&self) -> Result<Footprint, Error> {
-        Footprint::of(self.bytes, &self.options)
+        Footprint::of(self.bytes, self.options)
+    }
+
+    /// A key of what [`Pe::read`] lists, for one choice of options: the SHA-256 of the length of the file and of its
+    /// footprint, the ranges and their bytes. Files that have the same are read alike by the same options. It
+    /// covers what the footprint does.
+    ///
+    /// # Errors
+    /// [`ErrorKind::Memory`](crate::ErrorKind::Memory) alone.
+    ///
+    /// ```no_run
+    /// # use goblin_pe::Pe;
+    /// # let bytes = [];
+    /// let pe = Pe::parse(&bytes)?;
+    /// println!("{}", pe.fingerprint()?);
+    /// # Ok::<(), goblin_pe::Error>(())
+    /// ```
+    pub fn fingerprint(&self) -> Result<Hash<32>, Error> {
+        Ok(self.footprint()?.digest(self.bytes))
+    }
+}
+
+impl<'a> TryFrom<&'a [u8]> for Pe<'a> {
+    type Error = Error;
+
+    /// As by [`Pe::parse`].
+    fn try_from(bytes: &'a [u8]) -> Result<Pe<'a>, Error> {
+        Pe::parse(bytes)
     }
 }
 

@@ -1,7 +1,9 @@
 //! The library's calls over slices, what a slice and a table are in its records, and all else that is
 //! unsafe.
 
+use crate::numbers::RawPointerRule;
 use std::alloc::{Layout, handle_alloc_error};
+use std::ffi::c_void;
 use std::marker::PhantomData;
 use std::mem::offset_of;
 use std::ptr::NonNull;
@@ -52,6 +54,7 @@ impl<'a> Slice<'a> {
 impl Options {
     /// Damaged parts are passed over, in permissive mode; an import directory at file offset 0 is an
     /// empty list there, without damage. Else as by default.
+    #[must_use]
     pub const fn permissive() -> Options {
         Options {
             is_permissive: true,
@@ -59,15 +62,24 @@ impl Options {
         }
     }
 
+    /// The same options, with damaged parts passed over or not.
+    #[must_use]
+    pub const fn with_is_permissive(mut self, is_permissive: bool) -> Options {
+        self.is_permissive = is_permissive;
+        self
+    }
+
     /// The same options, with addresses mapped by the sections or not.
+    #[must_use]
     pub const fn with_resolve_rva(mut self, resolve_rva: bool) -> Options {
         self.resolve_rva = resolve_rva;
         self
     }
 
-    /// The same options, with raw pointers rounded down to 512 or not.
-    pub const fn with_rounds_raw_pointers(mut self, rounds_raw_pointers: bool) -> Options {
-        self.rounds_raw_pointers = rounds_raw_pointers;
+    /// The same options, with addresses mapped by this rule.
+    #[must_use]
+    pub const fn with_raw_pointer_rule(mut self, rule: RawPointerRule) -> Options {
+        self.raw_pointer_rule = rule as u8;
         self
     }
 
@@ -79,6 +91,7 @@ impl Options {
     /// let options = Options::permissive().with_parse_imports(false);
     /// assert!(options.is_permissive && options.resolve_rva && !options.parse_imports);
     /// ```
+    #[must_use]
     pub const fn with_parse_imports(mut self, parse_imports: bool) -> Options {
         self.parse_imports = parse_imports;
         self
@@ -92,11 +105,27 @@ impl Default for Options {
     }
 }
 
+/// A block of memory of the library's, which is freed with it. It names no lifetime, so what borrows from
+/// the bytes of a file may be dropped after them, as a `Vec` may.
+#[repr(C)]
+struct Memory {
+    first: NonNull<c_void>,
+    count: usize,
+}
+
+impl Drop for Memory {
+    fn drop(&mut self) {
+        if self.count != 0 {
+            // SAFETY: the library took the block by `malloc`, and hands it over.
+            unsafe { free(self.first.as_ptr()) }
+        }
+    }
+}
+
 /// Records in a block of memory of the library's, which is freed with the list.
 #[repr(C)]
 pub struct List<'a, T> {
-    first: NonNull<T>,
-    count: usize,
+    memory: Memory,
     of: PhantomData<&'a [T]>,
 }
 
@@ -109,8 +138,10 @@ impl<T> Default for List<'_, T> {
     /// No records.
     fn default() -> Self {
         List {
-            first: NonNull::dangling(),
-            count: 0,
+            memory: Memory {
+                first: NonNull::<T>::dangling().cast(),
+                count: 0,
+            },
             of: PhantomData,
         }
     }
@@ -119,34 +150,29 @@ impl<T> Default for List<'_, T> {
 impl<T> List<'_, T> {
     /// The records.
     pub fn get(&self) -> &[T] {
+        let first = self.memory.first.cast();
         // SAFETY: it is empty, or was stored by the library, and nothing has been freed.
-        unsafe { std::slice::from_raw_parts(self.first.as_ptr(), self.count) }
+        unsafe { std::slice::from_raw_parts(first.as_ptr(), self.memory.count) }
     }
 }
 
 impl<T: Copy> Clone for List<'_, T> {
     /// A block of its own. Where memory for it is refused, the process ends, as it does for a `Vec`.
     fn clone(&self) -> Self {
-        if self.count == 0 {
+        let count = self.memory.count;
+        if count == 0 {
             return Self::default();
         }
         let layout = Layout::for_value(self.get());
         // SAFETY: it may be asked for any size.
-        let block = unsafe { malloc(layout.size()) };
-        let Some(first) = NonNull::new(block.cast::<T>()) else {
+        let Some(first) = NonNull::new(unsafe { malloc(layout.size()) }) else {
             handle_alloc_error(layout)
         };
         // SAFETY: the new block has room for as many records, which are copied as they are.
-        unsafe { first.copy_from_nonoverlapping(self.first, self.count) };
-        List { first, ..*self }
-    }
-}
-
-impl<T> Drop for List<'_, T> {
-    fn drop(&mut self) {
-        if self.count != 0 {
-            // SAFETY: the library took the block by `malloc` for these records, and hands it over.
-            unsafe { free(self.first.as_ptr().cast()) }
+        unsafe { (first.cast::<T>()).copy_from_nonoverlapping(self.memory.first.cast(), count) };
+        List {
+            memory: Memory { first, count },
+            of: PhantomData,
         }
     }
 }
@@ -181,7 +207,8 @@ impl<T> Default for Shared<'_, T> {
 const _: () = {
     assert!(size_of::<Slice>() == 16 && align_of::<Slice>() == 8);
     assert!(offset_of!(Slice, bytes) == 0 && offset_of!(Slice, length) == 8);
-    assert!(offset_of!(List<u8>, first) == 0 && offset_of!(List<u8>, count) == 8);
+    assert!(offset_of!(List<u8>, memory) == 0 && size_of::<List<u8>>() == 16);
+    assert!(offset_of!(Memory, first) == 0 && offset_of!(Memory, count) == 8);
     assert!(offset_of!(Shared<u8>, first) == 0 && offset_of!(Shared<u8>, count) == 8);
 };
 
@@ -196,8 +223,8 @@ impl<'a> Image<'_, 'a> {
 }
 
 unsafe extern "C" {
-    fn malloc(size: usize) -> *mut std::ffi::c_void;
-    fn free(block: *mut std::ffi::c_void);
+    fn malloc(size: usize) -> *mut c_void;
+    fn free(block: *mut c_void);
 }
 
 /// Whether the library has the interface that is declared here.
@@ -213,7 +240,7 @@ fn test_interface() {
         assert!(
             is_linked_as_declared(),
             "the library libgoblin_pe that is linked has another interface than the crate goblin_pe"
-        )
+        );
     });
 }
 
@@ -344,10 +371,17 @@ pub fn read_te<'a>(bytes: &'a [u8], header: &mut TeHeader, sections: &mut [Secti
     }
 }
 
+/// Tests a symbol table and its string table, and says where they lie.
+pub fn read_symbol_table(bytes: &[u8], header: &CoffHeader, table: &mut SymbolTable) -> Fault {
+    test_interface();
+    // SAFETY: as in `kind`.
+    unsafe { goblin_pe_raw_read_symbol_table(bytes.as_ptr(), bytes.len(), header, table) }
+}
+
 /// Goes on with the walk over symbols; fills the records as far as there is room, and says how many.
 pub fn next_symbols<'a>(
     bytes: &'a [u8],
-    header: &CoffHeader,
+    table: &SymbolTable,
     position: &mut usize,
     symbols: &mut [NamedSymbol<'a>],
     count: &mut usize,
@@ -358,13 +392,28 @@ pub fn next_symbols<'a>(
         goblin_pe_raw_next_symbols(
             bytes.as_ptr(),
             bytes.len(),
-            header,
+            table,
             position,
             symbols.as_mut_ptr(),
             symbols.len(),
             count,
         )
     }
+}
+
+/// The symbol whose record has this index.
+pub fn symbol_at<'a>(
+    bytes: &'a [u8],
+    table: &SymbolTable,
+    index: usize,
+) -> Option<NamedSymbol<'a>> {
+    test_interface();
+    let mut symbol = NamedSymbol::default();
+    // SAFETY: as in `open`.
+    let is_there = unsafe {
+        goblin_pe_raw_symbol_at(bytes.as_ptr(), bytes.len(), table, index, &mut symbol)
+    };
+    is_there.then_some(symbol)
 }
 
 // The first auxiliary record, by one of the calls for it; `None` where there is none.
@@ -433,6 +482,36 @@ pub fn find_offset(image: &Image<'_, '_>, rva: usize) -> Option<usize> {
     is_there.then_some(offset)
 }
 
+/// The index of the section of an address.
+pub fn section_at(image: &Image<'_, '_>, rva: usize) -> Option<usize> {
+    test_interface();
+    let mut index = 0;
+    // SAFETY: as in `kind`.
+    let is_there = unsafe { goblin_pe_raw_section_at(image, rva, &mut index) };
+    is_there.then_some(index)
+}
+
+/// The address of a file offset.
+pub fn find_rva(image: &Image<'_, '_>, offset: usize) -> Option<usize> {
+    test_interface();
+    let mut rva = 0;
+    // SAFETY: as in `kind`.
+    let is_there = unsafe { goblin_pe_raw_find_rva(image, offset, &mut rva) };
+    is_there.then_some(rva)
+}
+
+/// So many bytes that a loader sees at an address.
+pub fn memory_at<'a>(
+    image: &Image<'_, 'a>,
+    rva: usize,
+    size: usize,
+    data: &mut SectionData<'a>,
+) -> Fault {
+    test_interface();
+    // SAFETY: as in `open`.
+    unsafe { goblin_pe_raw_memory_at(image, rva, size, data) }
+}
+
 /// The text at an address.
 pub fn text_at<'a>(image: &Image<'_, 'a>, rva: usize, text: &mut Slice<'a>) -> Fault {
     test_interface();
@@ -461,6 +540,13 @@ pub fn section_data<'a>(
     test_interface();
     // SAFETY: as in `open`.
     unsafe { goblin_pe_raw_read_section_data(image, section, data) }
+}
+
+/// The checksum of an image.
+pub fn checksum(bytes: &[u8], field: usize) -> u32 {
+    test_interface();
+    // SAFETY: as in `kind`.
+    unsafe { goblin_pe_raw_checksum(bytes.as_ptr(), bytes.len(), field) }
 }
 
 /// Writes a header, and says how many bytes it has.

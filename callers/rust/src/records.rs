@@ -111,11 +111,9 @@ pub struct Options {
     pub is_permissive: bool,
     /// Whether an address is mapped to a file offset by the sections; where not, it is the offset.
     pub resolve_rva: bool,
-    /// Whether the raw pointer of a section is rounded down to 512, for addresses and for its data;
-    /// where not, it is taken as stored. Rounding is right where `section_alignment` is 4,096 or
-    /// more, and pointers as stored where it is less, since the Windows loader maps such an image
-    /// as one flat view of the file.
-    pub rounds_raw_pointers: bool,
+    /// Where the raw data of a section begins, for addresses and for its data: the number of a
+    /// `RawPointerRule`; any other number is taken as 0.
+    pub raw_pointer_rule: u8,
     /// Whether the imports are read; where not, their table is absent.
     pub parse_imports: bool,
 }
@@ -611,9 +609,9 @@ pub struct Tables<'a> {
 pub struct ImportPosition {
     /// The file offset of a library's record; the greatest number once the end has been reached,
     /// also of a file without imports.
-    pub record: usize,
+    pub record_offset: usize,
     /// The file offset of the slot that is read next, or 0 before the library's first.
-    pub slot: usize,
+    pub slot_offset: usize,
 }
 
 /// What strict mode would refuse of a file, part by part: for each part a fault of the status 0
@@ -637,6 +635,10 @@ pub struct Damage {
     pub left_out_libraries: usize,
     /// How many entries of the other libraries it leaves out.
     pub left_out_entries: usize,
+    /// How many name pointers of the export directory give no export, in either mode: there is no
+    /// ordinal, the ordinal lies past the address table, or it leads to a forwarder whose text
+    /// cannot be read. 0 where the exports are refused.
+    pub left_out_exports: usize,
 }
 
 /// A range of the file.
@@ -691,6 +693,21 @@ pub struct Object {
     pub sections: usize,
     /// The COFF header.
     pub coff_header: CoffHeader,
+}
+
+/// Where the symbol table and the string table of an image or an object lie. Zeros say that there
+/// are none.
+#[repr(C)]
+#[derive(Clone, Copy, Default, Debug, PartialEq, Eq, PartialOrd, Ord, Hash)]
+pub struct SymbolTable {
+    /// The file offset of the first record of the symbol table, in bytes; 0 where there is none.
+    pub offset: u32,
+    /// How many records it has, the auxiliary ones too.
+    pub record_count: u32,
+    /// The file offset of the texts of the string table, in bytes: after the four of its length.
+    pub strings_offset: usize,
+    /// How many bytes these texts have.
+    pub strings_length: usize,
 }
 
 /// A symbol, as its record describes it.
@@ -793,7 +810,7 @@ impl Options {
     pub(crate) const DEFAULT: Options = Options {
         is_permissive: false,
         resolve_rva: true,
-        rounds_raw_pointers: false,
+        raw_pointer_rule: 0,
         parse_imports: true,
     };
 }
@@ -832,7 +849,7 @@ const _: () = {
     assert!(size_of::<Options>() == 4 && align_of::<Options>() == 1);
     assert!(offset_of!(Options, is_permissive) == 0);
     assert!(offset_of!(Options, resolve_rva) == 1);
-    assert!(offset_of!(Options, rounds_raw_pointers) == 2);
+    assert!(offset_of!(Options, raw_pointer_rule) == 2);
     assert!(offset_of!(Options, parse_imports) == 3);
     assert!(size_of::<StandardFields>() == 56 && align_of::<StandardFields>() == 8);
     assert!(offset_of!(StandardFields, magic) == 0);
@@ -1002,9 +1019,9 @@ const _: () = {
     assert!(offset_of!(Tables, export_directory) == 96);
     assert!(offset_of!(Tables, dos_stub) == 160);
     assert!(size_of::<ImportPosition>() == 16 && align_of::<ImportPosition>() == 8);
-    assert!(offset_of!(ImportPosition, record) == 0);
-    assert!(offset_of!(ImportPosition, slot) == 8);
-    assert!(size_of::<Damage>() == 136 && align_of::<Damage>() == 8);
+    assert!(offset_of!(ImportPosition, record_offset) == 0);
+    assert!(offset_of!(ImportPosition, slot_offset) == 8);
+    assert!(size_of::<Damage>() == 144 && align_of::<Damage>() == 8);
     assert!(offset_of!(Damage, dos_stub) == 0);
     assert!(offset_of!(Damage, section_names) == 24);
     assert!(offset_of!(Damage, imports) == 48);
@@ -1012,6 +1029,7 @@ const _: () = {
     assert!(offset_of!(Damage, relocations) == 96);
     assert!(offset_of!(Damage, left_out_libraries) == 120);
     assert!(offset_of!(Damage, left_out_entries) == 128);
+    assert!(offset_of!(Damage, left_out_exports) == 136);
     assert!(size_of::<Range>() == 16 && align_of::<Range>() == 8);
     assert!(offset_of!(Range, offset) == 0);
     assert!(offset_of!(Range, length) == 8);
@@ -1028,6 +1046,11 @@ const _: () = {
     assert!(size_of::<Object>() == 32 && align_of::<Object>() == 8);
     assert!(offset_of!(Object, sections) == 0);
     assert!(offset_of!(Object, coff_header) == 8);
+    assert!(size_of::<SymbolTable>() == 24 && align_of::<SymbolTable>() == 8);
+    assert!(offset_of!(SymbolTable, offset) == 0);
+    assert!(offset_of!(SymbolTable, record_count) == 4);
+    assert!(offset_of!(SymbolTable, strings_offset) == 8);
+    assert!(offset_of!(SymbolTable, strings_length) == 16);
     assert!(size_of::<Symbol>() == 20 && align_of::<Symbol>() == 4);
     assert!(offset_of!(Symbol, name) == 0);
     assert!(offset_of!(Symbol, value) == 8);
@@ -1089,6 +1112,8 @@ unsafe extern "C" {
         byte_count: usize,
         name: &mut Slice<'_>,
     ) -> bool;
+
+    pub fn goblin_pe_raw_checksum(bytes: *const u8, byte_count: usize, field: usize) -> u32;
 
     pub fn goblin_pe_raw_fault_text(fault: &Fault, text: *mut u8, text_room: usize) -> usize;
 
@@ -1165,6 +1190,17 @@ unsafe extern "C" {
         contents: &mut SectionData<'a>,
     ) -> Fault;
 
+    pub fn goblin_pe_raw_section_at(image: &Image<'_, '_>, rva: usize, index: &mut usize) -> bool;
+
+    pub fn goblin_pe_raw_find_rva(image: &Image<'_, '_>, offset: usize, rva: &mut usize) -> bool;
+
+    pub fn goblin_pe_raw_memory_at<'a>(
+        image: &Image<'_, 'a>,
+        rva: usize,
+        size: usize,
+        contents: &mut SectionData<'a>,
+    ) -> Fault;
+
     pub fn goblin_pe_raw_read_object(
         bytes: *const u8,
         byte_count: usize,
@@ -1174,15 +1210,30 @@ unsafe extern "C" {
         section_room: usize,
     ) -> Fault;
 
-    pub fn goblin_pe_raw_next_symbols(
+    pub fn goblin_pe_raw_read_symbol_table(
         bytes: *const u8,
         byte_count: usize,
         header: &CoffHeader,
+        table: &mut SymbolTable,
+    ) -> Fault;
+
+    pub fn goblin_pe_raw_next_symbols(
+        bytes: *const u8,
+        byte_count: usize,
+        table: &SymbolTable,
         position: &mut usize,
         records: *mut NamedSymbol<'_>,
         record_room: usize,
         count: &mut usize,
     ) -> Fault;
+
+    pub fn goblin_pe_raw_symbol_at(
+        bytes: *const u8,
+        byte_count: usize,
+        table: &SymbolTable,
+        index: usize,
+        symbol: &mut NamedSymbol<'_>,
+    ) -> bool;
 
     pub fn goblin_pe_raw_read_relocations(
         bytes: *const u8,

@@ -1,5 +1,6 @@
 //! What was read, row by row. Rows live as long as the bytes of the file.
 
+use crate::constants::MAGIC_64;
 use crate::error::Error;
 use crate::iterators::Words;
 use crate::memory::records;
@@ -10,6 +11,7 @@ use crate::raw::{
 };
 use crate::text::Text;
 use std::fmt;
+use std::io::Write;
 
 /// The header of an image, which can be changed and written.
 ///
@@ -19,7 +21,7 @@ use std::fmt;
 /// let mut header = pe.header();
 /// header.coff_header.time_date_stamp = 0;
 /// let (mut out, table) = (bytes.clone(), header.section_table());
-/// let mut written = vec![0; table + 256];
+/// let mut written = vec![0; header.size()];
 /// let size = header.write(&mut written)?.min(table).min(out.len());
 /// out[..size].copy_from_slice(&written[..size]);
 /// # Ok::<(), goblin_pe::Error>(())
@@ -48,8 +50,28 @@ impl Header<'_> {
     /// let table = bytes.get(pe.header().section_table()..);
     /// # Ok::<(), goblin_pe::Error>(())
     /// ```
+    #[must_use]
     pub fn section_table(&self) -> usize {
         section_table(&self.dos_header, &self.coff_header)
+    }
+
+    /// How many bytes [`Header::write`] writes.
+    ///
+    /// ```no_run
+    /// # let bytes = [];
+    /// let header = goblin_pe::Pe::parse(&bytes)?.header();
+    /// let mut out = vec![0; header.size()];
+    /// header.write(&mut out)?;
+    /// # Ok::<(), goblin_pe::Error>(())
+    /// ```
+    #[must_use]
+    pub fn size(&self) -> usize {
+        let optional = match self.optional_header {
+            None => 0,
+            Some(it) if it.standard_fields.magic == MAGIC_64 => OPTIONAL_HEADER_64,
+            Some(_) => OPTIONAL_HEADER_32,
+        };
+        DOS_HEADER + self.dos_stub.len() + SIGNATURE_AND_COFF_HEADER + optional
     }
 
     /// Writes the header to the front of `out`, and returns how many bytes it has: all sixteen data
@@ -94,8 +116,12 @@ impl Header<'_> {
     }
 }
 
-// The size of the PE signature and of the COFF header, in bytes.
+// The sizes of the DOS header, of the PE signature and the COFF header, and of the optional header of either width
+// with sixteen data directories, in bytes.
+const DOS_HEADER: usize = 64;
 const SIGNATURE_AND_COFF_HEADER: usize = 24;
+const OPTIONAL_HEADER_32: usize = 224;
+const OPTIONAL_HEADER_64: usize = 240;
 
 // The file offset of the section table of an image.
 pub(crate) fn section_table(dos_header: &DosHeader, coff_header: &CoffHeader) -> usize {
@@ -123,6 +149,10 @@ pub struct Damage {
     pub left_out_libraries: usize,
     /// How many entries of the other libraries it leaves out.
     pub left_out_entries: usize,
+    /// How many name pointers of the export directory give no export, in either mode: there is no
+    /// ordinal, the ordinal lies past the address table, or it leads to a forwarder whose text can't be
+    /// read. 0 where the exports are refused.
+    pub left_out_exports: usize,
 }
 
 impl Damage {
@@ -158,6 +188,7 @@ impl From<raw::Damage> for Damage {
             relocations: Error::of(damage.relocations),
             left_out_libraries: damage.left_out_libraries,
             left_out_entries: damage.left_out_entries,
+            left_out_exports: damage.left_out_exports,
         }
     }
 }
@@ -206,7 +237,7 @@ pub struct Section<'a> {
     pub pointer_to_relocations: u32,
     /// The file offset of the line numbers, 0 where there are none.
     pub pointer_to_linenumbers: u32,
-    /// How many relocations there are.
+    /// How many relocations there are; 65,535 also where there are more, as a flag then says.
     pub number_of_relocations: u16,
     /// How many line numbers there are.
     pub number_of_linenumbers: u16,
@@ -283,7 +314,11 @@ impl<'a> Section<'a> {
         Ok((data.bytes.get(), data.zeros))
     }
 
-    /// The relocations of a section of the object `bytes`.
+    /// The relocations of a section of the object `bytes`: as many as `number_of_relocations` says, so at
+    /// most 65,535. Where that is 65,535, and `characteristics` have the flag
+    /// [`IMAGE_SCN_LNK_NRELOC_OVFL`](crate::constants::IMAGE_SCN_LNK_NRELOC_OVFL), the section has more than
+    /// these: the first row is none of them, and its `virtual_address` tells how many follow one another
+    /// there, itself among them.
     ///
     /// # Errors
     /// Why they were refused; memory may be. So they are where they begin at or past the end, even if
@@ -375,6 +410,7 @@ impl<'a> Imported<'a> {
     /// println!("{}", calls.filter(|name| name.starts_with(b"Crypt")).count());
     /// # Ok::<(), goblin_pe::Error>(())
     /// ```
+    #[must_use]
     pub fn name(&self) -> Option<Text<'a>> {
         match *self {
             Imported::Name { name, .. } => Some(name),
@@ -390,6 +426,7 @@ impl<'a> Imported<'a> {
     /// let ordinals: Vec<_> = pe.imports().map(|import| import.name.ordinal()).collect();
     /// # Ok::<(), goblin_pe::Error>(())
     /// ```
+    #[must_use]
     pub fn ordinal(&self) -> u16 {
         match *self {
             Imported::Name { hint, .. } => hint,
@@ -403,7 +440,12 @@ impl fmt::Display for Imported<'_> {
     fn fmt(&self, f: &mut fmt::Formatter<'_>) -> fmt::Result {
         match self {
             Imported::Name { name, .. } => name.fmt(f),
-            Imported::Ordinal(ordinal) => f.pad(&format!("ORDINAL {ordinal}")),
+            Imported::Ordinal(ordinal) => {
+                let mut text = *b"ORDINAL      ";
+                let mut digits = &mut text["ORDINAL ".len()..];
+                write!(digits, "{ordinal}").map_err(|_| fmt::Error)?;
+                Text(text.trim_ascii_end()).fmt(f)
+            }
         }
     }
 }
@@ -444,6 +486,20 @@ impl<'a> From<&raw::Import<'a>> for Import<'a> {
             slot: x.slot,
         }
     }
+}
+
+/// A library of which something is imported.
+#[derive(Clone, Copy, Debug, PartialEq, Eq, PartialOrd, Ord, Hash)]
+#[non_exhaustive]
+pub struct Library<'a> {
+    /// The name; empty where permissive mode could not read it.
+    pub name: Text<'a>,
+    /// The file offset of its record, of 20 bytes.
+    pub record_offset: usize,
+    /// 0 where its imports are not bound; else when it was linked, or all ones where its own table says so.
+    pub time_date_stamp: u32,
+    /// The index of the first import that it forwards, where its imports are bound in the old way.
+    pub forwarder_chain: u32,
 }
 
 /// What an export that is a forwarder stands for.
@@ -551,6 +607,7 @@ impl<'a> Block<'a> {
     /// }
     /// # Ok::<(), goblin_pe::Error>(())
     /// ```
+    #[must_use]
     pub fn words(&self) -> Words<'a> {
         Words(self.bytes.chunks_exact(2))
     }
@@ -604,6 +661,7 @@ impl<'a> Symbol<'a> {
     /// }
     /// # Ok::<(), goblin_pe::Error>(())
     /// ```
+    #[must_use]
     pub fn aux_function_definition(&self) -> Option<AuxFunctionDefinition> {
         raw::aux_function_definition(self.auxiliary)
     }
@@ -618,6 +676,7 @@ impl<'a> Symbol<'a> {
     /// }
     /// # Ok::<(), goblin_pe::Error>(())
     /// ```
+    #[must_use]
     pub fn aux_begin_and_end_function(&self) -> Option<AuxBeginAndEndFunction> {
         raw::aux_begin_and_end_function(self.auxiliary)
     }
@@ -632,6 +691,7 @@ impl<'a> Symbol<'a> {
     /// }
     /// # Ok::<(), goblin_pe::Error>(())
     /// ```
+    #[must_use]
     pub fn aux_weak_external(&self) -> Option<AuxWeakExternal> {
         raw::aux_weak_external(self.auxiliary)
     }
@@ -646,6 +706,7 @@ impl<'a> Symbol<'a> {
     /// }
     /// # Ok::<(), goblin_pe::Error>(())
     /// ```
+    #[must_use]
     pub fn aux_section_definition(&self) -> Option<AuxSectionDefinition> {
         raw::aux_section_definition(self.auxiliary)
     }

@@ -58,6 +58,7 @@ impl<'a> Te<'a> {
     /// let stripped = te.header().stripped_size;
     /// # Ok::<(), goblin_pe::Error>(())
     /// ```
+    #[must_use]
     pub fn header(&self) -> &TeHeader {
         &self.header
     }
@@ -70,6 +71,7 @@ impl<'a> Te<'a> {
     /// let names: Vec<_> = te.sections().map(|s| s.name).collect();
     /// # Ok::<(), goblin_pe::Error>(())
     /// ```
+    #[must_use]
     pub fn sections(&self) -> Sections<'_, 'a> {
         Sections::at(self.bytes, HEADER, &self.sections)
     }
@@ -84,6 +86,21 @@ impl<'a> Te<'a> {
     /// ```
     pub fn section_by_name(&self, name: impl AsRef<[u8]>) -> Option<Section<'a>> {
         self.sections().find(|s| s.name == *name.as_ref())
+    }
+
+    /// The data of one of its sections, and how many zeros follow it in memory; see [`Section::data`].
+    ///
+    /// # Errors
+    /// Where the data passes the file, and where it begins past the end, even if there is none.
+    ///
+    /// ```no_run
+    /// # let bytes = [];
+    /// let te = goblin_pe::Te::read(&bytes)?;
+    /// let code = te.section_by_name(".text").map(|s| te.section_data(&s)).transpose()?;
+    /// # Ok::<(), goblin_pe::Error>(())
+    /// ```
+    pub fn section_data(&self, section: &Section) -> Result<(&'a [u8], usize), Error> {
+        section.data(self.bytes)
     }
 }
 

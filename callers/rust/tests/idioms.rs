@@ -1,12 +1,14 @@
 //! What a user of Rust takes for granted of texts, rows, iterators and errors.
 use goblin_pe::{
     AuxBeginAndEndFunction, AuxFunctionDefinition, AuxSectionDefinition, AuxWeakExternal,
-    DirectoryType, Error, ErrorKind, ExportDirectory, Header, Import, Imported, Object, Options,
-    Part, Pe, Relocation, RichMetadata, TeHeader, Text,
+    DirectoryType, Error, ErrorKind, ExportDirectory, Header, Import, Imported, Machine, Object,
+    Options, Part, Pe, Relocation, RichMetadata, TeHeader, Text,
 };
+use std::borrow::Cow;
 use std::collections::{BTreeSet, HashMap};
 use std::hash::Hash;
 use std::io;
+use std::sync::Arc;
 
 fn sample(name: &str) -> Vec<u8> {
     let folder = std::env::var("GOBLIN_PE_SAMPLES").expect("GOBLIN_PE_SAMPLES names the samples");
@@ -134,6 +136,69 @@ fn a_copy_outlives_what_it_is_of() {
     );
     assert!(copy.exports().eq(exports));
     assert_eq!(copy.clone().find_offset(0x1000), copy.find_offset(0x1000));
+}
+
+// What was read is declared before the bytes, and dropped after them.
+#[test]
+fn what_was_read_is_dropped_after_the_bytes() {
+    let (pe, footprint);
+    let bytes = sample("imports_by_name_x64.dll");
+    pe = Pe::read(&bytes, &Options::default()).unwrap();
+    footprint = pe.footprint().unwrap();
+    assert_eq!((pe.imports().len(), footprint.iter().len() > 0), (1, true));
+}
+
+#[test]
+fn texts_become_strings() {
+    assert_eq!(String::from(Text::from(r"naïve\path")), r"naïve\path");
+    assert_eq!(String::from(Text(b"a\xFF")), "a\u{FFFD}");
+    let (text, path) = (Text(b"a"), String::from("a"));
+    assert_eq!(text, path);
+    assert_eq!(
+        (path.clone(), path.into_bytes()),
+        (String::from("a"), Vec::from(text))
+    );
+    assert_eq!(text, vec![b'a']);
+    assert_eq!(
+        (Vec::from(text), Cow::from(text)),
+        (vec![b'a'], Cow::from("a"))
+    );
+    assert_eq!(<&str>::try_from(text), Ok("a"));
+    assert!(<&str>::try_from(Text(b"\xFF")).is_err());
+}
+
+#[test]
+fn what_is_read_by_its_type() {
+    let bytes = sample("imports_by_name_x64.dll");
+    let pe: Pe = bytes.as_slice().try_into().unwrap();
+    let machine = Machine::from(pe.coff_header().machine);
+    assert_eq!((machine, u16::from(machine)), (Machine(0x8664), 0x8664));
+    let shared = Arc::new(pe);
+    let options = Options::default().with_is_permissive(true);
+    assert_eq!(options, Options::permissive());
+    let counts = std::thread::scope(|scope| {
+        let counted = [(); 2].map(|()| scope.spawn(|| Arc::clone(&shared).imports().len()));
+        counted.map(|it| it.join().unwrap())
+    });
+    assert_eq!(counts, [1, 1]);
+}
+
+// The image is gone, and what it imports is handed on.
+fn imports_alone(bytes: &[u8]) -> Result<impl DoubleEndedIterator<Item = Import<'_>>, Error> {
+    Ok(Pe::parse(bytes)?.into_imports())
+}
+
+#[test]
+fn imports_are_handed_on_alone() {
+    let bytes = sample("imports_by_name_x64.dll");
+    let pe = Pe::parse(&bytes).unwrap();
+    let mut alone = imports_alone(&bytes).unwrap();
+    assert!(pe.imports().eq(alone.by_ref()) && alone.next_back().is_none());
+    let alone = pe.clone().into_imports();
+    assert_eq!(
+        (alone.len(), format!("{alone:?}")),
+        (1, format!("{:?}", pe.imports()))
+    );
 }
 
 fn count_of_sections(bytes: &[u8]) -> io::Result<usize> {

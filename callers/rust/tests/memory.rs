@@ -1,7 +1,8 @@
 //! Where this crate itself is refused memory, a read answers so, and the process goes on.
-use goblin_pe::{Error, ErrorKind, Object, Options, Pe, Te};
+use goblin_pe::{Error, ErrorKind, Imported, Object, Options, Pe, Te, Text};
 use std::alloc::{GlobalAlloc, Layout, System};
 use std::cell::Cell;
+use std::io::{self, Write};
 
 thread_local! {
     static IS_REFUSED: Cell<bool> = const { Cell::new(false) };
@@ -32,12 +33,17 @@ fn sample(name: &str) -> Vec<u8> {
     std::fs::read(format!("{folder}/{name}")).expect("the sample is there")
 }
 
-// The refusal of a call that is refused all memory.
-fn refusal<T>(call: impl FnOnce() -> Result<T, Error>) -> Option<Error> {
+// What a call answers that is refused all memory.
+fn without_memory<T>(call: impl FnOnce() -> T) -> T {
     IS_REFUSED.set(true);
     let answer = call();
     IS_REFUSED.set(false);
-    answer.err()
+    answer
+}
+
+// The refusal of such a call.
+fn refusal<T>(call: impl FnOnce() -> Result<T, Error>) -> Option<Error> {
+    without_memory(call).err()
 }
 
 fn refused<T>(call: impl FnOnce() -> Result<T, Error>) -> Option<ErrorKind> {
@@ -62,10 +68,81 @@ fn refused_memory_is_an_error() {
     assert_eq!(refused(|| Object::read(&object, &options)), memory);
     assert_eq!(refused(|| Te::read(&te)), memory);
     assert_eq!(refused(|| pe.footprint()), None); // (its ranges are in the library's memory)
+    assert_eq!(refused(|| pe.damage()), None);
+    assert_eq!(refused(|| Pe::read(&image, &options)), None);
+    assert_eq!(refused(|| pe.imphash()), None);
+    assert_eq!(refused(|| pe.fingerprint()), None);
+    assert_eq!(refused(|| pe.walk_libraries().next().unwrap()), None);
+    assert_eq!(refused(|| pe.libraries()), memory);
+    assert_eq!(refused(|| pe.symbols()), memory);
+    assert_eq!(refused(|| pe.walk_imports().next().unwrap()), memory);
+    assert_eq!(refused(|| pe.walk_exports().next().unwrap()), memory);
     let refused_relocations = |section: goblin_pe::Section| {
         section.number_of_relocations == 0 || refused(|| section.relocations(&object)) == memory
     };
     let sections = Object::read(&object, &options).unwrap();
     assert!(sections.sections().all(refused_relocations));
+    assert_eq!(refused(|| sections.symbols()), memory);
     assert!(Object::read(&object, &options).is_ok() && Te::read(&te).is_ok());
+}
+
+#[test]
+fn a_walk_that_is_refused_memory_ends_with_it() {
+    let image = sample("imports_by_name_x64.dll");
+    let pe = Pe::read(&image, &Options::default()).unwrap();
+    let mut walk = pe.walk_imports();
+    assert!(without_memory(
+        || walk.next().unwrap().is_err() && walk.next().is_none()
+    ));
+}
+
+// An image, read without its sections, whose exports are so many: each has the name and the address of all.
+fn with_exports(mut image: Vec<u8>, count: u32) -> Vec<u8> {
+    let signature = image[0x3C..0x40]
+        .try_into()
+        .map(u32::from_le_bytes)
+        .unwrap();
+    let directory = signature as usize + 24 + 112;
+    let begin = u32::try_from(image.len()).unwrap();
+    image[directory..directory + 4].copy_from_slice(&begin.to_le_bytes());
+    let (name, addresses) = (begin + 40, begin + 48);
+    let (names, ordinals) = (addresses + 4 * count, addresses + 8 * count);
+    for number in [0, 0, 0, name, 1, count, count, addresses, names, ordinals] {
+        image.extend(number.to_le_bytes());
+    }
+    image.extend(*b"of all\0\0");
+    image.extend((0..count).flat_map(|_| 0x1000u32.to_le_bytes()));
+    image.extend((0..count).flat_map(|_| name.to_le_bytes()));
+    image.extend((0..count).flat_map(|_| [0, 0]));
+    image
+}
+
+#[test]
+fn a_walk_that_has_begun_needs_no_more_memory() {
+    let count = 1000;
+    let image = with_exports(sample("forwarders_x64.dll"), count);
+    let options = Options::permissive().with_resolve_rva(false);
+    let pe = Pe::read(&image, &options).unwrap();
+    let exports: Vec<_> = pe.exports().collect();
+    assert_eq!(exports.len(), count as usize);
+    let mut walk = pe.walk_exports();
+    assert_eq!(walk.next(), Some(Ok(exports[0])));
+    let rest = without_memory(|| exports[1..].iter().all(|it| walk.next() == Some(Ok(*it))));
+    assert!(rest && walk.next().is_none());
+}
+
+// What is said of a refusal, and shown of a text, takes no memory.
+#[test]
+fn a_refusal_is_told_without_memory() {
+    let error = refusal(|| Te::read(b"VZ")).unwrap();
+    let mut told = [0; 64];
+    let written = without_memory(|| {
+        let mut room = &mut told[..];
+        let name = Imported::Ordinal(65535);
+        write!(room, "[{error:>15}] [{:>4}] [{name:>14}]", Text(b"a"))
+            .and_then(|()| Err(io::Error::from(error)))
+            .map_err(|error| error.kind())
+    });
+    assert_eq!(written, Err::<(), _>(io::ErrorKind::OutOfMemory));
+    assert!(told.starts_with(b"[  out of memory] [   a] [ ORDINAL 65535]\0"));
 }

@@ -1,7 +1,8 @@
 //! Reads samples, and what is no image.
+use goblin_pe::constants::{COFF_MACHINE_X86_64, IMAGE_SCN_LNK_NRELOC_OVFL};
 use goblin_pe::{
     Cause, DirectoryType, ErrorKind, Forwarder, Imported, Kind, Object, Options, Part, Pe,
-    ReadFault, Te, Text,
+    RawPointerRule, ReadFault, Te, Text,
 };
 
 fn sample(name: &str) -> Vec<u8> {
@@ -119,7 +120,7 @@ fn addresses_are_mapped() {
     assert_eq!(pe.find_offset(0x9000), Some(0x9000));
     // from the raw pointer rounded down to 512, as it was asked for
     let bytes = sample("align16_x64.dll");
-    let options = Options::permissive().with_rounds_raw_pointers(true);
+    let options = Options::permissive().with_raw_pointer_rule(RawPointerRule::RoundedTo512);
     let pe = Pe::read(&bytes, &options).unwrap();
     let section = pe.sections().next().unwrap();
     let pointer = section.pointer_to_raw_data as usize;
@@ -136,7 +137,7 @@ fn place(bytes: &[u8], part: &[u8]) -> usize {
 #[test]
 fn the_data_of_a_section_begins_where_its_address_is_mapped() {
     let mut bytes = sample("align16_x64.dll");
-    let options = Options::permissive().with_rounds_raw_pointers(true);
+    let options = Options::permissive().with_raw_pointer_rule(RawPointerRule::RoundedTo512);
     let table = Pe::read(&bytes, &options).unwrap().header().section_table();
     bytes[table + 20] |= 0x10; // (the raw pointer of the first)
     let pe = Pe::read(&bytes, &options).unwrap();
@@ -145,6 +146,20 @@ fn the_data_of_a_section_begins_where_its_address_is_mapped() {
     let mapped = pe.find_offset(first.virtual_address as usize);
     assert_eq!(Some(place(&bytes, data)), mapped);
     assert_ne!(mapped, Some(first.pointer_to_raw_data as usize));
+}
+
+// What comes is the file's, past the section's end too.
+#[test]
+fn bytes_at_an_address_go_on_past_a_section() {
+    let bytes = sample("imports_by_name_x64.dll");
+    let pe = Pe::read(&bytes, &Options::default()).unwrap();
+    let mut sections = pe.sections();
+    let (first, second) = (sections.next().unwrap(), sections.next().unwrap());
+    let begin = first.pointer_to_raw_data as usize;
+    let size = first.size_of_raw_data as usize;
+    assert_eq!(begin + size, second.pointer_to_raw_data as usize);
+    let found = pe.bytes_at(first.virtual_address as usize, size + 16);
+    assert_eq!(found, Ok(&bytes[begin..begin + size + 16]));
 }
 
 #[test]
@@ -224,6 +239,9 @@ fn a_walk_ends_with_the_refusal_of_a_read() {
     let mut walk = pe.walk_imports();
     assert_eq!(walk.next().unwrap().err(), refused);
     assert!(walk.next().is_none());
+    let mut walk = pe.walk_libraries();
+    assert_eq!(walk.next().unwrap().err(), refused);
+    assert!(walk.next().is_none());
     let permissive = Pe::read(&bytes, &Options::permissive()).unwrap();
     let damage = permissive.damage().unwrap();
     assert_eq!(damage.imports, refused);
@@ -265,6 +283,7 @@ fn headers_and_sections_are_written_back() {
         let pe = Pe::read(&bytes, &Options::default()).unwrap();
         let mut out = vec![0; bytes.len()];
         let written = pe.write_header(&mut out).unwrap();
+        assert_eq!(written, pe.header().size());
         assert_eq!(out[..written], bytes[..written], "{name}");
         for section in pe.sections() {
             let mut record = [0; 40];
@@ -356,7 +375,7 @@ fn names_of_sections_are_those_of_their_records() {
     assert_eq!(te.sections().len(), usize::from(bytes[4]));
     assert!(te.sections().all(|s| named(s.name, s.raw_name)));
     let text = te.section_by_name(b".text").unwrap();
-    let (data, _) = text.data(&bytes).unwrap();
+    let (data, _) = te.section_data(&text).unwrap();
     assert_eq!(place(&bytes, data), text.pointer_to_raw_data as usize);
 }
 
@@ -377,6 +396,122 @@ fn a_file_without_directories_has_none_after_one_with_them() {
     assert!(pe.export_directory().is_none());
 }
 
+// By goblin's names.
+#[test]
+fn what_an_image_is() {
+    let told = |name: &str| {
+        let bytes = sample(name);
+        let pe = Pe::parse(&bytes).unwrap();
+        let name = pe.name().map(|it| it.to_string());
+        let libraries = pe.libraries().unwrap().len();
+        (pe.is_64(), pe.is_lib(), name, libraries)
+    };
+    let name = |it: &str| Some(it.to_string());
+    let wanted = [
+        (
+            "imports_by_name_x64.dll",
+            (true, true, name("imports_by_name_x64.dll"), 1),
+        ),
+        (
+            "imports_by_ordinal_x86.dll",
+            (false, true, name("imports_by_ordinal_x86.dll"), 1),
+        ),
+        (
+            "program_x86.exe",
+            (false, false, name("program_x86.exe"), 0),
+        ),
+    ];
+    for (sample, wanted) in wanted {
+        assert_eq!(told(sample), wanted);
+    }
+    let bytes = sample("program_x64.exe");
+    let pe = Pe::parse(&bytes).unwrap();
+    let optional = number(&bytes, 0x3C, 4) as usize + 24;
+    assert_eq!(u64::from(pe.entry()), number(&bytes, optional + 16, 4));
+    assert_eq!(pe.image_base(), number(&bytes, optional + 24, 8));
+}
+
+// The record has numbers of its own, at 4 and 8.
+#[test]
+fn libraries_have_records() {
+    let mut bytes = sample("imports_by_name_x64.dll");
+    let record = import_record(&bytes);
+    bytes[record + 4..record + 12].copy_from_slice(&[1, 0, 0, 0, 2, 0, 0, 0]);
+    let pe = Pe::parse(&bytes).unwrap();
+    let libraries: Result<Vec<_>, _> = pe.walk_libraries().collect();
+    let found: Vec<_> = (libraries.unwrap().iter())
+        .map(|it| {
+            (
+                it.name,
+                it.record_offset,
+                it.time_date_stamp,
+                it.forwarder_chain,
+            )
+        })
+        .collect();
+    assert_eq!(found, [(Text(b"KERNEL32.dll"), record, 1, 2)]);
+    let bytes = sample("forwarders_x64.dll");
+    assert_eq!(Pe::parse(&bytes).unwrap().walk_libraries().count(), 0);
+}
+
+// The values that pefile 2023.2.7 tells.
+#[test]
+fn the_hash_of_imports_is_that_of_other_tools() {
+    for (name, wanted) in [
+        (
+            "imports_by_name_x64.dll",
+            Some("27abfd9cfda7519d5efb3f08a2a4f3ce"),
+        ),
+        (
+            "imports_by_name_x86.dll",
+            Some("5fd9bbcd68e633c2417c6dd0c112ae23"),
+        ),
+        ("forwarders_x64.dll", None),
+    ] {
+        let bytes = sample(name);
+        let unlisted = Options::default().with_parse_imports(false);
+        for options in [Options::default(), unlisted] {
+            let pe = Pe::read(&bytes, &options).unwrap();
+            let hash = pe.imphash().unwrap().map(|it| it.to_string());
+            assert_eq!(hash.as_deref(), wanted, "{name}");
+        }
+    }
+    let sample = sample("imports_by_ordinal_x64.dll");
+    let changed = |dll: &[u8], ordinal: u64| {
+        let mut bytes = sample.clone();
+        let at = (0..bytes.len()).find(|at| bytes[*at..].starts_with(b"KERNEL32.dll"));
+        let at = at.unwrap();
+        bytes[at..at + 12].fill(0);
+        bytes[at..at + dll.len()].copy_from_slice(dll);
+        let number = (1 << 63 | 901_u64).to_le_bytes();
+        for at in 0..bytes.len() - 8 {
+            if bytes[at..at + 8] == number {
+                bytes[at..at + 8].copy_from_slice(&(1 << 63 | ordinal).to_le_bytes());
+            }
+        }
+        let hash = Pe::parse(&bytes).unwrap().imphash().unwrap();
+        hash.map(|it| it.to_string())
+    };
+    for (dll, ordinal, wanted) in [
+        (
+            &b"KERNEL32.dll"[..],
+            901,
+            "149d2e96f294661822cac53bee31923e",
+        ),
+        (b"WS2_32.dll", 115, "b37125ceef051f12e08e29efb577946e"),
+        (b"wsock32.DLL", 1142, "2abbd9ade07297967661cfa09c911406"),
+        (b"OLEAUT32.dll", 6, "34cc24834ac54238d20258721638305d"),
+        (b"oleaut32.dll", 999, "ac4335c367c483416ad8947728b70e5d"),
+        (b"OLEAUT32.sys", 6, "0b95961135d7de048291c05a30a259f5"),
+        (b"a.b.OCX", 7, "f97b2ce4f275cbebbfc8005f20b35541"),
+        (b"WINSPOOL.DRV", 7, "c527aa300d7842640afcc4bcdda0752e"),
+        (b"x", 65535, "715966133c5213185739d6c03fd6a968"),
+    ] {
+        assert_eq!(changed(dll, ordinal).as_deref(), Some(wanted), "{dll:?}");
+    }
+    assert_eq!((changed(b"a.dll", 0), changed(b"", 5)), (None, None));
+}
+
 // All of a file is changed but for its footprint: the rest is read alike.
 #[test]
 fn a_file_depends_on_its_footprint_alone() {
@@ -395,6 +530,10 @@ fn a_file_depends_on_its_footprint_alone() {
         }
         let other = Pe::read(&other, &options).unwrap();
         assert_eq!(footprint, other.footprint().unwrap(), "{name}");
+        assert_eq!(pe.fingerprint(), other.fingerprint());
+        let longer = [&bytes[..], &[0]].concat();
+        let longer = Pe::read(&longer, &options).unwrap();
+        assert_ne!(pe.fingerprint(), longer.fingerprint());
         assert!(pe.imports().eq(other.imports()), "{name}");
         assert!(pe.exports().eq(other.exports()), "{name}");
         assert_eq!(pe.header(), other.header());
@@ -447,6 +586,13 @@ fn objects_and_terse_executables() {
             assert_eq!(u64::from(it.typ), number(&bytes, place + 8, 2));
         }
     }
+    let symbols = object.symbols().unwrap();
+    for symbol in symbols.clone() {
+        let found = symbols.at_index(symbol.index).unwrap();
+        assert_eq!((found.index, found.name), (symbol.index, symbol.name));
+    }
+    let count = object.coff_header().number_of_symbol_table as usize;
+    assert!(symbols.at_index(count).is_none() && symbols.at_index(usize::MAX).is_none());
     let sections = object.sections().len();
     let definitions = object.symbols().unwrap().filter(|s| s.storage_class == 3);
     for symbol in definitions.filter(|s| s.number_of_aux_symbols == 1) {
@@ -471,10 +617,34 @@ fn objects_and_terse_executables() {
     );
 }
 
+// The section has more relocations than its record can count, as the first of them says.
+#[test]
+fn more_relocations_than_a_section_counts() {
+    let count = 65_537_u32;
+    let mut bytes = vec![0; 60 + 10 * count as usize];
+    (bytes[0..2]).copy_from_slice(&COFF_MACHINE_X86_64.to_le_bytes());
+    bytes[2] = 1;
+    bytes[20 + 24] = 60;
+    bytes[20 + 32..20 + 34].fill(0xFF);
+    bytes[20 + 36..60].copy_from_slice(&IMAGE_SCN_LNK_NRELOC_OVFL.to_le_bytes());
+    for (index, it) in bytes[60..].chunks_mut(10).enumerate() {
+        let number = if index == 0 { count } else { index as u32 };
+        it[..4].copy_from_slice(&number.to_le_bytes());
+    }
+    let object = Object::read(&bytes, &Options::default()).unwrap();
+    let section = object.sections().next().unwrap();
+    let listed = section.relocations(&bytes).unwrap();
+    assert_eq!((listed.len(), listed[0].virtual_address), (65_535, count));
+    assert_eq!(
+        (listed[1].virtual_address, listed[65_534].virtual_address),
+        (1, 65_534)
+    );
+}
+
 // A walk reads some hundreds of records at once.
 #[test]
 fn more_symbols_than_are_read_at_once() {
-    for count in [0, 255, 256, 257, 600] {
+    for count in [0, 15, 16, 17, 272, 600] {
         let mut bytes = vec![0; 20 + 18 * count];
         bytes[8] = 20;
         bytes[12..16].copy_from_slice(&(count as u32).to_le_bytes());

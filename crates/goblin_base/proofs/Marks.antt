@@ -2,15 +2,15 @@
 use Rattle.std.proofs.Common.{◌≡◌, ◌<◌, ◌≤◌, ℕ, zero, suc, ◌+◌, ◌-◌, ◌*◌, ◌/◌, ◌%◌, min, max, replicate, Bool, true, false, not, cond, Some, None, w64, eqb, leb, ltb, ◌&&◌, ◌||◌, List, [], ◌∷◌, ◌++◌, length, get_or, set, ◌^◌, ap, sym, subst, ◌∙◌, refl, arith, inl, inr, add-zero}
 use Rattle.std.specs.Int.{bit_at, trailing_zeros}
 use Rattle.std.specs.Int.RustNames.{bit_or}
-use Rattle.std.proofs.Math.Bool.{or_assoc, or-false}
+use Rattle.std.proofs.Math.Bool.{or-false, or_assoc}
 use Rattle.std.proofs.lemmas.Bool.{cases_lt, cases_eq, le-ltb, lt-ltb, le-leb, lt-leb, and_from, and_right, false≢true}
 use Rattle.std.proofs.lemmas.Bool.Decides.{nat_tests}
-use Rattle.std.proofs.lemmas.List.{ext_get_or, get_or_past, get_or-replicate, length-replicate, get_or-set_same, get_or-set_other}
+use Rattle.std.proofs.lemmas.List.{ext_get_or, get_or-replicate, get_or-set_other, get_or-set_same, get_or_past, length-replicate}
 use Rattle.std.proofs.lemmas.List.FromFn.{fill_by_all, get_or-map-range_with_len, length-map-range_with_len}
-use Rattle.std.proofs.lemmas.Nat.Bits.{bit_at_or, bit_at-lt, bit_at-zero, bit_at_cat_high, bit_at_cat_low, bit_at_ones, bit_at_ones_above, ones_shr, bit_at-trailing_zeros, bit_at_above, bit_at_not}
+use Rattle.std.proofs.lemmas.Nat.Bits.{bit_at-lt, bit_at-trailing_zeros, bit_at-zero, bit_at_above, bit_at_cat_high, bit_at_cat_low, bit_at_not, bit_at_ones, bit_at_ones_above, bit_at_or, ones_shr}
 use Rattle.std.proofs.lemmas.Nat.{pow_pos, shl_whole, shr-shr, shr_le}
 use Rattle.goblin_base.specs.Footprints.{Range, positions}
-use Rattle.goblin_base.specs.Marks.{GivesBit, GivesNext, IsMask, IsNext, is_covered, marked, word_mark, word_marks}
+use Rattle.goblin_base.specs.Marks.{GivesBit, GivesRange, IsMask, IsNext, is_covered, marked, word_mark, word_marks}
 
 -- ---- tests
 
@@ -279,7 +279,7 @@ marked_end n words = min n (64 * length words)
 -- no mark is left
 pub marks-none : (n : ℕ) (words : List ℕ) (from end : ℕ) → end ≡ marked_end n words
     → ((p : ℕ) → from ≤ p → p < end → word_mark words p ≡ false)
-    → GivesNext (word_marks n words) from None
+    → GivesRange (word_marks n words) from None
 marks-none n words from end is none = λ p low.
     elim (cases_lt p n) [
       | inr past ↦ get_or_past (word_marks n words) p false (omega (arith, past, length-word_marks n words))

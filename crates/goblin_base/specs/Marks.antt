@@ -66,9 +66,9 @@ pub record IsNext (marks : List Bool) (place : ℕ) (range : Range) : Type 0 whe
   pub ends : slice_index_or marks range.1 false ≡ false
 
 -- the marked positions from a place on: the first range of them, or none
-abbrev pub GivesNext : List Bool → ℕ → Option Range → Type 0
-GivesNext marks place None = (p : ℕ) → place ≤ p → slice_index_or marks p false ≡ false
-GivesNext marks place (Some range) = IsNext marks place range
+abbrev pub GivesRange : List Bool → ℕ → Option Range → Type 0
+GivesRange marks place None = (p : ℕ) → place ≤ p → slice_index_or marks p false ≡ false
+GivesRange marks place (Some range) = IsNext marks place range
 
 -- the first place from `first` on at which a word has a bit, or none
 abbrev pub GivesBit : ℕ → ℕ → Option ℕ → Type 0

@@ -6,7 +6,7 @@ ghost use Rattle.std.specs.Prelude.{◌≡◌, ◌<◌, IfErr, IfOk, OnErr, fals
 ghost use Rattle.std.specs.Prelude.{vec_capacity, vec_len};
 ghost use Rattle.goblin_base.specs.Answers.{IsMemory};
 ghost use Rattle.goblin_base.specs.Footprints.{Range, positions, slice_footprint, stretch_footprint};
-ghost use Rattle.goblin_base.specs.Marks.{GivesNext, marked, ranges_of};
+ghost use Rattle.goblin_base.specs.Marks.{GivesRange, marked, ranges_of};
 ghost use Rattle.goblin_base.specs.Parts.{between_footprint};
 
 use crate::error::ResultOf;
@@ -63,7 +63,7 @@ impl Marks {
 
     /// The first marked positions from `from` on, up to one that is not marked.
     pub fn next_range(&self, from: usize) -> Option<(usize, usize)>
-        ensures { GivesNext self.now from result }
+        ensures { GivesRange self.now from result }
     {
         let end = self.len.min(self.words.len().saturating_mul(BITS));
         if end <= from {

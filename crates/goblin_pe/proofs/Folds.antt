@@ -1,7 +1,7 @@
 -- A loop over the imports of a file that gathers something: what it has gathered so far, and what at each way out.
-use Rattle.std.proofs.Common.{◌≡◌, ℕ, ◌+◌, ◌||◌, Bool, true, false, cond, List, [], ◌∷◌, ◌++◌, map, Option, Some, None, Result, Ok, Err, arith}
+use Rattle.std.proofs.Common.{◌≡◌, ℕ, ◌+◌, ◌-◌, ◌^◌, ◌||◌, Bool, true, false, cond, List, [], ◌∷◌, ◌++◌, map, Option, Some, None, Result, Ok, Err, arith}
 use Rattle.std.proofs.Common.{refl, sym, ap, ◌∙◌}
-use Rattle.std.specs.Prelude.{count_by, find, option_map}
+use Rattle.std.specs.Prelude.{count_by, find, min, option_map}
 use Rattle.std.specs.Option.{option_or}
 use Rattle.std.specs.List.{list_any}
 use Rattle.std.proofs.lemmas.List.{map-id}
@@ -9,13 +9,11 @@ use Rattle.std.proofs.lemmas.List.Folds.{find-append, list_any-append}
 use Rattle.std.proofs.lemmas.List.Sums.{sum_by-append}
 use Rattle.goblin_base.specs.declared.error.ErrorOf.{ErrorOf}
 use Rattle.goblin_base.specs.Answers.{all_of}
-use Rattle.goblin_pe_import.specs.ImportEntries.{LookupEntry}
-use Rattle.goblin_pe_import.specs.ImportEntries.LookupEntry.{ByName, ByOrdinal}
 use Rattle.goblin_pe_import.specs.ImportWalks.{walked_value}
-use Rattle.goblin_pe_import.specs.ImportLookup.{entry_view}
-use Rattle.goblin_pe_import.specs.Imports.{ImportValue, import_of}
+use Rattle.goblin_pe_import.specs.Imports.{ImportValue}
 use Rattle.goblin_pe_import.specs.declared.import.imports.WalkedImport.{WalkedImport}
 use Rattle.goblin_pe.specs.declared.whole.imports.FileImports.{FileImports}
+use Rattle.goblin_pe.specs.Callers.{counted, has_any}
 use Rattle.goblin_pe.specs.LayoutPositions.{GivesFileImport}
 use Rattle.goblin_pe.specs.Layouts.{IsFileImportsCause, file_imports_left}
 use Rattle.goblin_pe.proofs.Walked.{AtMade, made-all, made-fault, made-more, made-start}
@@ -58,35 +56,33 @@ module _ {B : Type 0} (gather : List ImportValue → B) (start now next : FileIm
       let fault = made-fault file_imports_left IsFileImportsCause (λ x. x) start now h.items h.at walked_value next r given.0 e is in
       (ap (option_map gather) (unmapped-same (all_of (file_imports_left start)) fault.0), fault.1)
 
--- the library of an import that a walk gives
-pub dll_walked : (x : WalkedImport) → (walked_value x).dll ≡ x.dll.now
-unfolding import_of
-dll_walked x = of (entry_view x.entry)
-  where
-    of : (entry : LookupEntry) → (import_of x.dll.now x.slot x.offset x.size entry).dll ≡ x.dll.now
-    of (ByOrdinal ordinal) = refl
-    of (ByName rva named) = refl
-
 one-any : {A : Type 0} (p : A → Bool) (x : A) (b : Bool) → p x ≡ b → list_any p (x ∷ []) ≡ b
 one-any p x true is = rw is refl
 one-any p x false is = rw is refl
 
 -- whether one of the imports passes a test
 pub any_more : (p : ImportValue → Bool) (start now next : FileImports) (found more : Bool) (r : Result WalkedImport ErrorOf) (x : WalkedImport)
-    → Gathers (list_any p) start now found → GivesFileImport now (Some r) next → r ≡ Ok x → more ≡ (found || p (walked_value x)) → Gathers (list_any p) start next more
+    → Gathers (has_any p) start now found → GivesFileImport now (Some r) next → r ≡ Ok x → more ≡ (found || p (walked_value x)) → Gathers (has_any p) start next more
+unfolding has_any
 any_more p start now next found more r x h given is said =
-    gathers_more (list_any p) start now next found h r x more given is
+    gathers_more (has_any p) start now next found h r x more given is
     (said ∙ ap (λ (b : Bool). b || p (walked_value x)) h.said ∙ ap (λ (b : Bool). list_any p h.items || b) (sym (one-any p (walked_value x) (p (walked_value x)) refl)) ∙ sym (list_any-append p h.items (walked_value x ∷ [])))
+
+-- a count that stops at m goes on as the count does
+capped-more : (c d m : ℕ) → min (min c m + d) m ≡ min (c + d) m
+capped-more c d m = omega arith
 
 one-count : {A : Type 0} (p : A → Bool) (x : A) → count_by p (x ∷ []) ≡ cond (p x) 1 0
 one-count p x = omega arith
 
 -- how many of the imports pass a test
 pub count_more : (p : ImportValue → Bool) (start now next : FileImports) (count more : ℕ) (r : Result WalkedImport ErrorOf) (x : WalkedImport)
-    → Gathers (count_by p) start now count → GivesFileImport now (Some r) next → r ≡ Ok x → more ≡ count + cond (p (walked_value x)) 1 0 → Gathers (count_by p) start next more
+    → Gathers (counted p) start now count → GivesFileImport now (Some r) next → r ≡ Ok x → more ≡ min (count + cond (p (walked_value x)) 1 0) (2 ^ 64 - 1) → Gathers (counted p) start next more
 count_more p start now next count more r x h given is said =
-    gathers_more (count_by p) start now next count h r x more given is
-    (said ∙ ap (λ (n : ℕ). n + cond (p (walked_value x)) 1 0) h.said ∙ ap (λ (n : ℕ). count_by p h.items + n) (sym (one-count p (walked_value x))) ∙ sym (sum_by-append (λ x. cond (p x) 1 0) h.items (walked_value x ∷ [])))
+    gathers_more (counted p) start now next count h r x more given is
+    (said ∙ ap (λ (n : ℕ). min (n + cond (p (walked_value x)) 1 0) (2 ^ 64 - 1)) h.said
+    ∙ capped-more (count_by p h.items) (cond (p (walked_value x)) 1 0) (2 ^ 64 - 1)
+    ∙ ap (λ (n : ℕ). min n (2 ^ 64 - 1)) (ap (λ (n : ℕ). count_by p h.items + n) (sym (one-count p (walked_value x))) ∙ sym (sum_by-append (λ x. cond (p x) 1 0) h.items (walked_value x ∷ []))))
 
 one-found : {A : Type 0} (p : A → Bool) (x : A) → find p (x ∷ []) ≡ cond (p x) (Some x) None
 one-found p x = refl

@@ -28,8 +28,8 @@ use Rattle.goblin_pe.specs.declared.whole.Part.TheVariants.{Absent, Refused}
 use Rattle.goblin_pe.specs.declared.whole.Part.TheVariants as part
 use Rattle.goblin_pe.specs.declared.whole.imports.FileImports.{FileImports}
 use Rattle.goblin_pe.specs.Layouts.{IsFileImportsCause, file_imports_left}
-use Rattle.goblin_pe.specs.Whole.{TablePlaces, entry_format, import_list, import_part, part_map}
-use Rattle.goblin_pe.specs.Whole.{AreListed, collected_imports, import_parts, part_of}
+use Rattle.goblin_pe.specs.Whole.{TablePlaces, entry_format, import_data_part, import_list, part_map}
+use Rattle.goblin_pe.specs.Whole.{AreListed, both_import_parts, collected_imports, part_of}
 use Rattle.goblin_pe.proofs.KeptImports.{listed_imports, part-kept}
 use Rattle.goblin_pe.proofs.ListedImports.{data-listed}
 
@@ -103,14 +103,14 @@ module _ (opts : ParseOptions) (offset_of : ℕ → Option ℕ) (places : TableP
 
   -- a walk that is refused before its first import
   pub list-refused : (result : Result FileImports ErrorOf) (e : ErrorOf) → Walks file_imports_left IsFileImportsCause (λ xs. xs) result (mapped kept libraries) bytes → result ≡ Err e → ((import_list opts offset_of places).value bytes ≡ None) × (import_list opts offset_of places).IsCause bytes e
-  unfolding import_list import_part
+  unfolding import_list import_data_part
   list-refused result e walks is =
       let h = subst (λ (r : Result FileImports ErrorOf). Walks file_imports_left IsFileImportsCause (λ xs. xs) r (mapped kept libraries) bytes) is walks in
       rw (asked, here) (part-refused kept strict (libraries.value bytes) there h.0, h.1)
 
   -- what a walk collects
   pub list-walked : (result : Result FileImports ErrorOf) (imports : FileImports) → Walks file_imports_left IsFileImportsCause (λ xs. xs) result (mapped kept libraries) bytes → result ≡ Ok imports → IsWalkOf (λ xs. part.Read xs) (import_list opts offset_of places) bytes (file_imports_left imports) (IsFileImportsCause imports)
-  unfolding import_list import_part
+  unfolding import_list import_data_part
   list-walked result imports walks is =
       let walk = subst (λ (r : Result FileImports ErrorOf). Walks file_imports_left IsFileImportsCause (λ xs. xs) r (mapped kept libraries) bytes) is walks in
       record {
@@ -127,20 +127,20 @@ same-part {A} (part.Read xs) = ap (λ (ys : List A). part.Read ys) (map-id xs)
 same-part Refused = refl
 
 module _ (opts : ParseOptions) (offset_of : ℕ → Option ℕ) (places : TablePlaces) (bytes : List ℕ) (short : length bytes < 2 ^ 63) (fit : IsBytes bytes) where
-  list-by : (o : Option (Part (List ImportedLibrary))) → (import_part opts offset_of places).value bytes ≡ o → (import_list opts offset_of places).value bytes ≡ option_map (λ read. read.1) ((import_parts opts offset_of places).value bytes)
-  unfolding import_list import_parts
+  list-by : (o : Option (Part (List ImportedLibrary))) → (import_data_part opts offset_of places).value bytes ≡ o → (import_list opts offset_of places).value bytes ≡ option_map (λ read. read.1) ((both_import_parts opts offset_of places).value bytes)
+  unfolding import_list both_import_parts
   list-by None is = rw is refl
   list-by (Some p) is =
       let listed = data-listed opts bytes places short fit offset_of p is in
       rw (is, listed) (ap (λ (q : Part (List ImportValue)). Some q) (part-kept (λ x. x) opts places p listed ∙ same-part (listed_imports places.magic p)))
 
   -- it is the list that is made of the libraries
-  pub list_value : (import_list opts offset_of places).value bytes ≡ option_map (λ read. read.1) ((import_parts opts offset_of places).value bytes)
-  list_value = list-by ((import_part opts offset_of places).value bytes) refl
+  pub list_value : (import_list opts offset_of places).value bytes ≡ option_map (λ read. read.1) ((both_import_parts opts offset_of places).value bytes)
+  list_value = list-by ((import_data_part opts offset_of places).value bytes) refl
 
-  pub list_cause : (e : ErrorOf) → (import_list opts offset_of places).value bytes ≡ None → (import_list opts offset_of places).IsCause bytes e → (import_parts opts offset_of places).IsCause bytes e
-  unfolding import_list import_parts
-  list_cause e none fault = rw (unmapped _ ((import_part opts offset_of places).value bytes) none) fault
+  pub list_cause : (e : ErrorOf) → (import_list opts offset_of places).value bytes ≡ None → (import_list opts offset_of places).IsCause bytes e → (both_import_parts opts offset_of places).IsCause bytes e
+  unfolding import_list both_import_parts
+  list_cause e none fault = rw (unmapped _ ((import_data_part opts offset_of places).value bytes) none) fault
 
   pub are_listed : AreListed opts offset_of places bytes
   are_listed = record { value = list_value; cause = list_cause }
@@ -150,11 +150,11 @@ items-by : {A X : Type 0} (item : ImportValue → X) (o : Option (A × Part (Lis
 items-by item None = refl
 items-by item (Some read) = refl
 
-pub list_collected : {R X : Type 0} (opts : ParseOptions) (offset_of : ℕ → Option ℕ) (places : TablePlaces) (bytes : List ℕ) → AreListed opts offset_of places bytes → (view : R → Part (List X)) (item : ImportValue → X) (read : Result R ErrorOf) → ReadsOrMemory view read (mapped (part_map (map item)) (import_list opts offset_of places)) bytes → ReadsOrMemory view read (mapped (collected_imports item) (import_parts opts offset_of places)) bytes
+pub list_collected : {R X : Type 0} (opts : ParseOptions) (offset_of : ℕ → Option ℕ) (places : TablePlaces) (bytes : List ℕ) → AreListed opts offset_of places bytes → (view : R → Part (List X)) (item : ImportValue → X) (read : Result R ErrorOf) → ReadsOrMemory view read (mapped (part_map (map item)) (import_list opts offset_of places)) bytes → ReadsOrMemory view read (mapped (collected_imports item) (both_import_parts opts offset_of places)) bytes
 list_collected {R} {X} opts offset_of places bytes listed view item (Ok r) h =
-    let parts = (import_parts opts offset_of places).value bytes in
+    let parts = (both_import_parts opts offset_of places).value bytes in
     sym (ap (option_map (part_map (map item))) listed.value ∙ items-by item parts) ∙ h
 list_collected opts offset_of places bytes listed view item (Err e) h = λ other.
     let none = unmapped _ ((import_list opts offset_of places).value bytes) (h other).0 in
-    let parts = (import_parts opts offset_of places).value bytes in
+    let parts = (both_import_parts opts offset_of places).value bytes in
     (sym (ap (option_map (part_map (map item))) listed.value ∙ items-by item parts) ∙ (h other).0, listed.cause e none (h other).1)

@@ -9,10 +9,10 @@ use Rattle.readings.specs.Walks.{GivesNext}
 use Rattle.goblin_pe_sect.specs.declared.data_directories.DataDirectory.{DataDirectory}
 use Rattle.goblin_pe_sect.specs.declared.options.ParseOptions.{ParseOptions}
 use Rattle.goblin_pe_sect.specs.Options.{is_strict}
-use Rattle.goblin_pe_sect.specs.Addresses.{MapOfAddresses, map_of, offset_of, reads_strictly}
+use Rattle.goblin_pe_sect.specs.Addresses.{MapOfAddresses, offset_of, reads_strictly}
 use Rattle.goblin_pe_import.specs.ImportLookup.{entries_32, entries_64}
 use Rattle.goblin_pe_import.specs.ImportPositions.{first_import}
-use Rattle.goblin_pe_import.specs.ImportWalks.{GivesImport, IsAfterImport, IsInTable, IsOver, position_of, walked_value}
+use Rattle.goblin_pe_import.specs.ImportWalks.{AreImportsOver, GivesImport, IsAfterImport, IsInTable, imports_bytes, imports_map, position_of, walked_value}
 use Rattle.goblin_pe_import.specs.declared.import.imports.ImportPosition.{ImportPosition}
 use Rattle.goblin_pe_import.specs.declared.import.imports.Imports.{Imports}
 use Rattle.goblin_pe_import.specs.declared.import.imports.WalkedImport.{WalkedImport}
@@ -91,11 +91,11 @@ module _ (m : MapOfAddresses) (places : TablePlaces) (bytes : List ℕ) (d : Dat
 -- ---- a walk from there on
 
 over-again : {T : Type 0} (bytes : List ℕ) (m : MapOfAddresses) (s t : Imports T)
-    → IsOver bytes m s → IsOver s.walk.bytes.now (map_of s.walk.finder) t → IsOver bytes m t
+    → AreImportsOver bytes m s → AreImportsOver (imports_bytes s) (imports_map s) t → AreImportsOver bytes m t
 over-again bytes m s t over again = (again.0 ∙ over.0, again.1 ∙ over.1)
 
 after-again : {T : Type 0} (bytes : List ℕ) (r : Option (Result WalkedImport ErrorOf)) (t : Imports T)
-    → t.walk.bytes.now ≡ bytes → IsAfterImport r t
+    → imports_bytes t ≡ bytes → IsAfterImport r t
     → IfSome r (λ r. IfOk r (λ x. IsInTable bytes (position_of t)))
 after-again bytes r t is after = subst (λ (b : List ℕ). IfSome r (λ r. IfOk r (λ x. IsInTable b (position_of t)))) is after
 

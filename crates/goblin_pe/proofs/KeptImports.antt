@@ -1,6 +1,6 @@
 -- What is kept of each library's imports is what is kept of the list of all imports.
 use Rattle.std.proofs.Common.{◌≡◌, ◌∙◌, ◌≤◌, ◌++◌, ◌∷◌, ℕ, zero, suc, List, [], Bool, true, false}
-use Rattle.std.proofs.Common.{Option, Some, None, IsSome, append-nil, ap, arith, length, map, refl}
+use Rattle.std.proofs.Common.{IsSome, None, Option, Some, ap, append-nil, arith, length, map, refl}
 use Rattle.std.proofs.Common.{sym, take_all}
 use Rattle.std.specs.Prelude.{get_or, slice_get, take, unwrap_or}
 use Rattle.std.specs.List.{flat_map}
@@ -19,7 +19,7 @@ use Rattle.goblin_pe_import.proofs.Imports.{imported_at}
 use Rattle.goblin_pe.specs.declared.whole.Part.{Part}
 use Rattle.goblin_pe.specs.declared.whole.Part.TheVariants.{Absent, Refused}
 use Rattle.goblin_pe.specs.declared.whole.Part.TheVariants as part
-use Rattle.goblin_pe.specs.Whole.{TablePlaces, entry_format, imports_part}
+use Rattle.goblin_pe.specs.Whole.{TablePlaces, entry_format, listed_imports_part}
 use Rattle.goblin_pe.specs.Whole.{part_map, part_of, part_then}
 
 -- the imports of import data that a list can be made from
@@ -30,7 +30,7 @@ listed_imports magic libraries =
 -- a list of imports can be made from import data
 abbrev pub HasList : ParseOptions → TablePlaces → Part (List ImportedLibrary) → Type 0
 HasList opts places libraries =
-    imports_part opts places libraries ≡ Some (listed_imports places.magic libraries)
+    listed_imports_part opts places libraries ≡ Some (listed_imports places.magic libraries)
 
 there-is : {A : Type 0} (o : Option (List A)) → IsSome o → o ≡ Some (unwrap_or o [])
 there-is None there = absurd cc
@@ -46,7 +46,7 @@ read-there false None h = absurd cc
 libraries-there : (opts : ParseOptions) (places : TablePlaces) (libraries : List ImportedLibrary)
     → HasList opts places (part.Read libraries)
     → IsSome (imports_of (entry_format places.magic).width libraries)
-unfolding imports_part part_then listed_imports part_map
+unfolding listed_imports_part part_then listed_imports part_map
 libraries-there opts places libraries h =
     read-there (is_strict opts.parse_mode) (imports_of (entry_format places.magic).width libraries) h
 

@@ -3,6 +3,8 @@
 pub mod Covered
 pub mod Folds
 pub mod ImportStarts
+pub mod OneCause
+pub mod OneCauseOfParts
 pub mod Walked
 pub use Rattle.goblin_base.proofs.Footprints
 pub use Rattle.goblin_base.proofs.Fronts

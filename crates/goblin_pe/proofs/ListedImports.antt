@@ -15,7 +15,7 @@ use Rattle.goblin_pe.specs.declared.whole.Part.{Part}
 use Rattle.goblin_pe.specs.declared.whole.Part.TheVariants.{Absent, Refused}
 use Rattle.goblin_pe.specs.declared.whole.Part.TheVariants as part
 use Rattle.goblin_pe.proofs.KeptImports.{HasList, listed_imports}
-use Rattle.goblin_pe.specs.Whole.{TablePlaces, entry_format, import_part, imports_part, part_at, part_map, part_of, part_then}
+use Rattle.goblin_pe.specs.Whole.{TablePlaces, entry_format, import_data_part, listed_imports_part, part_at, part_map, part_of, part_then}
 
 part-there : {A : Type 0} (strict : Bool) (table : Option (List A)) → IsSome table → part_of strict table ≡ Some (part.Read (unwrap_or table []))
 unfolding part_of
@@ -27,15 +27,15 @@ module _ (opts : ParseOptions) (file : List ℕ) (places : TablePlaces) (short :
   ListsImports p = HasList opts places p
 
   absent-listed : ListsImports Absent
-  unfolding imports_part part_then listed_imports part_map
+  unfolding listed_imports_part part_then listed_imports part_map
   absent-listed = refl
 
   refused-listed : ListsImports Refused
-  unfolding imports_part part_then listed_imports part_map
+  unfolding listed_imports_part part_then listed_imports part_map
   refused-listed = refl
 
   read-listed : (libraries : List ImportedLibrary) → IsSome (imports_of (entry_format places.magic).width libraries) → ListsImports (part.Read libraries)
-  unfolding imports_part part_then listed_imports part_map
+  unfolding listed_imports_part part_then listed_imports part_map
   read-listed libraries there = part-there (is_strict opts.parse_mode) (imports_of (entry_format places.magic).width libraries) there
 
   part-listed : (strict : Bool) (table : Option (List ImportedLibrary)) (p : Part (List ImportedLibrary)) → ((libraries : List ImportedLibrary) → table ≡ Some libraries → ListsImports (part.Read libraries)) → part_of strict table ≡ Some p → ListsImports p
@@ -63,8 +63,8 @@ module _ (opts : ParseOptions) (file : List ℕ) (places : TablePlaces) (short :
   module _ (offset_of : ℕ → Option ℕ) where
     -- of import data that was read a list of imports can be made
     pub data-listed : (p : Part (List ImportedLibrary))
-        → (import_part opts offset_of places).value file ≡ Some p → ListsImports p
-    unfolding import_part
+        → (import_data_part opts offset_of places).value file ≡ Some p → ListsImports p
+    unfolding import_data_part
     data-listed p e =
         let strict = is_strict opts.parse_mode in
         let format = entry_format places.magic in

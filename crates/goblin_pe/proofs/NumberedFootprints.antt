@@ -16,7 +16,7 @@ use Rattle.goblin_pe_export.specs.ExportWalks.{NumberedExport, numbered_export, 
 use Rattle.goblin_pe.specs.declared.whole.Part.{Part}
 use Rattle.goblin_pe.specs.declared.whole.Part.TheVariants.{Absent, Refused}
 use Rattle.goblin_pe.specs.declared.whole.Part.TheVariants as part
-use Rattle.goblin_pe.specs.Whole.{WholeFile, export_part, import_parts, offset_by}
+use Rattle.goblin_pe.specs.Whole.{WholeFile, both_import_parts, export_part, offset_by}
 use Rattle.goblin_pe.specs.Whole.{part_at, part_map, part_of, places_in}
 use Rattle.goblin_pe.specs.Whole.{sections_after, table_parts, whole_after, whole_file, whole_with}
 
@@ -125,7 +125,7 @@ same-numbered opts a b w is agree =
     let exports = second-of _ _ all.value.0 both in
     let after = agree-led (start.value a) (λ h. (whole_after opts h).reaches a) h a b header.is (agree-right (start.reaches a) _ a b agree) in
     let within = agree-led (listed.value a) (λ s. (whole_with opts h s).reaches a) sections.value a b sections.is (agree-right (listed.reaches a) _ a b after) in
-    let tables = (import_parts opts offset_of places).reaches a in
+    let tables = (both_import_parts opts offset_of places).reaches a in
     let own = agree-right tables _ a b (agree-left (tables ++ (export_part opts offset_of places).reaches a) _ a b within) in
     subst (AreSame opts a b) all.made
     (at-same offset_of a b strict places.exports all.value.0.1 exports own)

@@ -1,10 +1,10 @@
 -- What strict mode reads of tables and of whole files, permissive mode reads, too.
 use Rattle.std.proofs.Common.{◌≡◌, ℕ, Bool, true, false, cond, List, [], Option, Some, None, Result}
-use Rattle.std.proofs.Common.{refl, sym, ap}
+use Rattle.std.proofs.Common.{ap, refl, sym}
 use Rattle.std.specs.Prelude.{nat_eq}
 use Rattle.goblin_base.specs.declared.error.ErrorOf.{ErrorOf}
 use Rattle.goblin_base.specs.declared.permissive.ParseMode.{ParseMode}
-use Rattle.goblin_base.specs.declared.permissive.ParseMode.TheVariants.{Strict, Permissive}
+use Rattle.goblin_base.specs.declared.permissive.ParseMode.TheVariants.{Permissive, Strict}
 use Rattle.goblin_base.specs.Answers.{◌>>=◌}
 use Rattle.goblin_base.specs.Reading.{InModes, Reading, Reads, ReadsOrMemory, Repeats, RepeatsAs}
 use Rattle.goblin_base.specs.Tables.{Format, each_below}
@@ -36,8 +36,8 @@ use Rattle.goblin_pe_import.proofs.PermissiveReads.{libraries_at-repeats}
 use Rattle.goblin_pe.specs.Modes.{ReadsInModes, in_mode, in_permissive_mode, is_front}
 use Rattle.goblin_pe.specs.Modes.{unless_front}
 use Rattle.goblin_pe.specs.Whole.{TableParts, TablePlaces, WholeFile, entry_format, export_part}
-use Rattle.goblin_pe.specs.Whole.{import_part}
-use Rattle.goblin_pe.specs.Whole.{import_parts, imports_part, offset_by, part_at, part_map, part_of}
+use Rattle.goblin_pe.specs.Whole.{import_data_part}
+use Rattle.goblin_pe.specs.Whole.{both_import_parts, listed_imports_part, offset_by, part_at, part_map, part_of}
 use Rattle.goblin_pe.specs.Whole.{part_then, places_in, relocation_part, section_table_offset}
 use Rattle.goblin_pe.specs.Whole.{sections_after, table_parts, whole_file, whole_of, whole_with}
 
@@ -147,20 +147,20 @@ module _ (format : Format EntryValue) (offset_of : ℕ → Option ℕ) (bytes : 
       let again = repeats-import_data format offset_of d.virtual_address in
       rw (again.kept bytes own.table own.is, own.read) refl
 
-  import_part-kept : (asked : Bool) (imports : Option DataDirectory)
+  import_data_part-kept : (asked : Bool) (imports : Option DataDirectory)
       (p : Part (List ImportedLibrary))
       → cond asked ((part_at true (libraries_of true) imports).value bytes) (Some Absent)
       ≡ Some p
       → cond asked ((part_at false (libraries_of false) imports).value bytes) (Some Absent)
       ≡ Some (part_map (unless_front (place_by offset_of imports)) p)
   unfolding part_map
-  import_part-kept false imports p e =
+  import_data_part-kept false imports p e =
       let is : Absent ≡ p = same_value Absent p e in
       rw (← is) refl
-  import_part-kept true None p e =
+  import_data_part-kept true None p e =
       let is : Absent ≡ p = same_value Absent p e in
       rw (← is) refl
-  import_part-kept true (Some d) p e =
+  import_data_part-kept true (Some d) p e =
       imports_read d p (part_of-some ((libraries_of true d).value bytes) p e)
 
 no_imports : (size : ℕ) → imports_of size [] ≡ Some []
@@ -181,18 +181,18 @@ unfolding part_of part_map
 imports_made size place libraries p own =
     rw (imports_unless size (is_front place) libraries own.table own.is, own.read) refl
 
-imports_part-kept : (size : ℕ) (place : Option ℕ) (from : Part (List ImportedLibrary))
+listed_imports_part-kept : (size : ℕ) (place : Option ℕ) (from : Part (List ImportedLibrary))
     (p : Part (List ImportValue)) → part_then true (imports_of size) from ≡ Some p
     → part_then false (imports_of size) (part_map (unless_front place) from)
     ≡ Some (part_map (unless_front place) p)
 unfolding part_then part_map
-imports_part-kept size place Absent p e =
+listed_imports_part-kept size place Absent p e =
     let is : Absent ≡ p = same_value Absent p e in
     rw (← is) refl
-imports_part-kept size place Refused p e =
+listed_imports_part-kept size place Refused p e =
     let is : Refused ≡ p = same_value Refused p e in
     rw (← is) refl
-imports_part-kept size place (part.Read libraries) p e =
+listed_imports_part-kept size place (part.Read libraries) p e =
     imports_made size place libraries p (part_of-some (imports_of size libraries) p e)
 
 -- ---- the tables
@@ -212,21 +212,21 @@ module _ (opts : ParseOptions) (offset_of : ℕ → Option ℕ) (places : TableP
   permissive_imports p = (part_map (unless_front place) p.0, part_map (unless_front place) p.1)
 
   imports_again : (bytes : List ℕ) (p : Part (List ImportedLibrary) × Part (List ImportValue))
-      → (import_parts strictly offset_of places).value bytes ≡ Some p
-      → (import_parts permissively offset_of places).value bytes ≡ Some (permissive_imports p)
-  unfolding import_parts import_part imports_part
+      → (both_import_parts strictly offset_of places).value bytes ≡ Some p
+      → (both_import_parts permissively offset_of places).value bytes ≡ Some (permissive_imports p)
+  unfolding both_import_parts import_data_part listed_imports_part
   imports_again bytes p is =
       let format = entry_format places.magic in
       let u : Part (List ImportedLibrary) → Part (List ImportedLibrary) =
       part_map (unless_front place) in
       let v : Part (List ImportValue) → Part (List ImportValue) = part_map (unless_front place) in
-      let s = step ((import_part strictly offset_of places).value bytes) _ p is in
-      let made = imports_part strictly places s.value in
+      let s = step ((import_data_part strictly offset_of places).value bytes) _ p is in
+      let made = listed_imports_part strictly places s.value in
       let first = pair_of-left (Some s.value) made p s.then in
       let second = pair_of-right (Some s.value) made p s.then in
       rw (
-        import_part-kept format offset_of bytes opts.parse_imports places.imports s.value s.is,
-        imports_part-kept format.width place s.value p.1 second,
+        import_data_part-kept format offset_of bytes opts.parse_imports places.imports s.value s.is,
+        listed_imports_part-kept format.width place s.value p.1 second,
       )
       (ap (λ (l : Part (List ImportedLibrary)). pair_of (Some (u l)) (Some (v p.1)))
       (same_value s.value p.0 first))
@@ -240,8 +240,8 @@ module _ (opts : ParseOptions) (offset_of : ℕ → Option ℕ) (places : TableP
   unfolding table_parts export_part relocation_part
   repeats-table_parts =
       as-beside _ (λ x. x) _ _ _ _
-      (as-beside permissive_imports (λ x. x) (import_parts strictly offset_of places)
-      (import_parts permissively offset_of places) _ _ (record { kept = imports_again })
+      (as-beside permissive_imports (λ x. x) (both_import_parts strictly offset_of places)
+      (both_import_parts permissively offset_of places) _ _ (record { kept = imports_again })
       (repeats-part_at (export_read offset_of) places.exports))
       (repeats-part_at (relocation_data offset_of) places.relocations)
 

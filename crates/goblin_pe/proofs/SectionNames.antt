@@ -14,7 +14,7 @@ use Rattle.goblin_pe_sect.specs.declared.options.ParseOptions.{ParseOptions}
 use Rattle.goblin_pe_sect.specs.Addresses.{AreMany, MapOfAddresses, map_by}
 use Rattle.goblin_pe_sect.specs.Options.{is_strict}
 use Rattle.goblin_pe_sect.specs.WindowIndex.{HasPieces}
-use Rattle.goblin_pe_sect.specs.SectionReadings.{section_at}
+use Rattle.goblin_pe_sect.specs.SectionReadings.{named_section_at}
 use Rattle.goblin_pe_sect.specs.SectionTable.{Section, unnamed}
 use Rattle.goblin_pe_sect.proofs.AddressMaps.{unnamed_map}
 use Rattle.goblin_pe_head.specs.declared.header.pe_header.Header.{Header}
@@ -68,7 +68,7 @@ pub records_counted : (strict : Bool) (h : PeHeader) (bytes : List ℕ) (records
     → length records ≡ h.coff_header.number_of_sections
 unfolding sections_after sections_at
 records_counted strict h bytes records made =
-    as_many h.coff_header.number_of_sections (λ i. section_at strict (symbols_end h.coff_header) (section_table_offset h + 40 * i)) bytes records made
+    as_many h.coff_header.number_of_sections (λ i. named_section_at strict (symbols_end h.coff_header) (section_table_offset h + 40 * i)) bytes records made
 
 -- where they fit their file and are many, an index of them takes memory
 pub takes_index : (opts : ParseOptions) (h : PeHeader) (bytes : List ℕ) (records : List Section)

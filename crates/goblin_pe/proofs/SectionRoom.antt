@@ -11,7 +11,7 @@ use Rattle.goblin_pe_head.specs.TeReadings.{te_header}
 use Rattle.goblin_base.specs.Reading.{Reading}
 use Rattle.goblin_base.proofs.Steps.{all_at-zero, same_value}
 use Rattle.readings.specs.Reads.{each}
-use Rattle.goblin_pe_sect.specs.SectionReadings.{section_at}
+use Rattle.goblin_pe_sect.specs.SectionReadings.{named_section_at}
 use Rattle.goblin_pe_sect.specs.SectionTable.{Section}
 use Rattle.goblin_pe_head.specs.CoffHeader.{symbols_end}
 use Rattle.goblin_pe_head.specs.CoffReadings.{sections_at, with_room}
@@ -50,7 +50,7 @@ counted (suc n) read bytes s found some = omega arith
 
 pub sections_counted : (strict : Bool) (h : PeHeader) (bytes : List ℕ) (s : List Section) → (sections_after strict h).value bytes ≡ Some s → 0 < length s → 0 < h.coff_header.number_of_sections
 unfolding sections_after sections_at
-sections_counted strict h bytes s found some = counted h.coff_header.number_of_sections (λ i. section_at strict (symbols_end h.coff_header) (section_table_offset h + 40 * i)) bytes s found some
+sections_counted strict h bytes s found some = counted h.coff_header.number_of_sections (λ i. named_section_at strict (symbols_end h.coff_header) (section_table_offset h + 40 * i)) bytes s found some
 
 -- sections that were read, where there is one, took memory
 pub sections_taken : (strict : Bool) (h : PeHeader) (bytes : List ℕ) (s : List Section)

@@ -18,7 +18,7 @@ use Rattle.goblin_pe_import.specs.declared.import.left_out.LeftOut.{LeftOut}
 use Rattle.goblin_pe.specs.declared.whole.damage.Damage.{Damage}
 use Rattle.goblin_pe.specs.Damages.{AreDamaged, IsDamage, IsDamaged, IsReadByBoth, IsSound, TellsDamage}
 use Rattle.goblin_pe.specs.Modes.{in_mode}
-use Rattle.goblin_pe.specs.Whole.{TablePlaces, WholeFile, export_part, import_list, import_parts, layout, offset_by}
+use Rattle.goblin_pe.specs.Whole.{TablePlaces, WholeFile, both_import_parts, export_part, import_list, layout, offset_by}
 use Rattle.goblin_pe.specs.Whole.{places_in, relocation_part, sections_after, table_parts, whole_file}
 use Rattle.goblin_pe.specs.Whole.{whole_with}
 use Rattle.goblin_pe.proofs.ImportParts.{list_value}
@@ -76,8 +76,8 @@ module _ (opts : ParseOptions) (bytes : List ℕ) (short : length bytes < 2 ^ 63
   unfolding table_parts
   tables-there offset_of places imports exports relocations left_out no_imports no_exports no_relocations damage =
       let listed = there (import_list (in_mode Strict opts) offset_of places) bytes imports no_imports damage.imports in
-      let parts = unmapped-there _ ((import_parts (in_mode Strict opts) offset_of places).value bytes) _ (list_value (in_mode Strict opts) offset_of places bytes short fit) listed in
-      all-there (import_parts (in_mode Strict opts) offset_of places) (export_part (in_mode Strict opts) offset_of places) (relocation_part (in_mode Strict opts) offset_of places) bytes parts
+      let parts = unmapped-there _ ((both_import_parts (in_mode Strict opts) offset_of places).value bytes) _ (list_value (in_mode Strict opts) offset_of places bytes short fit) listed in
+      all-there (both_import_parts (in_mode Strict opts) offset_of places) (export_part (in_mode Strict opts) offset_of places) (relocation_part (in_mode Strict opts) offset_of places) bytes parts
       (there (export_part (in_mode Strict opts) offset_of places) bytes exports no_exports damage.exports)
       (there (relocation_part (in_mode Strict opts) offset_of places) bytes relocations no_relocations damage.relocations)
 

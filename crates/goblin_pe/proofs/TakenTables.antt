@@ -1,6 +1,6 @@
 -- Where memory is taken for the lists of a file's tables.
 use Rattle.std.proofs.Common.{◌≡◌, ◌<◌, ℕ, Bool, true, false, List, [], ◌∷◌, length, Option, Some, None}
-use Rattle.std.proofs.Common.{IsSomeAnd, IsTrue, Result, Ok, Err, arith, subst, sym, refl}
+use Rattle.std.proofs.Common.{Err, IsSomeAnd, IsTrue, Ok, Result, arith, refl, subst, sym}
 use Rattle.std.specs.Prelude.{IfErr}
 use Rattle.goblin_base.specs.declared.error.ErrorOf.{ErrorOf}
 use Rattle.goblin_base.specs.declared.error.ErrorOf.TheVariants.{BadMagic, BufferTooShort}
@@ -19,7 +19,7 @@ use Rattle.goblin_pe.specs.declared.whole.Part.{Part}
 use Rattle.goblin_pe.specs.declared.whole.Part.TheVariants.{Absent, Refused}
 use Rattle.goblin_pe.specs.declared.whole.Part.TheVariants as part
 use Rattle.goblin_pe.specs.SectionRoom.{TakesImports}
-use Rattle.goblin_pe.specs.Whole.{BecomesPart, IsReadAnd, TablePlaces, entry_format, import_part}
+use Rattle.goblin_pe.specs.Whole.{BecomesPart, IsReadAnd, TablePlaces, entry_format, import_data_part}
 use Rattle.goblin_pe.specs.Whole.{part_at, part_of}
 
 -- what becomes of a table is refused for memory only where the table is
@@ -84,7 +84,7 @@ module _ (m : MapOfAddresses) (places : TablePlaces) (bytes : List ℕ) where
 
   -- import data of which an import is kept takes memory
   pub imports_taken : (p : Part (List ImportedLibrary))
-      → (import_part m.opts (offset_of m) places).value bytes ≡ Some p → HasKept p
+      → (import_data_part m.opts (offset_of m) places).value bytes ≡ Some p → HasKept p
       → TakesImports m places bytes
-  unfolding import_part
+  unfolding import_data_part
   imports_taken p is kept = by-test m.opts.parse_imports places.imports p is kept

@@ -8,7 +8,7 @@ use Rattle.goblin_base.specs.Answers.{IsMemory}
 use Rattle.goblin_base.proofs.Readings.{twins, twins_or_memory}
 use Rattle.goblin_pe_sect.specs.AddressReadings.{data_at, relocation_data}
 use Rattle.goblin_pe_sect.specs.BaseRelocations.{relocation_bytes}
-use Rattle.goblin_pe_symbol.specs.Symbols.{table_bytes}
+use Rattle.goblin_pe_symbol.specs.Symbols.{symbol_bytes}
 use Rattle.goblin_pe_head.specs.CoffReadings.{strings_of, symbols_of}
 use Rattle.goblin_pe_head.specs.HeaderReadings.{header_without_dos}
 use Rattle.goblin_pe_head.specs.PeHeader.{header_value}
@@ -39,7 +39,7 @@ are_twin_parts plain value_of refusal strict offset_of asked a b first second on
           twins_or_memory (λ v. v.items) (sections_asked strict asked) a b _ _ one.sections
           two.sections;
       symbols =
-          twins (option_map table_bytes) (symbols_of asked.coff_header) a b _ _ one.symbols
+          twins (option_map symbol_bytes) (symbols_of asked.coff_header) a b _ _ one.symbols
           two.symbols;
       strings = twins (λ t. t) (strings_of asked.coff_header) a b _ _ one.strings two.strings;
       te = twins_or_memory te_view (te_image asked.offset) a b _ _ one.te two.te;

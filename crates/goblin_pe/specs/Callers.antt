@@ -1,19 +1,21 @@
--- Words for callers: one table of a file, the bytes of a layout, the section of an address, a
--- refusal, and pieces of a file.
-use Rattle.std.specs.Prelude.{◌≡◌, ◌≤◌, ℕ, List, Option, None, find, if◌then◌else◌, length}
+-- Words for callers: one table of a file, a refusal, and pieces of a file.
+use Rattle.std.specs.Prelude.{◌≡◌, ◌≤◌, ◌-◌, ◌^◌, ℕ, Bool, List, Option, None, count_by, length, min}
 use Rattle.std.specs.Prelude.{slice_range}
-use Rattle.std.specs.Int.{is_power_of_two}
+use Rattle.std.specs.List.{list_any}
 use Rattle.goblin_base.specs.declared.error.ErrorOf.{ErrorOf}
+use Rattle.goblin_base.specs.ErrorText.{error_text}
 use Rattle.goblin_base.specs.Footprints.{Range}
 use Rattle.goblin_base.specs.Reading.{Reading}
 use Rattle.readings.specs.Reads.{◌>>=◌}
 use Rattle.goblin_pe_sect.specs.declared.options.ParseOptions.{ParseOptions}
 use Rattle.goblin_pe_sect.specs.Addresses.{offset_of}
-use Rattle.goblin_pe_sect.specs.Mapping.{is_in_window}
 use Rattle.goblin_pe_sect.specs.Options.{is_strict}
 use Rattle.goblin_pe_sect.specs.SectionTable.{Section}
 use Rattle.goblin_pe_head.specs.HeaderReadings.{pe_header}
 use Rattle.goblin_pe_head.specs.PeHeader.{PeHeader}
+use Rattle.goblin_pe_import.specs.declared.import.imports.WalkedImport.{WalkedImport}
+use Rattle.goblin_pe_import.specs.ImportWalks.{walked_value}
+use Rattle.goblin_pe_import.specs.Imports.{ImportValue}
 use Rattle.goblin_pe.specs.declared.whole.Part.{Part}
 use Rattle.goblin_pe.specs.declared.whole.Part.TheVariants.{Absent, Refused}
 use Rattle.goblin_pe.specs.declared.whole.Part.TheVariants as part
@@ -42,25 +44,33 @@ file_table read opts =
 abbrev pub layout_table : {A : Type 0} → TableReader A → Layout → Reading A
 layout_table read l = let m = layout_map l in read m.opts (offset_of m) (layout_places l)
 
--- the bytes that a layout is over
-abbrev pub layout_bytes : Layout → List ℕ
-layout_bytes l = l.bytes.now
-
--- the first section whose window holds the address; there is none if the alignment is not a power
--- of two
-abbrev pub section_at : ℕ → ℕ → List Section → Option Section
-section_at alignment rva sections =
-    if is_power_of_two alignment then find (is_in_window alignment rva) sections else None
-
 -- what is made of a table that was read, and a default where it was not
 abbrev pub read_or : {A B : Type 0} → B → (A → B) → Part A → B
 read_or default f Absent = default
 read_or default f (part.Read table) = f table
 read_or default f Refused = default
 
+-- a call with an import of a walk tells whether the import passes the test
+abbrev pub IsTest : (WalkedImport → Bool → Type 0) → (ImportValue → Bool) → Type 0
+IsTest Returns test =
+    (x : WalkedImport) (found : Bool) → Returns x found → found ≡ test (walked_value x)
+
+-- whether one passes the test
+unfoldable pub has_any : {A : Type 0} → (A → Bool) → List A → Bool
+has_any test items = list_any test items
+
+-- how many pass the test, at most the greatest number of 64 bits
+abbrev pub counted : {A : Type 0} → (A → Bool) → List A → ℕ
+counted test items = min (count_by test items) (2 ^ 64 - 1)
+
 -- the file is refused by this reading, and this cause is true
 abbrev pub IsRefused : {A : Type 0} → Reading A → List ℕ → ErrorOf → Type 0
 IsRefused reading bytes e = (reading.value bytes ≡ None) × reading.IsCause bytes e
+
+-- each true cause of a refusal has the text of this one
+abbrev pub IsOnlyCause : {A : Type 0} → Reading A → List ℕ → ErrorOf → Type 0
+IsOnlyCause reading bytes e =
+    (f : ErrorOf) → reading.IsCause bytes f → error_text f ≡ error_text e
 
 -- a piece of a file: its bytes in a range
 abbrev pub Piece : Type 0

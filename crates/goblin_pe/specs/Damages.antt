@@ -3,7 +3,7 @@ use Rattle.std.specs.Prelude.{◌≡◌, ℕ, true, List, Option, None, Some, Is
 use Rattle.std.specs.Prelude.{Err, if◌then◌else◌, min, ◌^◌, ◌-◌}
 use Rattle.goblin_base.specs.declared.error.ErrorOf.{ErrorOf}
 use Rattle.goblin_base.specs.declared.permissive.ParseMode.TheVariants.{Permissive, Strict}
-use Rattle.goblin_base.specs.Answers.{IsMemory}
+use Rattle.goblin_base.specs.Answers.{◌>>=◌, IsMemory}
 use Rattle.goblin_base.specs.Reading.{Reading}
 use Rattle.goblin_base.specs.Tables.{Format}
 use Rattle.goblin_pe_sect.specs.declared.data_directories.DataDirectory.{DataDirectory}
@@ -14,6 +14,9 @@ use Rattle.goblin_pe_head.specs.PeHeader.{PeHeader}
 use Rattle.goblin_pe_import.specs.declared.import.left_out.LeftOut.{LeftOut}
 use Rattle.goblin_pe_import.specs.ImportEntries.{EntryValue}
 use Rattle.goblin_pe_import.specs.LeftOut.{entries_left_out, libraries_left_out}
+use Rattle.goblin_pe_export.specs.ExportReadings.{export_read}
+use Rattle.goblin_pe_export.specs.ExportRecords.{ExportRow, ExportTables}
+use Rattle.goblin_pe_export.specs.LeftOutExports.{pointers_left_out}
 use Rattle.goblin_pe.specs.declared.whole.damage.Damage.{Damage}
 use Rattle.goblin_pe.specs.Modes.{in_mode, in_permissive_mode}
 use Rattle.goblin_pe.specs.Whole.{TablePlaces, entry_format, export_part, import_list, layout, offset_by}
@@ -42,6 +45,17 @@ left_out_of opts offset_of places bytes =
     left_out_at (entry_format places.magic) offset_of bytes
     (if opts.parse_imports then places.imports else None)
 
+-- how many name pointers of the export directory that was read give no export; 0 without one
+abbrev pub exports_left_out_of : (ℕ → Option ℕ) → List ℕ → Option (ExportTables × List ExportRow) → ℕ
+exports_left_out_of offset_of bytes None = 0
+exports_left_out_of offset_of bytes (Some read) = pointers_left_out offset_of bytes read.0
+
+-- the same of a file, where its export directory can be read
+unfoldable pub exports_left_out : (ℕ → Option ℕ) → TablePlaces → List ℕ → ℕ
+exports_left_out offset_of places bytes =
+    exports_left_out_of offset_of bytes
+    (places.exports >>= λ d. (export_read offset_of d).value bytes)
+
 -- What strict mode would refuse of the tables whose addresses are mapped so.
 pub record AreDamaged (opts : ParseOptions) (offset_of : ℕ → Option ℕ) (places : TablePlaces)
     (bytes : List ℕ) (of_imports of_exports of_relocations : Option ErrorOf) (of_left_out : LeftOut)
@@ -58,6 +72,8 @@ pub record IsDamaged (opts : ParseOptions) (h : PeHeader) (sections : List Secti
   pub section_names : IsDamage (sections_after true h) bytes d.section_names
   pub tables : let places = places_in h.optional_header in
       AreDamaged opts (offset_by opts sections places) places bytes d.imports d.exports d.relocations d.left_out
+  pub left_out_exports : let places = places_in h.optional_header in
+      d.left_out_exports ≡ exports_left_out (offset_by opts sections places) places bytes
 
 -- A call tells the damage of a file that has a header and sections in its own mode; or these are
 -- refused, or memory.

@@ -9,11 +9,12 @@ use Rattle.readings.specs.Reads.{given, mapped, pick}
 use Rattle.goblin_pe_sect.specs.declared.data_directories.DataDirectory.{DataDirectory}
 use Rattle.goblin_pe_sect.specs.declared.options.ParseOptions.{ParseOptions}
 use Rattle.goblin_pe_sect.specs.Options.{is_strict}
-use Rattle.goblin_pe_sect.specs.Addresses.{MapOfAddresses, map_of, offset_of, reads_strictly}
+use Rattle.goblin_pe_sect.specs.Addresses.{MapOfAddresses, offset_of, reads_strictly}
 use Rattle.goblin_pe_import.specs.ImportLookup.{entries_32, entries_64}
 use Rattle.goblin_pe_import.specs.ImportPositions.{IsFaultAt, first_import}
 use Rattle.goblin_pe_import.specs.Imports.{ImportValue}
-use Rattle.goblin_pe_import.specs.ImportWalks.{HasPosition, IsInTable, IsOver, imports_at, position_of}
+use Rattle.goblin_pe_import.specs.ImportWalks.{AreImportsOver, HasPosition, IsInTable, imports_at}
+use Rattle.goblin_pe_import.specs.ImportWalks.{imports_map, position_of}
 use Rattle.goblin_pe_import.specs.ImportWalks.{walked_value}
 use Rattle.goblin_pe_import.specs.declared.import.imports.ImportPosition.{ImportPosition}
 use Rattle.goblin_pe_import.specs.declared.import.imports.WalkedImport.{WalkedImport}
@@ -46,16 +47,18 @@ file_position (Wide imports) = position_of imports
 
 -- the map that a walk goes by
 abbrev pub file_map : FileImports → MapOfAddresses
-file_map (Narrow imports) = map_of imports.walk.finder
-file_map (Wide imports) = map_of imports.walk.finder
+file_map (Narrow imports) = imports_map imports
+file_map (Wide imports) = imports_map imports
 
 -- the walk is over these bytes, by this magic and this map of addresses, and what is still to come
 -- follows from its position
 abbrev pub IsImportWalk : MapOfAddresses → ℕ → List ℕ → FileImports → Type 0
 IsImportWalk m magic bytes (Narrow imports) =
-    (entry_format magic ≡ entries_32) × IsOver bytes m imports × HasPosition entries_32 imports
+    (entry_format magic ≡ entries_32) × AreImportsOver bytes m imports
+    × HasPosition entries_32 imports
 IsImportWalk m magic bytes (Wide imports) =
-    (entry_format magic ≡ entries_64) × IsOver bytes m imports × HasPosition entries_64 imports
+    (entry_format magic ≡ entries_64) × AreImportsOver bytes m imports
+    × HasPosition entries_64 imports
 
 -- a walk that has just given an import is between two entries of a library
 abbrev pub IsAfterFileImport : List ℕ → Option (Result WalkedImport ErrorOf) → FileImports → Type 0

@@ -8,7 +8,8 @@ use Rattle.goblin_pe_head.specs.declared.header.pe_header.Header.{Header}
 use Rattle.goblin_pe_sect.specs.Addresses.{MapOfAddresses, map_by, map_of, offset_of}
 use Rattle.goblin_pe_export.specs.declared.export.exports.Exports.{Exports}
 use Rattle.goblin_pe_export.specs.ExportRecords.{ExportRow, ExportTables}
-use Rattle.goblin_pe_export.specs.ExportWalks.{IsOver, exports_left, numbered_from, walked_tables}
+use Rattle.goblin_pe_export.specs.ExportWalks.{AreExportsOver, exports_left, numbered_from}
+use Rattle.goblin_pe_export.specs.ExportWalks.{walked_tables}
 use Rattle.goblin_pe_import.specs.ImportLookup.{entries_32, entries_64}
 use Rattle.goblin_pe_import.specs.Imports.{ImportValue}
 use Rattle.goblin_pe_import.specs.ImportWalks.{IsImportsCause, imports_bound, imports_left}
@@ -19,11 +20,23 @@ use Rattle.goblin_pe.specs.declared.whole.imports.FileImports.{FileImports}
 use Rattle.goblin_pe.specs.declared.whole.imports.FileImports.TheVariants.{Narrow, Wide}
 use Rattle.goblin_pe.specs.declared.whole.layout.Layout.{Layout}
 use Rattle.goblin_pe_sect.specs.Options.{is_strict}
-use Rattle.goblin_pe_sect.specs.SectionTable.{Section}
+use Rattle.goblin_pe_sect.specs.SectionTable.{Section, recorded_sections}
 use Rattle.goblin_pe_head.specs.PeHeader.{header_value}
 use Rattle.goblin_pe.specs.Whole.{TablePlaces, places_in, sections_after, table_places}
 
 -- ---- what all tables are read by
+
+-- the bytes of the file
+abbrev pub layout_bytes : Layout → List ℕ
+layout_bytes l = l.bytes.now
+
+-- its header
+abbrev pub layout_header : Layout → Header
+layout_header l = l.header.now
+
+-- its sections, without their names from the string table
+abbrev pub layout_sections : Layout → List Section
+layout_sections l = recorded_sections l.records
 
 -- where the tables lie
 abbrev pub layout_places : Layout → TablePlaces
@@ -37,8 +50,8 @@ layout_map l = map_of l.address_map
 -- header's file alignment and by these options.
 pub record IsLayoutOf (opts : ParseOptions) (bytes : List ℕ) (header : Header) (l : Layout) : Type 0
   where
-    pub over : l.bytes.now ≡ bytes
-    pub after : l.header.now ≡ header
+    pub over : layout_bytes l ≡ bytes
+    pub after : layout_header l ≡ header
     pub by : (layout_map l).opts ≡ opts
     pub placed : layout_places l ≡ places_in header.optional_header
     pub mapped : (sections : List Section)
@@ -86,5 +99,5 @@ walked_exports walk = (walked_tables walk, map (λ x. x.row) (exports_left walk)
 -- numbers.
 abbrev pub IsExportWalk : MapOfAddresses → List ℕ → Exports → Type 0
 IsExportWalk m bytes walk =
-    IsOver bytes m walk
+    AreExportsOver bytes m walk
     × (exports_left walk ≡ numbered_from (offset_of m) bytes (walked_tables walk) 0)

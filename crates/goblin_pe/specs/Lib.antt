@@ -1,4 +1,5 @@
 pub mod Callers
+pub mod Checksums
 pub mod Damages
 pub mod LayoutPositions
 pub mod Layouts
@@ -72,3 +73,4 @@ pub use Rattle.goblin_pe_export.specs.Exports
 pub use Rattle.goblin_pe_export.specs.ExportWalks
 pub use Rattle.goblin_pe_export.specs.ForwarderLaws
 pub use Rattle.goblin_pe_export.specs.Forwarders
+pub use Rattle.goblin_pe_export.specs.LeftOutExports

@@ -1,6 +1,6 @@
 -- Where memory is taken for a file.
 use Rattle.std.specs.Prelude.{ℕ, ◌/◌, ◌<◌, ◌≤◌, ◌⊎◌, IsSomeAnd, IsTrue, List, length}
-use Rattle.goblin_pe_export.specs.Exports.{HasEntries, export_data}
+use Rattle.goblin_pe_export.specs.Exports.{HasExportEntries, export_data}
 use Rattle.goblin_pe_head.specs.PeHeader.{PeHeader}
 use Rattle.goblin_pe_import.specs.ImportDirectory.{TakesLibraries}
 use Rattle.goblin_pe_sect.specs.declared.options.ParseOptions.{ParseOptions}
@@ -43,7 +43,7 @@ TakesImports m places bytes =
 -- for the exports
 abbrev pub TakesExports : MapOfAddresses → TablePlaces → List ℕ → Type 0
 TakesExports m places bytes =
-    IsSomeAnd places.exports (λ d. IsSomeAnd (export_data (offset_of m) d bytes) HasEntries)
+    IsSomeAnd places.exports (λ d. IsSomeAnd (export_data (offset_of m) d bytes) HasExportEntries)
 
 -- for one of them
 abbrev pub TakesTables : MapOfAddresses → TablePlaces → List ℕ → Type 0

@@ -16,7 +16,7 @@ use Rattle.goblin_pe.specs.declared.laws.order.Request.{Request}
 use Rattle.goblin_pe.specs.declared.laws.order.TablesOf.{TablesOf}
 use Rattle.goblin_pe_sect.specs.Addresses.{TakesMap}
 use Rattle.goblin_pe_export.specs.ExportReadings.{export_read}
-use Rattle.goblin_pe_export.specs.Exports.{HasEntries, export_data, export_read_view}
+use Rattle.goblin_pe_export.specs.Exports.{HasExportEntries, export_data, export_read_view}
 use Rattle.goblin_pe_import.specs.ImportDirectory.{TakesLibraries}
 use Rattle.goblin_pe_import.specs.ImportLookup.{EntryValue, KeepsEntries, entry_view}
 use Rattle.goblin_pe_import.specs.ImportReadings.{import_data}
@@ -61,7 +61,7 @@ pub record AreGrown {D : Type 0} (format : Format EntryValue) (strict : Bool) (o
   pub exports : IfErr tables.exports
       (λ e.
       IsMemory e
-      → IsSomeAnd (export_data offset_of request.exports bytes) HasEntries
+      → IsSomeAnd (export_data offset_of request.exports bytes) HasExportEntries
       ⊎ TakesMap opts sections alignment)
 
 -- The answers of each reader are alike.

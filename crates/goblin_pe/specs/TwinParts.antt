@@ -10,7 +10,7 @@ use Rattle.goblin_pe_sect.specs.declared.data_directories.DataDirectory.{DataDir
 use Rattle.goblin_pe_sect.specs.AddressReadings.{data_at, relocation_data}
 use Rattle.goblin_pe_sect.specs.BaseRelocations.{relocation_bytes}
 use Rattle.goblin_pe_sect.specs.SectionTable.{Section}
-use Rattle.goblin_pe_symbol.specs.Symbols.{table_bytes}
+use Rattle.goblin_pe_symbol.specs.Symbols.{symbol_bytes}
 use Rattle.goblin_pe_head.specs.declared.header.coff.CoffHeader.{CoffHeader}
 use Rattle.goblin_pe_head.specs.declared.header.te.TeHeader.{TeHeader}
 use Rattle.goblin_pe_head.specs.CoffHeader.{symbols_end}
@@ -54,7 +54,7 @@ pub record AreParts {D Y : Type 0} (plain : D → Y) (value_of : Endian → List
     (asked : PartsAsked) (bytes : List ℕ) (parts : PartsOf D) : Type 0 where
   pub header : Reads header_value parts.header header_without_dos bytes
   pub sections : ReadsOrMemory (λ v. v.items) parts.sections (sections_asked strict asked) bytes
-  pub symbols : Reads (option_map table_bytes) parts.symbols (symbols_of asked.coff_header) bytes
+  pub symbols : Reads (option_map symbol_bytes) parts.symbols (symbols_of asked.coff_header) bytes
   pub strings : Reads (λ t. t) parts.strings (strings_of asked.coff_header) bytes
   pub te : ReadsOrMemory te_view parts.te (te_image asked.offset) bytes
   pub relocations : Reads relocation_bytes parts.relocations
@@ -84,7 +84,7 @@ pub record AreTwinParts {D Y : Type 0} (plain : D → Y)
   pub header : Twins header_value header_without_dos a b (both.0.header, both.1.header)
   pub sections : TwinsOrMemory (λ v. v.items) (sections_asked strict asked) a b
       (both.0.sections, both.1.sections)
-  pub symbols : Twins (option_map table_bytes) (symbols_of asked.coff_header) a b
+  pub symbols : Twins (option_map symbol_bytes) (symbols_of asked.coff_header) a b
       (both.0.symbols, both.1.symbols)
   pub strings : Twins (λ t. t) (strings_of asked.coff_header) a b
       (both.0.strings, both.1.strings)

@@ -37,7 +37,7 @@ use Rattle.goblin_pe_import.specs.ImportEntries.{EntryValue}
 use Rattle.goblin_pe_import.specs.ImportLookup.{entries_32, entries_64}
 use Rattle.goblin_pe_import.specs.ImportReadings.{import_data}
 use Rattle.goblin_pe_import.specs.ImportRecords.{ImportedLibrary}
-use Rattle.goblin_pe_import.specs.Imports.{ImportValue, IsImportsFault}
+use Rattle.goblin_pe_import.specs.Imports.{ImportValue, IsImportListFault}
 use Rattle.goblin_pe_import.specs.Imports.{first_without_slots, imports_of, kept_imports}
 
 -- ---- parts
@@ -130,9 +130,9 @@ offset_by opts sections places = file_offset opts sections places.file_alignment
 -- ---- the tables
 
 -- the import data; there is none where imports are not asked for
-unfoldable pub import_part : ParseOptions → (ℕ → Option ℕ) → TablePlaces
+unfoldable pub import_data_part : ParseOptions → (ℕ → Option ℕ) → TablePlaces
     → Reading (Part (List ImportedLibrary))
-import_part opts offset_of places =
+import_data_part opts offset_of places =
     let strict = is_strict opts.parse_mode in
     pick opts.parse_imports
     (part_at strict
@@ -141,55 +141,55 @@ import_part opts offset_of places =
     (given Absent)
 
 -- the list of imports made from import data
-unfoldable pub imports_part : ParseOptions → TablePlaces → Part (List ImportedLibrary)
+unfoldable pub listed_imports_part : ParseOptions → TablePlaces → Part (List ImportedLibrary)
     → Option (Part (List ImportValue))
-imports_part opts places libraries =
+listed_imports_part opts places libraries =
     part_then (is_strict opts.parse_mode) (imports_of (entry_format places.magic).width) libraries
 
 -- which cause is true of import data that no list can be made from
-abbrev pub IsImportsPartFault : Part (List ImportedLibrary) → ErrorOf → Type 0
-IsImportsPartFault Absent e = ⊥
-IsImportsPartFault (part.Read libraries) e = IsImportsFault libraries e
-IsImportsPartFault Refused e = ⊥
+abbrev pub IsListedImportsFault : Part (List ImportedLibrary) → ErrorOf → Type 0
+IsListedImportsFault Absent e = ⊥
+IsListedImportsFault (part.Read libraries) e = IsImportListFault libraries e
+IsListedImportsFault Refused e = ⊥
 
 never_some : {A : Type 0} (o : Option A) → IsSomeAnd o (λ x. ⊥) → ⊥
 never_some None h = h
 never_some (Some x) h = h
 
 imports_no_memory : (libraries : List ImportedLibrary) (m : AllocError)
-    → IsImportsFault libraries (Memory m) → ⊥
+    → IsImportListFault libraries (Memory m) → ⊥
 imports_no_memory libraries m (inl h) = never_some (first_without_slots libraries) h
 imports_no_memory libraries m (inr h) = h.1
 
-pub imports_part-not_memory : (p : Part (List ImportedLibrary)) (e : ErrorOf)
-    → IsImportsPartFault p e → ¬ IsMemory e
-imports_part-not_memory Absent e h = absurd h
-imports_part-not_memory (part.Read libraries) e h =
-    by_cases-not_memory (IsImportsFault libraries) (imports_no_memory libraries) e h
-imports_part-not_memory Refused e h = absurd h
+pub listed_imports_part-not_memory : (p : Part (List ImportedLibrary)) (e : ErrorOf)
+    → IsListedImportsFault p e → ¬ IsMemory e
+listed_imports_part-not_memory Absent e h = absurd h
+listed_imports_part-not_memory (part.Read libraries) e h =
+    by_cases-not_memory (IsImportListFault libraries) (imports_no_memory libraries) e h
+listed_imports_part-not_memory Refused e h = absurd h
 
 -- import data, with the list of imports made from it
-unfoldable pub import_parts : ParseOptions → (ℕ → Option ℕ) → TablePlaces
+unfoldable pub both_import_parts : ParseOptions → (ℕ → Option ℕ) → TablePlaces
     → Reading (Part (List ImportedLibrary) × Part (List ImportValue))
-import_parts opts offset_of places =
-    checked (λ libraries. pair_of (Some libraries) (imports_part opts places libraries))
-    IsImportsPartFault imports_part-not_memory (import_part opts offset_of places)
+both_import_parts opts offset_of places =
+    checked (λ libraries. pair_of (Some libraries) (listed_imports_part opts places libraries))
+    IsListedImportsFault listed_imports_part-not_memory (import_data_part opts offset_of places)
 
 -- the imports alone, those of each library one by one
 unfoldable pub import_list : ParseOptions → (ℕ → Option ℕ) → TablePlaces
     → Reading (Part (List ImportValue))
 import_list opts offset_of places =
     mapped (part_map (flat_map (kept_imports (λ x. x) (entry_format places.magic).width)))
-    (import_part opts offset_of places)
+    (import_data_part opts offset_of places)
 
 -- The imports alone are the list that is made of the libraries, and are refused as that is.
 pub record AreListed (opts : ParseOptions) (offset_of : ℕ → Option ℕ) (places : TablePlaces)
     (bytes : List ℕ) : Type 0 where
   pub value : (import_list opts offset_of places).value bytes
-      ≡ option_map (λ read. read.1) ((import_parts opts offset_of places).value bytes)
+      ≡ option_map (λ read. read.1) ((both_import_parts opts offset_of places).value bytes)
   pub cause : (e : ErrorOf) → (import_list opts offset_of places).value bytes ≡ None
       → (import_list opts offset_of places).IsCause bytes e
-      → (import_parts opts offset_of places).IsCause bytes e
+      → (both_import_parts opts offset_of places).IsCause bytes e
 
 -- the export data, with the exports that it lists
 unfoldable pub export_part : ParseOptions → (ℕ → Option ℕ) → TablePlaces
@@ -212,7 +212,7 @@ TableParts =
 
 unfoldable pub table_parts : ParseOptions → (ℕ → Option ℕ) → TablePlaces → Reading TableParts
 table_parts opts offset_of places =
-    import_parts opts offset_of places
+    both_import_parts opts offset_of places
     beside export_part opts offset_of places
     beside relocation_part opts offset_of places
 

@@ -2,6 +2,7 @@
 //! re-exports the modules of the crates below, so that a user names one crate.
 #![tactic(auto)]
 
+mod image_checksum;
 pub mod laws;
 pub mod whole;
 pub mod write;
@@ -13,8 +14,10 @@ pub use goblin_base::{
 pub use goblin_pe_export::export;
 pub use goblin_pe_head::{characteristic, dll_characteristic, header, optional_header, subsystem};
 pub use goblin_pe_import::import;
+pub use goblin_pe_sect::utils::section_at;
 pub use goblin_pe_sect::{
     address_map, data_directories, options, relocation, section_table, table, utils, windows,
 };
 pub use goblin_pe_symbol::symbol;
-pub use whole::{Damage, FileImports, Layout, Part, Whole, section_at};
+pub use image_checksum::checksum;
+pub use whole::{Damage, FileImports, Layout, Part, Whole};

@@ -8,6 +8,7 @@ ghost use Rattle.goblin_pe_sect.specs.Options.{is_strict};
 ghost use Rattle.goblin_pe_head.specs.HeaderReadings.{pe_header};
 ghost use Rattle.goblin_pe_head.specs.CoffHeader.{IsTooManySections};
 ghost use Rattle.goblin_pe_sect.specs.Addresses.{map_by, offset_of};
+ghost use Rattle.goblin_pe.specs.Callers.{IsOnlyCause};
 ghost use Rattle.goblin_pe.specs.SectionRoom.{TakesLists};
 ghost use Rattle.goblin_pe.specs.Whole.{places_in, whole_file};
 
@@ -28,7 +29,6 @@ mod layout;
 mod listed;
 mod places;
 mod reached;
-mod sections;
 
 pub use damage::Damage;
 pub use imports::FileImports;
@@ -36,7 +36,6 @@ pub use layout::Layout;
 use layout::sections_of;
 use listed::{ListedTables, export_parts};
 use places::Places;
-pub use sections::section_at;
 
 /// A table of a file, as [`Whole::read`] found it.
 #[derive(Debug, Drop)]
@@ -108,9 +107,11 @@ impl<'a> Whole<'a> {
     /// [`CoffHeader::sections_with_opts`](goblin_pe_head::CoffHeader::sections_with_opts); in
     /// strict mode as the readers of the tables; [`Error::Memory`] if memory is refused, in both
     /// modes, and only of a file that has sections, or a table of which something is kept.
-    #[tactic(auto, unfolding(crate::specs::Whole::whole_file, crate::specs::Whole::whole_with, crate::specs::Whole::part_map), using(goblin_pe_head::proofs::HeaderFaults::header_there))]
+    #[tactic(auto, unfolding(crate::specs::Whole::whole_file, crate::specs::Whole::whole_with, crate::specs::Whole::part_map), using(goblin_pe_head::proofs::HeaderFaults::header_there, crate::proofs::OneCauseOfParts::only_cause))]
     pub fn read(alloc: Global, bytes: &'a [u8], opts: &ParseOptions) -> Result<Whole<'a>>
         ensures value { ReadsOrMemory (λ x. x) result (whole_file opts.now) bytes.now }
+        ensures only { IfErr result
+            (λ e. ¬ IsMemory e → IsOnlyCause (whole_file opts.now) bytes.now e) }
         ensures first { let found = (pe_header (is_strict opts.now.parse_mode)).value bytes.now in
             IfSome found (λ header.
             let count = header.coff_header.number_of_sections in

@@ -4,11 +4,12 @@ ghost use Rattle.std.specs.Prelude.{◌≡◌, length};
 ghost use Rattle.goblin_pe_sect.specs.Options.{is_strict};
 ghost use Rattle.goblin_pe_head.specs.HeaderReadings.{pe_header};
 ghost use Rattle.goblin_pe.specs.Whole.{layout};
-ghost use Rattle.goblin_pe_calls.specs.Batches.{ExportBatch, GivesBatch, GivesExports, GivesImports};
+ghost use Rattle.goblin_pe_calls.specs.Batches.{ExportBatch, GivesBatch, GivesExports};
+ghost use Rattle.goblin_pe_calls.specs.Batches.{GivesImports};
 ghost use Rattle.goblin_pe_calls.specs.Batches.{ImportBatch, IsExportsFault, IsImportsFault};
 ghost use Rattle.goblin_pe_records.specs.Calls.{ReadsInto, Reported};
 ghost use Rattle.goblin_pe.specs.SectionRoom.{TakesIndex};
-ghost use Rattle.goblin_pe_calls.specs.Damages.{TellsDamage};
+ghost use Rattle.goblin_pe_calls.specs.Damages.{RecordsDamage};
 ghost use Rattle.goblin_pe_calls.specs.Footprints.{Lists};
 ghost use Rattle.goblin_pe_calls.specs.Growth.{TakesRecords};
 ghost use Rattle.goblin_pe_records.specs.Kinds.{kind_number, kind_of};
@@ -81,8 +82,8 @@ pub extern "C" fn goblin_pe_raw_open<'a>(
 /// any, a `count` of 0 is the end. Zeros are the position of the first import; a file without an
 /// import directory, or imports that are not asked for, have none, and in permissive mode neither
 /// has a directory without a file offset, or at the offset 0. Where nothing is left, and there
-/// is room for more, the position's `record` is then the greatest number, and its `slot` 0; without
-/// room the position stays.
+/// is room for more, the position's `record_offset` is then the greatest number, and its
+/// `slot_offset` 0; without room the position stays.
 ///
 /// Refused, with nothing changed, are a header or sections that the options refuse; in strict mode
 /// an import directory whose address has no offset, if the position is the first; and in strict
@@ -164,7 +165,7 @@ pub extern "C" fn goblin_pe_raw_read_damage(
         Reported result
         (ReadsInto (pe_header (is_strict opts.parse_mode)) (TakesIndex opts bytes.now) (layout opts)
         bytes.now
-        (λ l. TellsDamage opts l.0 l.1 bytes.now damage.new) (damage.new ≡ damage.old)) }
+        (λ l. RecordsDamage opts l.0 l.1 bytes.now damage.new) (damage.new ≡ damage.old)) }
 {
     status_of(damage::tell(alloc, bytes, &options_of(options), damage))
 }

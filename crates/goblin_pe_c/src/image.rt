@@ -71,8 +71,8 @@ pub extern "C" fn goblin_pe_raw_bytes_at<'a>(
 
 /// Reads the data of a section in memory: the bytes at its raw pointer, as many as its raw size
 /// says, and how many zeros follow them up to the virtual size. There are none where the raw size
-/// is at least that; the bytes are then not cut. The raw pointer is taken as the image's options say,
-/// as stored or rounded down to 512; its sections are not looked at.
+/// is at least that; the bytes are then not cut. The raw pointer is taken as stored or rounded down to
+/// 512, by the rule of the image's options and its file alignment; its sections are not looked at.
 ///
 /// A read is refused (the status 4) where the bytes run past the end of the file, or begin past it,
 /// even where there are none: by the cause 1 if they begin at or past it, else by 2.
@@ -82,7 +82,8 @@ pub extern "C" fn goblin_pe_raw_read_section_data<'a>(
     section: &PeSection,
     contents: &mut PeSectionData<'a>,
 ) -> PeFault
-    ensures { let s = placed (options_of image.now.options) (section_view section.now) in
+    ensures { let opts = options_of image.now.options in
+        let s = placed opts image.now.file_alignment (section_view section.now) in
         Reported result
         (ReadsWithout (section_data s) image.now.bytes.now
         (λ whole. SaysData s whole contents.new) (contents.new ≡ contents.old)) }

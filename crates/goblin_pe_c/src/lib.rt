@@ -9,9 +9,11 @@
 #![tactic(auto)]
 
 mod auxiliary;
+mod checksum;
 mod fault;
 mod file;
 mod image;
+mod look_up;
 mod object;
 mod te;
 mod write;

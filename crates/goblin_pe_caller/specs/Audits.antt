@@ -1,16 +1,16 @@
 -- What the audits say of a file.
 use Rattle.std.specs.Prelude.{◌≡◌, ◌++◌, ◌==◌, ◌&&◌, ℕ, Bool, false, not, List, Option, Some, None}
-use Rattle.std.specs.Prelude.{◌-◌, ◌^◌, IsSome, bit_and, codes, count_by, filter, min}
-use Rattle.std.specs.List.{list_any}
+use Rattle.std.specs.Prelude.{IsSome, bit_and, codes, count_by, filter}
 use Rattle.std.specs.Option.{is_some}
 use Rattle.std.specs.Str.{bytes_eq}
 use Rattle.goblin_pe.specs.declared.error.ErrorOf.{ErrorOf}
 use Rattle.goblin_pe.specs.declared.optional_header.OptionalHeader.{OptionalHeader}
 use Rattle.goblin_pe.specs.declared.options.ParseOptions.{ParseOptions}
-use Rattle.goblin_pe.specs.Callers.{IsRefused, file_table, read_or, section_at}
+use Rattle.goblin_pe.specs.Callers.{IsRefused, file_table, has_any, read_or}
 use Rattle.goblin_pe.specs.ErrorText.{error_text}
 use Rattle.goblin_pe.specs.ExportRecords.{ExportRow, ExportTables}
 use Rattle.goblin_pe.specs.Imports.{ImportValue}
+use Rattle.goblin_pe.specs.Mapping.{section_at}
 use Rattle.goblin_pe.specs.Options.{default_options}
 use Rattle.goblin_pe.specs.PeHeader.{PeHeader}
 use Rattle.goblin_pe.specs.Reading.{Reading}
@@ -27,11 +27,7 @@ is_from library import = bytes_eq import.dll library
 -- a file, read strictly, imports something from this library
 abbrev pub imports_from : List ℕ → Reading Bool
 imports_from library =
-    mapped (read_or false (list_any (is_from library))) (file_table import_list default_options)
-
--- how many imports are from this library, at most the greatest number of 64 bits
-abbrev pub count_from : List ℕ → List ImportValue → ℕ
-count_from library imports = min (count_by (is_from library) imports) (2 ^ 64 - 1)
+    mapped (read_or false (has_any (is_from library))) (file_table import_list default_options)
 
 -- ---- exports
 

@@ -2,7 +2,8 @@
 
 ghost use Rattle.std.specs.Prelude.{◌≡◌, IfErr, IsSomeAnd, count_by};
 ghost use Rattle.goblin_pe.specs.Answers.{IsMemory};
-ghost use Rattle.goblin_pe.specs.Callers.{layout_bytes, layout_table, read_or};
+ghost use Rattle.goblin_pe.specs.Callers.{layout_table, read_or};
+ghost use Rattle.goblin_pe.specs.Layouts.{layout_bytes};
 ghost use Rattle.goblin_pe.specs.ExportWalks.{exports_left};
 ghost use Rattle.goblin_pe.specs.HeaderReadings.{pe_header};
 ghost use Rattle.goblin_pe.specs.Options.{is_strict};

@@ -1,17 +1,16 @@
 //! From which libraries a file imports.
 
 ghost use Rattle.std.specs.Prelude.{◌≡◌, IfErr, IsSomeAnd, false, option_map, true};
-ghost use Rattle.std.specs.List.{list_any};
 ghost use Rattle.goblin_pe.specs.Answers.{Answers, IsMemory, all_of};
-ghost use Rattle.goblin_pe.specs.Callers.{layout_bytes, layout_table, read_or};
+ghost use Rattle.goblin_pe.specs.Callers.{counted, has_any, layout_table, read_or};
 ghost use Rattle.goblin_pe.specs.HeaderReadings.{pe_header};
-ghost use Rattle.goblin_pe.specs.Layouts.{IsFileImportsCause, file_imports_left};
+ghost use Rattle.goblin_pe.specs.Layouts.{IsFileImportsCause, file_imports_left, layout_bytes};
 ghost use Rattle.goblin_pe.specs.Options.{default_options};
 ghost use Rattle.goblin_pe.specs.Reading.{Reads, ReadsOrMemory};
 ghost use Rattle.goblin_pe.specs.Reads.{mapped};
 ghost use Rattle.goblin_pe.specs.SectionRoom.{TakesIndex};
 ghost use Rattle.goblin_pe.specs.Whole.{import_list};
-ghost use Rattle.goblin_pe_caller.specs.Audits.{count_from, imports_from, is_from};
+ghost use Rattle.goblin_pe_caller.specs.Audits.{imports_from, is_from};
 
 use goblin_pe::header::Header;
 use goblin_pe::options::ParseOptions;
@@ -34,11 +33,11 @@ pub fn imports_from(alloc: Global, bytes: &[u8], library: &str) -> Result<bool>
     layout_imports_from(&layout, library)
 }
 
-/// The same of a layout.
+/// The same of a layout. It goes on after the first import from there, as a later one may be refused.
 #[tactic(auto, unfolding(goblin_pe::specs::Whole::part_map))]
 fn layout_imports_from<'e>(layout: &Layout, library: &str) -> ResultOf<'e, bool>
     ensures { Reads (λ b. b) result
-        (mapped (read_or false (list_any (is_from library.now)))
+        (mapped (read_or false (has_any (is_from library.now)))
         (layout_table import_list layout.now)) (layout_bytes layout.now) }
 {
     match layout.imports()? {
@@ -51,19 +50,13 @@ fn layout_imports_from<'e>(layout: &Layout, library: &str) -> ResultOf<'e, bool>
     }
 }
 
-// The same of the imports that a walk gives. It goes on after the first, as a later one may be
-// refused.
+// The same of the imports that a walk gives.
 fn any_from<'a, 'm, 'e>(imports: FileImports<'a, 'm, 'e>, library: &str) -> ResultOf<'e, bool>
     ensures { Answers (λ b. b) result
-        (option_map (list_any (is_from library.now)) (all_of (file_imports_left imports.entry)))
+        (option_map (has_any (is_from library.now)) (all_of (file_imports_left imports.entry)))
         (IsFileImportsCause imports.entry) }
 {
-    let mut found = false;
-    'imports: for import in imports {
-        let import = import?;
-        found |= import.dll == library;
-    }
-    Ok(found)
+    imports.any_import(|import| import.dll == library)
 }
 
 /// How many functions a file imports from the library of this name, at most `usize::MAX`, since few
@@ -74,7 +67,7 @@ fn any_from<'a, 'm, 'e>(imports: FileImports<'a, 'm, 'e>, library: &str) -> Resu
 #[tactic(auto, unfolding(goblin_pe::specs::Whole::part_map))]
 pub fn count_imports_from<'e>(layout: &Layout, library: &str) -> ResultOf<'e, usize>
     ensures { Reads (λ n. n) result
-        (mapped (read_or 0 (count_from library.now)) (layout_table import_list layout.now))
+        (mapped (read_or 0 (counted (is_from library.now))) (layout_table import_list layout.now))
         (layout_bytes layout.now) }
 {
     match layout.imports()? {
@@ -90,15 +83,8 @@ pub fn count_imports_from<'e>(layout: &Layout, library: &str) -> ResultOf<'e, us
 // The same of the imports that a walk gives.
 fn count_from<'a, 'm, 'e>(imports: FileImports<'a, 'm, 'e>, library: &str) -> ResultOf<'e, usize>
     ensures { Answers (λ n. n) result
-        (option_map (count_from library.now) (all_of (file_imports_left imports.entry)))
+        (option_map (counted (is_from library.now)) (all_of (file_imports_left imports.entry)))
         (IsFileImportsCause imports.entry) }
 {
-    let mut count = 0usize;
-    'imports: for import in imports {
-        let import = import?;
-        if import.dll == library {
-            count = count.saturating_add(1);
-        }
-    }
-    Ok(count)
+    imports.count_imports(|import| import.dll == library)
 }

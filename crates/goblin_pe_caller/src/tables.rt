@@ -15,7 +15,7 @@ ghost use Rattle.goblin_pe.specs.HeaderReadings.{pe_header};
 ghost use Rattle.goblin_pe.specs.Reading.{Reads, ReadsOrMemory};
 ghost use Rattle.goblin_pe.specs.Record.{ReadsBack, encoding, record_over};
 ghost use Rattle.goblin_pe.specs.Relocations.{relocations_left};
-ghost use Rattle.goblin_pe.specs.Symbols.{symbols_in, table_bytes};
+ghost use Rattle.goblin_pe.specs.Symbols.{symbol_bytes, symbols_in};
 ghost use Rattle.goblin_pe.specs.declared.endian.Endian.{Endian};
 ghost use Rattle.goblin_pe.specs.declared.error.CauseOf.TheVariants.{Message};
 ghost use Rattle.goblin_pe.specs.declared.error.ErrorOf.TheVariants.{Malformed};
@@ -59,7 +59,7 @@ pub fn count_relocations(relocations: Relocations) -> usize
 
 /// How many symbols a table has, without the auxiliary records.
 pub fn count_symbols(table: &SymbolTable) -> usize
-    ensures { result ≡ length (symbols_in (table_bytes table.now)) }
+    ensures { result ≡ length (symbols_in (symbol_bytes table.now)) }
 {
     table.iter().count()
 }

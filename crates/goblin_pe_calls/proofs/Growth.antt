@@ -29,7 +29,7 @@ use Rattle.goblin_pe.specs.declared.whole.Part.{Part}
 use Rattle.goblin_pe.specs.declared.whole.Part.TheVariants as part
 use Rattle.goblin_pe.specs.Imports.{ImportValue}
 use Rattle.goblin_pe.specs.Whole.{AreListed, TableParts, TablePlaces, WholeFile, import_list}
-use Rattle.goblin_pe.specs.Whole.{import_parts, offset_by, places_in, sections_after, table_parts}
+use Rattle.goblin_pe.specs.Whole.{both_import_parts, offset_by, places_in, sections_after, table_parts}
 use Rattle.goblin_pe.specs.Whole.{whole_file, whole_of, whole_with}
 use Rattle.goblin_pe.proofs.Layouts.{tables-value}
 use Rattle.goblin_pe.proofs.Walked.{AtMade}
@@ -37,7 +37,7 @@ use Rattle.goblin_pe_calls.specs.Blocks.{blocks_in}
 use Rattle.goblin_pe_calls.specs.Growth.{FileBegins, HasEntries, HasRecords, HasTables}
 use Rattle.goblin_pe_calls.specs.Growth.{StartBegins, TablesBegin, TakesRecords}
 use Rattle.goblin_pe_calls.specs.Opened.{RecordsOfFile}
-use Rattle.goblin_pe_records.specs.RichHeaders.{entries_in}
+use Rattle.goblin_pe_records.specs.RichHeaders.{entries_of_rich}
 use Rattle.goblin_pe_calls.proofs.Opened.{IsOf}
 
 -- ---- walks
@@ -110,9 +110,9 @@ second-entries (Some read) h = h
 pub parts_entries : (opts : ParseOptions) (offset_of : ℕ → Option ℕ) (places : TablePlaces)
     (bytes : List ℕ) → AreListed opts offset_of places bytes
     → IfSome ((import_list opts offset_of places).value bytes) HasEntries
-    → IfSome ((import_parts opts offset_of places).value bytes) (λ read. HasEntries read.1)
+    → IfSome ((both_import_parts opts offset_of places).value bytes) (λ read. HasEntries read.1)
 parts_entries opts offset_of places bytes listed h =
-    second-entries ((import_parts opts offset_of places).value bytes)
+    second-entries ((both_import_parts opts offset_of places).value bytes)
     (subst (λ (o : Option (Part (List ImportValue))). IfSome o HasEntries) listed.value h)
 
 -- what something is made of is there
@@ -207,10 +207,10 @@ by-counts count (suc sections) others counted some = omega (arith, counted (omeg
 -- the sections, the entries of the Rich header and the blocks of a file that was read
 pub made-kept : (opts : ParseOptions) (bytes : List ℕ) (v : RecordsOfFile) → IsOf opts bytes v
     → (0 < length v.sections → 0 < v.header.coff_header.number_of_sections)
-    → 0 < length v.sections + length (entries_in v.header.rich_header) + length (blocks_in v.relocations)
+    → 0 < length v.sections + length (entries_of_rich v.header.rich_header) + length (blocks_in v.relocations)
     → IfSome ((whole_file opts).value bytes) HasRecords
 made-kept opts bytes v of counted some =
-    let others = length (entries_in v.header.rich_header) + length (blocks_in v.relocations) in
+    let others = length (entries_of_rich v.header.rich_header) + length (blocks_in v.relocations) in
     let n = by-counts v.header.coff_header.number_of_sections (length v.sections) others counted (omega (arith, some)) in
     subst (λ (o : Option WholeFile). IfSome o HasRecords) (sym of.read)
     (rw (of.header, of.relocations) (omega (arith, n)))

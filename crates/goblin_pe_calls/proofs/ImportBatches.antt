@@ -13,10 +13,10 @@ use Rattle.goblin_pe_import.specs.declared.import.imports.ImportPosition.{Import
 use Rattle.goblin_pe_import.specs.ImportEntries.{EntryValue}
 use Rattle.goblin_pe_import.specs.declared.import.imports.Imports.{Imports}
 use Rattle.goblin_pe_import.specs.declared.import.imports.WalkedImport.{WalkedImport}
-use Rattle.goblin_pe.specs.Addresses.{MapOfAddresses, map_of, offset_of}
+use Rattle.goblin_pe.specs.Addresses.{MapOfAddresses, offset_of}
 use Rattle.goblin_pe.specs.Imports.{ImportValue}
 use Rattle.goblin_pe.specs.ImportWalks.{GivesImport, IsImportsCause, IsInTable, imports_at, imports_left, position_of}
-use Rattle.goblin_pe.specs.ImportWalks.{IsOver, walked_value}
+use Rattle.goblin_pe.specs.ImportWalks.{AreImportsOver, imports_bytes, imports_map, walked_value}
 use Rattle.goblin_pe.specs.LayoutPositions.{IsImportWalk, PartGives, StartsAt}
 use Rattle.goblin_pe.specs.LayoutPositions.{file_imports_at, file_position, import_start, start_by}
 use Rattle.goblin_pe.specs.LayoutPositions.{GivesFileImport}
@@ -30,7 +30,7 @@ use Rattle.goblin_pe.specs.declared.whole.imports.FileImports.TheVariants.{Narro
 use Rattle.goblin_pe.proofs.ImportStarts.{start-there, start-value}
 use Rattle.goblin_pe_calls.specs.declared.import.PeImport.{PeImport}
 use Rattle.goblin_pe_calls.specs.declared.next.PeImportPosition.{PeImportPosition}
-use Rattle.goblin_pe_calls.specs.Batches.{AtBatch, ImportBatch, IsImportsFault, FillsHere, FillsLibrary, GivesImports, GoesOn, HasImports, IsBatch, IsEnd, IsRefusedNext, imports_from, imports_in}
+use Rattle.goblin_pe_calls.specs.Batches.{AtBatch, FillsHere, FillsLibrary, GivesImports, GoesOn, HasImports, ImportBatch, IsBatch, IsEnd, IsImportsFault, IsRefusedNext, imports_from_position, imports_from_start}
 use Rattle.goblin_pe_calls.specs.Batches.{position_numbers, position_said, start_value, values_before}
 use Rattle.goblin_pe_calls.specs.Imports.{import_said, import_view}
 use Rattle.goblin_pe_calls.proofs.Batches.{batch-end, batch-more, batch-none, batch-start, before-all, before-end}
@@ -43,12 +43,12 @@ not_first true x y = refl
 not_first false x y = refl
 
 said-in : (r : ℕ) (slot : Option ℕ) → r < 2 ^ 63 → IsSomeAnd slot (λ s. 0 < s)
-    → position_said (record { «record» = r; slot = unwrap_or slot 0 }) ≡ Some (Some (record { «record» = r; slot = slot }))
+    → position_said (record { record_offset = r; slot_offset = unwrap_or slot 0 }) ≡ Some (Some (record { record_offset = r; slot_offset = slot }))
 said-in r None below some = absurd some
 said-in r (Some s) below some =
     let going : (s == 0) ≡ false = ne_eqb s 0 (λ none. omega (arith, some, none)) in
     let before : (r == 0xFFFFFFFFFFFFFFFF) ≡ false = ne_eqb r 0xFFFFFFFFFFFFFFFF (λ end. omega (arith, below, end)) in
-    let here : Option (Option ImportPosition) = Some (Some (record { «record» = r; slot = Some s })) in
+    let here : Option (Option ImportPosition) = Some (Some (record { record_offset = r; slot_offset = Some s })) in
     rw going (not_first (r == 0) None (if r == 0xFFFFFFFFFFFFFFFF then Some None else here) ∙ rw before refl)
 
 said-again : (bytes : List ℕ) (position : Option ImportPosition) → length bytes < 2 ^ 63 → IsInTable bytes position
@@ -56,7 +56,7 @@ said-again : (bytes : List ℕ) (position : Option ImportPosition) → length by
 said-again bytes None most inside = absurd inside
 said-again bytes (Some at) most inside =
     let there = inside.0 in
-    said-in at.«record» at.slot (omega (arith, most, there)) inside.1
+    said-in at.record_offset at.slot_offset (omega (arith, most, there)) inside.1
 
 -- ---- a walk goes on
 
@@ -73,8 +73,8 @@ module _ (m : MapOfAddresses) (places : TablePlaces) (bytes : List ℕ) where
   goes-by p position imports walk asked said left = record {
     walk = walk;
     asked = asked;
-    left = ap (λ (from : Option (Option ImportPosition)). option_map (imports_in m places.magic bytes) ((import_start m.opts (offset_of m) places from).value bytes)) said
-        ∙ ap (option_map (imports_in m places.magic bytes)) (start-here position places.imports refl asked.1 asked.0)
+    left = ap (λ (from : Option (Option ImportPosition)). option_map (imports_from_start m places.magic bytes) ((import_start m.opts (offset_of m) places from).value bytes)) said
+        ∙ ap (option_map (imports_from_start m places.magic bytes)) (start-here position places.imports refl asked.1 asked.0)
         ∙ ap (λ (items : List (Option ImportValue)). Some items) (sym left);
   }
 
@@ -104,7 +104,7 @@ module _ (m : MapOfAddresses) (places : TablePlaces) (bytes : List ℕ) where
   started p imports (Some (part.Read position)) is gives = record {
     walk = gives.walk;
     asked = start-there m.opts (offset_of m) places (position_said p) position bytes is;
-    left = ap (option_map (imports_in m places.magic bytes)) is ∙ ap (λ (items : List (Option ImportValue)). Some items) (sym gives.left);
+    left = ap (option_map (imports_from_start m places.magic bytes)) is ∙ ap (λ (items : List (Option ImportValue)). Some items) (sym gives.left);
   }
 
   pub goes-start : (p : PeImportPosition) (imports : FileImports)
@@ -123,7 +123,7 @@ module _ (m : MapOfAddresses) (places : TablePlaces) (bytes : List ℕ) (old new
   -- what is filled from the walk is filled from where it starts
   pub batch-given : Starts → (count : ℕ)
       → IsBatch import_view import_said (values_before left_of) old.records new.records count
-      × (imports_from m places bytes new.position ≡ Some (drop count left_of)) × (IsRefusedNext left_of → length old.records ≡ 0)
+      × (imports_from_position m places bytes new.position ≡ Some (drop count left_of)) × (IsRefusedNext left_of → length old.records ≡ 0)
       × (IsEnd left_of old.records count → new.position ≡ position_numbers None)
       × (length old.records ≡ 0 → new.position ≡ old.position)
       → GivesImports m places bytes old new count
@@ -131,7 +131,7 @@ module _ (m : MapOfAddresses) (places : TablePlaces) (bytes : List ℕ) (old new
       subst
       (λ (all : Option (List (Option ImportValue))). IsSomeAnd all (λ left.
       IsBatch import_view import_said (values_before left) old.records new.records count
-      × (imports_from m places bytes new.position ≡ Some (drop count left)) × (IsRefusedNext left → length old.records ≡ 0)
+      × (imports_from_position m places bytes new.position ≡ Some (drop count left)) × (IsRefusedNext left → length old.records ≡ 0)
       × (IsEnd left old.records count → new.position ≡ position_numbers None)
       × (length old.records ≡ 0 → new.position ≡ old.position)))
       (sym (goes-start m places bytes old.position imports starts).left) given
@@ -153,7 +153,7 @@ module _ (m : MapOfAddresses) (places : TablePlaces) (bytes : List ℕ) (old new
   pub batch-answered : Starts → (r : Result ℕ ErrorOf)
       → MatchResult r
       (λ count. IsBatch import_view import_said (values_before left_of) old.records new.records count
-      × (imports_from m places bytes new.position ≡ Some (drop count left_of)) × (IsRefusedNext left_of → length old.records ≡ 0)
+      × (imports_from_position m places bytes new.position ≡ Some (drop count left_of)) × (IsRefusedNext left_of → length old.records ≡ 0)
       × (IsEnd left_of old.records count → new.position ≡ position_numbers None)
       × (length old.records ≡ 0 → new.position ≡ old.position))
       (λ e. IsRefusedNext left_of × IsFileImportsCause imports e × (0 < length old.records)
@@ -166,35 +166,35 @@ module _ (m : MapOfAddresses) (places : TablePlaces) (bytes : List ℕ) (old new
 
 module _ (m : MapOfAddresses) (places : TablePlaces) (bytes : List ℕ) where
   end-by : (asked : Bool) (directory : Option DataDirectory)
-      → option_map (imports_in m places.magic bytes) ((pick asked (start_by (is_strict m.opts.parse_mode) (offset_of m) (Some None) directory) (given Absent)).value bytes) ≡ Some []
+      → option_map (imports_from_start m places.magic bytes) ((pick asked (start_by (is_strict m.opts.parse_mode) (offset_of m) (Some None) directory) (given Absent)).value bytes) ≡ Some []
   unfolding imports_at
   end-by true (Some d) = refl
   end-by true None = refl
   end-by false directory = refl
 
   -- from the end on nothing comes
-  from-end : imports_from m places bytes (position_numbers None) ≡ Some []
+  from-end : imports_from_position m places bytes (position_numbers None) ≡ Some []
   unfolding import_start
   from-end = end-by m.opts.parse_imports places.imports
 
 module _ (m : MapOfAddresses) (places : TablePlaces) (bytes : List ℕ) (p q : PeImportPosition) (records : List PeImport)
     (asked : 0 < length records → q ≡ position_numbers None) (unasked : length records ≡ 0 → q ≡ p) where
-  none-after : (room : List PeImport) → records ≡ room → imports_from m places bytes p ≡ Some [] → imports_from m places bytes q ≡ Some []
+  none-after : (room : List PeImport) → records ≡ room → imports_from_position m places bytes p ≡ Some [] → imports_from_position m places bytes q ≡ Some []
   none-after [] is here =
-      ap (λ (at : PeImportPosition). imports_from m places bytes at) (unasked (ap (λ (xs : List PeImport). length xs) is)) ∙ here
+      ap (λ (at : PeImportPosition). imports_from_position m places bytes at) (unasked (ap (λ (xs : List PeImport). length xs) is)) ∙ here
   none-after (x ∷ xs) is here =
       let counted = ap (λ (xs : List PeImport). length xs) is in
-      ap (λ (at : PeImportPosition). imports_from m places bytes at) (asked (omega (arith, counted))) ∙ from-end m places bytes
+      ap (λ (at : PeImportPosition). imports_from_position m places bytes at) (asked (omega (arith, counted))) ∙ from-end m places bytes
 
   nothing : (start : Option (Part (Option ImportPosition))) → start_value m places bytes p ≡ start
-      → option_map (imports_in m places.magic bytes) start ≡ Some []
+      → option_map (imports_from_start m places.magic bytes) start ≡ Some []
       → GivesImports m places bytes (record { position = p; records = records }) (record { position = q; records = records }) 0
   nothing start is none =
-      let here : imports_from m places bytes p ≡ Some [] = ap (option_map (imports_in m places.magic bytes)) is ∙ none in
+      let here : imports_from_position m places bytes p ≡ Some [] = ap (option_map (imports_from_start m places.magic bytes)) is ∙ none in
       let batch = batch-end import_view import_said records [] [] [] records 0 (batch-start import_view import_said records) refl (inr refl) in
       subst (λ (left : Option (List (Option ImportValue))). IsSomeAnd left (λ left.
       IsBatch import_view import_said (values_before left) records records 0
-      × (imports_from m places bytes q ≡ Some (drop 0 left))
+      × (imports_from_position m places bytes q ≡ Some (drop 0 left))
       × (IsRefusedNext left → length records ≡ 0)
       × (IsEnd left records 0 → q ≡ position_numbers None)
       × (length records ≡ 0 → q ≡ p))) (sym here)
@@ -282,7 +282,7 @@ here-more format s now next old records first count h x r gives within says =
     let one = gives.0 in
     let so_far : AtWalk (imports_left format) (IsImportsCause format) s now h.values = record { yielded = h.yielded; cause = h.cause } in
     let walk = walk-more (imports_left format) (IsImportsCause format) s now h.values so_far walked_value next x one in
-    let over : IsOver s.walk.bytes.now (map_of s.walk.finder) next = (gives.3.0 ∙ h.over.0, gives.3.1 ∙ h.over.1) in
+    let over : AreImportsOver (imports_bytes s) (imports_map s) next = (gives.3.0 ∙ h.over.0, gives.3.1 ∙ h.over.1) in
     record {
       values = h.values ++ walked_value x ∷ [];
       batch = λ base before at.
@@ -319,7 +319,7 @@ module _ (m : MapOfAddresses) (places : TablePlaces) (bytes : List ℕ) (start :
   -- what has been given
   pub record AreGiven (p : PeImportPosition) (records : List PeImport) (count : ℕ) : Type 0 where
     pub batch : IsBatch import_view import_said (values_before (file_imports_left start)) old records count
-    pub later : imports_from m places bytes p ≡ Some (drop count (file_imports_left start))
+    pub later : imports_from_position m places bytes p ≡ Some (drop count (file_imports_left start))
     pub next : IsRefusedNext (file_imports_left start) → length old ≡ 0
     pub ended : IsEnd (file_imports_left start) old count → p ≡ position_numbers None
     pub stays : length old ≡ 0 → p ≡ from
@@ -359,7 +359,7 @@ module _ (m : MapOfAddresses) (places : TablePlaces) (bytes : List ℕ) (start :
 
     -- this is left, and is all that comes from the new numbers on
     all-given : (q : PeImportPosition) (rest : List (Option ImportValue)) → file_imports_left now ≡ rest
-        → imports_from m places bytes q ≡ Some rest → (length old ≤ count) ⊎ (values_before rest ≡ [])
+        → imports_from_position m places bytes q ≡ Some rest → (length old ≤ count) ⊎ (values_before rest ≡ [])
         → (count ≡ 0 → IsRefusedNext rest → length old ≡ 0) → (rest ≡ [] → count < length old → q ≡ position_numbers None)
         → (length old ≡ 0 → q ≡ from) → AreGiven q records count
     all-given q rest is comes why begun ends stays =

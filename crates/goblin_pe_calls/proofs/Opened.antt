@@ -11,7 +11,7 @@ use Rattle.readings.specs.Reads.{mapped}
 use Rattle.goblin_pe_sect.specs.declared.options.ParseOptions.{ParseOptions}
 use Rattle.goblin_pe_sect.specs.BaseRelocations.{relocation_bytes}
 use Rattle.goblin_pe_sect.specs.Options.{is_strict}
-use Rattle.goblin_pe_sect.specs.SectionTable.{Section, section_records, unnamed}
+use Rattle.goblin_pe_sect.specs.SectionTable.{Section, recorded_sections, unnamed}
 use Rattle.goblin_pe_head.specs.declared.header.pe_header.Header.{Header}
 use Rattle.goblin_pe_head.specs.HeaderReadings.{pe_header}
 use Rattle.goblin_pe_head.specs.PeHeader.{PeHeader, header_value}
@@ -158,7 +158,7 @@ module _ (opts : ParseOptions) (bytes : List ℕ) (h : Header)
       (subst (λ (m : MapOfAddresses). MakesTables result m (layout_places l) l.bytes.now) (of.mapped s sections) made))
 
   -- they are those of the file
-  pub records-read : map unnamed s ≡ section_records l.records → (r : FileRecords)
+  pub records-read : map unnamed s ≡ recorded_sections l.records → (r : FileRecords)
       → MakesTables (Ok r) (layout_map l) (layout_places l) l.bytes.now
       → option_map (records_of_file opts bytes) ((whole_file opts).value bytes)
       ≡ Some (records_view l r)

@@ -17,7 +17,7 @@ use Rattle.goblin_pe_head.specs.PeHeader.{PeHeader, header_bytes, header_parts}
 use Rattle.goblin_pe_head.proofs.PeHeaderRoundTrip.{dos_of, header_back, parts_of}
 use Rattle.goblin_pe.specs.Whole.{TablePlaces, WholeFile, offset_by, places_in, sections_after, table_parts, whole_file, whole_of, whole_with}
 use Rattle.goblin_pe_records.specs.declared.file.PeFile.{PeFile}
-use Rattle.goblin_pe_records.specs.Directories.{directories_of, directory_record}
+use Rattle.goblin_pe_records.specs.Directories.{directories_of, entry_record}
 use Rattle.goblin_pe_calls.specs.Files.{file_of}
 use Rattle.goblin_pe_records.specs.Headers.{optional_record}
 use Rattle.goblin_pe_records.specs.Written.{entries_said, entry_said, header_said, optional_said}
@@ -68,17 +68,17 @@ optional-sixteen false found optional all e =
 
 -- ---- what its records say
 
-entry-back : (entry : Entry) → entry_said (directory_record entry) ≡ entry
+entry-back : (entry : Entry) → entry_said (entry_record entry) ≡ entry
 entry-back None = refl
 entry-back (Some entry) = refl
 
-each-back : (entries : List Entry) → map entry_said (map directory_record entries) ≡ entries
+each-back : (entries : List Entry) → map entry_said (map entry_record entries) ≡ entries
 each-back [] = refl
 each-back (entry ∷ entries) = rw (entry-back entry, each-back entries) refl
 
-entries-back : (entries : List Entry) → length entries ≡ 16 → entries_said (map directory_record entries) ≡ entries
+entries-back : (entries : List Entry) → length entries ≡ 16 → entries_said (map entry_record entries) ≡ entries
 entries-back entries count =
-    let records = length-map entries directory_record in
+    let records = length-map entries entry_record in
     let none : Entry = None in
     let whole : take 16 entries ≡ entries = take_all 16 entries (omega (arith, count)) in
     rw (each-back entries, records, count, whole) (append-nil entries)
@@ -89,7 +89,7 @@ SaysOptional file optional =
     (file.optional_header ≡ optional_record optional) × (file.directories ≡ length (directories_of optional))
 
 optional-back : (file : PeFile) (optional : Option OptionalHeader) → SaysOptional file optional → HasSixteen optional
-    → optional_said file (map directory_record (directories_of optional)) ≡ optional
+    → optional_said file (map entry_record (directories_of optional)) ≡ optional
 optional-back file None says sixteen = rw (says.1) refl
 optional-back file (Some h) says sixteen =
     rw (says.0, says.1, entries-back h.data_directories.data_directories sixteen, sixteen) refl
@@ -114,7 +114,7 @@ header-read opts bytes w e =
 
 -- the records of a header that strict mode read say the same header
 said-back : (bytes : List ℕ) (w : WholeFile) → (pe_header true).value bytes ≡ Some w.header
-    → header_said (file_of w) (map directory_record (directories_of w.header.optional_header)) w.header.dos_stub
+    → header_said (file_of w) (map entry_record (directories_of w.header.optional_header)) w.header.dos_stub
     ≡ record w.header { rich_header = None }
 unfolding optional_at
 said-back bytes w e =

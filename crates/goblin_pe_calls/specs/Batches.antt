@@ -1,6 +1,8 @@
 -- Batches: as many records of what comes from a position on as there is room for.
-use Rattle.std.specs.Prelude.{◌≡◌, ℕ, ◌==◌, ◌&&◌, ◌<◌, ◌≤◌, ⊤, true, if◌then◌else◌, List, [], ◌∷◌, ◌++◌, map, drop, take}
-use Rattle.std.specs.Prelude.{length, min, Option, Some, None, option_map, Result, Ok, Err, IsSome, IsSomeAnd}
+use Rattle.std.specs.Prelude.{◌≡◌, ℕ, ◌==◌, ◌&&◌, ◌<◌, ◌≤◌, ⊤, true, if◌then◌else◌, List, [], ◌∷◌}
+use Rattle.std.specs.Prelude.{◌++◌, map, drop, take}
+use Rattle.std.specs.Prelude.{length, min, Option, Some, None, option_map, Result, Ok, Err, IsSome}
+use Rattle.std.specs.Prelude.{IsSomeAnd}
 use Rattle.std.specs.Prelude.{unwrap_or}
 use Rattle.goblin_base.specs.declared.error.ErrorOf.{ErrorOf}
 use Rattle.goblin_base.specs.Answers.{FirstFault, IsMemory}
@@ -8,12 +10,12 @@ use Rattle.goblin_base.specs.Tables.{Format}
 use Rattle.goblin_pe_sect.specs.declared.options.ParseOptions.{ParseOptions}
 use Rattle.goblin_pe_sect.specs.Options.{is_strict}
 use Rattle.goblin_pe_sect.specs.SectionTable.{Section}
-use Rattle.goblin_pe_sect.specs.Addresses.{map_of}
 use Rattle.goblin_pe_import.specs.ImportEntries.{EntryValue}
 use Rattle.goblin_pe_import.specs.ImportLookup.{entries_32, entries_64}
-use Rattle.goblin_pe_import.specs.ImportWalks.{HasPosition, IsImportsCause, IsInTable}
-use Rattle.goblin_pe_import.specs.ImportWalks.{IsOver}
-use Rattle.goblin_pe_import.specs.ImportWalks.{imports_left, position_of}
+use Rattle.goblin_pe_import.specs.ImportWalks.{AreImportsOver, HasPosition, IsImportsCause}
+use Rattle.goblin_pe_import.specs.ImportWalks.{IsInTable}
+use Rattle.goblin_pe_import.specs.ImportWalks.{imports_bytes, imports_left, imports_map}
+use Rattle.goblin_pe_import.specs.ImportWalks.{position_of}
 use Rattle.goblin_pe_import.specs.declared.import.imports.ImportPosition.{ImportPosition}
 use Rattle.goblin_pe_import.specs.declared.import.imports.Imports.{Imports}
 use Rattle.goblin_pe.specs.Addresses.{MapOfAddresses, map_by, offset_of}
@@ -80,24 +82,25 @@ map_in opts l = map_by opts l.1 (places_in l.0.optional_header).file_alignment
 -- the position that these numbers say; none is the beginning
 abbrev pub position_said : PeImportPosition → Option (Option ImportPosition)
 position_said p =
-    if p.«record» == 0 && p.slot == 0 then None
-    else if p.«record» == 0xFFFFFFFFFFFFFFFF then Some None
+    if p.record_offset == 0 && p.slot_offset == 0 then None
+    else if p.record_offset == 0xFFFFFFFFFFFFFFFF then Some None
     else Some (Some (record {
-      «record» = p.«record»;
-      slot = if p.slot == 0 then None else Some p.slot;
+      record_offset = p.record_offset;
+      slot_offset = if p.slot_offset == 0 then None else Some p.slot_offset;
     }))
 
 -- the numbers of a position
 abbrev pub position_numbers : Option ImportPosition → PeImportPosition
-position_numbers None = record { «record» = 0xFFFFFFFFFFFFFFFF; slot = 0 }
-position_numbers (Some at) = record { «record» = at.«record»; slot = unwrap_or at.slot 0 }
+position_numbers None = record { record_offset = 0xFFFFFFFFFFFFFFFF; slot_offset = 0 }
+position_numbers (Some at) =
+    record { record_offset = at.record_offset; slot_offset = unwrap_or at.slot_offset 0 }
 
 -- the imports from where they start
-abbrev pub imports_in : MapOfAddresses → ℕ → List ℕ → Part (Option ImportPosition)
+abbrev pub imports_from_start : MapOfAddresses → ℕ → List ℕ → Part (Option ImportPosition)
     → List (Option ImportValue)
-imports_in m magic bytes Absent = []
-imports_in m magic bytes (part.Read position) = file_imports_at m magic bytes position
-imports_in m magic bytes Refused = []
+imports_from_start m magic bytes Absent = []
+imports_from_start m magic bytes (part.Read position) = file_imports_at m magic bytes position
+imports_from_start m magic bytes Refused = []
 
 -- which cause is true if the very next of them is refused
 abbrev pub IsFaultIn : MapOfAddresses → ℕ → List ℕ → Part (Option ImportPosition) → ErrorOf
@@ -115,10 +118,10 @@ start_value m places bytes p =
     (import_start m.opts (offset_of m) places (position_said p)).value bytes
 
 -- the imports of a file from a position on
-abbrev pub imports_from : MapOfAddresses → TablePlaces → List ℕ → PeImportPosition
+abbrev pub imports_from_position : MapOfAddresses → TablePlaces → List ℕ → PeImportPosition
     → Option (List (Option ImportValue))
-imports_from m places bytes p =
-    option_map (imports_in m places.magic bytes) (start_value m places bytes p)
+imports_from_position m places bytes p =
+    option_map (imports_from_start m places.magic bytes) (start_value m places bytes p)
 
 -- what a caller passes, to be gone on with
 pub record ImportBatch : Type 0 where
@@ -131,9 +134,9 @@ pub record ImportBatch : Type 0 where
 abbrev pub GivesImports : MapOfAddresses → TablePlaces → List ℕ → ImportBatch → ImportBatch → ℕ
     → Type 0
 GivesImports m places bytes old new count =
-    IsSomeAnd (imports_from m places bytes old.position) (λ left.
+    IsSomeAnd (imports_from_position m places bytes old.position) (λ left.
     IsBatch import_view import_said (values_before left) old.records new.records count
-    × (imports_from m places bytes new.position ≡ Some (drop count left))
+    × (imports_from_position m places bytes new.position ≡ Some (drop count left))
     × (IsRefusedNext left → length old.records ≡ 0)
     × (IsEnd left old.records count → new.position ≡ position_numbers None)
     × (length old.records ≡ 0 → new.position ≡ old.position))
@@ -156,9 +159,9 @@ pub record FillsHere {T : Type 0} (format : Format EntryValue) (s t : Imports T)
   pub yielded : imports_left format s ≡ map (λ x. Some x) values ++ imports_left format t
   pub cause : (e : ErrorOf) → IsImportsCause format t e → IsImportsCause format s e
   pub kept : HasPosition format s → HasPosition format t
-  pub over : IsOver s.walk.bytes.now (map_of s.walk.finder) t
-  pub inside : HasPosition format s → IsInTable s.walk.bytes.now (position_of s)
-      → IsInTable s.walk.bytes.now (position_of t)
+  pub over : AreImportsOver (imports_bytes s) (imports_map s) t
+  pub inside : HasPosition format s → IsInTable (imports_bytes s) (position_of s)
+      → IsInTable (imports_bytes s) (position_of t)
 
 -- the same of the imports of a file
 abbrev pub FillsLibrary : FileImports → FileImports → List PeImport → List PeImport → ℕ → ℕ → Type 0
@@ -175,7 +178,7 @@ pub record GoesOn (m : MapOfAddresses) (places : TablePlaces) (bytes : List ℕ)
     (p : PeImportPosition) (imports : FileImports) : Type 0 where
   pub walk : IsImportWalk m places.magic bytes imports
   pub asked : HasImports m.opts places
-  pub left : imports_from m places bytes p ≡ Some (file_imports_left imports)
+  pub left : imports_from_position m places bytes p ≡ Some (file_imports_left imports)
 
 -- ---- exports
 

@@ -17,10 +17,10 @@ blocks_in (part.Read directory) = values_of (block_items directory 0)
 blocks_in Refused = []
 
 -- the summary of the base relocations
-abbrev pub relocations_of : Part (List ℕ) → PeBaseRelocations
-relocations_of Absent =
+abbrev pub base_relocations_of : Part (List ℕ) → PeBaseRelocations
+base_relocations_of Absent =
     record { blocks = record { count = 0; state = state_number state.Absent }; rest = no_fault }
-relocations_of (part.Read directory) =
+base_relocations_of (part.Read directory) =
     record {
       blocks = record {
         count = length (values_of (block_items directory 0));
@@ -28,5 +28,5 @@ relocations_of (part.Read directory) =
       };
       rest = rest_of (block_items directory 0);
     }
-relocations_of Refused =
+base_relocations_of Refused =
     record { blocks = record { count = 0; state = state_number state.Refused }; rest = no_fault }

@@ -25,9 +25,10 @@ damage_record d = record {
   relocations = part_fault d.relocations;
   left_out_libraries = d.left_out.libraries;
   left_out_entries = d.left_out.entries;
+  left_out_exports = d.left_out_exports;
 }
 
 -- the record tells the damage of a file with this header and these sections
-abbrev pub TellsDamage : ParseOptions → PeHeader → List Section → List ℕ → PeDamage → Type 0
-TellsDamage opts h sections bytes told =
+abbrev pub RecordsDamage : ParseOptions → PeHeader → List Section → List ℕ → PeDamage → Type 0
+RecordsDamage opts h sections bytes told =
     (d : Damage) × IsDamaged opts h sections bytes d × (told ≡ damage_record d)

@@ -28,8 +28,8 @@ directory_said tables = record {
 }
 
 -- zeros, where the exports are not read
-abbrev pub no_directory : DirectorySaid
-no_directory = record {
+abbrev pub no_export_directory : DirectorySaid
+no_export_directory = record {
   name = [];
   table = record {
     export_flags = 0;

@@ -17,7 +17,7 @@ use Rattle.goblin_pe_calls.specs.declared.export.Forwards.TheVariants as forward
 use Rattle.goblin_pe_calls.specs.declared.export.PeExport.{PeExport}
 use Rattle.goblin_pe_calls.specs.declared.export_directory.PeExportAddress.{PeExportAddress}
 use Rattle.goblin_pe_calls.specs.ExportDirectories.{DirectorySaid, address_said, directory_said}
-use Rattle.goblin_pe_calls.specs.ExportDirectories.{directory_view, no_directory}
+use Rattle.goblin_pe_calls.specs.ExportDirectories.{directory_view, no_export_directory}
 
 -- a record of an export, its slices as lists
 pub record ExportSaid : Type 0 where
@@ -112,7 +112,7 @@ pub record ExportsSaid : Type 0 where
 
 -- where no exports are read there are no records, and zeros
 abbrev pub unread_said : Part (List ExportSaid) → ExportsSaid
-unread_said exports = record { exports = exports; addresses = []; directory = no_directory }
+unread_said exports = record { exports = exports; addresses = []; directory = no_export_directory }
 
 -- the records of these tables, and of the exports that they list
 abbrev pub read_said : ExportTables → List NumberedExport → ExportsSaid

@@ -8,7 +8,7 @@ use Rattle.goblin_pe.specs.Whole.{WholeFile}
 use Rattle.goblin_pe_records.specs.declared.file.PeTable.{PeTable}
 use Rattle.goblin_pe_records.specs.declared.file.PeFile.{PeFile}
 use Rattle.goblin_pe_records.specs.declared.file.State.TheVariants as state
-use Rattle.goblin_pe_calls.specs.Blocks.{relocations_of}
+use Rattle.goblin_pe_calls.specs.Blocks.{base_relocations_of}
 use Rattle.goblin_pe_records.specs.Directories.{directories_of}
 use Rattle.goblin_pe_records.specs.Headers.{optional_record}
 use Rattle.goblin_pe_records.specs.RichHeaders.{rich_of}
@@ -34,7 +34,7 @@ summary header sections imports exports relocations = record {
   sections = sections;
   imports = imports;
   exports = exports;
-  relocations = relocations_of relocations;
+  relocations = base_relocations_of relocations;
   rich_header = rich_of header.rich_header;
   dos_header = header.dos_header;
   coff_header = header.coff_header;

@@ -11,11 +11,12 @@ use Rattle.goblin_pe.specs.LayoutPositions.{file_imports_at, import_start}
 use Rattle.goblin_pe.specs.ExportRecords.{ExportRow, ExportTables}
 use Rattle.goblin_pe.specs.PeHeader.{PeHeader}
 use Rattle.goblin_pe.specs.SectionRoom.{HasRoom}
-use Rattle.goblin_pe.specs.Whole.{TableParts, TablePlaces, WholeFile, export_part, import_parts}
+use Rattle.goblin_pe.specs.Whole.{TableParts, TablePlaces, WholeFile, both_import_parts}
+use Rattle.goblin_pe.specs.Whole.{export_part}
 use Rattle.goblin_pe.specs.Whole.{part_map, places_in, whole_file}
 use Rattle.goblin_pe_calls.specs.Blocks.{blocks_in}
 use Rattle.goblin_pe_calls.specs.Files.{entries_of}
-use Rattle.goblin_pe_records.specs.RichHeaders.{entries_in}
+use Rattle.goblin_pe_records.specs.RichHeaders.{entries_of_rich}
 use Rattle.readings.specs.Walks.{IsBegun}
 
 -- a table has an entry
@@ -42,7 +43,7 @@ HasTables parts =
 -- has an entry.
 abbrev pub HasRecords : WholeFile → Type 0
 HasRecords w =
-    0 < w.header.coff_header.number_of_sections + length (entries_in w.header.rich_header)
+    0 < w.header.coff_header.number_of_sections + length (entries_of_rich w.header.rich_header)
     + (length (entries_of w.imports) + export_count w.export_data w.exports)
     + length (blocks_in w.relocations)
 
@@ -63,7 +64,7 @@ ImportsBegin m places bytes =
 abbrev pub TablesBegin : MapOfAddresses → TablePlaces → List ℕ → Type 0
 TablesBegin m places bytes =
     ImportsBegin m places bytes
-    ⊎ (IsSome ((import_parts m.opts (offset_of m) places).value bytes)
+    ⊎ (IsSome ((both_import_parts m.opts (offset_of m) places).value bytes)
     × IsSomeAnd ((export_part m.opts (offset_of m) places).value bytes) HasExports)
 
 -- a file with this header has sections, or its tables begin without any

@@ -3,12 +3,13 @@ use Rattle.std.specs.Prelude.{◌≡◌, ℕ, List, map, Option, None, Some, opt
 use Rattle.std.proofs.Common.{◌∙◌, ap}
 use Rattle.goblin_base.specs.Reading.{Reading}
 use Rattle.goblin_pe_sect.specs.declared.options.ParseOptions.{ParseOptions}
-use Rattle.goblin_pe_sect.specs.SectionTable.{section_records, unnamed}
+use Rattle.goblin_pe_sect.specs.SectionTable.{unnamed}
 use Rattle.goblin_pe_export.specs.ExportRecords.{ExportTables}
 use Rattle.goblin_pe_export.specs.ExportWalks.{NumberedExport, numbered_from}
 use Rattle.goblin_pe.specs.declared.whole.Part.{Part}
 use Rattle.goblin_pe.specs.declared.whole.Part.TheVariants.{Absent, Refused}
 use Rattle.goblin_pe.specs.declared.whole.Part.TheVariants as part
+use Rattle.goblin_pe.specs.Layouts.{layout_header, layout_sections}
 use Rattle.goblin_pe.specs.Whole.{CollectedFileValue, CollectedParts, WholeFile, collected_file}
 use Rattle.goblin_pe.specs.Whole.{offset_by, part_map, places_in, whole_file}
 use Rattle.goblin_pe.proofs.NumberedFootprints.{same-numbered}
@@ -20,15 +21,16 @@ use Rattle.goblin_pe_records.specs.declared.file.PeFile.{PeFile}
 use Rattle.goblin_pe_calls.specs.declared.open.PeTables.{PeTables}
 use Rattle.goblin_pe_records.specs.Blocks.{block_view}
 use Rattle.goblin_pe_calls.specs.Blocks.{blocks_in}
-use Rattle.goblin_pe_records.specs.Directories.{directories_of, directory_record}
+use Rattle.goblin_pe_records.specs.Directories.{directories_of, entry_record}
 use Rattle.goblin_pe_calls.specs.declared.records.FileRecords.{FileRecords}
 use Rattle.goblin_pe_calls.specs.ExportDirectories.{directory_view}
-use Rattle.goblin_pe_calls.specs.Exports.{ExportsSaid, export_view, exports_said, exports_view, file_exports}
+use Rattle.goblin_pe_calls.specs.Exports.{ExportsSaid, export_view, exports_said, exports_view}
+use Rattle.goblin_pe_calls.specs.Exports.{file_exports}
 use Rattle.goblin_pe_calls.specs.Exports.{read_said}
 use Rattle.goblin_pe_calls.specs.Files.{entries_of, file_of}
-use Rattle.goblin_pe_records.specs.Filled.{Filled, alone}
+use Rattle.goblin_pe_records.specs.Filled.{Filled, without_text}
 use Rattle.goblin_pe_calls.specs.Imports.{ImportSaid, import_said, import_view, import_views}
-use Rattle.goblin_pe_records.specs.RichHeaders.{entries_in}
+use Rattle.goblin_pe_records.specs.RichHeaders.{entries_of_rich}
 use Rattle.goblin_pe_records.specs.Sections.{section_said}
 
 -- ---- a file with the records of its exports
@@ -85,8 +87,8 @@ pub record Opened : Type 0 where
 -- the tables are those of a file with these records of its exports, each whole
 abbrev pub AreTablesOf : WholeFile → ExportsSaid → PeTables → Type 0
 AreTablesOf w exports t =
-    (t.rich_entries.now ≡ entries_in w.header.rich_header)
-    × (map section_said t.sections.now ≡ map alone w.sections)
+    (t.rich_entries.now ≡ entries_of_rich w.header.rich_header)
+    × (map section_said t.sections.now ≡ map without_text w.sections)
     × (map import_view t.imports.now ≡ map import_said (entries_of w.imports))
     × (map export_view t.exports.now ≡ entries_of exports.exports)
     × (t.export_addresses.now ≡ exports.addresses)
@@ -100,7 +102,7 @@ abbrev pub Opens : WholeFile × ExportsSaid → Opened → Opened → Type 0
 Opens read old new =
     let w = read.0 in
     (new.file ≡ file_of w)
-    × (Filled (λ d. d) (map directory_record (directories_of w.header.optional_header))
+    × (Filled (λ d. d) (map entry_record (directories_of w.header.optional_header))
     old.directories new.directories)
     × AreTablesOf w read.1 new.tables
 
@@ -126,8 +128,8 @@ tables_view x = (
 -- the file, by what its tables are read by and their records
 abbrev pub records_view : Layout → FileRecords → RecordsOfFile
 records_view l x = record {
-  header = header_value l.header.now;
-  sections = section_records l.records;
+  header = header_value (layout_header l);
+  sections = layout_sections l;
   imports = part_map import_views x.imports;
   exports = exports_view x.exports;
   relocations = part_map relocation_bytes x.relocations;

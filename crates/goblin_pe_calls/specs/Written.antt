@@ -7,7 +7,7 @@ use Rattle.goblin_pe_sect.specs.Options.{is_strict}
 use Rattle.goblin_pe_head.specs.HeaderLaws.{filling_after, header_end}
 use Rattle.goblin_pe_head.specs.PeHeader.{header_bytes}
 use Rattle.goblin_pe.specs.Whole.{WholeFile, whole_file}
-use Rattle.goblin_pe_records.specs.Directories.{directories_of, directory_record}
+use Rattle.goblin_pe_records.specs.Directories.{directories_of, entry_record}
 use Rattle.goblin_pe_records.specs.Written.{header_said}
 use Rattle.goblin_pe_calls.specs.Files.{file_of}
 
@@ -18,6 +18,6 @@ OpenedWritesBack =
     (opts : ParseOptions) (bytes : List ℕ) (w : WholeFile) → IsBytes bytes
     → is_strict opts.parse_mode ≡ true → (whole_file opts).value bytes ≡ Some w
     → header_bytes Little
-    (header_said (file_of w) (map directory_record (directories_of w.header.optional_header))
+    (header_said (file_of w) (map entry_record (directories_of w.header.optional_header))
     w.header.dos_stub)
     ≡ Some (take (header_end w.header) bytes ++ filling_after w.header.optional_header)

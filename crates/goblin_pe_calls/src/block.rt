@@ -6,7 +6,7 @@ ghost use Rattle.goblin_pe_sect.specs.BaseRelocations.{relocation_bytes};
 ghost use Rattle.goblin_pe.specs.Whole.{part_map};
 ghost use Rattle.goblin_pe_records.specs.Blocked.{HasLittleRoom};
 ghost use Rattle.goblin_pe_records.specs.Blocks.{block_view};
-ghost use Rattle.goblin_pe_calls.specs.Blocks.{blocks_in, relocations_of};
+ghost use Rattle.goblin_pe_calls.specs.Blocks.{base_relocations_of, blocks_in};
 
 use goblin_pe::relocation::RelocationData;
 use goblin_pe::{Part, Result};
@@ -27,7 +27,7 @@ pub fn block_records<'a>(
         (λ made.
         map block_view made.0.items ≡ blocks_in (part_map relocation_bytes relocations.now)) }
     ensures said { IfOk result
-        (λ made. made.1 ≡ relocations_of (part_map relocation_bytes relocations.now)) }
+        (λ made. made.1 ≡ base_relocations_of (part_map relocation_bytes relocations.now)) }
     ensures none { IfOk result (λ made. HasLittleRoom made.0) }
     ensures grown { OnErr result
         (0 < length (blocks_in (part_map relocation_bytes relocations.now))) }

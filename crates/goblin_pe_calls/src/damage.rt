@@ -6,7 +6,7 @@ ghost use Rattle.goblin_pe_head.specs.HeaderReadings.{pe_header};
 ghost use Rattle.goblin_pe.specs.Whole.{layout};
 ghost use Rattle.goblin_pe_records.specs.Calls.{ReadsInto};
 ghost use Rattle.goblin_pe.specs.SectionRoom.{TakesIndex};
-ghost use Rattle.goblin_pe_calls.specs.Damages.{TellsDamage, damage_record, part_fault};
+ghost use Rattle.goblin_pe_calls.specs.Damages.{RecordsDamage, damage_record, part_fault};
 
 use goblin_pe::options::ParseOptions;
 use goblin_pe::{Damage, Error, Result, Whole};
@@ -34,6 +34,10 @@ pub struct PeDamage {
     pub left_out_libraries: usize,
     /// How many entries of the other libraries it leaves out.
     pub left_out_entries: usize,
+    /// How many name pointers of the export directory give no export, in either mode: there is no
+    /// ordinal, the ordinal lies past the address table, or it leads to a forwarder whose text cannot
+    /// be read. 0 where the exports are refused.
+    pub left_out_exports: usize,
 }
 
 // The numbers of a part's damage.
@@ -58,6 +62,7 @@ fn damage_record(damage: &Damage) -> PeDamage
         relocations: part_fault(&damage.relocations),
         left_out_libraries: damage.left_out.libraries,
         left_out_entries: damage.left_out.entries,
+        left_out_exports: damage.left_out_exports,
     }
 }
 
@@ -69,7 +74,8 @@ fn damage_record(damage: &Damage) -> PeDamage
 pub fn tell(alloc: Global, bytes: &[u8], opts: &ParseOptions, damage: &mut PeDamage) -> Result<()>
     ensures { ReadsInto (pe_header (is_strict opts.now.parse_mode)) (TakesIndex opts.now bytes.now)
         (layout opts.now) bytes.now
-        (λ l. TellsDamage opts.now l.0 l.1 bytes.now damage.new) (damage.new ≡ damage.old) result }
+        (λ l. RecordsDamage opts.now l.0 l.1 bytes.now damage.new)
+        (damage.new ≡ damage.old) result }
 {
     let told = Whole::damage(alloc, bytes, opts)?;
     *damage = damage_record(&told);

@@ -11,7 +11,7 @@ ghost use Rattle.goblin_pe_sect.specs.Addresses.{map_of, offset_of};
 ghost use Rattle.goblin_pe_export.specs.ExportWalks.{exports_left, walked_export};
 ghost use Rattle.goblin_pe_export.specs.ExportWalks.{walked_tables};
 ghost use Rattle.goblin_pe_export.specs.Forwarders.{forwarder_value};
-ghost use Rattle.goblin_pe.specs.Layouts.{layout_map, layout_places};
+ghost use Rattle.goblin_pe.specs.Layouts.{layout_bytes, layout_map, layout_places};
 ghost use Rattle.goblin_pe.specs.Whole.{collected_exports, export_part, part_map};
 ghost use Rattle.goblin_pe_records.specs.Blocked.{HasLittleRoom};
 ghost use Rattle.goblin_pe_calls.specs.Blocked.{HasLittleRoomIn, HaveLittleRoom};
@@ -22,7 +22,7 @@ ghost use Rattle.goblin_pe_calls.specs.Exports.{unread_said};
 ghost use Rattle.goblin_pe_calls.specs.Growth.{HasExports};
 
 use crate::export_directory::{
-    PeExportAddress, PeExportDirectory, address_records, directory_record, no_directory,
+    PeExportAddress, PeExportDirectory, address_records, directory_record, no_export_directory,
 };
 use goblin_pe::export::{Exports, Reexport, WalkedExport};
 use goblin_pe::{Layout, Part, Result};
@@ -276,7 +276,7 @@ fn unread_records<'a>(
     ExportRecords {
         exports,
         addresses: Vec::new(alloc),
-        directory: no_directory(bytes),
+        directory: no_export_directory(bytes),
     }
 }
 
@@ -291,17 +291,17 @@ pub fn export_records<'a, 'm>(
     requires { map_of finder ≡ layout_map layout.now }
     ensures value { let m = layout_map layout.now in
         ReadsOrMemory exports_view result
-        (mapped (collected_exports (exports_said (offset_of m) layout.now.bytes.now))
+        (mapped (collected_exports (exports_said (offset_of m) (layout_bytes layout.now)))
         (export_part m.opts (offset_of m) (layout_places layout.now)))
-        layout.now.bytes.now }
+        (layout_bytes layout.now) }
     ensures none { IfOk result HaveLittleRoom }
     ensures grown { let m = layout_map layout.now in
         let read = export_part m.opts (offset_of m) (layout_places layout.now) in
-        OnErr result (IfSome (read.value layout.now.bytes.now) HasExports) }
+        OnErr result (IfSome (read.value (layout_bytes layout.now)) HasExports) }
     ensures begun { let m = layout_map layout.now in
         let read = export_part m.opts (offset_of m) (layout_places layout.now) in
         IfErr result
-        (λ e. IsMemory e → IsSomeAnd (read.value layout.now.bytes.now) HasExports) }
+        (λ e. IsMemory e → IsSomeAnd (read.value (layout_bytes layout.now)) HasExports) }
 {
     match layout.exports_by(finder)? {
         Part::Absent => Ok(unread_records(alloc, layout.bytes(), Part::Absent)),

@@ -4,8 +4,9 @@ ghost use Rattle.std.specs.Prelude.{◌≡◌, ◌<◌, IfOk, OnErr, length, map
 ghost use Rattle.goblin_base.specs.Answers.{GivesOrMemory};
 ghost use Rattle.goblin_pe_export.specs.ExportWalks.{walked_tables};
 ghost use Rattle.goblin_pe_records.specs.Blocked.{HasNoSpareRoom};
-ghost use Rattle.goblin_pe_calls.specs.ExportDirectories.{address_said, directory_said, directory_view};
-ghost use Rattle.goblin_pe_calls.specs.ExportDirectories.{no_directory};
+ghost use Rattle.goblin_pe_calls.specs.ExportDirectories.{address_said, directory_said};
+ghost use Rattle.goblin_pe_calls.specs.ExportDirectories.{directory_view};
+ghost use Rattle.goblin_pe_calls.specs.ExportDirectories.{no_export_directory};
 
 use goblin_pe::Result;
 use goblin_pe::export::{ExportAddressTableEntry, ExportDirectoryTable, Exports};
@@ -85,8 +86,8 @@ pub fn directory_record<'a>(bytes: &'a [u8], exports: &Exports<'a, '_>) -> PeExp
 }
 
 /// The record where the exports are not read.
-pub fn no_directory<'a>(bytes: &'a [u8]) -> PeExportDirectory<'a>
-    ensures { directory_view result ≡ no_directory }
+pub fn no_export_directory<'a>(bytes: &'a [u8]) -> PeExportDirectory<'a>
+    ensures { directory_view result ≡ no_export_directory }
 {
     PeExportDirectory {
         name: &bytes[..0],

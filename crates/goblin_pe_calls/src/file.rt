@@ -2,9 +2,10 @@
 
 ghost use Rattle.std.specs.Prelude.{◌≡◌, length};
 ghost use Rattle.goblin_pe_head.specs.PeHeader.{header_value};
+ghost use Rattle.goblin_pe.specs.Layouts.{layout_header};
 ghost use Rattle.goblin_pe.specs.Whole.{part_map};
 ghost use Rattle.goblin_pe_records.specs.RichHeaders.{rich_of};
-ghost use Rattle.goblin_pe_calls.specs.Blocks.{relocations_of};
+ghost use Rattle.goblin_pe_calls.specs.Blocks.{base_relocations_of};
 ghost use Rattle.goblin_pe_calls.specs.Files.{summary, table_of};
 ghost use Rattle.goblin_pe_calls.specs.Opened.{records_view};
 
@@ -41,8 +42,9 @@ pub(crate) fn fill_file<'a>(
     rich_header: PeRichHeader,
 )
     requires relocations { let v = records_view layout.now records.now in
-        relocations ≡ relocations_of v.relocations }
-    requires rich_header { rich_header ≡ rich_of (header_value layout.now.header.now).rich_header }
+        relocations ≡ base_relocations_of v.relocations }
+    requires rich_header { let header = header_value (layout_header layout.now) in
+        rich_header ≡ rich_of header.rich_header }
     ensures { let v = records_view layout.now records.now in
         file.new
         ≡ summary v.header (length v.sections) (table_of v.imports) (table_of v.exports.exports)

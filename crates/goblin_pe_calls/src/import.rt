@@ -1,17 +1,20 @@
 //! The records of imports.
 
-ghost use Rattle.std.specs.Prelude.{◌≡◌, ◌<◌, ◌+◌, ◌++◌, ◌∷◌, [], IfErr, IfOk, IfSome, OnErr, OnOk, length, map};
+ghost use Rattle.std.specs.Prelude.{◌≡◌, ◌<◌, ◌+◌, ◌++◌, ◌∷◌, [], IfErr, IfOk, IfSome, OnErr, OnOk};
+ghost use Rattle.std.specs.Prelude.{length, map};
 ghost use Rattle.std.specs.Prelude.{◌/◌, max, vec_capacity, vec_len};
 ghost use Rattle.std.specs.Prelude.{option_map};
 ghost use Rattle.goblin_base.specs.Answers.{AnswersOrMemory, GivesOrMemory, IsMemory, all_of};
 ghost use Rattle.goblin_base.specs.Reading.{ReadsOrMemory};
 ghost use Rattle.goblin_pe.specs.Reads.{mapped};
 ghost use Rattle.goblin_pe_sect.specs.Addresses.{map_of, offset_of};
-ghost use Rattle.goblin_pe_import.specs.ImportWalks.{IsImportsCause, imports_left, walked_value};
+ghost use Rattle.goblin_pe_import.specs.ImportWalks.{IsImportsCause, finder_of, imports_left};
+ghost use Rattle.goblin_pe_import.specs.ImportWalks.{imports_map, walked_value};
 ghost use Rattle.goblin_pe.specs.Layouts.{IsFileImportsCause, file_imports_left, layout_map};
-ghost use Rattle.goblin_pe.specs.Layouts.{layout_places};
+ghost use Rattle.goblin_pe.specs.Layouts.{layout_bytes, layout_places};
 ghost use Rattle.goblin_pe.specs.LayoutPositions.{file_map};
-ghost use Rattle.goblin_pe.specs.Whole.{AreListed, collected_imports, import_list, import_parts};
+ghost use Rattle.goblin_pe.specs.Whole.{AreListed, both_import_parts, collected_imports};
+ghost use Rattle.goblin_pe.specs.Whole.{import_list};
 ghost use Rattle.goblin_pe.specs.Whole.{part_map};
 ghost use Rattle.goblin_pe_records.specs.Blocked.{HasLittleRoom};
 ghost use Rattle.goblin_pe_calls.specs.Blocked.{HasLittleRoomIn};
@@ -66,7 +69,7 @@ fn record_by<'a>(
     ensures { import_view result ≡ record {
       name = name.now;
       dll = import.now.dll.now;
-      slot_rva = import.now.offset;
+      slot_rva = import.now.slot_rva;
       rva = rva;
       slot = import.now.slot;
       ordinal = ordinal;
@@ -77,7 +80,7 @@ fn record_by<'a>(
     PeImport {
         name,
         dll: import.dll.as_bytes(),
-        slot_rva: import.offset,
+        slot_rva: import.slot_rva,
         rva,
         slot: import.slot,
         ordinal,
@@ -90,7 +93,7 @@ fn record_by<'a>(
 /// Puts the record of an import of these bytes into its place. (Each kind has a record of its own: one
 /// that is made for both would be put together by conditions for every import.)
 #[inline(always)]
-#[tactic(auto, unfolding(goblin_pe_import::specs::Imports::import_of))]
+#[tactic(auto, unfolding(goblin_pe_import::specs::Imports::entry_name, goblin_pe_import::specs::Imports::entry_has_name, goblin_pe_import::specs::Imports::entry_ordinal, goblin_pe_import::specs::Imports::entry_name_rva))]
 pub fn put_import<'a>(place: &mut PeImport<'a>, bytes: &'a [u8], import: &WalkedImport<'a>)
     ensures { import_view place.new ≡ import_said (walked_value import.now) }
 {
@@ -110,7 +113,7 @@ const FIRST_ROOM: usize = 4;
 
 // Adds the record of an import, for which there is room.
 #[inline(always)]
-#[tactic(auto, unfolding(goblin_pe_import::specs::Imports::import_of))]
+#[tactic(auto, unfolding(goblin_pe_import::specs::Imports::entry_name, goblin_pe_import::specs::Imports::entry_has_name, goblin_pe_import::specs::Imports::entry_ordinal, goblin_pe_import::specs::Imports::entry_name_rva))]
 fn push_within<'a>(records: &mut Vec<PeImport<'a>>, bytes: &'a [u8], import: &WalkedImport<'a>)
     requires { vec_len records.old < vec_capacity records.old }
     ensures value { map import_view records.new.items
@@ -161,7 +164,7 @@ fn push_here<'a, 'm, 'e, T: Bitfield<'a>>(
 )
     ensures pushed { PushesHere T.format imports.old imports.new
         (map import_view records.old.items) (map import_view records.new.items) }
-    ensures kept { imports.new.walk.finder ≡ imports.old.walk.finder }
+    ensures kept { finder_of imports.new ≡ finder_of imports.old }
     ensures room { HasLittleRoom records.old → HasLittleRoom records.new }
 {
     let Some(mut plain) = imports.plain() else {
@@ -192,7 +195,7 @@ fn records_of<'a, 'm, 'e, T: Bitfield<'a>>(
     ensures grown { OnErr result (0 < length (imports_left T.format imports.entry)) }
     ensures begun { IfErr result
         (λ e. IsMemory e → IsBegun (imports_left T.format imports.entry)) }
-    ensures left { OnOk result (map_of finder.new ≡ map_of imports.entry.walk.finder) }
+    ensures left { OnOk result (map_of finder.new ≡ imports_map imports.entry) }
 {
     let mut records = Vec::new(alloc);
     'libraries: while let Some(import) = imports.next() {
@@ -235,16 +238,16 @@ fn listed_records<'a, 'm>(
     ensures value { let m = layout_map layout.now in
         ReadsOrMemory (part_map import_views) result
         (mapped (part_map (map import_said)) (import_list m.opts (offset_of m) (layout_places layout.now)))
-        layout.now.bytes.now }
+        (layout_bytes layout.now) }
     ensures listed { let m = layout_map layout.now in
-        AreListed m.opts (offset_of m) (layout_places layout.now) layout.now.bytes.now }
+        AreListed m.opts (offset_of m) (layout_places layout.now) (layout_bytes layout.now) }
     ensures none { IfOk result HasLittleRoomIn }
     ensures grown { let m = layout_map layout.now in
         let list = import_list m.opts (offset_of m) (layout_places layout.now) in
-        OnErr result (IfSome (list.value layout.now.bytes.now) HasEntries) }
+        OnErr result (IfSome (list.value (layout_bytes layout.now)) HasEntries) }
     ensures begun { let m = layout_map layout.now in
         IfErr result
-        (λ e. IsMemory e → ImportsBegin m (layout_places layout.now) layout.now.bytes.now) }
+        (λ e. IsMemory e → ImportsBegin m (layout_places layout.now) (layout_bytes layout.now)) }
     ensures left { OnOk result (map_of finder.new ≡ layout_map layout.now) }
 {
     match layout.imports()? {
@@ -269,15 +272,15 @@ pub fn import_records<'a, 'm>(
     ensures value { let m = layout_map layout.now in
         ReadsOrMemory (part_map import_views) result
         (mapped (collected_imports import_said)
-        (import_parts m.opts (offset_of m) (layout_places layout.now)))
-        layout.now.bytes.now }
+        (both_import_parts m.opts (offset_of m) (layout_places layout.now)))
+        (layout_bytes layout.now) }
     ensures none { IfOk result HasLittleRoomIn }
     ensures grown { let m = layout_map layout.now in
-        let parts = import_parts m.opts (offset_of m) (layout_places layout.now) in
-        OnErr result (IfSome (parts.value layout.now.bytes.now) (λ read. HasEntries read.1)) }
+        let parts = both_import_parts m.opts (offset_of m) (layout_places layout.now) in
+        OnErr result (IfSome (parts.value (layout_bytes layout.now)) (λ read. HasEntries read.1)) }
     ensures begun { let m = layout_map layout.now in
         IfErr result
-        (λ e. IsMemory e → ImportsBegin m (layout_places layout.now) layout.now.bytes.now) }
+        (λ e. IsMemory e → ImportsBegin m (layout_places layout.now) (layout_bytes layout.now)) }
     ensures left { OnOk result (map_of finder.new ≡ layout_map layout.now) }
 {
     listed_records(alloc, layout, finder)

@@ -5,12 +5,15 @@ ghost use Rattle.goblin_base.specs.Answers.{IsMemory};
 ghost use Rattle.goblin_pe_sect.specs.Addresses.{offset_of};
 ghost use Rattle.goblin_pe_export.specs.ExportWalks.{KeepsOver, exports_at, exports_left};
 ghost use Rattle.goblin_pe.specs.Layouts.{IsFileImportsCause, file_imports_left, layout_map};
-ghost use Rattle.goblin_pe.specs.Layouts.{layout_places};
+ghost use Rattle.goblin_pe.specs.Layouts.{layout_bytes, layout_places};
 ghost use Rattle.goblin_pe.specs.LayoutPositions.{StartsAt, import_start};
 ghost use Rattle.goblin_pe_calls.specs.Batches.{FillsHere, FillsLibrary};
-ghost use Rattle.goblin_pe_calls.specs.Batches.{ExportBatch, GivesBatch, GivesExports, GivesImports};
-ghost use Rattle.goblin_pe_calls.specs.Batches.{GoesOn, ImportBatch, IsBatch, IsEnd, IsExportsFault};
-ghost use Rattle.goblin_pe_calls.specs.Batches.{IsImportsFault, IsRefusedNext, imports_from};
+ghost use Rattle.goblin_pe_calls.specs.Batches.{ExportBatch, GivesBatch, GivesExports};
+ghost use Rattle.goblin_pe_calls.specs.Batches.{GivesImports};
+ghost use Rattle.goblin_pe_calls.specs.Batches.{GoesOn, ImportBatch, IsBatch, IsEnd};
+ghost use Rattle.goblin_pe_calls.specs.Batches.{IsExportsFault};
+ghost use Rattle.goblin_pe_calls.specs.Batches.{IsImportsFault, IsRefusedNext};
+ghost use Rattle.goblin_pe_calls.specs.Batches.{imports_from_position};
 ghost use Rattle.goblin_pe_calls.specs.Batches.{position_numbers, position_said, values_before};
 ghost use Rattle.goblin_pe_calls.specs.Exports.{export_said, export_view};
 ghost use Rattle.goblin_pe_calls.specs.Imports.{import_said, import_view};
@@ -30,24 +33,34 @@ use std::alloc::Global;
 pub struct PeImportPosition {
     /// The file offset of a library's record; the greatest number once the end has been reached,
     /// also of a file without imports.
-    pub record: usize,
+    pub record_offset: usize,
     /// The file offset of the slot that is read next, or 0 before the library's first.
-    pub slot: usize,
+    pub slot_offset: usize,
 }
 
 // The position that these numbers say; none is the beginning.
 fn position_of(position: &PeImportPosition) -> Option<Option<ImportPosition>>
     ensures { result ≡ position_said position.now }
 {
-    let PeImportPosition { record, slot } = *position;
-    if record == 0 && slot == 0 {
+    let PeImportPosition {
+        record_offset,
+        slot_offset,
+    } = *position;
+    if record_offset == 0 && slot_offset == 0 {
         return None;
     }
-    if record == usize::MAX {
+    if record_offset == usize::MAX {
         return Some(None);
     }
-    let slot = if slot == 0 { None } else { Some(slot) };
-    Some(Some(ImportPosition { record, slot }))
+    let slot_offset = if slot_offset == 0 {
+        None
+    } else {
+        Some(slot_offset)
+    };
+    Some(Some(ImportPosition {
+        record_offset,
+        slot_offset,
+    }))
 }
 
 // The numbers of a position.
@@ -56,12 +69,12 @@ fn position_record(position: Option<ImportPosition>) -> PeImportPosition
 {
     match position {
         Some(at) => PeImportPosition {
-            record: at.record,
-            slot: at.slot.unwrap_or(0),
+            record_offset: at.record_offset,
+            slot_offset: at.slot_offset.unwrap_or(0),
         },
         None => PeImportPosition {
-            record: usize::MAX,
-            slot: 0,
+            record_offset: usize::MAX,
+            slot_offset: 0,
         },
     }
 }
@@ -73,7 +86,7 @@ fn imports_at<'a, 'm, 'e>(
 ) -> ResultOf<'e, Part<FileImports<'a, 'm, 'e>>>
     ensures { let m = layout_map layout.now in
         let places = layout_places layout.now in
-        StartsAt m places.magic layout.now.bytes.now
+        StartsAt m places.magic (layout_bytes layout.now)
         (import_start m.opts (offset_of m) places (position_said position.now)) result }
 {
     match position_of(position) {
@@ -134,14 +147,14 @@ fn fill_imports<'a, 'm, 'e>(
     records: &mut [PeImport<'a>],
 ) -> ResultOf<'e, usize>
     requires { let m = layout_map layout.now in
-        GoesOn m (layout_places layout.now) layout.now.bytes.now position.old imports }
+        GoesOn m (layout_places layout.now) (layout_bytes layout.now) position.old imports }
     ensures filled { let m = layout_map layout.now in
         let places = layout_places layout.now in
-        let bytes = layout.now.bytes.now in
+        let bytes = layout_bytes layout.now in
         let left = file_imports_left imports.entry in
         MatchResult result
         (λ count. IsBatch import_view import_said (values_before left) records.old records.new count
-        × (imports_from m places bytes position.new ≡ Some (drop count left))
+        × (imports_from_position m places bytes position.new ≡ Some (drop count left))
         × (IsRefusedNext left → length records.old ≡ 0)
         × (IsEnd left records.old count → position.new ≡ position_numbers None)
         × (length records.old ≡ 0 → position.new ≡ position.old))
@@ -188,7 +201,7 @@ fn next_imports<'a>(
 ) -> Result<usize>
     ensures filled { let m = layout_map layout.now in
         let places = layout_places layout.now in
-        let bytes = layout.now.bytes.now in
+        let bytes = layout_bytes layout.now in
         let old : ImportBatch = record { position = position.old; records = records.old } in
         let new : ImportBatch = record { position = position.new; records = records.new } in
         MatchResult result (GivesImports m places bytes old new)
@@ -283,7 +296,7 @@ fn next_exports<'a>(
 ) -> Result<usize>
     ensures { let m = layout_map layout.now in
         let places = layout_places layout.now in
-        let bytes = layout.now.bytes.now in
+        let bytes = layout_bytes layout.now in
         let old : ExportBatch = record { position = position.old; records = records.old } in
         let new : ExportBatch = record { position = position.new; records = records.new } in
         MatchResult result (GivesExports m places bytes old new)

@@ -8,18 +8,18 @@ ghost use Rattle.goblin_pe_head.specs.HeaderReadings.{pe_header};
 ghost use Rattle.goblin_pe_head.specs.PeHeader.{header_value};
 ghost use Rattle.goblin_pe.specs.Whole.{WholeFile, part_map, whole_file};
 ghost use Rattle.goblin_pe_records.specs.Blocks.{block_view};
-ghost use Rattle.goblin_pe_calls.specs.Blocks.{blocks_in, relocations_of};
+ghost use Rattle.goblin_pe_calls.specs.Blocks.{base_relocations_of, blocks_in};
 ghost use Rattle.goblin_pe_records.specs.Blocked.{HasLittleRoom, HasNoSpareRoom};
 ghost use Rattle.goblin_pe_calls.specs.Blocked.{HasLittleRoomIn, HaveLittleRoom};
 ghost use Rattle.goblin_pe_records.specs.Calls.{ReadsInto};
 ghost use Rattle.goblin_pe_calls.specs.Exports.{export_view, export_views, exports_view};
 ghost use Rattle.goblin_pe_calls.specs.Files.{entries_of};
-ghost use Rattle.goblin_pe_records.specs.Filled.{alone};
+ghost use Rattle.goblin_pe_records.specs.Filled.{without_text};
 ghost use Rattle.goblin_pe_calls.specs.Growth.{TakesRecords};
 ghost use Rattle.goblin_pe_calls.specs.Imports.{import_view, import_views};
 ghost use Rattle.goblin_pe_calls.specs.Opened.{Opened, Opens, opened_file};
 ghost use Rattle.goblin_pe_calls.specs.Opened.{records_of_file, records_view};
-ghost use Rattle.goblin_pe_records.specs.RichHeaders.{entries_in, rich_of};
+ghost use Rattle.goblin_pe_records.specs.RichHeaders.{entries_of_rich, rich_of};
 ghost use Rattle.goblin_pe_records.specs.Sections.{section_said};
 
 use crate::block::block_records;
@@ -35,7 +35,7 @@ use goblin_pe_records::block::{PeBaseRelocations, PeBlock};
 use goblin_pe_records::directory::{PeDirectory, directories_of, fill_directories};
 use goblin_pe_records::file::PeFile;
 use goblin_pe_records::rich::{PeRichHeader, entry_records};
-use goblin_pe_records::section::{PeSection, section_records};
+use goblin_pe_records::section::{PeSection, named_sections};
 use std::alloc::Global;
 
 /// The tables of an image. Each that is not empty is a block of memory of its own, and the texts in
@@ -88,22 +88,22 @@ fn made_of<'a>(
     ensures rich_header { let v = records_view layout.now records.now in
         IfOk result (λ m. m.rich_header ≡ rich_of v.header.rich_header) }
     ensures relocations { let v = records_view layout.now records.now in
-        IfOk result (λ m. m.relocations ≡ relocations_of v.relocations) }
+        IfOk result (λ m. m.relocations ≡ base_relocations_of v.relocations) }
     ensures rich_entries { let v = records_view layout.now records.now in
-        IfOk result (λ m. m.rich_entries.items ≡ entries_in v.header.rich_header) }
+        IfOk result (λ m. m.rich_entries.items ≡ entries_of_rich v.header.rich_header) }
     ensures sections { (w : WholeFile) → (whole_file opts.now).value bytes.now ≡ Some w
-        → IfOk result (λ m. map section_said m.sections.items ≡ map alone w.sections) }
+        → IfOk result (λ m. map section_said m.sections.items ≡ map without_text w.sections) }
     ensures blocks { let v = records_view layout.now records.now in
         IfOk result (λ m. map block_view m.blocks.items ≡ blocks_in v.relocations) }
     ensures none { IfOk result
         (λ m. HasNoSpareRoom m.rich_entries × HasNoSpareRoom m.sections × HasLittleRoom m.blocks) }
     ensures grown { let v = records_view layout.now records.now in
-        OnErr result (0 < length v.sections + length (entries_in v.header.rich_header)
+        OnErr result (0 < length v.sections + length (entries_of_rich v.header.rich_header)
         + length (blocks_in v.relocations)) }
 {
     let header = layout.header();
     let table = header.coff_header.symbols_end();
-    let sections = section_records(alloc, bytes, layout.section_records(), table, opts)?;
+    let sections = named_sections(alloc, bytes, layout.section_records(), table, opts)?;
     let (rich_entries, rich_header) = entry_records(alloc, &header.rich_header)?;
     let (blocks, relocations) = block_records(alloc, &records.relocations)?;
     Ok(Made {

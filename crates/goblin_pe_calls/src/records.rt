@@ -5,7 +5,7 @@ ghost use Rattle.goblin_base.specs.Answers.{IsMemory};
 ghost use Rattle.goblin_base.specs.Reading.{ReadsOrMemory};
 ghost use Rattle.goblin_pe.specs.Reads.{mapped};
 ghost use Rattle.goblin_pe_sect.specs.Addresses.{offset_of};
-ghost use Rattle.goblin_pe.specs.Layouts.{layout_map, layout_places};
+ghost use Rattle.goblin_pe.specs.Layouts.{layout_bytes, layout_map, layout_places};
 ghost use Rattle.goblin_pe.specs.Whole.{collected_tables, table_parts};
 ghost use Rattle.goblin_pe_calls.specs.Blocked.{HasLittleRoomIn, HaveLittleRoom};
 ghost use Rattle.goblin_pe_calls.specs.Exports.{exports_said};
@@ -34,17 +34,18 @@ pub struct FileRecords<'a> {
 pub fn file_records<'a>(alloc: Global, layout: &Layout<'a, '_>) -> Result<FileRecords<'a>>
     ensures value { let m = layout_map layout.now in
         ReadsOrMemory tables_view result
-        (mapped (collected_tables import_said (exports_said (offset_of m) layout.now.bytes.now))
+        (mapped (collected_tables import_said
+        (exports_said (offset_of m) (layout_bytes layout.now)))
         (table_parts m.opts (offset_of m) (layout_places layout.now)))
-        layout.now.bytes.now }
+        (layout_bytes layout.now) }
     ensures none { IfOk result
         (λ r. HasLittleRoomIn r.imports × HaveLittleRoom r.exports) }
     ensures grown { let m = layout_map layout.now in
         let parts = table_parts m.opts (offset_of m) (layout_places layout.now) in
-        OnErr result (IfSome (parts.value layout.now.bytes.now) HasTables) }
+        OnErr result (IfSome (parts.value (layout_bytes layout.now)) HasTables) }
     ensures begun { let m = layout_map layout.now in
         IfErr result
-        (λ e. IsMemory e → TablesBegin m (layout_places layout.now) layout.now.bytes.now) }
+        (λ e. IsMemory e → TablesBegin m (layout_places layout.now) (layout_bytes layout.now)) }
 {
     // Exports often lie beside the imports; what the finder has of these takes no search.
     let mut finder = layout.finder();

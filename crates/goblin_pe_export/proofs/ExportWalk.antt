@@ -129,7 +129,7 @@ data-there : (offset_of : ℕ → Option ℕ) (d : DataDirectory) (bytes : List 
 unfolding reading.export_data
 data-there offset_of d bytes tables is =
     let at = step (offset_of d.virtual_address) _ tables is in
-    let here = step ((reading.record_here at.value).value bytes) _ tables at.then in
+    let here = step ((reading.export_record_at at.value).value bytes) _ tables at.then in
     let found = record_at-some 40 (export_directory_record Little) bytes at.value here.value here.is in
     ne_eqb (length bytes) 0 (λ none. omega (arith, found.start))
 

@@ -23,8 +23,8 @@ use Rattle.goblin_pe_export.specs.declared.export.tables.ExportDirectoryTable.{E
 -- ---- export data
 
 -- the record at an offset
-abbrev pub record_here : ℕ → Reading ExportDirectoryTable
-record_here p = because (ExportTable p) (record_at 40 (export_directory_record Little) p)
+abbrev pub export_record_at : ℕ → Reading ExportDirectoryTable
+export_record_at p = because (ExportTable p) (record_at 40 (export_directory_record Little) p)
 
 -- a record, if it counts no more entries of any table than the file has bytes
 unfoldable pub fitting : ExportDirectoryTable → Reading ExportDirectoryTable
@@ -59,7 +59,7 @@ tables_if offset_of d t = fitting t >>= export_tables offset_of d
 -- the export data of a directory: what the record at its address leads to
 unfoldable pub export_data : (ℕ → Option ℕ) → DataDirectory → Reading ExportTables
 export_data offset_of d =
-    at_address offset_of d.virtual_address (λ p. record_here p >>= tables_if offset_of d)
+    at_address offset_of d.virtual_address (λ p. export_record_at p >>= tables_if offset_of d)
 
 -- ---- the exports
 

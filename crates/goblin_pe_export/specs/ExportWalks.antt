@@ -56,13 +56,13 @@ abbrev pub exports_left : Exports → List NumberedExport
 exports_left walk = exports_at walk walk.next
 
 -- the walk is over these bytes, whose addresses are mapped so
-abbrev pub IsOver : List ℕ → MapOfAddresses → Exports → Type 0
-IsOver bytes m walk = (walk.bytes.now ≡ bytes) × (map_of walk.finder ≡ m)
+abbrev pub AreExportsOver : List ℕ → MapOfAddresses → Exports → Type 0
+AreExportsOver bytes m walk = (walk.bytes.now ≡ bytes) × (map_of walk.finder ≡ m)
 
 -- the second walk is over what the first is over
 abbrev pub KeepsOver : Exports → Exports → Type 0
 KeepsOver s t =
-    IsOver s.bytes.now (map_of s.finder) t × (walked_tables t ≡ walked_tables s)
+    AreExportsOver s.bytes.now (map_of s.finder) t × (walked_tables t ≡ walked_tables s)
 
 -- A call of `next` gives the next export; it keeps what is walked over.
 abbrev pub GivesExport : Exports → Option WalkedExport → Exports → Type 0

@@ -1,9 +1,12 @@
 -- Export directories, the tables that they lead to, and the exports that these list, over a map of
 -- addresses to file offsets. The words here are parts of the readings of `ExportReadings`.
-use Rattle.std.specs.Prelude.{◌≡◌, ◌<◌, ◌≤◌, ◌⊎◌, ◌+◌, ◌/◌, max, Vec, vec_capacity, vec_len, ℕ, zero, suc, Bool, true, false, if◌then◌else◌, List, [], length, IsSome, Option, Some, None, option_and_then, slice_get, unwrap_or}
+use Rattle.std.specs.Prelude.{◌≡◌, ◌<◌, ◌≤◌, ◌⊎◌, ◌+◌, ◌/◌, max, Vec, vec_capacity, vec_len, ℕ}
+use Rattle.std.specs.Prelude.{zero, suc, Bool, true, false, if◌then◌else◌, List, [], length, IsSome}
+use Rattle.std.specs.Prelude.{Option, Some, None, option_and_then, slice_get, unwrap_or}
 use Rattle.std.specs.Global.{Global}
 use Rattle.goblin_pe_export.specs.declared.export.tables.ExportAddressTableEntry.{ExportAddressTableEntry}
-use Rattle.goblin_pe_export.specs.declared.export.tables.ExportAddressTableEntry.TheVariants.{ExportRVA, ForwarderRVA}
+use Rattle.goblin_pe_export.specs.declared.export.tables.ExportAddressTableEntry.TheVariants.{ExportRVA}
+use Rattle.goblin_pe_export.specs.declared.export.tables.ExportAddressTableEntry.TheVariants.{ForwarderRVA}
 use Rattle.goblin_pe_sect.specs.declared.data_directories.DataDirectory.{DataDirectory}
 pub use Rattle.goblin_pe_export.specs.ExportRecords.{ExportRow, ExportTables, address_entry}
 pub use Rattle.goblin_pe_export.specs.ExportRecords.{addresses, export_directory_fields}
@@ -17,8 +20,8 @@ abbrev pub export_data : (ℕ → Option ℕ) → DataDirectory → List ℕ →
 export_data offset_of d bytes = (reading.export_data offset_of d).value bytes
 
 -- a table has entries
-abbrev pub HasEntries : ExportTables → Type 0
-HasEntries tables =
+abbrev pub HasExportEntries : ExportTables → Type 0
+HasExportEntries tables =
     (0 < length tables.export_name_pointer_table)
     ⊎ ((0 < length tables.export_ordinal_table) ⊎ (0 < length tables.export_address_table))
 
@@ -27,8 +30,8 @@ abbrev pub export_row : (ℕ → Option ℕ) → List ℕ → ExportTables → �
 export_row offset_of bytes tables x = (reading.export_row offset_of tables x).value bytes
 
 -- there is an export: a name pointer has a row
-abbrev pub HasExports : (ℕ → Option ℕ) → List ℕ → ExportTables → Type 0
-HasExports offset_of bytes tables =
+abbrev pub HasRow : (ℕ → Option ℕ) → List ℕ → ExportTables → Type 0
+HasRow offset_of bytes tables =
     (x : ℕ) × (x < length tables.export_name_pointer_table)
     × IsSome (export_row offset_of bytes tables x)
 

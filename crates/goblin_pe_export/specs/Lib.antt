@@ -4,3 +4,4 @@ pub mod ExportWalks
 pub mod Exports
 pub mod ForwarderLaws
 pub mod Forwarders
+pub mod LeftOutExports

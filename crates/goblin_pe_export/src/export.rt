@@ -14,7 +14,7 @@ ghost use Rattle.goblin_base.specs.Reading.{ReadsOrMemory};
 ghost use Rattle.goblin_pe_sect.specs.Options.{default_options};
 ghost use Rattle.goblin_pe_sect.specs.Addresses.{TakesMap, map_by, map_of, offset_of};
 ghost use Rattle.goblin_pe_export.specs.ExportReadings as reading;
-ghost use Rattle.goblin_pe_export.specs.Exports.{HasEntries, HasExports, export_data, export_row};
+ghost use Rattle.goblin_pe_export.specs.Exports.{HasExportEntries, HasRow, export_data, export_row};
 ghost use Rattle.goblin_pe_export.specs.Exports.{TakesRoomFor, exports, own_exports, rva_of};
 ghost use Rattle.goblin_pe_export.specs.Forwarders.{forwarder_at, forwarder_value};
 
@@ -145,7 +145,7 @@ impl<'a> ExportData<'a> {
             ReadsOrMemory (λ x. x) result (reading.export_data (offset_of m) directory) bytes.now }
         ensures grown { let m = map_by default_options sections.now file_alignment in
             IfErr result (λ e. IsMemory e →
-            IsSomeAnd (export_data (offset_of m) directory bytes.now) HasEntries
+            IsSomeAnd (export_data (offset_of m) directory bytes.now) HasExportEntries
             ⊎ TakesMap default_options sections.now file_alignment) }
     {
         let opts = ParseOptions::default();
@@ -175,7 +175,7 @@ impl<'a> ExportData<'a> {
             ReadsOrMemory (λ x. x) result (reading.export_data (offset_of m) directory) bytes.now }
         ensures grown { let m = map_by opts.now sections.now file_alignment in
             IfErr result (λ e. IsMemory e →
-            IsSomeAnd (export_data (offset_of m) directory bytes.now) HasEntries
+            IsSomeAnd (export_data (offset_of m) directory bytes.now) HasExportEntries
             ⊎ TakesMap opts.now sections.now file_alignment) }
     {
         let address_map = AddressMap::prepare(alloc, sections, file_alignment, opts)?;
@@ -197,7 +197,7 @@ impl<'a> ExportData<'a> {
             ReadsOrMemory (λ x. x) result (reading.export_data (offset_of m) directory) bytes.now }
         ensures grown { let m = map_of address_map.now in
             IfErr result (λ e. IsMemory e →
-            IsSomeAnd (export_data (offset_of m) directory bytes.now) HasEntries) }
+            IsSomeAnd (export_data (offset_of m) directory bytes.now) HasExportEntries) }
     {
         let mut finder = Finder::of(address_map);
         let tables = TablesInFile::find(bytes, directory, &mut finder)?;
@@ -416,7 +416,7 @@ impl<'a> Export<'a> {
         ensures empty { length bytes.now ≡ 0 → IsOk result }
         ensures room { IfOk result (TakesRoomFor 32) }
         ensures grown { let m = map_by default_options sections.now file_alignment in
-            OnErr result (HasExports (offset_of m) bytes.now export_data.now
+            OnErr result (HasRow (offset_of m) bytes.now export_data.now
             ⊎ TakesMap default_options sections.now file_alignment) }
     {
         let opts = ParseOptions::default();
@@ -446,7 +446,7 @@ impl<'a> Export<'a> {
         ensures empty { length bytes.now ≡ 0 → IsOk result }
         ensures room { IfOk result (TakesRoomFor 32) }
         ensures grown { let m = map_by opts.now sections.now file_alignment in
-            OnErr result (HasExports (offset_of m) bytes.now export_data.now
+            OnErr result (HasRow (offset_of m) bytes.now export_data.now
             ⊎ TakesMap opts.now sections.now file_alignment) }
     {
         if bytes.is_empty() {
@@ -472,7 +472,7 @@ impl<'a> Export<'a> {
         ensures empty { length bytes.now ≡ 0 → IsOk result }
         ensures room { IfOk result (TakesRoomFor 32) }
         ensures grown { let m = map_of address_map.now in
-            OnErr result (HasExports (offset_of m) bytes.now export_data.now) }
+            OnErr result (HasRow (offset_of m) bytes.now export_data.now) }
     {
         let mut rows = Vec::new(alloc);
         if bytes.is_empty() {

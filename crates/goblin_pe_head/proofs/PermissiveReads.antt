@@ -5,8 +5,8 @@ use Rattle.goblin_base.proofs.Kept.{Keeps, all_at-kept}
 use Rattle.readings.specs.Reads.{◌beside◌}
 use Rattle.readings.proofs.Modes.{repeats-beside, repeats-mapped, repeats-or_else, repeats-same}
 use Rattle.readings.proofs.Modes.{repeats-then}
-use Rattle.goblin_pe_sect.specs.SectionReadings.{section_at}
-use Rattle.goblin_pe_sect.proofs.PermissiveReads.{repeats-section_at}
+use Rattle.goblin_pe_sect.specs.SectionReadings.{named_section_at}
+use Rattle.goblin_pe_sect.proofs.PermissiveReads.{repeats-named_section_at}
 use Rattle.goblin_pe_head.specs.CoffReadings as coff
 use Rattle.goblin_pe_head.specs.DosStub.{default_stub}
 use Rattle.goblin_pe_head.specs.HeaderReadings as reading
@@ -33,6 +33,6 @@ pub sections_at-kept : (table n : ℕ) (bytes : List ℕ) (p : ℕ)
     ((coff.sections_at false table n p).value bytes)
 unfolding coff.sections_at
 sections_at-kept table n bytes p =
-    all_at-kept (λ i. (section_at true table (p + 40 * i)).value bytes)
-    (λ i. (section_at false table (p + 40 * i)).value bytes) n
-    (λ i. (repeats-section_at table (p + 40 * i)).kept bytes)
+    all_at-kept (λ i. (named_section_at true table (p + 40 * i)).value bytes)
+    (λ i. (named_section_at false table (p + 40 * i)).value bytes) n
+    (λ i. (repeats-named_section_at table (p + 40 * i)).kept bytes)

@@ -19,7 +19,7 @@ use Rattle.goblin_base.proofs.Steps as steps
 use Rattle.goblin_base.proofs.Steps.{all_at-each, all_at-more, all_at-none, same_value, step, unmapped}
 use Rattle.readings.specs.Reads.{each}
 use Rattle.goblin_pe_sect.specs.SectionName.{name_value}
-use Rattle.goblin_pe_sect.specs.SectionReadings.{section_at, text_in_table}
+use Rattle.goblin_pe_sect.specs.SectionReadings.{named_section_at, text_in_table}
 use Rattle.goblin_pe_sect.specs.SectionTable.{Section, section_record, sections_in, unnamed}
 
 -- ---- what is made of values one after the other
@@ -47,7 +47,7 @@ sections_from bytes p n = map (λ i. section_from bytes (p + 40 * i)) (range_wit
 -- the n sections from p on, without their names from the string table, where they are read
 abbrev pub unnamed_from : Bool → ℕ → List ℕ → ℕ → ℕ → Option (List Section)
 unnamed_from strict table bytes p n =
-    option_map (map unnamed) (all_at (λ i. (section_at strict table (p + 40 * i)).value bytes) n)
+    option_map (map unnamed) (all_at (λ i. (named_section_at strict table (p + 40 * i)).value bytes) n)
 
 unnamed_record : (own : List ℕ) → unnamed (section_record Little own) ≡ section_record Little own
 unfolding section_record
@@ -59,11 +59,11 @@ unnamed_same s named name e = ap unnamed (sym e)
 
 -- a section that is read has a record that is all there, and says the section without its name
 section_there : (strict : Bool) (table : ℕ) (bytes : List ℕ) (p : ℕ) (s : Section)
-    → option_map unnamed ((section_at strict table p).value bytes) ≡ Some s
+    → option_map unnamed ((named_section_at strict table p).value bytes) ≡ Some s
     → IsRecordOf 40 (section_record Little) bytes p s
-unfolding section_at
+unfolding named_section_at
 section_there strict table bytes p s is =
-    let whole = steps.mapped ((section_at strict table p).value bytes) unnamed s is in
+    let whole = steps.mapped ((named_section_at strict table p).value bytes) unnamed s is in
     let text : Option ℕ → Option (List ℕ) = λ (place : Option ℕ). (text_in_table table place).value bytes in
     let first = step (record_at 40 (section_record Little) bytes p) (λ s. name_value strict s.name >>= (λ v. Some (record s { real_name = text v }))) whole.value whole.is in
     let second = step (name_value strict first.value.name) (λ v. Some (record first.value { real_name = text v })) whole.value first.then in
@@ -78,17 +78,17 @@ section_there strict table bytes p s is =
 -- one more section
 pub section_more : (strict : Bool) (table : ℕ) (bytes : List ℕ) (p n : ℕ) (s : Section)
     → unnamed_from strict table bytes p n ≡ Some (sections_from bytes p n)
-    → option_map unnamed ((section_at strict table (p + 40 * n)).value bytes) ≡ Some s
+    → option_map unnamed ((named_section_at strict table (p + 40 * n)).value bytes) ≡ Some s
     → unnamed_from strict table bytes p (n + 1) ≡ Some (sections_from bytes p (n + 1))
 section_more strict table bytes p n s so_far next =
     let there = section_there strict table bytes (p + 40 * n) s next in
     let next' = next ∙ ap (λ (s : Section). Some s) there.is in
-    mapped-more unnamed (λ i. (section_at strict table (p + 40 * i)).value bytes) n (sections_from bytes p n) (section_from bytes (p + 40 * n)) so_far next'
+    mapped-more unnamed (λ i. (named_section_at strict table (p + 40 * i)).value bytes) n (sections_from bytes p n) (section_from bytes (p + 40 * n)) so_far next'
     ∙ ap (λ (xs : List Section). Some xs) (sym (map-range_with_len_more (λ (i : ℕ). section_from bytes (p + 40 * i)) 0 n n (omega arith)))
 
 -- its record is in the file
 pub section_end : (strict : Bool) (table : ℕ) (bytes : List ℕ) (p : ℕ) (s : Section)
-    → option_map unnamed ((section_at strict table p).value bytes) ≡ Some s → p + 40 ≤ length bytes
+    → option_map unnamed ((named_section_at strict table p).value bytes) ≡ Some s → p + 40 ≤ length bytes
 section_end strict table bytes p s is = (section_there strict table bytes p s is).end
 
 -- the sections of the bytes of n records
@@ -127,12 +127,12 @@ sections_of_got bytes p end n none None is within empty (inr after, _) =
 -- where the n sections before it are read, it is the first that is refused
 pub unnamed_refused : (strict : Bool) (table : ℕ) (bytes : List ℕ) (p count n : ℕ) (xs : List Section) (e : ErrorOf)
     → n < count → unnamed_from strict table bytes p n ≡ Some xs
-    → option_map unnamed ((section_at strict table (p + 40 * n)).value bytes) ≡ None
-    → (section_at strict table (p + 40 * n)).IsCause bytes e
+    → option_map unnamed ((named_section_at strict table (p + 40 * n)).value bytes) ≡ None
+    → (named_section_at strict table (p + 40 * n)).IsCause bytes e
     → (unnamed_from strict table bytes p count ≡ None)
-    × (each (λ i. section_at strict table (p + 40 * i)) count).IsCause bytes e
+    × (each (λ i. named_section_at strict table (p + 40 * i)) count).IsCause bytes e
 unnamed_refused strict table bytes p count n xs e below so_far refused cause =
-    let value : ℕ → Option Section = λ (i : ℕ). (section_at strict table (p + 40 * i)).value bytes in
+    let value : ℕ → Option Section = λ (i : ℕ). (named_section_at strict table (p + 40 * i)).value bytes in
     let all = steps.mapped (all_at value n) (map unnamed) xs so_far in
     let none = unmapped unnamed (value n) refused in (
       ap (option_map (map unnamed)) (all_at-none value count n below none),

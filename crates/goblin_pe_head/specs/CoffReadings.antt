@@ -10,7 +10,7 @@ use Rattle.goblin_base.specs.Reading.{Reading}
 use Rattle.goblin_base.proofs.Picks.{by_cases-not_memory}
 use Rattle.readings.specs.Reads.{◌>>=◌, because_by, each, given, mapped, needs, number_at, pick}
 use Rattle.readings.specs.Reads.{slice_at, string_table}
-use Rattle.goblin_pe_sect.specs.SectionReadings.{section_at}
+use Rattle.goblin_pe_sect.specs.SectionReadings.{named_section_at}
 use Rattle.goblin_pe_sect.specs.SectionTable.{Section}
 use Rattle.goblin_pe_head.specs.declared.header.coff.CoffHeader.{CoffHeader}
 use Rattle.goblin_pe_head.specs.CoffHeader.{IsTooManySections, string_table_offset}
@@ -38,7 +38,7 @@ with_room n r =
 -- string table at `table`
 unfoldable pub sections_at : Bool → ℕ → ℕ → ℕ → Reading (List Section)
 sections_at strict table n p =
-    with_room n (each (λ i. section_at strict table (p + 40 * i)) n)
+    with_room n (each (λ i. named_section_at strict table (p + 40 * i)) n)
 
 -- ---- the symbol table and the string table
 

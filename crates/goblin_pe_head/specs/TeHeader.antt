@@ -45,16 +45,16 @@ abbrev pub displacement : TeHeader → Option ℕ
 displacement h = if nat_le 40 h.stripped_size then Some (h.stripped_size - 40) else None
 
 -- a number less d, modulo 2 ^ 32
-abbrev pub moved : ℕ → ℕ → ℕ
-moved d x = (x + (2 ^ 32 - d)) % 2 ^ 32
+abbrev pub moved_address : ℕ → ℕ → ℕ
+moved_address d x = (x + (2 ^ 32 - d)) % 2 ^ 32
 
 -- a header whose entry point, base of code and directories are addresses in the stripped file
 unfoldable pub te_adjusted : ℕ → TeHeader → TeHeader
 te_adjusted d h = record h {
-  entry_point = moved d h.entry_point;
-  base_of_code = moved d h.base_of_code;
-  reloc_dir = record h.reloc_dir { virtual_address = moved d h.reloc_dir.virtual_address };
-  debug_dir = record h.debug_dir { virtual_address = moved d h.debug_dir.virtual_address };
+  entry_point = moved_address d h.entry_point;
+  base_of_code = moved_address d h.base_of_code;
+  reloc_dir = record h.reloc_dir { virtual_address = moved_address d h.reloc_dir.virtual_address };
+  debug_dir = record h.debug_dir { virtual_address = moved_address d h.debug_dir.virtual_address };
 }
 
 -- the refusal names how much was stripped
@@ -63,12 +63,12 @@ IsStrippedFault h e = e ≡ Malformed (StrippedSize h.stripped_size)
 
 -- a pointer less d, where it points to something; 0 points to nothing
 abbrev pub pointer_moved : ℕ → ℕ → ℕ
-pointer_moved d x = if x == 0 then 0 else moved d x
+pointer_moved d x = if x == 0 then 0 else moved_address d x
 
 -- a section whose address and pointers are those in the stripped file
 unfoldable pub section_adjusted : ℕ → Section → Section
 section_adjusted d s = record s {
-  virtual_address = moved d s.virtual_address;
+  virtual_address = moved_address d s.virtual_address;
   pointer_to_raw_data = pointer_moved d s.pointer_to_raw_data;
   pointer_to_relocations = pointer_moved d s.pointer_to_relocations;
   pointer_to_linenumbers = pointer_moved d s.pointer_to_linenumbers;

@@ -5,7 +5,7 @@ use Rattle.goblin_base.specs.declared.error.CauseOf.TheVariants.{StrippedSize}
 use Rattle.goblin_base.specs.Reading.{Reading}
 use Rattle.goblin_base.proofs.Readings.{malformed-not_memory}
 use Rattle.readings.specs.Reads.{◌>>=◌, checked, each, mapped, needs, record_at}
-use Rattle.goblin_pe_sect.specs.SectionReadings.{section_at}
+use Rattle.goblin_pe_sect.specs.SectionReadings.{named_section_at}
 use Rattle.goblin_pe_sect.specs.SectionTable.{Section}
 use Rattle.goblin_pe_head.specs.declared.header.te.TeHeader.{TeHeader}
 use Rattle.goblin_pe_head.specs.CoffReadings.{with_room}
@@ -28,8 +28,9 @@ te_header p =
 
 -- the section at p: as stored, or as it is in a file whose front was stripped
 abbrev pub moved_section : Option ℕ → Bool → ℕ → ℕ → Reading Section
-moved_section None strict table p = section_at strict table p
-moved_section (Some d) strict table p = mapped (section_adjusted d) (section_at strict table p)
+moved_section None strict table p = named_section_at strict table p
+moved_section (Some d) strict table p =
+    mapped (section_adjusted d) (named_section_at strict table p)
 
 -- n sections, each as `moved_section` has it, whose records follow one another from p on, with
 -- their names from the string table at `table`

@@ -13,10 +13,10 @@ use Rattle.goblin_pe_import.specs.declared.import.imports.Walk.{Walk}
 use Rattle.goblin_pe_import.specs.declared.import.imports.WalkedImport.{WalkedImport}
 use Rattle.goblin_pe_sect.specs.Addresses.{map_of, offset_of, reads_strictly}
 use Rattle.goblin_pe_import.specs.ImportEntries.{EntryValue}
-use Rattle.goblin_pe_import.specs.ImportReadings.{libraries_at, record_here}
+use Rattle.goblin_pe_import.specs.ImportReadings.{import_record_at, libraries_at}
 use Rattle.goblin_pe_import.specs.ImportRecords.{lookup_offset}
 use Rattle.goblin_pe_import.specs.LookupReadings.{lookup_table}
-use Rattle.goblin_pe_import.specs.ImportWalks.{GivesImport, IsCauseAt, IsCauseBy, IsEntriesCause, IsLaterCause, IsOver}
+use Rattle.goblin_pe_import.specs.ImportWalks.{AreImportsOver, GivesImport, IsCauseAt, IsCauseBy, IsEntriesCause, IsLaterCause}
 use Rattle.goblin_pe_import.specs.ImportWalks.{IsAfterImport, IsAtEnd}
 use Rattle.goblin_pe_import.specs.ImportWalks.{IsNamedCause, IsPlaced, IsRecordCause, IsRecordsCause, IsWalkCause}
 use Rattle.goblin_pe_import.specs.ImportWalks.{IsWalkFault, addresses_of, begin_at, entries_from, library_name}
@@ -51,7 +51,7 @@ module _ (strict : Bool) (format : Format EntryValue) (offset_of : ℕ → Optio
 
   record-not_memory : (slot : Option ℕ) (p : ℕ) (entry : Option ImportDirectoryEntry)
       → IsRecordCause strict format offset_of bytes slot p entry e → ¬ IsMemory e
-  record-not_memory slot p None fault = (record_here p).not_memory bytes e fault
+  record-not_memory slot p None fault = (import_record_at p).not_memory bytes e fault
   record-not_memory slot p (Some r) fault =
       let name = library_name strict offset_of r in
       first_no_memory (name.value bytes) (name.IsCause bytes)
@@ -63,12 +63,12 @@ module _ (strict : Bool) (format : Format EntryValue) (offset_of : ℕ → Optio
       → IsCauseBy strict format offset_of bytes p slot e → ¬ IsMemory e
   by_slot-not_memory p None fault = (libraries_at strict format offset_of p).not_memory bytes e fault
   by_slot-not_memory p (Some place) fault =
-      record-not_memory (Some place) p ((record_here p).value bytes) fault
+      record-not_memory (Some place) p ((import_record_at p).value bytes) fault
 
   position-not_memory : (position : Option ImportPosition)
       → IsCauseAt strict format offset_of bytes position e → ¬ IsMemory e
   position-not_memory None fault = absurd fault
-  position-not_memory (Some at) fault = by_slot-not_memory at.«record» at.slot fault
+  position-not_memory (Some at) fault = by_slot-not_memory at.record_offset at.slot_offset fault
 
 walk-not_memory : (format : Format EntryValue) (w : Walk) (e : ErrorOf) → IsWalkCause format w e
     → ¬ IsMemory e
@@ -77,7 +77,7 @@ walk-not_memory format w e fault =
     let strict = reads_strictly m in
     let bytes = w.bytes.now in
     let table = untested_table strict format (offset_of m) w.untested in
-    first_no_memory (all_of (entries_from strict format (offset_of m) bytes w.offset w.place))
+    first_no_memory (all_of (entries_from strict format (offset_of m) bytes w.table_offset w.place))
     (IsEntriesCause strict format (offset_of m) bytes w.place)
     (λ _. IsLaterCause strict format (offset_of m) bytes w.untested w.next) e
     (entries-not_memory strict format (offset_of m) bytes e w.place)
@@ -95,7 +95,7 @@ pub import-given : {T : Type 0} (format : Format EntryValue) (s t : Imports T)
     (result : Option (Result WalkedImport ErrorOf))
     → GivesNext walked_value (walk_left format) (IsWalkCause format) s.walk result t.walk
     → (IsPlaced format s.walk → IsPlaced format t.walk × IsAfterImport result t)
-    → IsOver s.walk.bytes.now (map_of s.walk.finder) t → IsAtEnd result t
+    → AreImportsOver s.walk.bytes.now (map_of s.walk.finder) t → IsAtEnd result t
     → GivesImport format s result t
 import-given format s t None given placed over ended = (given, placed, tt, over, ended)
 import-given format s t (Some (Ok import)) given placed over ended = (given, placed, tt, over, tt)

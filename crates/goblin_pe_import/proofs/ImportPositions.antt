@@ -27,8 +27,8 @@ use Rattle.goblin_pe_import.specs.ImportRecords.{address_table_rva, import_recor
 use Rattle.goblin_pe_import.specs.Imports.{ImportValue}
 use Rattle.goblin_pe_import.specs.ImportWalks.{IsCauseAt, IsEntriesCause, IsInTable, IsLaterCause}
 use Rattle.goblin_pe_import.specs.ImportWalks.{IsLibraryBy, IsPlaced, IsWalkCause, entries_from}
-use Rattle.goblin_pe_import.specs.ImportWalks.{IsRecordCause, imports_at, imports_from}
-use Rattle.goblin_pe_import.specs.ImportWalks.{imports_in, later_items, library_items}
+use Rattle.goblin_pe_import.specs.ImportWalks.{IsRecordCause, imports_at, imports_from_record}
+use Rattle.goblin_pe_import.specs.ImportWalks.{imports_of_entries, later_items, library_items}
 use Rattle.goblin_pe_import.specs.ImportWalks.{begin_at, position_by, walk_left}
 use Rattle.goblin_pe_import.proofs.ImportsWalk.{IsWholeCause, cause-again, cause-entered}
 use Rattle.goblin_pe_import.proofs.ImportsWalk.{from_record, imports-once, parts_left, walk-entered, whole}
@@ -47,13 +47,13 @@ module _ (format : Format EntryValue) (w : Walk) where
   abbrev left_by : Option ℕ → Option ImportPosition → List (Option ImportValue)
   left_by place next =
       until_refused
-      (imports_in strict format places file w.dll.now w.rva w.offset place
+      (imports_of_entries strict format places file w.dll.now w.rva w.table_offset place
       ++ later_items strict format places file w.untested next)
 
   abbrev IsCauseBy : Option ℕ → Option ImportPosition → ErrorOf → Type 0
   IsCauseBy place next e =
       (strict ≡ true)
-      × FirstFault (all_of (entries_from strict format places file w.offset place))
+      × FirstFault (all_of (entries_from strict format places file w.table_offset place))
       (IsEntriesCause strict format places file place)
       (λ _. IsLaterCause strict format places file w.untested next) e
 
@@ -62,28 +62,28 @@ module _ (format : Format EntryValue) (w : Walk) where
 
   module _ (place : ℕ) (at : ImportPosition) (l : IsLibraryBy format w (Some place) (Some at)) where
     abbrev begin : ℕ
-    begin = at.«record» - 20
+    begin = at.record_offset - 20
 
-    past : begin + 20 ≡ at.«record»
+    past : begin + 20 ≡ at.record_offset
     past = omega (arith, l.past)
 
     -- the walk by what its library's record says
     parts : left_by (Some place) (Some at)
-        ≡ whole strict format places file l.entry (Some place) at.«record»
+        ≡ whole strict format places file l.entry (Some place) at.record_offset
     unfolding imports_at
     parts =
         let entered =
-        walk-entered strict format places file l.entry (Some place) at.«record» w.dll.now l.named
+        walk-entered strict format places file l.entry (Some place) at.record_offset w.dll.now l.named
         l.kept in
-        let here : parts_left strict format places file l.entry (Some place) at.«record» w.dll.now
-        l.entry.import_address_table_rva w.offset (Some place) w.untested
-        ≡ whole strict format places file l.entry (Some place) at.«record» =
+        let here : parts_left strict format places file l.entry (Some place) at.record_offset w.dll.now
+        l.entry.import_address_table_rva w.table_offset (Some place) w.untested
+        ≡ whole strict format places file l.entry (Some place) at.record_offset =
         rw (l.tested)
         (subst
         (λ (table : Option ℕ).
-        parts_left strict format places file l.entry (Some place) at.«record» w.dll.now
+        parts_left strict format places file l.entry (Some place) at.record_offset w.dll.now
         l.entry.import_address_table_rva (unwrap_or table 0) (begin_at (Some place) table) (Some (address_table_rva l.entry))
-        ≡ whole strict format places file l.entry (Some place) at.«record»)
+        ≡ whole strict format places file l.entry (Some place) at.record_offset)
         l.table entered) in
         rw (← l.addresses, l.first) here
 
@@ -94,10 +94,10 @@ module _ (format : Format EntryValue) (w : Walk) where
         parts
         ∙ sym (ap (from_record strict format places file begin (Some place)) l.is
         ∙ slot-going strict is_last_record (library_items strict format places file (Some place))
-        (imports_from strict format places file (begin + 20)) l.entry l.going
+        (imports_from_record strict format places file (begin + 20)) l.entry l.going
         ∙ ap
         (λ (p : ℕ). until_refused (library_items strict format places file (Some place) l.entry
-        ++ imports_from strict format places file p)) past)
+        ++ imports_from_record strict format places file p)) past)
 
   placed-by : (place : Option ℕ) (next : Option ImportPosition) → IsLibraryBy format w place next
       → (place ≡ None → w.untested ≡ None)
@@ -113,7 +113,7 @@ module _ (format : Format EntryValue) (w : Walk) where
           → until_refused (imports_at strict format places file next)
           ≡ imports_at strict format places file next
       once None = refl
-      once (Some at) = imports-once strict format places file at.«record» at.slot
+      once (Some at) = imports-once strict format places file at.record_offset at.slot_offset
   placed-by (Some place) None l tested = absurd l
   placed-by (Some place) (Some at) l tested = placed-in place at l
 
@@ -129,7 +129,7 @@ module _ (format : Format EntryValue) (w : Walk) where
         (entries_from strict format places file (unwrap_or table 0) (begin_at (Some place) table)))
         (IsEntriesCause strict format places file (begin_at (Some place) table))
         (λ _. IsLaterCause strict format places file untested
-        (Some (record { «record» = at.«record»; slot = slot }))) e
+        (Some (record { record_offset = at.record_offset; slot_offset = slot }))) e
 
     abbrev address : Option ℕ
     address = Some (address_table_rva l.entry)
@@ -146,10 +146,10 @@ module _ (format : Format EntryValue) (w : Walk) where
     cause-in fault =
         let parts =
         subst (λ (table : Option ℕ). IsCauseIn table address None) (sym l.table)
-        (subst (λ (untested : Option ℕ). IsCauseIn (Some w.offset) untested None) l.tested
-        (subst (λ (slot : Option ℕ). IsCauseIn (Some w.offset) w.untested slot) l.first fault)) in
+        (subst (λ (untested : Option ℕ). IsCauseIn (Some w.table_offset) untested None) l.tested
+        (subst (λ (slot : Option ℕ). IsCauseIn (Some w.table_offset) w.untested slot) l.first fault)) in
         let whole =
-        cause-entered strict format places file l.entry (Some place) at.«record» w.dll.now l.named
+        cause-entered strict format places file l.entry (Some place) at.record_offset w.dll.now l.named
         l.kept e parts in (
           whole.0,
           subst IsRecord (sym l.is) (l.going, subst IsWhole (sym (past place at l)) whole.1),
@@ -160,10 +160,10 @@ module _ (format : Format EntryValue) (w : Walk) where
     cause-out fault =
         let here = subst IsRecord l.is fault.1 in
         let parts =
-        cause-again strict format places file l.entry (Some place) at.«record» w.dll.now l.named
+        cause-again strict format places file l.entry (Some place) at.record_offset w.dll.now l.named
         l.kept e (fault.0, subst IsWhole (past place at l) here.1) in
-        subst (λ (slot : Option ℕ). IsCauseIn (Some w.offset) w.untested slot) (sym l.first)
-        (subst (λ (untested : Option ℕ). IsCauseIn (Some w.offset) untested None) (sym l.tested)
+        subst (λ (slot : Option ℕ). IsCauseIn (Some w.table_offset) w.untested slot) (sym l.first)
+        (subst (λ (untested : Option ℕ). IsCauseIn (Some w.table_offset) untested None) (sym l.tested)
         (subst (λ (table : Option ℕ). IsCauseIn table address None) l.table parts))
 
   -- which of the two is true of the other
@@ -223,7 +223,7 @@ module _ (format : Format EntryValue) (w : Walk) where
   in-table-by None next l inside = absurd inside
   in-table-by (Some place) None l inside = absurd l
   in-table-by (Some place) (Some at) l inside =
-      let there = record_at-some 20 (import_record Little) file (at.«record» - 20) l.entry l.is in
+      let there = record_at-some 20 (import_record Little) file (at.record_offset - 20) l.entry l.is in
       (there.start, inside)
 
   pub in-table : IsPlaced format w → IsSomeAnd w.place (λ place. 0 < place)
@@ -266,10 +266,10 @@ module _ (m : MapOfAddresses) (format : Format EntryValue) (bytes : List ℕ) (r
 
   pub begins-past : {T : Type 0} (o : ℕ) → found ≡ Some o
       → (not (reads_strictly m) && o == 0) ≡ false → (it : Imports T)
-      → GoesOnAt m format bytes (Some (record { «record» = o; slot = None })) it
+      → GoesOnAt m format bytes (Some (record { record_offset = o; slot_offset = None })) it
       → BeginsAt m format bytes first (Ok it)
   begins-past o at past it goes =
-      let here : first_position (reads_strictly m) o ≡ Some (record { «record» = o; slot = None }) =
+      let here : first_position (reads_strictly m) o ≡ Some (record { record_offset = o; slot_offset = None }) =
       rw past refl in
       begins-at o at it
       (subst (λ (p : Option ImportPosition). GoesOnAt m format bytes p it) (sym here) goes)

@@ -14,7 +14,7 @@ use Rattle.goblin_pe_import.specs.ImportEntries.{EntryValue}
 use Rattle.goblin_pe_import.specs.Imports.{ImportValue}
 use Rattle.goblin_pe_import.specs.ImportWalks.{GivesLibrary, IsEntriesCause, IsInLibrary, IsLaterCause}
 use Rattle.goblin_pe_import.specs.ImportWalks.{IsPlaced, IsWalkCause, KeptValue, bound_at}
-use Rattle.goblin_pe_import.specs.ImportWalks.{entries_from, imports_at, kept_import, kept_value, later_items, led, moved}
+use Rattle.goblin_pe_import.specs.ImportWalks.{entries_from, imports_at, kept_import, kept_value, later_items, walk_answer, walk_at}
 use Rattle.goblin_pe_import.specs.ImportWalks.{place_after, walk_bound, walk_left}
 
 one_before : {A : Type 0} (x : A) (o : Option (List A)) (IsNow IsNext IsLater : ErrorOf → Type 0)
@@ -43,9 +43,9 @@ GivesBy format s map r =
     r
 
 -- what holds of the walk that a call has led to
-pub led-ok : (P : Walk → Type 0) (t : Walk) (r : Result Unit ErrorOf) → P t → IfOk (led t r) P
-led-ok P t (Ok x) holds = holds
-led-ok P t (Err e) holds = tt
+pub walk_answer-ok : (P : Walk → Type 0) (t : Walk) (r : Result Unit ErrorOf) → P t → IfOk (walk_answer t r) P
+walk_answer-ok P t (Ok x) holds = holds
+walk_answer-ok P t (Err e) holds = tt
 
 pub imports-start : (format : Format EntryValue) (start : Walk) → AtImports format start start
 imports-start format start = record {
@@ -76,7 +76,7 @@ module _ (format : Format EntryValue) (start s : Walk) (h : AtImports format sta
   places = offset_of (map_of s.finder)
 
   abbrev left : Option ℕ → List (Option KeptValue)
-  left = entries_from strict format places s.bytes.now s.offset
+  left = entries_from strict format places s.bytes.now s.table_offset
 
   abbrev IsCause : Option ℕ → ErrorOf → Type 0
   IsCause = IsEntriesCause strict format places s.bytes.now
@@ -98,10 +98,10 @@ module _ (format : Format EntryValue) (start s : Walk) (h : AtImports format sta
         steps = subst (λ (q : Result KeptEntry ErrorOf). Steps (Some q)) is given
 
         abbrev item : ImportValue
-        item = kept_import format.width s.dll.now s.rva s.offset (kept_value kept)
+        item = kept_import format.width s.dll.now s.rva s.table_offset (kept_value kept)
 
-        pub next-one : (walk_left format start ≡ Some item ∷ walk_left format (moved s place))
-            × ((e : ErrorOf) → IsWalkCause format (moved s place) e → IsWalkCause format start e)
+        pub next-one : (walk_left format start ≡ Some item ∷ walk_left format (walk_at s place))
+            × ((e : ErrorOf) → IsWalkCause format (walk_at s place) e → IsWalkCause format start e)
         unfolding until_refused all_of
         next-one = (
           h.same ∙ rw (steps.0, to) refl,

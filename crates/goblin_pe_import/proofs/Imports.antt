@@ -14,7 +14,7 @@ use Rattle.goblin_base.proofs.Steps.{all_at-more, all_at-none, all_at-zero, unma
 use Rattle.goblin_pe_sect.proofs.First.{found_at_first, found_passes, none_passes}
 use Rattle.goblin_pe_import.specs.ImportLookup.{LookupEntry}
 use Rattle.goblin_pe_import.specs.ImportDirectory.{ImportedLibrary}
-use Rattle.goblin_pe_import.specs.Imports.{ImportValue, IsImportsFault, IsSlotCount, first_without_slots, has_slots, import_at, import_of, import_offset, imports_by, imports_of, kept_count, kept_entries, library_imports}
+use Rattle.goblin_pe_import.specs.Imports.{ImportValue, IsImportListFault, IsSlotCount, first_without_slots, has_slots, import_at, import_of, import_offset, imports_by, imports_of, kept_count, kept_entries, library_imports}
 
 -- what a test says of that whose opposite it is
 pub opposite : (last valid v : Bool) → valid ≡ not last → valid ≡ not v → last ≡ v
@@ -113,7 +113,7 @@ slots-there libraries i library none here = not-false (has_slots library) (none_
 
 -- and that is a true cause
 pub slots-refused : (size : ℕ) (libraries : List ImportedLibrary) (library : ImportedLibrary) (entries slots : ℕ) → first_without_slots libraries ≡ Some library → entries ≡ length (kept_entries library) → slots ≡ length library.import_lookup_slots
-    → (imports_of size libraries ≡ None) × IsImportsFault libraries (Malformed (SlotCount entries slots))
+    → (imports_of size libraries ≡ None) × IsImportListFault libraries (Malformed (SlotCount entries slots))
 slots-refused size libraries library entries slots is e s =
     (slots-missing size libraries library is, inl (subst (λ o. IsSomeAnd o (λ l. IsSlotCount l (Malformed (SlotCount entries slots)))) (sym is) (e, s)))
 

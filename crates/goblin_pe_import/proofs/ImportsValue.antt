@@ -37,7 +37,7 @@ use Rattle.goblin_pe_import.specs.ImportReadings.{libraries_past_front, library_
 use Rattle.goblin_pe_import.specs.ImportRecords.{ImportedLibrary, import_record, import_slots, lookup_offset}
 use Rattle.goblin_pe_import.specs.Imports.{ImportValue, import_at, import_of, imports_by, kept_imports}
 use Rattle.goblin_pe_import.specs.ImportWalks.{IsCauseAt, KeptValue, addresses_of}
-use Rattle.goblin_pe_import.specs.ImportWalks.{begin_at, entries_from, imports_at, imports_from}
+use Rattle.goblin_pe_import.specs.ImportWalks.{begin_at, entries_from, imports_at, imports_from_record}
 use Rattle.goblin_pe_import.specs.ImportWalks.{kept_at, kept_import, library_items}
 use Rattle.goblin_pe_import.specs.ImportWalks.{library_name}
 use Rattle.goblin_pe_import.specs.LookupReadings.{kept_entry}
@@ -384,9 +384,9 @@ module _ (strict : Bool) (format : Format EntryValue) (offset_of : ℕ → Optio
         ∙ join-mapped imports_in (each_below (λ i. record_at i >>= piece) n) (record_at n >>= piece)
 
     -- collecting a walk over all imports gives those of the directory's libraries
-    pub imports-value : all_of (imports_from strict format offset_of bytes o)
+    pub imports-value : all_of (imports_from_record strict format offset_of bytes o)
         ≡ (mapped (flat_map imports_in) (libraries_at strict format offset_of o)).value bytes
-    unfolding imports_from table_walk slot_table
+    unfolding imports_from_record table_walk slot_table
     imports-value =
         let n = stop import_slots bytes o in
         let end = record_at n in
@@ -407,10 +407,10 @@ same_option (Some x) = refl
 pub imports-walked : (strict : Bool) (format : Format EntryValue) (offset_of : ℕ → Option ℕ)
     (bytes : List ℕ) (o : ℕ) → 1 ≤ format.width → length bytes < 2 ^ 63 → IsBytes bytes
     → (left : List (Option ImportValue)) (IsCause : ErrorOf → Type 0)
-    → left ≡ imports_at strict format offset_of bytes (Some (record { «record» = o; slot = None }))
+    → left ≡ imports_at strict format offset_of bytes (Some (record { record_offset = o; slot_offset = None }))
     → ((e : ErrorOf) → IsCause e
     → (strict ≡ true)
-    × IsCauseAt strict format offset_of bytes (Some (record { «record» = o; slot = None })) e)
+    × IsCauseAt strict format offset_of bytes (Some (record { record_offset = o; slot_offset = None })) e)
     → IsWalkOf (λ xs. xs)
     (mapped (flat_map (kept_imports (λ x. x) format.width)) (libraries_at strict format offset_of o))
     bytes left IsCause

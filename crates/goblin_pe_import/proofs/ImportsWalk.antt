@@ -20,7 +20,7 @@ use Rattle.goblin_pe_import.specs.declared.import.directory_entry.ImportDirector
 use Rattle.goblin_pe_import.specs.declared.import.imports.ImportPosition.{ImportPosition}
 use Rattle.goblin_pe_import.specs.declared.import.imports.Walk.{Walk}
 use Rattle.goblin_pe_import.specs.ImportEntries.{EntryValue, LookupEntry}
-use Rattle.goblin_pe_import.specs.ImportReadings.{kept_library, library_of, lookup_if, record_here}
+use Rattle.goblin_pe_import.specs.ImportReadings.{import_record_at, kept_library, library_of, lookup_if}
 use Rattle.goblin_pe_import.specs.ImportRecords.{address_table_rva, import_slots, is_last_record}
 use Rattle.goblin_pe_import.specs.ImportRecords.{lookup_offset}
 use Rattle.goblin_pe_import.specs.Imports.{ImportValue}
@@ -29,7 +29,7 @@ use Rattle.goblin_pe_import.specs.ImportWalks.{IsLaterCause, IsNamedCause, IsRec
 use Rattle.goblin_pe_import.specs.ImportWalks.{KeptValue, addresses_of, begin_at, bound_at, bound_by}
 use Rattle.goblin_pe_import.specs.ImportWalks.{entries_from, imports_at, one_if, records_bound, slots_bound}
 use Rattle.goblin_pe_import.specs.ImportWalks.{walk_bound}
-use Rattle.goblin_pe_import.specs.ImportWalks.{imports_by_slot, imports_from, imports_in}
+use Rattle.goblin_pe_import.specs.ImportWalks.{imports_by_slot, imports_from_record, imports_of_entries}
 use Rattle.goblin_pe_import.specs.ImportWalks.{later_items, library_items, library_name, untested_table}
 use Rattle.goblin_pe_import.proofs.LookupWalk.{in_two, lookup_walked}
 use Rattle.goblin_pe_import.proofs.PermissiveReads.{name_strict}
@@ -87,17 +87,17 @@ module _ (strict : Bool) (format : Format EntryValue) (offset_of : ℕ → Optio
 
   module _ (p : ℕ) where
     abbrev slots : Option ImportDirectoryEntry
-    slots = (record_here p).value bytes
+    slots = (import_record_at p).value bytes
 
     -- what comes from a slot of the library of the record at p on
     abbrev pub from_record : Option ℕ → Option ImportDirectoryEntry → List (Option ImportValue)
     from_record slot entry =
         from_slot strict is_last_record (library_items strict format offset_of bytes slot)
-        (imports_from strict format offset_of bytes (p + 20)) entry
+        (imports_from_record strict format offset_of bytes (p + 20)) entry
 
     pub imports-slot : (slot : Option ℕ)
         → imports_by_slot strict format offset_of bytes p slot ≡ from_record slot slots
-    unfolding imports_from
+    unfolding imports_from_record
     imports-slot None =
         walk-slot import_slots (λ p r. library_items strict format offset_of bytes None r) bytes strict
         (lit≤ tt) p slots refl
@@ -108,7 +108,7 @@ module _ (strict : Bool) (format : Format EntryValue) (offset_of : ℕ → Optio
         ≡ imports_by_slot strict format offset_of bytes p slot
     imports-once slot =
         rw (imports-slot slot) (slot-once strict is_last_record (library_items strict format offset_of bytes slot)
-        (imports_from strict format offset_of bytes (p + 20)) slots)
+        (imports_from_record strict format offset_of bytes (p + 20)) slots)
 
     -- a cause that is true of the rest of a directory from its first entry on is true of it
     pub cause-record : 1 ≤ format.width → strict ≡ true → (slot : Option ℕ) (e : ErrorOf)
@@ -117,7 +117,7 @@ module _ (strict : Bool) (format : Format EntryValue) (offset_of : ℕ → Optio
     unfolding library_of lookup_if
     cause-record wide is (Some place) e fault = fault
     cause-record wide is None e fault =
-        cause-slot import_slots (kept_library strict format offset_of) bytes strict record_here
+        cause-slot import_slots (kept_library strict format offset_of) bytes strict import_record_at
         (lit≤ tt) p slots refl e (in_slot slots fault)
       where
         in_table : (at : Option ℕ) {A : Type 0} (o : Option A) (IsLater : ErrorOf → Type 0)
@@ -130,7 +130,7 @@ module _ (strict : Bool) (format : Format EntryValue) (offset_of : ℕ → Optio
         in_slot : (entry : Option ImportDirectoryEntry)
             → IsRecordCause strict format offset_of bytes None p entry e
             → IsSlotCause strict is_last_record (λ r. (kept_library strict format offset_of r).value bytes)
-            ((record_here p).IsCause bytes)
+            ((import_record_at p).IsCause bytes)
             (λ r. (kept_library strict format offset_of r).IsCause bytes)
             (IsRecordsCause strict format offset_of bytes (p + 20)) entry e
         in_slot None fault = (is, fault)
@@ -187,7 +187,7 @@ module _ (strict : Bool) (format : Format EntryValue) (offset_of : ℕ → Optio
   whole =
       until_refused
       (library_items strict format offset_of bytes slot r
-      ++ imports_from strict format offset_of bytes next)
+      ++ imports_from_record strict format offset_of bytes next)
 
   abbrev pub IsWholeCause : ErrorOf → Type 0
   IsWholeCause e =
@@ -196,13 +196,13 @@ module _ (strict : Bool) (format : Format EntryValue) (offset_of : ℕ → Optio
       (IsRecordsCause strict format offset_of bytes next)) e
 
   abbrev after : Option ImportPosition
-  after = Some (record { «record» = next; slot = None })
+  after = Some (record { record_offset = next; slot_offset = None })
 
   -- what is left of a walk of these parts
   abbrev pub parts_left : List ℕ → ℕ → ℕ → Option ℕ → Option ℕ → List (Option ImportValue)
   parts_left dll rva o at untested =
       until_refused
-      (imports_in strict format offset_of bytes dll rva o at
+      (imports_of_entries strict format offset_of bytes dll rva o at
       ++ later_items strict format offset_of bytes untested after)
 
   abbrev pub IsPartsCause : ℕ → Option ℕ → Option ℕ → ErrorOf → Type 0
@@ -256,9 +256,9 @@ module _ (strict : Bool) (format : Format EntryValue) (offset_of : ℕ → Optio
     unfolding library_items imports_at
     walk-entered =
         let imports =
-        imports_in strict format offset_of bytes dll r.import_address_table_rva (unwrap_or at 0)
+        imports_of_entries strict format offset_of bytes dll r.import_address_table_rva (unwrap_or at 0)
         (begin_at slot at) in
-        let later = imports_from strict format offset_of bytes next in
+        let later = imports_from_record strict format offset_of bytes next in
         rw (kept, named)
         (ap until_refused
         (ap (λ (items : List (Option ImportValue)). imports ++ (items ++ later))
@@ -359,33 +359,33 @@ module _ (strict : Bool) (format : Format EntryValue) (offset_of : ℕ → Optio
 
     module _ (wide : 1 ≤ format.width) (next : ImportPosition) where
       abbrev p : ℕ
-      p = next.«record»
+      p = next.record_offset
 
       abbrev of_library : ImportDirectoryEntry → List (Option ImportValue)
-      of_library = library_items strict format offset_of bytes next.slot
+      of_library = library_items strict format offset_of bytes next.slot_offset
 
       abbrev from_next : List (Option ImportValue)
-      from_next = imports_from strict format offset_of bytes (p + 20)
+      from_next = imports_from_record strict format offset_of bytes (p + 20)
 
       by_record : (entry : Option ImportDirectoryEntry) → reads import_slots bytes p ≡ entry
           → later (Some next)
-          ≡ from_record strict format offset_of bytes p next.slot entry
+          ≡ from_record strict format offset_of bytes p next.slot_offset entry
       unfolding imports_at
       by_record entry r =
-          later-from (Some next) ∙ imports-once strict format offset_of bytes p next.slot
-          ∙ imports-slot strict format offset_of bytes p next.slot
-          ∙ ap (from_record strict format offset_of bytes p next.slot) r
+          later-from (Some next) ∙ imports-once strict format offset_of bytes p next.slot_offset
+          ∙ imports-slot strict format offset_of bytes p next.slot_offset
+          ∙ ap (from_record strict format offset_of bytes p next.slot_offset) r
 
       by_cause : (entry : Option ImportDirectoryEntry) → reads import_slots bytes p ≡ entry
           → strict ≡ true → (e : ErrorOf)
-          → IsRecordCause strict format offset_of bytes next.slot p entry e
+          → IsRecordCause strict format offset_of bytes next.slot_offset p entry e
           → IsCause (Some next) e
       by_cause entry r is e fault =
           later-cause (Some next) e
-          (cause-record strict format offset_of bytes p wide is next.slot e
+          (cause-record strict format offset_of bytes p wide is next.slot_offset e
           (subst
           (λ (entry : Option ImportDirectoryEntry).
-          IsRecordCause strict format offset_of bytes next.slot p entry e) (sym r) fault))
+          IsRecordCause strict format offset_of bytes next.slot_offset p entry e) (sym r) fault))
 
       pub later-end : (entry : Option ImportDirectoryEntry) → reads import_slots bytes p ≡ entry
           → ends_table is_last_record entry ≡ true → (strict && not (is_some entry)) ≡ false
@@ -394,7 +394,7 @@ module _ (strict : Bool) (format : Format EntryValue) (offset_of : ℕ → Optio
           by_record entry r ∙ slot-end strict is_last_record of_library from_next entry z there
 
       pub later-missing : (e : ErrorOf) → reads import_slots bytes p ≡ None → strict ≡ true
-          → (record_here p).IsCause bytes e
+          → (import_record_at p).IsCause bytes e
           → (later (Some next) ≡ None ∷ []) × (strict ≡ true) × IsCause (Some next) e
       later-missing e r m fault = (
         by_record None r ∙ slot-missing strict is_last_record of_library from_next m,
@@ -407,10 +407,10 @@ module _ (strict : Bool) (format : Format EntryValue) (offset_of : ℕ → Optio
           → is_last_record v ≡ false → {S : Type 0} (left : S → List (Option ImportValue))
           (IsLeft : S → ErrorOf → Type 0) (result : Result S ErrorOf)
           → MatchResult result
-          (λ t. (left t ≡ whole strict format offset_of bytes v next.slot (p + 20))
+          (λ t. (left t ≡ whole strict format offset_of bytes v next.slot_offset (p + 20))
           × ((e : ErrorOf) → IsLeft t e
-          → (strict ≡ true) × IsWholeCause strict format offset_of bytes v next.slot (p + 20) e))
-          (λ e. (library_items strict format offset_of bytes next.slot v ≡ None ∷ [])
+          → (strict ≡ true) × IsWholeCause strict format offset_of bytes v next.slot_offset (p + 20) e))
+          (λ e. (library_items strict format offset_of bytes next.slot_offset v ≡ None ∷ [])
           × (strict ≡ true)
           × ((library_name strict offset_of v).value bytes ≡ None)
           × (library_name strict offset_of v).IsCause bytes e)
@@ -427,7 +427,7 @@ module _ (strict : Bool) (format : Format EntryValue) (offset_of : ℕ → Optio
         by_record (Some v) r ∙ slot-going strict is_last_record of_library from_next v going
             ∙ ap
             (λ (xs : List (Option ImportValue)). until_refused
-            (xs ++ imports_from strict format offset_of bytes (p + 20)))
+            (xs ++ imports_from_record strict format offset_of bytes (p + 20)))
             h.0,
         (h.1, by_cause (Some v) r h.1 e (going, rw (h.2) (h.3))),
       )
@@ -451,20 +451,20 @@ fewer n p x y inside few one =
     omega (arith, few, one, more)
 
 -- a walk that goes on in the library of the record at a position
-pub bound-given : (bytes : List ℕ) (at : ImportPosition) → at.«record» + 20 ≤ length bytes
+pub bound-given : (bytes : List ℕ) (at : ImportPosition) → at.record_offset + 20 ≤ length bytes
     → (r : Result Walk ErrorOf) → IfOk r (λ t. t.bytes.now ≡ bytes)
-    → IfOk r (λ t. t.next ≡ Some (record { «record» = at.«record» + 20; slot = None }))
-    → IfOk r (λ t. IfSome t.place (λ place. IfSome at.slot (λ slot. place ≡ slot)))
+    → IfOk r (λ t. t.next ≡ Some (record { record_offset = at.record_offset + 20; slot_offset = None }))
+    → IfOk r (λ t. IfSome t.place (λ place. IfSome at.slot_offset (λ slot. place ≡ slot)))
     → IfOk r (λ t. walk_bound t ≤ bound_at bytes (Some at))
 bound-given bytes at inside (Err e) same next place = tt
 bound-given bytes at inside (Ok t) same next place =
-    rw (same, next) (by_slot at.slot t.place place)
+    rw (same, next) (by_slot at.slot_offset t.place place)
   where
     by_slot : (slot place : Option ℕ) → IfSome place (λ place. IfSome slot (λ slot. place ≡ slot))
-        → slots_bound bytes place + one_if t.untested + records_bound bytes (at.«record» + 20)
-        ≤ bound_by bytes at.«record» slot
+        → slots_bound bytes place + one_if t.untested + records_bound bytes (at.record_offset + 20)
+        ≤ bound_by bytes at.record_offset slot
     by_slot None place is =
-        fewer (length bytes) at.«record» (slots_bound bytes place) (one_if t.untested) inside
+        fewer (length bytes) at.record_offset (slots_bound bytes place) (one_if t.untested) inside
         (slots_few bytes place) (one_few t.untested)
     by_slot (Some s) None is = omega (arith, one_few t.untested)
     by_slot (Some s) (Some p) is = omega (arith, is, one_few t.untested)

@@ -14,7 +14,7 @@ use Rattle.goblin_pe_import.specs.ImportEntries.LookupEntry.{ByOrdinal}
 use Rattle.goblin_pe_sect.specs.AddressReadings.{at_address}
 use Rattle.goblin_pe_import.specs.ImportReadings.{kept_library, libraries_at}
 use Rattle.goblin_pe_sect.specs.AddressReadings.{name_at}
-use Rattle.goblin_pe_import.specs.ImportReadings.{library_of, lookup_if, record_here}
+use Rattle.goblin_pe_import.specs.ImportReadings.{import_record_at, library_of, lookup_if}
 use Rattle.goblin_pe_import.specs.LookupReadings.{address_table, hint_name, kept_entry, kept_name}
 use Rattle.goblin_pe_import.specs.LookupReadings.{lookup_entry_at, lookup_table, lookup_with_slots}
 use Rattle.goblin_pe_import.specs.declared.import.directory_entry.ImportDirectoryEntry.{ImportDirectoryEntry}
@@ -74,7 +74,7 @@ module _ (offset_of : ℕ → Option ℕ) where
     pub libraries_at-repeats : (o : ℕ)
         → Repeats (libraries_at true format offset_of o) (libraries_at false format offset_of o)
     libraries_at-repeats o =
-        repeats-table import_slots record_here record_here (kept_library true format offset_of)
+        repeats-table import_slots import_record_at import_record_at (kept_library true format offset_of)
         (kept_library false format offset_of) o
         (λ r. repeats-or_left_out _ _ (library_repeats r))
 

@@ -18,7 +18,7 @@ use Rattle.goblin_pe_import.specs.declared.import.imports.Imports.{Imports}
 -- directory is at the front of the file.
 abbrev pub first_position : Bool → ℕ → Option ImportPosition
 first_position strict o =
-    if not strict && o == 0 then None else Some (record { «record» = o; slot = None })
+    if not strict && o == 0 then None else Some (record { record_offset = o; slot_offset = None })
 
 -- The position of the first import of a directory at an address. Permissive mode treats an address
 -- without an offset as one that leads to the front of the file.

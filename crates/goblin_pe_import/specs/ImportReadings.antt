@@ -15,8 +15,8 @@ use Rattle.goblin_pe_import.specs.LookupReadings.{address_table, lookup_with_slo
 use Rattle.goblin_pe_import.specs.declared.import.directory_entry.ImportDirectoryEntry.{ImportDirectoryEntry}
 
 -- the record at an offset
-abbrev pub record_here : ℕ → Reading ImportDirectoryEntry
-record_here p = because (ImportRecordEnd p) (record_at 20 (import_record Little) p)
+abbrev pub import_record_at : ℕ → Reading ImportDirectoryEntry
+import_record_at p = because (ImportRecordEnd p) (record_at 20 (import_record Little) p)
 
 -- the lookup table at an offset with its slots, and nothing where there is no offset
 unfoldable pub lookup_if : Bool → Format EntryValue → (ℕ → Option ℕ) → Option ℕ
@@ -52,7 +52,7 @@ kept_library strict format offset_of r = or_left_out strict (library_of strict f
 abbrev pub libraries_at : Bool → Format EntryValue → (ℕ → Option ℕ) → ℕ
     → Reading (List ImportedLibrary)
 libraries_at strict format offset_of o =
-    table import_slots strict record_here (kept_library strict format offset_of) o
+    table import_slots strict import_record_at (kept_library strict format offset_of) o
 
 -- The libraries of the directory at an offset. Permissive mode treats a directory at the front of
 -- the file as empty.

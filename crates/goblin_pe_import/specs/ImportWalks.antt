@@ -10,11 +10,12 @@ use Rattle.goblin_base.specs.Tables.{Format}
 use Rattle.readings.specs.Reads.{given, or_else, pick}
 use Rattle.readings.specs.Walks.{GivesNext, from_slot, items_of, refusal_of, table_walk}
 use Rattle.readings.specs.Walks.{until_refused}
+use Rattle.goblin_pe_sect.specs.declared.address_map.finder.Finder.{Finder}
 use Rattle.goblin_pe_sect.specs.AddressReadings.{at_address, name_at}
 use Rattle.goblin_pe_sect.specs.Addresses.{MapOfAddresses, map_of, offset_of, reads_strictly}
 use Rattle.goblin_pe_import.specs.ImportEntries.{EntryValue, LookupEntry, entry_slots}
 use Rattle.goblin_pe_import.specs.ImportLookup.{entry_view}
-use Rattle.goblin_pe_import.specs.ImportReadings.{libraries_at, record_here}
+use Rattle.goblin_pe_import.specs.ImportReadings.{import_record_at, libraries_at}
 use Rattle.goblin_pe_import.specs.ImportRecords.{address_table_rva, import_slots, is_last_record}
 use Rattle.goblin_pe_import.specs.ImportRecords.{lookup_offset}
 use Rattle.goblin_pe_import.specs.Imports.{ImportValue, import_of}
@@ -77,7 +78,7 @@ place_after width (Some (Err e)) = None
 
 -- an import that a walk yields
 abbrev pub walked_value : WalkedImport → ImportValue
-walked_value x = import_of x.dll.now x.slot x.offset x.size (entry_view x.entry)
+walked_value x = import_of x.dll.now x.slot x.slot_rva x.size (entry_view x.entry)
 
 -- the import of an entry that the lookup table at o keeps, of the library `dll`, whose address
 -- table is at `rva` and has entries of `width` bytes
@@ -86,9 +87,9 @@ kept_import width dll rva o kept =
     import_of dll kept.slot (rva + (kept.place - o)) width kept.entry
 
 -- the imports of the entries from a place on
-abbrev pub imports_in : Bool → Format EntryValue → (ℕ → Option ℕ) → List ℕ → List ℕ → ℕ → ℕ
+abbrev pub imports_of_entries : Bool → Format EntryValue → (ℕ → Option ℕ) → List ℕ → List ℕ → ℕ → ℕ
     → Option ℕ → List (Option ImportValue)
-imports_in strict format offset_of bytes dll rva o place =
+imports_of_entries strict format offset_of bytes dll rva o place =
     map (option_map (kept_import format.width dll rva o))
     (entries_from strict format offset_of bytes o place)
 
@@ -112,7 +113,8 @@ abbrev pub named_items : Bool → Format EntryValue → (ℕ → Option ℕ) →
 named_items strict format offset_of bytes slot r None = None ∷ []
 named_items strict format offset_of bytes slot r (Some dll) =
     let table = lookup_offset offset_of r in
-    imports_in strict format offset_of bytes dll r.import_address_table_rva (unwrap_or table 0)
+    imports_of_entries strict format offset_of bytes dll r.import_address_table_rva
+    (unwrap_or table 0)
     (begin_at slot table)
     ++ refusal_of ((addresses_of format offset_of r).value bytes)
 
@@ -128,25 +130,26 @@ library_items strict format offset_of bytes slot r =
 -- ---- all imports
 
 -- the imports of the libraries whose records are in the directory from a place on
-unfoldable pub imports_from : Bool → Format EntryValue → (ℕ → Option ℕ) → List ℕ → ℕ
+unfoldable pub imports_from_record : Bool → Format EntryValue → (ℕ → Option ℕ) → List ℕ → ℕ
     → List (Option ImportValue)
-imports_from strict format offset_of bytes p =
+imports_from_record strict format offset_of bytes p =
     table_walk import_slots strict (λ p r. library_items strict format offset_of bytes None r) bytes p
 
 -- The imports from a position on: all from a record on, or those of its library from a slot on and
 -- then all from the next record on.
 abbrev pub imports_by_slot : Bool → Format EntryValue → (ℕ → Option ℕ) → List ℕ → ℕ → Option ℕ
     → List (Option ImportValue)
-imports_by_slot strict format offset_of bytes p None = imports_from strict format offset_of bytes p
+imports_by_slot strict format offset_of bytes p None =
+    imports_from_record strict format offset_of bytes p
 imports_by_slot strict format offset_of bytes p (Some place) =
     from_slot strict is_last_record (library_items strict format offset_of bytes (Some place))
-    (imports_from strict format offset_of bytes (p + 20)) ((record_here p).value bytes)
+    (imports_from_record strict format offset_of bytes (p + 20)) ((import_record_at p).value bytes)
 
 unfoldable pub imports_at : Bool → Format EntryValue → (ℕ → Option ℕ) → List ℕ
     → Option ImportPosition → List (Option ImportValue)
 imports_at strict format offset_of bytes None = []
 imports_at strict format offset_of bytes (Some at) =
-    imports_by_slot strict format offset_of bytes at.«record» at.slot
+    imports_by_slot strict format offset_of bytes at.record_offset at.slot_offset
 
 -- which cause is true if one of the libraries whose records are in the directory from a place on is
 -- refused
@@ -170,7 +173,7 @@ IsNamedCause strict format offset_of bytes slot r IsLater e =
 -- the same of the library of the record at p, where there is one
 abbrev pub IsRecordCause : Bool → Format EntryValue → (ℕ → Option ℕ) → List ℕ → Option ℕ → ℕ
     → Option ImportDirectoryEntry → ErrorOf → Type 0
-IsRecordCause strict format offset_of bytes slot p None e = (record_here p).IsCause bytes e
+IsRecordCause strict format offset_of bytes slot p None e = (import_record_at p).IsCause bytes e
 IsRecordCause strict format offset_of bytes slot p (Some r) e =
     let name = library_name strict offset_of r in
     (is_last_record r ≡ false)
@@ -182,14 +185,14 @@ abbrev pub IsCauseBy : Bool → Format EntryValue → (ℕ → Option ℕ) → L
     → ErrorOf → Type 0
 IsCauseBy strict format offset_of bytes p None e = IsRecordsCause strict format offset_of bytes p e
 IsCauseBy strict format offset_of bytes p (Some place) e =
-    IsRecordCause strict format offset_of bytes (Some place) p ((record_here p).value bytes) e
+    IsRecordCause strict format offset_of bytes (Some place) p ((import_record_at p).value bytes) e
 
 -- which cause is true if what comes from a position on is refused
 abbrev pub IsCauseAt : Bool → Format EntryValue → (ℕ → Option ℕ) → List ℕ → Option ImportPosition
     → ErrorOf → Type 0
 IsCauseAt strict format offset_of bytes None e = ⊥
 IsCauseAt strict format offset_of bytes (Some at) e =
-    IsCauseBy strict format offset_of bytes at.«record» at.slot e
+    IsCauseBy strict format offset_of bytes at.record_offset at.slot_offset e
 
 -- ---- how many more may come
 
@@ -211,7 +214,7 @@ bound_by bytes p (Some place) =
 -- no more than this comes from a position on
 abbrev pub bound_at : List ℕ → Option ImportPosition → ℕ
 bound_at bytes None = 0
-bound_at bytes (Some at) = bound_by bytes at.«record» at.slot
+bound_at bytes (Some at) = bound_by bytes at.record_offset at.slot_offset
 
 -- ---- the walk, by what it holds of the library that it is in
 
@@ -243,7 +246,8 @@ walk_left format w =
     let m = map_of w.finder in
     let strict = reads_strictly m in
     until_refused
-    (imports_in strict format (offset_of m) w.bytes.now w.dll.now w.rva w.offset w.place
+    (imports_of_entries strict format (offset_of m) w.bytes.now w.dll.now w.rva
+    w.table_offset w.place
     ++ later_items strict format (offset_of m) w.bytes.now w.untested w.next)
 
 abbrev pub IsWalkCause : Format EntryValue → Walk → ErrorOf → Type 0
@@ -251,7 +255,8 @@ IsWalkCause format w e =
     let m = map_of w.finder in
     let strict = reads_strictly m in
     (strict ≡ true)
-    × FirstFault (all_of (entries_from strict format (offset_of m) w.bytes.now w.offset w.place))
+    × FirstFault
+    (all_of (entries_from strict format (offset_of m) w.bytes.now w.table_offset w.place))
     (IsEntriesCause strict format (offset_of m) w.bytes.now w.place)
     (λ _. IsLaterCause strict format (offset_of m) w.bytes.now w.untested w.next) e
 
@@ -267,23 +272,23 @@ walk_bound w =
 -- how many bytes are left for the records from a position on
 abbrev pub records_left : List ℕ → Option ImportPosition → ℕ
 records_left bytes None = 0
-records_left bytes (Some at) = length bytes - at.«record» + 1
+records_left bytes (Some at) = length bytes - at.record_offset + 1
 
 -- the position of a walk that is in a library at a place, or before one
 abbrev pub position_by : Option ℕ → Option ImportPosition → Option ImportPosition
 position_by None next = next
 position_by (Some place) None = None
 position_by (Some place) (Some at) =
-    Some (record { «record» = at.«record» - 20; slot = Some place })
+    Some (record { record_offset = at.record_offset - 20; slot_offset = Some place })
 
 -- the library whose record stands before a position has this name and these tables
 pub record IsLibrary (strict : Bool) (format : Format EntryValue) (offset_of : ℕ → Option ℕ)
     (bytes dll : List ℕ) (rva offset : ℕ) (untested : Option ℕ) (next : ImportPosition) : Type 0
   where
     pub entry : ImportDirectoryEntry
-    pub past : 20 ≤ next.«record»
-    pub first : next.slot ≡ None
-    pub is : (record_here (next.«record» - 20)).value bytes ≡ Some entry
+    pub past : 20 ≤ next.record_offset
+    pub first : next.slot_offset ≡ None
+    pub is : (import_record_at (next.record_offset - 20)).value bytes ≡ Some entry
     pub going : is_last_record entry ≡ false
     pub kept : (not strict && is_none ((addresses_of format offset_of entry).value bytes)) ≡ false
     pub named : (library_name strict offset_of entry).value bytes ≡ Some dll
@@ -296,7 +301,7 @@ IsLibraryBy format w None next = Unit {0}
 IsLibraryBy format w (Some place) None = ⊥
 IsLibraryBy format w (Some place) (Some at) =
     let m = map_of w.finder in
-    IsLibrary (reads_strictly m) format (offset_of m) w.bytes.now w.dll.now w.rva w.offset
+    IsLibrary (reads_strictly m) format (offset_of m) w.bytes.now w.dll.now w.rva w.table_offset
     w.untested at
 
 -- where a walk is among the entries of a library, it holds what its record says
@@ -318,9 +323,9 @@ GivesLibrary left IsLeftCause later IsCause (Some (Err e)) =
     (until_refused later ≡ None ∷ []) × IsCause e
 
 -- what a call answers, with the walk that it has led to
-abbrev pub led : Walk → Result Unit ErrorOf → Result Walk ErrorOf
-led t (Ok x) = Ok t
-led t (Err e) = Err e
+abbrev pub walk_answer : Walk → Result Unit ErrorOf → Result Walk ErrorOf
+walk_answer t (Ok x) = Ok t
+walk_answer t (Err e) = Err e
 
 -- ---- the walk as callers see it
 
@@ -336,9 +341,20 @@ IsImportsCause format it e = IsWalkCause format it.walk e
 abbrev pub HasPosition : {T : Type 0} → Format EntryValue → Imports T → Type 0
 HasPosition format it = IsPlaced format it.walk
 
+-- the bytes that they are in
+abbrev pub imports_bytes : {T : Type 0} → Imports T → List ℕ
+imports_bytes it = it.walk.bytes.now
+
+-- what finds their addresses, and the map that it finds them by
+abbrev pub finder_of : {T : Type 0} → Imports T → Finder
+finder_of it = it.walk.finder
+
+abbrev pub imports_map : {T : Type 0} → Imports T → MapOfAddresses
+imports_map it = map_of (finder_of it)
+
 -- the imports of these bytes, whose addresses are mapped so
-abbrev pub IsOver : {T : Type 0} → List ℕ → MapOfAddresses → Imports T → Type 0
-IsOver bytes m it = (it.walk.bytes.now ≡ bytes) × (map_of it.walk.finder ≡ m)
+abbrev pub AreImportsOver : {T : Type 0} → List ℕ → MapOfAddresses → Imports T → Type 0
+AreImportsOver bytes m it = (imports_bytes it ≡ bytes) × (imports_map it ≡ m)
 
 -- where a walk is
 abbrev pub position_of : {T : Type 0} → Imports T → Option ImportPosition
@@ -347,12 +363,13 @@ position_of it = position_by it.walk.place it.walk.next
 -- a position between two entries of a library, whose record is in the file
 abbrev pub IsInTable : List ℕ → Option ImportPosition → Type 0
 IsInTable bytes position =
-    IsSomeAnd position (λ at. (at.«record» < length bytes) × IsSomeAnd at.slot (λ slot. 0 < slot))
+    IsSomeAnd position (λ at.
+    (at.record_offset < length bytes) × IsSomeAnd at.slot_offset (λ slot. 0 < slot))
 
 -- a walk that has just given an import is at such a position
 abbrev pub IsAfterImport : {T : Type 0} → Option (Result WalkedImport ErrorOf) → Imports T → Type 0
 IsAfterImport result it =
-    IfSome result (λ r. IfOk r (λ import. IsInTable it.walk.bytes.now (position_of it)))
+    IfSome result (λ r. IfOk r (λ import. IsInTable (imports_bytes it) (position_of it)))
 
 -- a walk that has given no import has ended, and has no position
 abbrev pub IsAtEnd : {T : Type 0} → Option (Result WalkedImport ErrorOf) → Imports T → Type 0
@@ -375,16 +392,16 @@ GivesImport format s result t =
     GivesNext walked_value (imports_left format) (IsImportsCause format) s result t
     × (HasPosition format s → HasPosition format t × IsAfterImport result t)
     × IfSome result (λ r. IfErr r (IsWalkFault s.walk))
-    × IsOver s.walk.bytes.now (map_of s.walk.finder) t
+    × AreImportsOver (imports_bytes s) (imports_map s) t
     × IsAtEnd result t
 
 -- the walk at another place of the library that it is in
-abbrev pub moved : Walk → ℕ → Walk
-moved w place = record w { place = Some place }
+abbrev pub walk_at : Walk → ℕ → Walk
+walk_at w place = record w { place = Some place }
 
 -- the walk after the plain imports that have come of it
 abbrev pub plain_at : {T : Type 0} → PlainImports T → Imports T
-plain_at plain = record plain.imports { walk = moved plain.imports.walk plain.place }
+plain_at plain = record plain.imports { walk = walk_at plain.imports.walk plain.place }
 
 -- A call gives what comes next of the walk as `next` does; or it gives nothing, and then all stays.
 abbrev pub GivesPlain : {T : Type 0} → Format EntryValue → PlainImports T → Option WalkedImport

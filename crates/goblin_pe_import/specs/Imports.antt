@@ -11,7 +11,7 @@ use Rattle.goblin_base.specs.declared.error.CauseOf.TheVariants.{Overflow, SlotC
 use Rattle.goblin_base.specs.Tables.{each_below}
 use Rattle.goblin_base.specs.Answers.{◌>>=◌, all_at}
 use Rattle.goblin_pe_import.specs.ImportLookup.{LookupEntry}
-use Rattle.goblin_pe_import.specs.ImportEntries.LookupEntry.{ByOrdinal, ByName}
+use Rattle.goblin_pe_import.specs.ImportEntries.LookupEntry.{ByName, ByOrdinal}
 use Rattle.goblin_pe_import.specs.ImportDirectory.{ImportedLibrary}
 
 -- Source: PE Format, "The .idata Section".
@@ -31,31 +31,36 @@ pub record ImportValue : Type 0 where
 abbrev pub ordinal_name : ℕ → List ℕ
 ordinal_name ordinal = codes "ORDINAL " ++ decimal ordinal
 
--- the import of an entry, from this library, with its slot's index and offset, and with this size;
--- the name of an import by name is in the file
-unfoldable pub import_of : List ℕ → ℕ → ℕ → ℕ → LookupEntry → ImportValue
-import_of dll slot offset size (ByOrdinal ordinal) =
-    record {
-      name = ordinal_name ordinal;
-      is_borrowed = false;
-      dll = dll;
-      ordinal = ordinal;
-      offset = offset;
-      rva = 0;
-      size = size;
-      slot = slot;
-    }
-import_of dll slot offset size (ByName rva named) =
-    record {
-      name = named.name;
-      is_borrowed = true;
-      dll = dll;
-      ordinal = named.hint;
-      offset = offset;
-      rva = rva;
-      size = size;
-      slot = slot;
-    }
+-- what an entry says of its import: the name, whether it is a text in the file, the ordinal or the
+-- hint, and the address of the hint and the name, which is 0 of an import by ordinal
+unfoldable pub entry_name : LookupEntry → List ℕ
+entry_name (ByOrdinal ordinal) = ordinal_name ordinal
+entry_name (ByName rva named) = named.name
+
+unfoldable pub entry_has_name : LookupEntry → Bool
+entry_has_name (ByOrdinal ordinal) = false
+entry_has_name (ByName rva named) = true
+
+unfoldable pub entry_ordinal : LookupEntry → ℕ
+entry_ordinal (ByOrdinal ordinal) = ordinal
+entry_ordinal (ByName rva named) = named.hint
+
+unfoldable pub entry_name_rva : LookupEntry → ℕ
+entry_name_rva (ByOrdinal ordinal) = 0
+entry_name_rva (ByName rva named) = rva
+
+-- the import of an entry, from this library, with its slot's index and offset, and with this size
+abbrev pub import_of : List ℕ → ℕ → ℕ → ℕ → LookupEntry → ImportValue
+import_of dll slot offset size entry = record {
+  name = entry_name entry;
+  is_borrowed = entry_has_name entry;
+  dll = dll;
+  ordinal = entry_ordinal entry;
+  offset = offset;
+  rva = entry_name_rva entry;
+  size = size;
+  slot = slot;
+}
 
 -- the offset of a slot of an address table of entries of `size` bytes, if it does not overflow 64
 -- bits
@@ -124,7 +129,7 @@ IsSlotCount library e = ⊥
 
 -- which cause is true of imports that are refused: the counts of the first library whose entries
 -- and slots differ in number, and if there is none, an offset that overflows 64 bits
-abbrev pub IsImportsFault : List ImportedLibrary → ErrorOf → Type 0
-IsImportsFault libraries e =
+abbrev pub IsImportListFault : List ImportedLibrary → ErrorOf → Type 0
+IsImportListFault libraries e =
     IsSomeAnd (first_without_slots libraries) (λ library. IsSlotCount library e)
     ⊎ ((first_without_slots libraries ≡ None) × IsOverflow e)

@@ -10,8 +10,8 @@ use Rattle.goblin_pe_import.specs.ImportEntries.{EntryValue, HintName, LookupEnt
 use Rattle.goblin_pe_import.specs.ImportEntries.LookupEntry.{ByName, ByOrdinal}
 
 -- the entry at an offset
-abbrev pub entry_at : Format EntryValue → ℕ → Reading EntryValue
-entry_at format p = record_at format.width format.value_of p
+abbrev pub entry_value_at : Format EntryValue → ℕ → Reading EntryValue
+entry_value_at format p = record_at format.width format.value_of p
 
 -- The hint at an offset, and the name after it. Permissive mode takes the empty name if no text
 -- follows the hint.
@@ -34,7 +34,7 @@ kept_entry strict offset_of entry =
 
 -- the entry of a lookup table at an offset
 abbrev pub lookup_entry_at : Format EntryValue → ℕ → Reading EntryValue
-lookup_entry_at format p = because (LookupEnd p) (entry_at format p)
+lookup_entry_at format p = because (LookupEnd p) (entry_value_at format p)
 
 -- The lookup table at an offset: what is kept of the entries before the first slot that is not in
 -- the file or has number 0. Strict mode needs that slot. With it come the indexes of the slots
@@ -58,4 +58,4 @@ entry_number entry = given (entry.number ∷ [])
 -- The address table at an offset: the numbers before the first slot that is not in the file or has
 -- number 0. That slot is needed in both modes.
 abbrev pub address_table : Format EntryValue → ℕ → Reading (List ℕ)
-address_table format o = table (entry_slots format) true (entry_at format) entry_number o
+address_table format o = table (entry_slots format) true (entry_value_at format) entry_number o

@@ -5,7 +5,7 @@ use Rattle.std.proofs.lemmas.Bool.{cases_lt}
 use Rattle.std.proofs.Math.ListN.{drop_of_length-le}
 use Rattle.std.proofs.lemmas.List.{drop-set-lt, length-map, map-append, map_more, take-map, take_all, take_more_set}
 use Rattle.std.proofs.lemmas.Grind.{drop_more_same}
-use Rattle.goblin_pe_records.specs.Filled.{Filled, alone}
+use Rattle.goblin_pe_records.specs.Filled.{Filled, without_text}
 
 -- the first i records say what is made of the first i values, and the rest are the caller's own
 pub record IsFilling {R A B : Type 0} (view : R → B) (of : A → B) (from : List A) (old : List R) (i : ℕ) (records : List R) : Type 0 where
@@ -52,9 +52,9 @@ least-end a b n i is end =
     ]
 
 -- what is kept of each value is kept of it alone
-pub alone-same : {A : Type 0} (f : A → A) (xs : List A) → map (λ x. alone (f x)) xs ≡ map alone (map f xs)
-alone-same f [] = refl
-alone-same {A} f (x ∷ xs) = ap (λ (rest : List (A × List ℕ)). alone (f x) ∷ rest) (alone-same f xs)
+pub without_text-same : {A : Type 0} (f : A → A) (xs : List A) → map (λ x. without_text (f x)) xs ≡ map without_text (map f xs)
+without_text-same f [] = refl
+without_text-same {A} f (x ∷ xs) = ap (λ (rest : List (A × List ℕ)). without_text (f x) ∷ rest) (without_text-same f xs)
 
 -- an element is the same, whatever stands for one that is missing
 pub any-default : {A : Type 0} (xs : List A) (i : ℕ) (a b : A) → i < length xs → slice_index_or xs i a ≡ slice_index_or xs i b

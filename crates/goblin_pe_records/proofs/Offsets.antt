@@ -30,12 +30,12 @@ missed false power here f s t others rva h = refl
 pub maps-alone : (opts : ParseOptions) (alignment rva p : ℕ) (s : Section) (sections : List Section) → file_offset opts (unnamed s ∷ []) alignment rva ≡ Some p → file_offset opts (s ∷ sections) alignment rva ≡ Some p
 unfolding file_offset read_size
 maps-alone opts alignment rva p s sections h =
-    found opts.resolve_rva (is_power_of_two alignment) (is_in_window alignment rva s) (λ (x : Section). offset_in opts x rva) s (unnamed s) (find (is_in_window alignment rva) sections) rva p refl h
+    found opts.resolve_rva (is_power_of_two alignment) (is_in_window alignment rva s) (λ (x : Section). offset_in opts alignment x rva) s (unnamed s) (find (is_in_window alignment rva) sections) rva p refl h
 
 pub maps-not : (opts : ParseOptions) (alignment rva : ℕ) (s : Section) (sections : List Section) → file_offset opts (unnamed s ∷ []) alignment rva ≡ None → file_offset opts (s ∷ sections) alignment rva ≡ file_offset opts sections alignment rva
 unfolding file_offset read_size
 maps-not opts alignment rva s sections h =
-    missed opts.resolve_rva (is_power_of_two alignment) (is_in_window alignment rva s) (λ (x : Section). offset_in opts x rva) s (unnamed s) (find (is_in_window alignment rva) sections) rva h
+    missed opts.resolve_rva (is_power_of_two alignment) (is_in_window alignment rva s) (λ (x : Section). offset_in opts alignment x rva) s (unnamed s) (find (is_in_window alignment rva) sections) rva h
 
 -- what is left, by its first record
 first-left : (opts : ParseOptions) (alignment rva i : ℕ) (sections : List PeSection) (d : PeSection) → i < length sections

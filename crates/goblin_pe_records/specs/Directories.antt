@@ -6,9 +6,9 @@ use Rattle.goblin_pe_head.specs.declared.optional_header.OptionalHeader.{Optiona
 use Rattle.goblin_pe_records.specs.declared.directory.PeDirectory.{PeDirectory}
 
 -- the record of an entry: where it ends, and what it leads to; zeros where there is none
-abbrev pub directory_record : Option (ℕ × DataDirectory) → PeDirectory
-directory_record None = record { end = 0; directory = no_directory; is_present = false }
-directory_record (Some entry) =
+abbrev pub entry_record : Option (ℕ × DataDirectory) → PeDirectory
+entry_record None = record { end = 0; directory = no_directory; is_present = false }
+entry_record (Some entry) =
     record { end = entry.0; directory = entry.1; is_present = true }
 
 -- the entries of an optional header

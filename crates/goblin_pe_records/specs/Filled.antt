@@ -2,8 +2,8 @@
 use Rattle.std.specs.Prelude.{◌≡◌, ℕ, List, [], length, map, take, drop}
 
 -- a value, and nothing in place of a text that it does not have
-abbrev pub alone : {A : Type 0} → A → A × List ℕ
-alone x = (x, [])
+abbrev pub without_text : {A : Type 0} → A → A × List ℕ
+without_text x = (x, [])
 
 -- The records after a call: the front holds what was made, as far as there is room, and the rest
 -- are the caller's own.

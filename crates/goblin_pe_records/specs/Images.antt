@@ -3,17 +3,30 @@ use Rattle.std.specs.Prelude.{ℕ, List, Option, map}
 use Rattle.goblin_base.specs.Reading.{Reading}
 use Rattle.readings.specs.Reads.{slice_at}
 use Rattle.goblin_pe_sect.specs.AddressReadings.{at_address}
-use Rattle.goblin_pe_sect.specs.Mapping.{file_offset}
+use Rattle.goblin_pe_sect.specs.Mapping.{file_address, file_offset, section_index}
+use Rattle.goblin_pe_sect.specs.SectionTable.{Section}
 use Rattle.goblin_pe_records.specs.declared.image.PeImage.{PeImage}
 use Rattle.goblin_pe_records.specs.declared.image.PeText.{PeText}
 use Rattle.goblin_pe_records.specs.Options.{options_of}
 use Rattle.goblin_pe_records.specs.Sections.{section_view}
 
+-- the sections of an image
+abbrev pub image_sections : PeImage → List Section
+image_sections image = map section_view image.sections.now
+
 -- the file offset of each address, if it has one
 abbrev pub image_map : PeImage → ℕ → Option ℕ
 image_map image =
-    file_offset (options_of image.options) (map section_view image.sections.now)
-    image.file_alignment
+    file_offset (options_of image.options) (image_sections image) image.file_alignment
+
+-- the address of each file offset, if it has one
+abbrev pub image_address : PeImage → ℕ → Option ℕ
+image_address image =
+    file_address (options_of image.options) (image_sections image) image.file_alignment
+
+-- the index of the section that an address lies in, if it lies in one
+abbrev pub image_section : PeImage → ℕ → Option ℕ
+image_section image rva = section_index image.file_alignment rva (image_sections image)
 
 -- so many bytes at an address
 abbrev pub bytes_at_address : (ℕ → Option ℕ) → ℕ → ℕ → Reading (List ℕ)

@@ -9,13 +9,13 @@ use Rattle.goblin_pe_records.specs.Faults.{no_fault}
 use Rattle.goblin_pe_records.specs.Items.{rest_of, values_of}
 
 -- the entries of a Rich header, which follow the padding
-abbrev pub entry_items : Rich → List (Result RichMetadata ErrorOf)
-entry_items r = metadata_items r.key (drop r.padding_size r.bytes)
+abbrev pub rich_items : Rich → List (Result RichMetadata ErrorOf)
+rich_items r = metadata_items r.key (drop r.padding_size r.bytes)
 
 -- the entries, none where there is no Rich header
-abbrev pub entries_in : Option Rich → List RichMetadata
-entries_in None = []
-entries_in (Some r) = values_of (entry_items r)
+abbrev pub entries_of_rich : Option Rich → List RichMetadata
+entries_of_rich None = []
+entries_of_rich (Some r) = values_of (rich_items r)
 
 -- the summary of the Rich header
 abbrev pub rich_of : Option Rich → PeRichHeader
@@ -30,9 +30,9 @@ rich_of None =
       is_present = false;
     }
 rich_of (Some r) = record {
-  entries = length (values_of (entry_items r));
+  entries = length (values_of (rich_items r));
   padding_size = r.padding_size;
-  rest = rest_of (entry_items r);
+  rest = rest_of (rich_items r);
   key = r.key;
   start_offset = r.start_offset;
   end_offset = r.end_offset;

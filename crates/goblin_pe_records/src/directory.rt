@@ -2,7 +2,7 @@
 
 ghost use Rattle.std.specs.Prelude.{◌≡◌, length, map, min};
 ghost use Rattle.goblin_pe_records.specs.Filled.{Filled};
-ghost use Rattle.goblin_pe_records.specs.Directories.{directories_of, directory_record};
+ghost use Rattle.goblin_pe_records.specs.Directories.{directories_of, entry_record};
 
 use goblin_pe_head::optional_header::OptionalHeader;
 use goblin_pe_sect::data_directories::{DataDirectory, NUM_DATA_DIRECTORIES};
@@ -23,7 +23,7 @@ pub struct PeDirectory {
 // Fills the record of an entry.
 #[inline(always)]
 fn fill_directory(place: &mut PeDirectory, entry: &Option<(usize, DataDirectory)>)
-    ensures { place.new ≡ directory_record entry.now }
+    ensures { place.new ≡ entry_record entry.now }
 {
     // Most entries are zeros.
     *place = PeDirectory {
@@ -52,7 +52,7 @@ pub fn directories_of(header: &Option<OptionalHeader>) -> &[Option<(usize, DataD
 #[inline(always)]
 fn fill(records: &mut [PeDirectory], directories: &[Option<(usize, DataDirectory)>], count: usize)
     requires { count ≡ min (length directories.now) (length records.old) }
-    ensures { Filled (λ d. d) (map directory_record directories.now) records.old records.new }
+    ensures { Filled (λ d. d) (map entry_record directories.now) records.old records.new }
 {
     'records: for i in 0..count {
         fill_directory(&mut records[i], &directories[i]);
@@ -61,7 +61,7 @@ fn fill(records: &mut [PeDirectory], directories: &[Option<(usize, DataDirectory
 
 /// Fills the records of data directories, as far as there is room.
 pub fn fill_directories(records: &mut [PeDirectory], directories: &[Option<(usize, DataDirectory)>])
-    ensures { Filled (λ d. d) (map directory_record directories.now) records.old records.new }
+    ensures { Filled (λ d. d) (map entry_record directories.now) records.old records.new }
 {
     let count = directories.len().min(records.len());
     // A header has sixteen entries, and a loop over a constant count is unrolled, which takes fewer

@@ -1,7 +1,7 @@
 //! How a file is read, as a caller says it.
 
 ghost use Rattle.std.specs.Prelude.{◌≡◌};
-ghost use Rattle.goblin_pe_records.specs.Options.{options_of};
+ghost use Rattle.goblin_pe_records.specs.Options.{options_of, rule_of};
 ghost use Rattle.goblin_pe_sect.specs.Options.{default_options};
 
 use goblin_pe_sect::options::{ParseMode, ParseOptions, RawPointerRule};
@@ -15,11 +15,9 @@ pub struct PeOptions {
     pub is_permissive: bool,
     /// Whether an address is mapped to a file offset by the sections; where not, it is the offset.
     pub resolve_rva: bool,
-    /// Whether the raw pointer of a section is rounded down to 512, for addresses and for its data;
-    /// where not, it is taken as stored. Rounding is right where `section_alignment` is 4,096 or
-    /// more, and pointers as stored where it is less, since the Windows loader maps such an image
-    /// as one flat view of the file.
-    pub rounds_raw_pointers: bool,
+    /// Where the raw data of a section begins, for addresses and for its data: the number of a
+    /// `RawPointerRule`; any other number is taken as 0.
+    pub raw_pointer_rule: u8,
     /// Whether the imports are read; where not, their table is absent.
     pub parse_imports: bool,
 }
@@ -32,8 +30,19 @@ pub fn default_options() -> PeOptions
     PeOptions {
         is_permissive: false,
         resolve_rva: true,
-        rounds_raw_pointers: false,
+        raw_pointer_rule: 0,
         parse_imports: true,
+    }
+}
+
+// The rule for raw pointers with this number.
+fn rule_of(number: u8) -> RawPointerRule
+    ensures { result ≡ rule_of number }
+{
+    match number {
+        1 => RawPointerRule::RoundedTo512,
+        2 => RawPointerRule::ByFileAlignment,
+        _ => RawPointerRule::AsStored,
     }
 }
 
@@ -46,16 +55,11 @@ pub fn options_of(options: &PeOptions) -> ParseOptions
     } else {
         ParseMode::Strict
     };
-    let raw_pointer_rule = if options.rounds_raw_pointers {
-        RawPointerRule::RoundedTo512
-    } else {
-        RawPointerRule::AsStored
-    };
     ParseOptions {
         resolve_rva: options.resolve_rva,
         parse_imports: options.parse_imports,
         parse_mode,
-        raw_pointer_rule,
+        raw_pointer_rule: rule_of(options.raw_pointer_rule),
         ..ParseOptions::default()
     }
 }

@@ -5,7 +5,7 @@ ghost use Rattle.goblin_base.specs.Answers.{IsMemory};
 ghost use Rattle.goblin_pe_head.specs.RichHeader.{rich_value};
 ghost use Rattle.goblin_pe_records.specs.Blocked.{HasNoSpareRoom};
 ghost use Rattle.goblin_pe_records.specs.Items.{rest_of, values_of};
-ghost use Rattle.goblin_pe_records.specs.RichHeaders.{entries_in, entry_items, rich_of};
+ghost use Rattle.goblin_pe_records.specs.RichHeaders.{entries_of_rich, rich_items, rich_of};
 
 use crate::fault::{PeFault, fault_of, no_fault};
 use goblin_base::{Record, Result};
@@ -36,10 +36,10 @@ pub struct PeRichHeader {
 fn item_records(alloc: Global, rich: &RichHeader) -> Result<(Vec<RichMetadata>, PeFault)>
     ensures refused { IfErr result IsMemory }
     ensures values { IfOk result
-        (λ made. made.0.items ≡ values_of (entry_items (rich_value rich.now))) }
-    ensures rest { IfOk result (λ made. made.1 ≡ rest_of (entry_items (rich_value rich.now))) }
+        (λ made. made.0.items ≡ values_of (rich_items (rich_value rich.now))) }
+    ensures rest { IfOk result (λ made. made.1 ≡ rest_of (rich_items (rich_value rich.now))) }
     ensures none { IfOk result (λ made. HasNoSpareRoom made.0) }
-    ensures grown { OnErr result (0 < length (values_of (entry_items (rich_value rich.now)))) }
+    ensures grown { OnErr result (0 < length (values_of (rich_items (rich_value rich.now)))) }
 {
     // No header that was read has more padding than data.
     if rich.padding_size > rich.bytes.len() {
@@ -64,10 +64,10 @@ pub fn entry_records(
 ) -> Result<(Vec<RichMetadata>, PeRichHeader)>
     ensures refused { IfErr result IsMemory }
     ensures values { IfOk result
-        (λ made. made.0.items ≡ entries_in (option_map rich_value rich.now)) }
+        (λ made. made.0.items ≡ entries_of_rich (option_map rich_value rich.now)) }
     ensures said { IfOk result (λ made. made.1 ≡ rich_of (option_map rich_value rich.now)) }
     ensures none { IfOk result (λ made. HasNoSpareRoom made.0) }
-    ensures grown { OnErr result (0 < length (entries_in (option_map rich_value rich.now))) }
+    ensures grown { OnErr result (0 < length (entries_of_rich (option_map rich_value rich.now))) }
 {
     match rich {
         None => {

@@ -1,15 +1,18 @@
 //! The records of sections.
 
-ghost use Rattle.std.specs.Prelude.{◌≡◌, ◌<◌, IfOk, OnErr, length, map, option_map};
+ghost use Rattle.std.specs.Prelude.{◌≡◌, ◌<◌, IfOk, OnErr, Some, length, map, option_map, slice_get};
 ghost use Rattle.goblin_pe_sect.specs.Options.{is_strict};
-ghost use Rattle.goblin_pe_sect.specs.SectionTable.{section_records, unnamed};
+ghost use Rattle.goblin_pe_sect.specs.SectionTable.{recorded_sections, unnamed};
 ghost use Rattle.goblin_base.specs.Answers.{GivesOrMemory};
+ghost use Rattle.goblin_pe_head.specs.TeHeader.{section_moved};
 ghost use Rattle.goblin_pe_records.specs.Blocked.{HasNoSpareRoom};
-ghost use Rattle.goblin_pe_records.specs.Filled.{Filled, alone};
-ghost use Rattle.goblin_pe_records.specs.Sections.{named_in, real_name_in, section_said, section_view};
+ghost use Rattle.goblin_pe_records.specs.Filled.{Filled, without_text};
+ghost use Rattle.goblin_pe_records.specs.Sections.{named_in, real_name_in, section_said};
+ghost use Rattle.goblin_pe_records.specs.Sections.{section_view};
 
 use goblin_base::Result;
 use goblin_base::read::pread_str;
+use goblin_pe_head::header::adjust_section;
 use goblin_pe_sect::options::ParseOptions;
 use goblin_pe_sect::section_table::{SectionRecords, SectionTable};
 use std::alloc::Global;
@@ -85,7 +88,7 @@ fn name_in_table<'a>(
 
 // The record of a section, without a name from the string table.
 fn section_record<'a>(bytes: &'a [u8], section: &SectionTable) -> PeSection<'a>
-    ensures { section_said result ≡ alone (unnamed section.now) }
+    ensures { section_said result ≡ without_text (unnamed section.now) }
 {
     PeSection {
         real_name: &bytes[..0],
@@ -108,9 +111,10 @@ fn section_record<'a>(bytes: &'a [u8], section: &SectionTable) -> PeSection<'a>
 // `name_record`.)
 #[inline(never)]
 fn name_by_table<'a>(place: &mut PeSection<'a>, bytes: &'a [u8], table: usize, opts: &ParseOptions)
-    requires { section_said place.old ≡ alone (unnamed (section_view place.old)) }
+    requires { section_said place.old ≡ without_text (unnamed (section_view place.old)) }
     ensures { section_said place.new
-        ≡ alone (named_in (is_strict opts.now.parse_mode) bytes.now table (section_view place.old)) }
+        ≡ without_text (named_in (is_strict opts.now.parse_mode) bytes.now table
+        (section_view place.old)) }
 {
     if let Some(name) = name_in_table(bytes, &section_of(place), table, opts) {
         place.real_name = name.as_bytes();
@@ -129,37 +133,58 @@ fn name_record<'a>(
     table: usize,
     opts: &ParseOptions,
 )
-    requires { section_said place.old ≡ alone (unnamed section.now) }
+    requires { section_said place.old ≡ without_text (unnamed section.now) }
     ensures { section_said place.new
-        ≡ alone (named_in (is_strict opts.now.parse_mode) bytes.now table section.now) }
+        ≡ without_text (named_in (is_strict opts.now.parse_mode) bytes.now table section.now) }
 {
     if section.name[0] == b'/' {
         name_by_table(place, bytes, table, opts);
     }
 }
 
-/// Fills the records of sections, as far as there is room.
+// The section of the record at an index; with a displacement, as it is in the stripped file.
+#[inline(always)]
+fn stored_section(
+    sections: &SectionRecords,
+    index: usize,
+    displacement: Option<u32>,
+) -> SectionTable
+    requires { index < length (recorded_sections sections.now) }
+    ensures { option_map (section_moved displacement)
+        (slice_get (recorded_sections sections.now) index)
+        ≡ Some result }
+{
+    let mut section = sections.at(index);
+    adjust_section(&mut section, displacement);
+    section
+}
+
+/// Fills the records of the sections of a section table, as far as there is room, each with its name
+/// from the string table at `table`; with a displacement, as they are in the stripped file.
 pub fn fill_sections<'a>(
     records: &mut [PeSection<'a>],
     bytes: &'a [u8],
-    sections: &[SectionTable],
+    sections: SectionRecords,
+    displacement: Option<u32>,
     table: usize,
     opts: &ParseOptions,
 )
-    ensures { Filled section_said
-        (map (λ s. alone (named_in (is_strict opts.now.parse_mode) bytes.now table s)) sections.now)
+    ensures { let strict = is_strict opts.now.parse_mode in
+        Filled section_said
+        (map (λ s. without_text (named_in strict bytes.now table (section_moved displacement s)))
+        (recorded_sections sections.entry))
         records.old records.new }
 {
     let count = sections.len().min(records.len());
     'records: for i in 0..count {
-        let section = &sections[i];
-        records[i] = section_record(bytes, section);
-        name_record(&mut records[i], bytes, section, table, opts);
+        let section = stored_section(&sections, i, displacement);
+        records[i] = section_record(bytes, &section);
+        name_record(&mut records[i], bytes, &section, table, opts);
     }
 }
 
 /// The records of the sections of a section table, in memory of their own.
-pub fn section_records<'a>(
+pub fn named_sections<'a>(
     alloc: Global,
     bytes: &'a [u8],
     sections: SectionRecords,
@@ -167,9 +192,9 @@ pub fn section_records<'a>(
     opts: &ParseOptions,
 ) -> Result<Vec<PeSection<'a>>>
     ensures made { GivesOrMemory (λ v. map section_said v.items) result
-        (map (λ s. alone (named_in (is_strict opts.now.parse_mode) bytes.now table s))
-        (section_records sections.entry)) }
-    ensures grown { OnErr result (0 < length (section_records sections.entry)) }
+        (map (λ s. without_text (named_in (is_strict opts.now.parse_mode) bytes.now table s))
+        (recorded_sections sections.entry)) }
+    ensures grown { OnErr result (0 < length (recorded_sections sections.entry)) }
     ensures none { IfOk result HasNoSpareRoom }
 {
     let count = sections.len();

@@ -24,8 +24,8 @@ pub struct PeSectionData<'a> {
 }
 
 /// Reads the data of a section of an image in memory: the bytes that the file has of it, and how
-/// many zeros follow them. The bytes begin at its raw pointer, as stored or rounded down to 512 as
-/// the image's options say.
+/// many zeros follow them. The bytes begin at its raw pointer, as stored or rounded down to 512 by
+/// the rule of the image's options.
 ///
 /// # Errors
 /// Bytes that do not lie in the file; nothing is then changed.
@@ -34,13 +34,14 @@ pub fn read_data<'a>(
     section: &PeSection,
     contents: &mut PeSectionData<'a>,
 ) -> Result<()>
-    ensures { let s = placed (options_of image.now.options) (section_view section.now) in
+    ensures { let opts = options_of image.now.options in
+        let s = placed opts image.now.file_alignment (section_view section.now) in
         ReadsWithout (section_data s) image.now.bytes.now
         (λ whole. SaysData s whole contents.new) (contents.new ≡ contents.old) result }
 {
     let opts = options_of(&image.options);
     let mut placed = section_of(section);
-    placed.pointer_to_raw_data = raw_begin(&placed, &opts);
+    placed.pointer_to_raw_data = raw_begin(&placed, image.file_alignment, &opts);
     let raw_data = placed.raw_data(image.bytes)?;
     let zeros = section
         .virtual_size

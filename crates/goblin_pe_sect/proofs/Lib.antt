@@ -1,4 +1,5 @@
 pub mod AddressMaps
+pub mod Backward
 pub mod BlockItems
 pub mod BlocksOf
 pub mod CutOffsets

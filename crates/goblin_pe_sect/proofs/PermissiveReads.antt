@@ -10,7 +10,7 @@ use Rattle.readings.specs.Reads.{mapped, record_at}
 use Rattle.readings.proofs.Modes.{repeats-same, repeats-then}
 use Rattle.goblin_pe_sect.specs.Digits.{numeral}
 use Rattle.goblin_pe_sect.specs.SectionName.{decimal_number, name_value, text_value}
-use Rattle.goblin_pe_sect.specs.SectionReadings.{name_number, real_name, section_at}
+use Rattle.goblin_pe_sect.specs.SectionReadings.{name_number, named_section_at, real_name}
 use Rattle.goblin_pe_sect.specs.SectionTable.{Section, section_record}
 use Rattle.goblin_pe_sect.specs.declared.digits.Digits.TheVariants.{Base64}
 
@@ -34,9 +34,9 @@ name_value-kept name =
 repeats-name_number : (name : List ℕ) → Repeats (name_number true name) (name_number false name)
 repeats-name_number name = record { kept = λ bytes. name_value-kept name }
 
-pub repeats-section_at : (table p : ℕ) → Repeats (section_at true table p) (section_at false table p)
-unfolding section_at
-repeats-section_at table p =
+pub repeats-named_section_at : (table p : ℕ) → Repeats (named_section_at true table p) (named_section_at false table p)
+unfolding named_section_at
+repeats-named_section_at table p =
     let own : Reading Section = record_at 40 (section_record Little) p in
     let named : Section → Option ℕ → Reading Section =
     λ (section : Section) (place : Option ℕ). mapped (λ name. record section { real_name = name }) (real_name table place) in

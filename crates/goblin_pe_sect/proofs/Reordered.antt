@@ -10,7 +10,7 @@ use Rattle.std.proofs.lemmas.Option.{get_or_from_slice_get, slice_get_read, slic
 use Rattle.goblin_pe_sect.specs.declared.options.ParseOptions.{ParseOptions}
 use Rattle.goblin_pe_sect.specs.SectionTable.{Section}
 use Rattle.goblin_pe_sect.specs.Mapping.{file_offset, is_in_window, offset_in}
-use Rattle.goblin_pe_sect.specs.WindowOrder.{AreApart, IsReordering}
+use Rattle.goblin_pe_sect.specs.WindowOrder.{HaveDisjointWindows, IsReordering}
 use Rattle.goblin_pe_sect.proofs.First.{first_is_found, found_at_first, found_passes, none_passes}
 use Rattle.goblin_pe_sect.proofs.Mapped.{in_window}
 use Rattle.std.specs.List.{position_or_len}
@@ -51,10 +51,10 @@ find_reordered : {X : Type 0} (p : X → Bool) (xs ys : List X) → IsPermutatio
 find_reordered p xs ys moved alone = found_by p xs ys moved alone (find p ys) refl
 
 -- windows that do not meet hold an address at most once
-alone_in_windows : (alignment rva : ℕ) (sections : List Section) → AllPairs (AreApart alignment) sections → AreAlone (is_in_window alignment rva) sections
+alone_in_windows : (alignment rva : ℕ) (sections : List Section) → AllPairs (HaveDisjointWindows alignment) sections → AreAlone (is_in_window alignment rva) sections
 alone_in_windows alignment rva sections apart i j s t lt at_i at_j holds_s holds_t =
-    let pair : AreApart alignment (get_or sections i s) (get_or sections j s) = apart i j s lt (slice_get_within sections j t at_j) in
-    let one : AreApart alignment s t = rw (get_or_from_slice_get sections i s s at_i, get_or_from_slice_get sections j t s at_j) at pair in
+    let pair : HaveDisjointWindows alignment (get_or sections i s) (get_or sections j s) = apart i j s lt (slice_get_within sections j t at_j) in
+    let one : HaveDisjointWindows alignment s t = rw (get_or_from_slice_get sections i s s at_i, get_or_from_slice_get sections j t s at_j) at pair in
     one rva (in_window alignment rva s holds_s) (in_window alignment rva t holds_t)
 
 same_choice : (on even : Bool) (x y : Option ℕ) (own : Option ℕ) → (even ≡ true → x ≡ y) → cond on (cond even x None) own ≡ cond on (cond even y None) own
@@ -68,7 +68,7 @@ unfolding file_offset
 file_offset-reordered opts xs ys alignment is rva =
     same_choice opts.resolve_rva (is_power_of_two alignment) _ _ (Some rva) (λ even.
     let there : IsTrue (is_power_of_two alignment) = search (rules, tests) in
-    ap (option_map (λ s. offset_in opts s rva)) (find_reordered (is_in_window alignment rva) xs ys is.moved (alone_in_windows alignment rva xs (is.apart there))))
+    ap (option_map (λ s. offset_in opts alignment s rva)) (find_reordered (is_in_window alignment rva) xs ys is.moved (alone_in_windows alignment rva xs (is.apart there))))
 
 -- the two maps are the same
 pub map-reordered : (opts : ParseOptions) (xs ys : List Section) (alignment : ℕ) → IsReordering alignment xs ys → file_offset opts xs alignment ≡ file_offset opts ys alignment

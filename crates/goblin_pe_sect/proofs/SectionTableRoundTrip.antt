@@ -2,13 +2,13 @@
 use Rattle.std.proofs.Common.{◌≡◌, ℕ, List, ap, refl, sym, ◌∙◌, length, arith}
 use Rattle.std.specs.Prelude.{Option, Some, None}
 use Rattle.goblin_base.specs.declared.endian.Endian.TheVariants.{Little}
-use Rattle.goblin_base.specs.Record.{FieldValue, WritesBack, encoding, record_at, FieldsFit, ReadsBack}
+use Rattle.goblin_base.specs.Record.{FieldValue, FieldsFit, ReadsBack, WritesBack, encoding, record_at}
 use Rattle.goblin_base.specs.Answers.{◌>>=◌}
-use Rattle.goblin_base.proofs.RecordRoundTrip.{writes_back, reads_back}
+use Rattle.goblin_base.proofs.RecordRoundTrip.{reads_back, writes_back}
 use Rattle.goblin_base.proofs.Steps.{same_value, step}
 use Rattle.goblin_pe_sect.specs.SectionName.{name_value}
-use Rattle.goblin_pe_sect.specs.SectionReadings.{SectionWritesBack, section_at, text_in_table}
-use Rattle.goblin_pe_sect.specs.SectionTable.{Section, section_fields, section_record, SectionReadsBack}
+use Rattle.goblin_pe_sect.specs.SectionReadings.{SectionWritesBack, named_section_at, text_in_table}
+use Rattle.goblin_pe_sect.specs.SectionTable.{Section, SectionReadsBack, section_fields, section_record}
 
 pub section_record_back : WritesBack 40 section_record section_fields
 unfolding section_record section_fields
@@ -20,7 +20,7 @@ unfolding section_fields
 section_fields-unnamed section real_name = refl
 
 pub section_back : SectionWritesBack
-unfolding section_at
+unfolding named_section_at
 section_back strict table bytes p section h is =
     let text : Option ℕ → Option (List ℕ) = λ (place : Option ℕ). (text_in_table table place).value bytes in
     let first = step (record_at 40 (section_record Little) bytes p) (λ s. name_value strict s.name >>= (λ v. Some (record s { real_name = text v }))) section is in

@@ -103,22 +103,22 @@ next_window opts alignment i sections d within =
     let same : 0 + i ≡ i = omega arith in
     ap (λ (n : ℕ). section_windows opts alignment (take n sections)) (add-one i) ∙ next_from opts alignment 0 i sections d within ∙ ap (λ (k : ℕ). section_windows opts alignment (take i sections) ++ section_window_at opts alignment k (get_or sections i d) ∷ []) same
 
-from_by : (opts : ParseOptions) (alignment n j : ℕ) (s : Section) (sections : List Section) (b : Bool) (found : Option Window) → option_map (λ (w : Window). w.owner) found ≡ option_map (owner_of_section opts (n + 1 + j)) (slice_get sections j) → option_map (λ (w : Window). w.owner) (cond b (Some (section_window_at opts alignment n s)) found) ≡ option_map (owner_of_section opts (n + cond (not b) (1 + j) 0)) (slice_get (s ∷ sections) (cond (not b) (1 + j) 0))
+from_by : (opts : ParseOptions) (alignment n j : ℕ) (s : Section) (sections : List Section) (b : Bool) (found : Option Window) → option_map (λ (w : Window). w.owner) found ≡ option_map (owner_of_section opts alignment (n + 1 + j)) (slice_get sections j) → option_map (λ (w : Window). w.owner) (cond b (Some (section_window_at opts alignment n s)) found) ≡ option_map (owner_of_section opts alignment (n + cond (not b) (1 + j) 0)) (slice_get (s ∷ sections) (cond (not b) (1 + j) 0))
 from_by opts alignment n j s sections true found later =
     let same : n ≡ n + 0 = omega arith in
-    ap (λ (i : ℕ). Some (owner_of_section opts i s)) same
+    ap (λ (i : ℕ). Some (owner_of_section opts alignment i s)) same
 from_by opts alignment n j s sections false found later =
     let next : 1 + j ≡ suc j = omega arith in
     let place : n + 1 + j ≡ n + suc j = omega arith in
     rw (next, ← place) later
 
-from : (opts : ParseOptions) (alignment rva n : ℕ) (sections : List Section) → option_map (λ (w : Window). w.owner) (find (window_holds rva) (map (λ (r : ℕ × Section). section_window_at opts alignment r.0 r.1) (enumerate_from n sections))) ≡ option_map (owner_of_section opts (n + position_or_len (is_in_window alignment rva) sections)) (slice_get sections (position_or_len (is_in_window alignment rva) sections))
+from : (opts : ParseOptions) (alignment rva n : ℕ) (sections : List Section) → option_map (λ (w : Window). w.owner) (find (window_holds rva) (map (λ (r : ℕ × Section). section_window_at opts alignment r.0 r.1) (enumerate_from n sections))) ≡ option_map (owner_of_section opts alignment (n + position_or_len (is_in_window alignment rva) sections)) (slice_get sections (position_or_len (is_in_window alignment rva) sections))
 from opts alignment rva n [] = refl
 from opts alignment rva n (s ∷ sections) = from_by opts alignment n (position_or_len (is_in_window alignment rva) sections) s sections (is_in_window alignment rva s) _ (from opts alignment rva (n + 1) sections)
 
-first_by : (opts : ParseOptions) (sections : List Section) (i : ℕ) (b : Bool) → (b ≡ false → slice_get sections i ≡ None) → option_map (owner_of_section opts i) (slice_get sections i) ≡ option_and_then (λ (i : ℕ). option_map (owner_of_section opts i) (slice_get sections i)) (cond b (Some i) None)
-first_by opts sections i true none = refl
-first_by opts sections i false none = rw (none refl) refl
+first_by : (opts : ParseOptions) (alignment : ℕ) (sections : List Section) (i : ℕ) (b : Bool) → (b ≡ false → slice_get sections i ≡ None) → option_map (owner_of_section opts alignment i) (slice_get sections i) ≡ option_and_then (λ (i : ℕ). option_map (owner_of_section opts alignment i) (slice_get sections i)) (cond b (Some i) None)
+first_by opts alignment sections i true none = refl
+first_by opts alignment sections i false none = rw (none refl) refl
 
 -- the first window that holds an address has what an index keeps of the first section whose window does
 pub owner_among-sections : (opts : ParseOptions) (alignment : ℕ) (sections : List Section) (rva : ℕ) → owner_among (section_windows opts alignment sections) rva ≡ first_owner opts sections alignment rva
@@ -127,7 +127,7 @@ owner_among-sections opts alignment sections rva =
     let start : 0 + i ≡ i = omega arith in
     let found = from opts alignment rva 0 sections in
     let past : nat_lt i (length sections) ≡ false → slice_get sections i ≡ None = λ e. slice_get_past sections i (search (rules, tests)) in
-    found ∙ ap (λ (j : ℕ). option_map (owner_of_section opts j) (slice_get sections i)) start ∙ first_by opts sections i (nat_lt i (length sections)) past
+    found ∙ ap (λ (j : ℕ). option_map (owner_of_section opts alignment j) (slice_get sections i)) start ∙ first_by opts alignment sections i (nat_lt i (length sections)) past
 
 pub owners-sections : (opts : ParseOptions) (alignment : ℕ) (sections : List Section) (begins : List ℕ) → map (owner_among (section_windows opts alignment sections)) begins ≡ map (first_owner opts sections alignment) begins
 owners-sections opts alignment sections begins = map_same _ _ 0 begins (λ i lt. owner_among-sections opts alignment sections (get_or begins i 0))

@@ -1,7 +1,9 @@
 -- How an address in memory maps to an offset in the file.
 use Rattle.std.specs.Prelude.{IsTrue, ℕ, ◌+◌, ◌-◌, ◌==◌, ◌≡◌, ◌<◌, ◌≤◌, min, Bool, ◌&&◌, nat_le}
-use Rattle.std.specs.Prelude.{nat_lt, if◌then◌else◌, List, Option, Some, None, find, slice_get}
+use Rattle.std.specs.Prelude.{false, true}
+use Rattle.std.specs.Prelude.{nat_lt, if◌then◌else◌, List, Option, Some, None, find, position, slice_get}
 use Rattle.std.specs.Prelude.{option_map}
+use Rattle.std.specs.Option.{option_and_then}
 use Rattle.std.specs.Int.{is_power_of_two}
 use Rattle.goblin_base.specs.declared.error.CauseOf.TheVariants.{Message}
 use Rattle.goblin_base.specs.declared.error.ErrorOf.{ErrorOf}
@@ -9,6 +11,7 @@ use Rattle.goblin_base.specs.declared.error.ErrorOf.TheVariants.{Malformed}
 use Rattle.goblin_pe_sect.specs.declared.options.ParseOptions.{ParseOptions}
 use Rattle.goblin_pe_sect.specs.declared.options.RawPointerRule.{RawPointerRule}
 use Rattle.goblin_pe_sect.specs.declared.options.RawPointerRule.TheVariants.{AsStored, RoundedTo512}
+use Rattle.goblin_pe_sect.specs.declared.options.RawPointerRule.TheVariants.{ByFileAlignment}
 use Rattle.goblin_pe_sect.specs.Multiples.{greatest_multiple, least_multiple}
 use Rattle.goblin_pe_sect.specs.SectionTable.{Section}
 
@@ -46,19 +49,24 @@ window_of s alignment =
 abbrev pub is_in_window : ℕ → ℕ → Section → Bool
 is_in_window alignment rva s = nat_le s.virtual_address rva && nat_lt rva (window_end s alignment)
 
--- a raw pointer by a rule: as it is stored, or the greatest multiple of 512 that is at most it
-abbrev pub pointer_by : RawPointerRule → ℕ → ℕ
-pointer_by AsStored pointer = pointer
-pointer_by RoundedTo512 pointer = greatest_multiple 512 pointer
+-- a rule rounds raw pointers at this file alignment: always, never, or where the alignment is 512 or
+-- more
+abbrev pub rounds : RawPointerRule → ℕ → Bool
+rounds AsStored alignment = false
+rounds RoundedTo512 alignment = true
+rounds ByFileAlignment alignment = nat_le 512 alignment
 
--- where a section's raw data begins for the mapping of addresses: at its raw pointer by the rule of
--- the options
-abbrev pub raw_begin : ParseOptions → Section → ℕ
-raw_begin opts s = pointer_by opts.raw_pointer_rule s.pointer_to_raw_data
+-- where a section's raw data begins for the mapping of addresses: at its raw pointer as it is stored,
+-- or at the greatest multiple of 512 that is at most it, by the rule of the options
+abbrev pub raw_begin : ParseOptions → ℕ → Section → ℕ
+raw_begin opts alignment s =
+    if rounds opts.raw_pointer_rule alignment
+    then greatest_multiple 512 s.pointer_to_raw_data
+    else s.pointer_to_raw_data
 
 -- the file offset of an address in a section's window: as far after the raw data's start
-abbrev pub offset_in : ParseOptions → Section → ℕ → ℕ
-offset_in opts s rva = raw_begin opts s + (rva - s.virtual_address)
+abbrev pub offset_in : ParseOptions → ℕ → Section → ℕ → ℕ
+offset_in opts alignment s rva = raw_begin opts alignment s + (rva - s.virtual_address)
 
 -- the file offset of an address: that of the first section whose window holds it; and the address
 -- itself where addresses are not mapped. No address has one if the alignment is not a power of two.
@@ -66,9 +74,57 @@ unfoldable pub file_offset : ParseOptions → List Section → ℕ → ℕ → O
 file_offset opts sections alignment rva =
     if opts.resolve_rva
     then (if is_power_of_two alignment
-    then option_map (λ s. offset_in opts s rva) (find (is_in_window alignment rva) sections)
+    then option_map (λ s. offset_in opts alignment s rva) (find (is_in_window alignment rva) sections)
     else None)
     else Some rva
+
+-- the first section whose window holds the address; there is none if the alignment is not a power
+-- of two
+abbrev pub section_at : ℕ → ℕ → List Section → Option Section
+section_at alignment rva sections =
+    if is_power_of_two alignment then find (is_in_window alignment rva) sections else None
+
+-- its index
+abbrev pub section_index : ℕ → ℕ → List Section → Option ℕ
+section_index alignment rva sections =
+    if is_power_of_two alignment then position (is_in_window alignment rva) sections else None
+
+-- ---- the address of a file offset
+
+-- the address that a section's window has at a file offset; none if the window reaches no address
+-- there, or the alignment is not a power of two
+abbrev pub rva_in : ParseOptions → ℕ → ℕ → Section → Option ℕ
+rva_in opts alignment p s =
+    let begin = raw_begin opts alignment s in
+    let end = begin + read_size s alignment in
+    if is_power_of_two alignment && (nat_le begin p && nat_lt p end)
+    then Some (s.virtual_address + (p - begin))
+    else None
+
+-- there is an offset, and it is this one
+abbrev pub is_at : ℕ → Option ℕ → Bool
+is_at p None = false
+is_at p (Some found) = found == p
+
+-- there is an address, and the sections map it to this file offset
+abbrev pub maps_to : ParseOptions → List Section → ℕ → ℕ → Option ℕ → Bool
+maps_to opts sections alignment p None = false
+maps_to opts sections alignment p (Some rva) =
+    is_at p (file_offset opts sections alignment rva)
+
+-- the address of a file offset: that in the first section whose window has an address there that the
+-- sections map back to the offset; and the offset itself where addresses are not mapped
+unfoldable pub file_address : ParseOptions → List Section → ℕ → ℕ → Option ℕ
+file_address opts sections alignment p =
+    if opts.resolve_rva
+    then option_and_then (rva_in opts alignment p)
+    (find (λ s. maps_to opts sections alignment p (rva_in opts alignment p s)) sections)
+    else Some p
+
+-- no address is mapped to the file offset
+abbrev pub IsMappedFromNowhere : ParseOptions → List Section → ℕ → ℕ → Type 0
+IsMappedFromNowhere opts sections alignment p =
+    (rva : ℕ) → ¬ (file_offset opts sections alignment rva ≡ Some p)
 
 -- ---- what a file offset says about an address
 
@@ -97,7 +153,7 @@ OffsetsApart opts sections alignment =
 abbrev pub MapsTo : ParseOptions → List Section → ℕ → ℕ → ℕ → Type 0
 MapsTo opts sections alignment rva offset =
     (index : ℕ) × (first : IsFirstWindow sections alignment rva index)
-    × (offset ≡ offset_in opts first.section rva)
+    × (offset ≡ offset_in opts alignment first.section rva)
 
 -- no section's window holds the address
 abbrev pub MapsNowhere : List Section → ℕ → ℕ → Type 0

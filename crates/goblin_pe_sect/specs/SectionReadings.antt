@@ -34,8 +34,8 @@ real_name table offset = or_none (text_in_table table offset)
 
 -- The section of the record at an offset, with its name from the string table at `table` where its
 -- own name is indirect.
-unfoldable pub section_at : Bool → ℕ → ℕ → Reading Section
-section_at strict table p =
+unfoldable pub named_section_at : Bool → ℕ → ℕ → Reading Section
+named_section_at strict table p =
     record_at 40 (section_record Little) p
     >>= λ section. name_number strict section.name
     >>= λ offset. mapped (λ name. record section { real_name = name }) (real_name table offset)
@@ -56,5 +56,5 @@ section_data s =
 abbrev pub SectionWritesBack : Type 0
 SectionWritesBack =
     (strict : Bool) (table : ℕ) (bytes : List ℕ) (p : ℕ) (section : Section) → IsBytes bytes
-    → (section_at strict table p).value bytes ≡ Some section
+    → (named_section_at strict table p).value bytes ≡ Some section
     → bytes_of.slice_at bytes p 40 ≡ Some (encoding Little (section_fields section))

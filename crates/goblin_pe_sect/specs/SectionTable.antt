@@ -3,9 +3,9 @@ use Rattle.std.specs.Prelude.{◌≡◌, ℕ, ◌+◌, ◌<◌, Bool, List, [], 
 use Rattle.std.specs.Prelude.{None, Some, nat_eq}
 use Rattle.std.specs.Prelude.{slice_range}
 use Rattle.std.specs.Option.{option_eq}
-use Rattle.std.specs.Ordering.{on, eq_of_both}
-use Rattle.std.specs.Cmp.{IsPartialEquivalence, on_per, and_per, partial_equiv_from_equiv}
-use Rattle.std.specs.Cmp.Lexicographic.{pointwise, options_equiv}
+use Rattle.std.specs.Ordering.{eq_of_both, on}
+use Rattle.std.specs.Cmp.{IsPartialEquivalence, and_per, on_per, partial_equiv_from_equiv}
+use Rattle.std.specs.Cmp.Lexicographic.{options_equiv, pointwise}
 use Rattle.std.proofs.lemmas.Cmp.{nat_eq_equiv, nat_list_eq_equiv}
 use Rattle.goblin_base.specs.declared.endian.Endian.{Endian}
 use Rattle.goblin_base.specs.declared.error.ErrorOf.{ErrorOf}
@@ -75,8 +75,8 @@ abbrev pub sections_in : List ℕ → List Section
 sections_in bytes = records_in 40 (section_record Little) bytes
 
 -- the sections of the records as a reader gives them
-abbrev pub section_records : SectionRecords → List Section
-section_records r = sections_in r.records.now
+abbrev pub recorded_sections : SectionRecords → List Section
+recorded_sections r = sections_in r.records.now
 
 -- such records are nothing but their bytes
 abbrev pub AreBytesAlone : Type 0

@@ -13,5 +13,5 @@ pub record IsDivision (opts : ParseOptions) (sections : List Section) (alignment
   pub owned : owners_of pieces ≡ map (first_owner opts sections alignment) (begins_of pieces)
 
 -- there is room for this many pieces more
-abbrev pub HasRoom : Vec Piece Global → ℕ → Type 0
-HasRoom pieces more = vec_len pieces + more ≤ vec_capacity pieces
+abbrev pub HasPieceRoom : Vec Piece Global → ℕ → Type 0
+HasPieceRoom pieces more = vec_len pieces + more ≤ vec_capacity pieces

@@ -50,14 +50,14 @@ pub record IsCut (sections : List Section) (alignment : ℕ) (begins : List ℕ)
   pub few : length begins ≤ 2 * length sections + 1
 
 -- what an index of windows keeps of a section, by its number in the table
-abbrev pub owner_of_section : ParseOptions → ℕ → Section → Owner
-owner_of_section opts i s =
-    record { index = i; address = s.virtual_address; pointer = raw_begin opts s }
+abbrev pub owner_of_section : ParseOptions → ℕ → ℕ → Section → Owner
+owner_of_section opts alignment i s =
+    record { index = i; address = s.virtual_address; pointer = raw_begin opts alignment s }
 
 -- what an index keeps of the first section whose window holds an address
 abbrev pub first_owner : ParseOptions → List Section → ℕ → ℕ → Option Owner
 first_owner opts sections alignment rva =
-    option_and_then (λ (i : ℕ). option_map (owner_of_section opts i) (slice_get sections i))
+    option_and_then (λ (i : ℕ). option_map (owner_of_section opts alignment i) (slice_get sections i))
     (position (is_in_window alignment rva) sections)
 
 -- ---- what an index returns

@@ -7,11 +7,12 @@ use Rattle.goblin_pe_sect.specs.SectionTable.{Section}
 use Rattle.goblin_pe_sect.specs.Mapping.{InWindow}
 
 -- no address lies in the windows of both
-abbrev pub AreApart : ℕ → Section → Section → Type 0
-AreApart alignment s t = (rva : ℕ) → InWindow alignment rva s → ¬ InWindow alignment rva t
+abbrev pub HaveDisjointWindows : ℕ → Section → Section → Type 0
+HaveDisjointWindows alignment s t =
+    (rva : ℕ) → InWindow alignment rva s → ¬ InWindow alignment rva t
 
 -- The second table has the sections of the first in any order, and the windows of any two of them
 -- are disjoint. If the alignment is not a power of two, there are no windows.
 pub record IsReordering (alignment : ℕ) (first second : List Section) : Type 0 where
   pub moved : IsPermutation first second
-  pub apart : IsTrue (is_power_of_two alignment) → AllPairs (AreApart alignment) first
+  pub apart : IsTrue (is_power_of_two alignment) → AllPairs (HaveDisjointWindows alignment) first

@@ -44,7 +44,7 @@ section_window_at opts alignment i s =
     record {
       begin = s.virtual_address;
       end = window_end s alignment;
-      owner = owner_of_section opts i s;
+      owner = owner_of_section opts alignment i s;
     }
 
 abbrev pub section_windows : ParseOptions → ℕ → List Section → List Window

@@ -9,7 +9,7 @@ ghost use Rattle.goblin_pe_sect.specs.Addresses.{AreMany, IsIndexed, KeepsWindow
 ghost use Rattle.goblin_pe_sect.specs.Addresses.{WalksFew};
 ghost use Rattle.goblin_pe_sect.specs.Addresses.{map_by, map_of, map_with, offset_of, strict_map};
 ghost use Rattle.goblin_pe_sect.specs.Runs.{IsRun};
-ghost use Rattle.goblin_pe_sect.specs.SectionTable.{section_records};
+ghost use Rattle.goblin_pe_sect.specs.SectionTable.{recorded_sections};
 ghost use Rattle.goblin_pe_sect.specs.WindowIndex.{HasPieces, located};
 
 use crate::options::{ParseMode, ParseOptions};
@@ -72,8 +72,8 @@ fn index_of<'e>(
 
 // The sections of records, without their names from the string table.
 fn listed<'e>(alloc: Global, records: SectionRecords) -> ResultOf<'e, Vec<SectionTable>>
-    ensures made { GivesOrMemory (λ v. v.items) result (section_records records.entry) }
-    ensures room { IfOk result (λ v. vec_capacity v ≡ length (section_records records.entry)) }
+    ensures made { GivesOrMemory (λ v. v.items) result (recorded_sections records.entry) }
+    ensures room { IfOk result (λ v. vec_capacity v ≡ length (recorded_sections records.entry)) }
 {
     let count = records.len();
     let mut sections = Vec::with_capacity(alloc, count)?;
@@ -95,7 +95,7 @@ impl<'s> Windows<'s> {
         opts: &ParseOptions,
     ) -> ResultOf<'e, Windows<'s>>
         ensures made { GivesOrMemory (map_with opts.now) result
-            (map_by opts.now (section_records records.entry) file_alignment) }
+            (map_by opts.now (recorded_sections records.entry) file_alignment) }
         ensures few { IfOk result (WalksFew opts.now) }
         ensures grown { IfErr result (λ e. HasPieces opts.now file_alignment) }
     {
@@ -150,11 +150,11 @@ impl<'s> AddressMap<'s> {
         opts: &ParseOptions,
     ) -> ResultOf<'e, AddressMap<'s>>
         ensures made { GivesOrMemory map_of result
-            (map_by opts.now (section_records records.entry) file_alignment) }
+            (map_by opts.now (recorded_sections records.entry) file_alignment) }
         ensures few { IfOk result (λ m. WalksFew m.opts m.windows) }
-        ensures walked { let count = length (section_records records.entry) in
+        ensures walked { let count = length (recorded_sections records.entry) in
             IfOk result (λ m. ¬ AreMany count → m.windows ≡ Walked records.entry file_alignment) }
-        ensures grown { let count = length (section_records records.entry) in
+        ensures grown { let count = length (recorded_sections records.entry) in
             IfErr result (λ e. HasPieces opts.now file_alignment × AreMany count) }
     {
         let windows = if FEW < records.len() {

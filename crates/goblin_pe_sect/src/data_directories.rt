@@ -7,7 +7,7 @@ ghost use Rattle.std.specs.Iterator.SizeHint.{IsWithinCount};
 ghost use Rattle.goblin_base.specs.Reading.{Reads};
 ghost use Rattle.goblin_base.specs.Answers.{Answers, Writes, IsSliceFault};
 ghost use Rattle.goblin_base.specs.Bytes.{overwritten};
-ghost use Rattle.goblin_base.specs.Record.{encoding, ReadsBack, WritesBack, record_over};
+ghost use Rattle.goblin_base.specs.Record.{WritesRecord, encoding};
 ghost use Rattle.readings.specs.Reads.{record_at};
 ghost use Rattle.goblin_pe_sect.specs.declared.data_directories.DataDirectory.{DataDirectory};
 ghost use Rattle.goblin_pe_sect.specs.DataDirectories.{IsNoKind, dirs_left};
@@ -115,13 +115,8 @@ impl DataDirectory {
     /// # Errors
     /// [`Error::Read`] if there is no room for 8 bytes; `bytes` is then unchanged.
     pub fn try_into_ctx(self, bytes: &mut [u8], endian: Endian) -> Result<usize>
-        ensures size { IfOk result (λ n. n ≡ 8) }
-        ensures written { let after = record_over 8 (encoding endian (directory_fields self))
-            bytes.old in
-            Writes result after bytes.old bytes.new (IsSliceFault bytes.old 0 8) }
-        ensures long { IfOk result (λ n. length (encoding endian (directory_fields self)) ≡ 8) }
-        ensures back { IfOk result (λ n. WritesBack 8 directory_record directory_fields) }
-        ensures again { IfOk result (λ n. ReadsBack 8 directory_record directory_fields self) }
+        ensures { WritesRecord 8 directory_record directory_fields
+            endian self result bytes.old bytes.new }
     {
         Record::try_into_ctx(self, bytes, endian)
     }

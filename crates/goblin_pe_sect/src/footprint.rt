@@ -4,7 +4,7 @@ ghost use Rattle.std.specs.Prelude.{◌≡◌};
 ghost use Rattle.goblin_base.specs.Marks.{marked};
 ghost use Rattle.goblin_pe_sect.specs.DirectoryReadings.{directories_at};
 ghost use Rattle.goblin_pe_sect.specs.Options.{is_strict};
-ghost use Rattle.goblin_pe_sect.specs.SectionReadings.{real_name, section_at};
+ghost use Rattle.goblin_pe_sect.specs.SectionReadings.{named_section_at, real_name};
 
 use crate::data_directories::{NUM_DATA_DIRECTORIES, SIZEOF_DATA_DIRECTORY};
 use crate::options::ParseOptions;
@@ -42,7 +42,7 @@ fn add_name(marks: &mut Marks, bytes: &[u8], string_table_offset: usize, value: 
 
 /// Marks the footprint of the section record at the file offset `offset`: the record, and the text
 /// that its name points to in the string table at `string_table_offset`, if it points there.
-#[tactic(auto, unfolding(crate::specs::SectionReadings::section_at, crate::specs::SectionTable::section_record, goblin_base::specs::Footprints::led_to), using(goblin_base::proofs::Marks::marking))]
+#[tactic(auto, unfolding(crate::specs::SectionReadings::named_section_at, crate::specs::SectionTable::section_record, goblin_base::specs::Footprints::led_to), using(goblin_base::proofs::Marks::marking))]
 pub fn add_section(
     marks: &mut Marks,
     bytes: &[u8],
@@ -51,7 +51,7 @@ pub fn add_section(
     opts: &ParseOptions,
 )
     ensures { let strict = is_strict opts.now.parse_mode in
-        let reached = (section_at strict string_table_offset offset).reaches bytes.now in
+        let reached = (named_section_at strict string_table_offset offset).reaches bytes.now in
         marks.new ≡ marked marks.old reached }
 {
     add_slice(marks, bytes, offset, SIZEOF_SECTION_TABLE);

@@ -5,18 +5,22 @@ ghost use Rattle.goblin_pe_sect.specs.Options.{default_options, te_options};
 
 pub use goblin_base::ParseMode;
 
-/// Where the raw data of a section begins, for the mapping of addresses.
+/// Where the raw data of a section begins, for addresses and for its data.
 ///
 /// Where the raw pointer is a multiple of 512, as the PE/COFF specification asks for the usual file
-/// alignments, both rules say the same. Else rounding is right where `section_alignment` is 4,096
+/// alignments, all rules say the same. Else rounding is right where `section_alignment` is 4,096
 /// or more, and pointers as stored where it is less, since the Windows loader maps such an image as
 /// one flat view of the file.
 #[derive(Debug, PartialEq, Copy, Clone)]
 pub enum RawPointerRule {
     /// At the raw pointer, as goblin maps.
-    AsStored,
+    AsStored = 0,
     /// At the greatest multiple of 512 that is at most the raw pointer.
-    RoundedTo512,
+    RoundedTo512 = 1,
+    /// By the file alignment, as pefile maps: rounded where that is 512 or more, else as stored. In a
+    /// lawful image it is below 512 only where it equals a `section_alignment` below 4,096, so this
+    /// is right for each such image, without a look at its header before.
+    ByFileAlignment = 2,
 }
 
 /// What a reader does and leaves out.

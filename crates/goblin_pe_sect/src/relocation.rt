@@ -1,12 +1,11 @@
 //! The relocations of a PE file: those of an object's sections, for linkers, and the base
 //! relocations of an image, for loaders.
 
-ghost use Rattle.std.specs.Prelude.{◌≡◌, ◌/◌, Some, length, IfSome, IfOk};
+ghost use Rattle.std.specs.Prelude.{◌≡◌, ◌/◌, Some, length, IfSome};
 ghost use Rattle.std.specs.Iterator.{UpTo, YieldsFirst, at_most};
 ghost use Rattle.std.specs.Iterator.SizeHint.{IsWithinCount};
-ghost use Rattle.goblin_base.specs.Answers.{IsSliceFault, Writes};
 ghost use Rattle.goblin_base.specs.Reading.{Reads};
-ghost use Rattle.goblin_base.specs.Record.{ReadsBack, WritesBack, encoding, record_over};
+ghost use Rattle.goblin_base.specs.Record.{WritesRecord};
 ghost use Rattle.goblin_pe_sect.specs.declared.relocation.Relocation.{Relocation};
 ghost use Rattle.goblin_pe_sect.specs.Relocations.{relocation_fields};
 ghost use Rattle.goblin_pe_sect.specs.Relocations.{relocation_record, relocations_at};
@@ -195,13 +194,8 @@ impl Relocation {
     /// # Errors
     /// [`Error::Read`] if there is no room for 10 bytes; `bytes` is then unchanged.
     pub fn try_into_ctx(self, bytes: &mut [u8], endian: Endian) -> Result<usize>
-        ensures size { IfOk result (λ n. n ≡ 10) }
-        ensures written { let after = record_over 10 (encoding endian (relocation_fields self))
-            bytes.old in
-            Writes result after bytes.old bytes.new (IsSliceFault bytes.old 0 10) }
-        ensures long { IfOk result (λ n. length (encoding endian (relocation_fields self)) ≡ 10) }
-        ensures back { IfOk result (λ n. WritesBack 10 relocation_record relocation_fields) }
-        ensures again { IfOk result (λ n. ReadsBack 10 relocation_record relocation_fields self) }
+        ensures { WritesRecord 10 relocation_record relocation_fields
+            endian self result bytes.old bytes.new }
     {
         Record::try_into_ctx(self, bytes, endian)
     }

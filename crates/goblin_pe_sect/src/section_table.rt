@@ -1,29 +1,31 @@
 //! The section records of a PE file.
 
-ghost use Rattle.std.specs.Prelude.{◌≡◌, ◌↔◌, ◌+◌, ◌*◌, ◌<◌, ◌≤◌, Bool, Err, IfErr, IfOk, IfSome, ℕ};
+ghost use Rattle.std.specs.Prelude.{◌≡◌, ◌↔◌, ◌+◌, ◌*◌, ◌<◌, ◌≤◌, Bool, Err, IfErr, IfOk, IfSome};
+ghost use Rattle.std.specs.Prelude.{ℕ};
 ghost use Rattle.std.specs.Prelude.{IsSomeAnd, IsTrue, None, Ok, OnErr, OnOk, Some, if◌then◌else◌};
 ghost use Rattle.std.specs.Prelude.{length, nat_eq, slice_range, string_bytes, true};
-ghost use Rattle.std.specs.Cow.{cow_slice_items, IsBorrowedSlice};
+ghost use Rattle.std.specs.Cow.{IsBorrowedSlice, cow_slice_items};
 ghost use Rattle.std.specs.Option.{option_eq, option_map};
 ghost use Rattle.std.specs.Cmp.Lexicographic.{pointwise};
 ghost use Rattle.goblin_base.specs.declared.error.ErrorOf.TheVariants.{Malformed};
 ghost use Rattle.goblin_base.specs.declared.error.CauseOf.TheVariants.{NameText};
 ghost use Rattle.goblin_base.specs.Answers.{Answers, GivesOrMemory, IsMemory};
-ghost use Rattle.goblin_base.specs.Answers.{Writes, IsSliceFault};
+ghost use Rattle.goblin_base.specs.Answers.{IsSliceFault, Writes};
 ghost use Rattle.goblin_base.specs.Bytes.{overwritten, replaced};
 ghost use Rattle.goblin_base.specs.Reading.{Reads, ReadsOrMemory};
 ghost use Rattle.goblin_base.specs.Record.{WritesBack, encoding};
 ghost use Rattle.readings.specs.Reads.{mapped, slice_at};
 ghost use Rattle.goblin_pe_sect.specs.Options.{is_strict};
 ghost use Rattle.goblin_pe_sect.specs.Relocations.{relocations_in, relocations_left};
-ghost use Rattle.goblin_pe_sect.specs.SectionName.{name_value, IsNameFault, indirect_name};
-ghost use Rattle.goblin_pe_sect.specs.SectionName.{IsNameOffsetFault, HasBytes};
-ghost use Rattle.goblin_pe_sect.specs.SectionReadings.{SectionWritesBack, raw_data, section_at};
+ghost use Rattle.goblin_pe_sect.specs.SectionName.{IsNameFault, indirect_name, name_value};
+ghost use Rattle.goblin_pe_sect.specs.SectionName.{HasBytes, IsNameOffsetFault};
+ghost use Rattle.goblin_pe_sect.specs.SectionReadings.{SectionWritesBack, named_section_at};
+ghost use Rattle.goblin_pe_sect.specs.SectionReadings.{raw_data};
 ghost use Rattle.goblin_pe_sect.specs.SectionReadings.{section_data, text_in_table};
 ghost use Rattle.goblin_pe_sect.specs.SectionTable.{Section, section_eq, section_per};
 ghost use Rattle.goblin_pe_sect.specs.SectionTable.{SectionReadsBack};
-ghost use Rattle.goblin_pe_sect.specs.SectionTable.{section_record, section_fields, unnamed};
-ghost use Rattle.goblin_pe_sect.specs.SectionTable.{name_of, IsNoName, OverlapRawData};
+ghost use Rattle.goblin_pe_sect.specs.SectionTable.{section_fields, section_record, unnamed};
+ghost use Rattle.goblin_pe_sect.specs.SectionTable.{IsNoName, OverlapRawData, name_of};
 
 use crate::digits::{Digits, decimal_number, indirect_name};
 use crate::options::{ParseMode, ParseOptions};
@@ -183,11 +185,11 @@ impl SectionTable {
         string_table_offset: usize,
     ) -> Result<SectionTable>
         ensures value { ReadsOrMemory (λ s. s) result
-            (section_at true string_table_offset offset.old) bytes.now }
+            (named_section_at true string_table_offset offset.old) bytes.now }
         ensures grown { IfErr result
             (λ e.
             IsMemory e
-            → IsSomeAnd ((section_at true string_table_offset offset.old).value bytes.now)
+            → IsSomeAnd ((named_section_at true string_table_offset offset.old).value bytes.now)
             (λ s. HasBytes s.real_name)) }
         ensures ok { OnOk result (offset.new ≡ offset.old + 40) }
         ensures err { OnErr result (offset.new ≡ offset.old) }
@@ -205,7 +207,7 @@ impl SectionTable {
     /// [`Error::Read`] if the 40 bytes run past the end of the file; as
     /// [`SectionTable::name_offset_with_opts`] where the name is refused; [`Error::Memory`] if
     /// memory for the real name is refused. `offset` is then unchanged.
-    #[tactic(auto, unfolding(crate::specs::SectionReadings::section_at, crate::specs::SectionName::IsNameFault, crate::specs::SectionTable::section_record))]
+    #[tactic(auto, unfolding(crate::specs::SectionReadings::named_section_at, crate::specs::SectionName::IsNameFault, crate::specs::SectionTable::section_record))]
     pub fn parse_with_opts(
         alloc: Global,
         bytes: &[u8],
@@ -214,9 +216,11 @@ impl SectionTable {
         opts: &ParseOptions,
     ) -> Result<SectionTable>
         ensures value { ReadsOrMemory (λ s. s) result
-            (section_at (is_strict opts.now.parse_mode) string_table_offset offset.old) bytes.now }
+            (named_section_at (is_strict opts.now.parse_mode) string_table_offset offset.old)
+            bytes.now }
         ensures grown { let strict = is_strict opts.now.parse_mode in
-            let section = (section_at strict string_table_offset offset.old).value bytes.now in
+            let read = named_section_at strict string_table_offset offset.old in
+            let section = read.value bytes.now in
             IfErr result (λ e. IsMemory e → IsSomeAnd section (λ s. HasBytes s.real_name)) }
         ensures ok { OnOk result (offset.new ≡ offset.old + 40) }
         ensures err { OnErr result (offset.new ≡ offset.old) }
@@ -237,14 +241,15 @@ impl SectionTable {
     /// [`Error::Read`] if the 40 bytes run past the end of the file; as
     /// [`SectionTable::name_offset_with_opts`] where the name is refused. `offset` is then unchanged.
     #[inline(always)]
-    #[tactic(auto, unfolding(crate::specs::SectionReadings::section_at, crate::specs::SectionName::IsNameFault, crate::specs::SectionTable::section_record))]
+    #[tactic(auto, unfolding(crate::specs::SectionReadings::named_section_at, crate::specs::SectionName::IsNameFault, crate::specs::SectionTable::section_record))]
     pub fn parse_unnamed(
         bytes: &[u8],
         offset: &mut usize,
         opts: &ParseOptions,
     ) -> Result<SectionTable>
         ensures value { (table : ℕ) → Reads (λ s. s) result
-            (mapped unnamed (section_at (is_strict opts.now.parse_mode) table offset.old)) bytes.now }
+            (mapped unnamed (named_section_at (is_strict opts.now.parse_mode) table offset.old))
+            bytes.now }
         ensures ok { OnOk result (offset.new ≡ offset.old + 40) }
         ensures err { OnErr result (offset.new ≡ offset.old) }
     {

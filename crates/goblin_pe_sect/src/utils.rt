@@ -10,7 +10,8 @@ ghost use Rattle.goblin_base.specs.Answers.{Answers};
 ghost use Rattle.goblin_base.specs.Reading.{Reads};
 ghost use Rattle.goblin_pe_sect.specs.AddressReadings.{data_at, name_or_none, text_at_address};
 ghost use Rattle.goblin_pe_sect.specs.Mapping.{read_size, window_end, window_of, is_in_window};
-ghost use Rattle.goblin_pe_sect.specs.Mapping.{raw_begin, offset_in, file_offset, InWindow, MapsTo};
+ghost use Rattle.goblin_pe_sect.specs.Mapping.{raw_begin, rounds, offset_in, file_offset};
+ghost use Rattle.goblin_pe_sect.specs.Mapping.{InWindow, MapsTo, section_at};
 ghost use Rattle.goblin_pe_sect.specs.Mapping.{MapsNowhere, OffsetsApart, IsMessage};
 ghost use Rattle.goblin_pe_sect.specs.Multiples.{greatest_multiple, least_multiple};
 ghost use Rattle.goblin_pe_sect.specs.Options.{is_strict, default_options};
@@ -21,6 +22,10 @@ use crate::section_table::SectionTable;
 use goblin_base::{
     Cause, CauseOf, Endian, Error, ErrorOf, Result, ResultOf, TryFromCtx, pread_str, pread_with,
 };
+
+mod rva;
+
+pub use rva::{find_rva, rva_in};
 
 /// Whether the address `rva` lies in the range from `r1` up to, and without, `r2`. It lies in none
 /// where `r2` is at most `r1`.
@@ -138,17 +143,47 @@ fn first_in_window(
         .find(|section| is_in_window(rva, section, file_alignment))
 }
 
+// Whether the rule rounds raw pointers at this file alignment.
+#[inline(always)]
+fn rounds(rule: RawPointerRule, file_alignment: u32) -> bool
+    ensures { result ≡ rounds rule file_alignment }
+{
+    match rule {
+        RawPointerRule::AsStored => false,
+        RawPointerRule::RoundedTo512 => true,
+        RawPointerRule::ByFileAlignment => file_alignment >= 512,
+    }
+}
+
+/// The section that an address lies in: the first whose window holds it, by which [`find_offset`]
+/// maps it. None does if `file_alignment` is not a power of two.
+#[tactic(auto, using(crate::proofs::Mapped::power_positive))]
+pub fn section_at(
+    rva: usize,
+    sections: &[SectionTable],
+    file_alignment: u32,
+) -> Option<&SectionTable>
+    ensures { option_copied result ≡ section_at file_alignment rva sections.now }
+{
+    if file_alignment.is_power_of_two() {
+        first_in_window(rva, sections, file_alignment)
+    } else {
+        None
+    }
+}
+
 /// The file offset at which the section's raw data begins for the mapping of addresses: its raw
-/// pointer, as stored or rounded down to 512 as `opts` says.
+/// pointer, as stored or rounded down to 512 as the rule of `opts` says at this file alignment.
 ///
 /// Source: none; [`RawPointerRule`] says for which images each rule is right.
-pub fn raw_begin(section: &SectionTable, opts: &ParseOptions) -> u32
-    ensures { result ≡ raw_begin opts.now section.now }
+pub fn raw_begin(section: &SectionTable, file_alignment: u32, opts: &ParseOptions) -> u32
+    ensures { result ≡ raw_begin opts.now file_alignment section.now }
 {
     let pointer = section.pointer_to_raw_data;
-    match opts.raw_pointer_rule {
-        RawPointerRule::AsStored => pointer,
-        RawPointerRule::RoundedTo512 => round_down(pointer as usize, 512) as u32,
+    if rounds(opts.raw_pointer_rule, file_alignment) {
+        round_down(pointer as usize, 512) as u32
+    } else {
+        pointer
     }
 }
 
@@ -156,12 +191,12 @@ pub fn raw_begin(section: &SectionTable, opts: &ParseOptions) -> u32
 #[tactic(auto, using(crate::proofs::Mapped::read_size_le))]
 fn offset_in(rva: usize, section: &SectionTable, file_alignment: u32, opts: &ParseOptions) -> usize
     requires { InWindow file_alignment rva section.now }
-    ensures { result ≡ offset_in opts.now section.now rva }
+    ensures { result ≡ offset_in opts.now file_alignment section.now rva }
 {
     let distance = rva - section.virtual_address as usize;
     let raw_size = section.size_of_raw_data as usize;
     prove!(distance < raw_size + 4096);
-    raw_begin(section, opts) as usize + distance
+    raw_begin(section, file_alignment, opts) as usize + distance
 }
 
 // The file offset of an address.
@@ -188,7 +223,7 @@ fn file_offset(
 /// order of the table. Where windows overlap, the first hides the others.
 ///
 /// The windows are those that [`window`] returns. The offset is the raw pointer, as stored or
-/// rounded down to 512 as `opts` says, plus the distance from the section's address; it may lie
+/// rounded down to 512 by the rule of `opts`, plus the distance from the section's address; it may lie
 /// past the file, so test it before reading there. If `opts` says that addresses are offsets, the
 /// result is the address itself. Otherwise it is `None` if no window holds the address or
 /// `file_alignment` is not a power of two.

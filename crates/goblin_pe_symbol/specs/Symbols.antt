@@ -3,7 +3,7 @@ use Rattle.std.specs.Prelude.{◌≡◌, ◌≢◌, ◌⊎◌, ◌<◌, ◌≤�
 use Rattle.std.specs.Prelude.{nat_le, if◌then◌else◌, List, [], ◌∷◌, ◌++◌, length, replicate}
 use Rattle.std.specs.Prelude.{slice_index, slice_range, Option, Some, None, option_map}
 use Rattle.std.specs.Borrow.{Bor}
-use Rattle.std.specs.Int.{w16, cast_signed, cast_unsigned}
+use Rattle.std.specs.Int.{cast_signed, cast_unsigned, w16}
 use Rattle.std.specs.List.{All, AllPairs, Contains}
 use Rattle.goblin_base.specs.declared.endian.Endian.{Endian}
 use Rattle.goblin_base.specs.declared.endian.Endian.TheVariants.{Little}
@@ -48,12 +48,12 @@ abbrev pub inline_name : List ℕ → Option (List ℕ)
 inline_name bytes = if slice_index bytes 0 == 0 then None else bounded_text_at bytes 0 8
 
 -- the symbol in a record's bytes, after the name in it
-abbrev pub named_symbol : List ℕ → Option (List ℕ) × Symbol
-named_symbol bytes = (inline_name bytes, symbol_record Little bytes)
+abbrev pub name_and_symbol : List ℕ → Option (List ℕ) × Symbol
+name_and_symbol bytes = (inline_name bytes, symbol_record Little bytes)
 
 -- the symbol at an offset, after the name in it
 abbrev pub symbol_at : ℕ → Reading (Option (List ℕ) × Symbol)
-symbol_at p = record_at 18 named_symbol p
+symbol_at p = record_at 18 name_and_symbol p
 
 -- what contracts see of a symbol and the name in it: the name by its bytes
 abbrev pub named_value : Option (Bor (List ℕ)) × Symbol → Option (List ℕ) × Symbol
@@ -97,8 +97,8 @@ IsNoSymbolName table name e = ⊥
 -- ---- tables
 
 -- the bytes of a table
-abbrev pub table_bytes : SymbolTable → List ℕ
-table_bytes table = table.symbols.now
+abbrev pub symbol_bytes : SymbolTable → List ℕ
+symbol_bytes table = table.symbols.now
 
 -- which cause is true of bytes without a table of n records at p: they run past the end, or their
 -- size overflows 64 bits

@@ -4,10 +4,10 @@ ghost use Rattle.std.specs.Prelude.{◌≡◌, ◌↔◌, ◌+◌, ◌-◌, ◌*
 ghost use Rattle.std.specs.Prelude.{Some, IfOk, IfSome, IsTrue, length, option_map};
 ghost use Rattle.std.specs.Iterator.{UpTo, YieldsFirstBy, at_most};
 ghost use Rattle.std.specs.Iterator.SizeHint.{IsWithinCount};
-ghost use Rattle.goblin_base.specs.Answers.{Answers, Writes, IsSliceFault};
+ghost use Rattle.goblin_base.specs.Answers.{Answers, IsSliceFault, Writes};
 ghost use Rattle.goblin_base.specs.Bytes.{overwritten, slice_at};
 ghost use Rattle.goblin_base.specs.Reading.{Reads};
-ghost use Rattle.goblin_base.specs.Record.{record_at, ReadsBack, WritesBack, encoding, record_over};
+ghost use Rattle.goblin_base.specs.Record.{WritesRecord, record_at};
 ghost use Rattle.goblin_pe_symbol.specs.declared.symbol.Symbol.{Symbol};
 ghost use Rattle.goblin_pe_symbol.specs.AuxiliarySymbols.{begin_and_end_function_record};
 ghost use Rattle.goblin_pe_symbol.specs.AuxiliarySymbols.{function_definition_record};
@@ -15,11 +15,12 @@ ghost use Rattle.goblin_pe_symbol.specs.AuxiliarySymbols.{section_definition_rec
 ghost use Rattle.goblin_pe_symbol.specs.AuxiliarySymbols.{weak_external_record};
 ghost use Rattle.goblin_pe_symbol.specs.Symbols.{AreSymbolsOf, IsNoSymbolName};
 ghost use Rattle.goblin_pe_symbol.specs.Symbols.{file_name_at, inline_name, name_offset_of};
-ghost use Rattle.goblin_pe_symbol.specs.Symbols.{named_symbol, named_value, offset_name};
+ghost use Rattle.goblin_pe_symbol.specs.Symbols.{name_and_symbol, named_value, offset_name};
 ghost use Rattle.goblin_pe_symbol.specs.Symbols.{stored_number, stored_offset, symbol_fields};
-ghost use Rattle.goblin_pe_symbol.specs.Symbols.{symbol_item, symbol_name, symbol_record, symbols_in};
+ghost use Rattle.goblin_pe_symbol.specs.Symbols.{symbol_item, symbol_name, symbol_record};
+ghost use Rattle.goblin_pe_symbol.specs.Symbols.{symbols_in};
 ghost use Rattle.goblin_pe_symbol.specs.Symbols.{symbol_at, symbol_table, symbols_left};
-ghost use Rattle.goblin_pe_symbol.specs.Symbols.{table_bytes};
+ghost use Rattle.goblin_pe_symbol.specs.Symbols.{symbol_bytes};
 
 use goblin_base::{
     Cause, Endian, Error, Field, Record, Result, Strtab, encode_fields, field_array, field_i16,
@@ -265,13 +266,8 @@ impl Symbol {
     /// # Errors
     /// [`Error::Read`] if there is no room for 18 bytes; `bytes` is then unchanged.
     pub fn try_into_ctx(self, bytes: &mut [u8], endian: Endian) -> Result<usize>
-        ensures size { IfOk result (λ n. n ≡ 18) }
-        ensures written { let after = record_over 18 (encoding endian (symbol_fields self))
-            bytes.old in
-            Writes result after bytes.old bytes.new (IsSliceFault bytes.old 0 18) }
-        ensures long { IfOk result (λ n. length (encoding endian (symbol_fields self)) ≡ 18) }
-        ensures back { IfOk result (λ n. WritesBack 18 symbol_record symbol_fields) }
-        ensures again { IfOk result (λ n. ReadsBack 18 symbol_record symbol_fields self) }
+        ensures { WritesRecord 18 symbol_record symbol_fields
+            endian self result bytes.old bytes.new }
     {
         Record::try_into_ctx(self, bytes, endian)
     }
@@ -298,7 +294,7 @@ fn inline_name(bytes: &[u8]) -> Option<&str>
 // The symbol of a record, and the name in it.
 fn named(bytes: &[u8]) -> (Option<&str>, Symbol)
     requires { length bytes.now ≡ 18 }
-    ensures { named_value result ≡ named_symbol bytes.now }
+    ensures { named_value result ≡ name_and_symbol bytes.now }
 {
     (inline_name(bytes), Symbol::in_record(bytes, Endian::Little))
 }
@@ -320,7 +316,7 @@ impl<'a> SymbolTable<'a> {
     /// [`Error::Read`] if they run past the end of the file, or begin at it, even where there are
     /// none; [`Error::Malformed`] with [`Cause::Overflow`] if their size overflows 64 bits.
     pub fn parse(bytes: &'a [u8], offset: usize, number: usize) -> Result<SymbolTable<'a>>
-        ensures { Reads table_bytes result (symbol_table offset number) bytes.now }
+        ensures { Reads symbol_bytes result (symbol_table offset number) bytes.now }
     {
         let Some(size) = number.checked_mul(COFF_SYMBOL_SIZE) else {
             return Err(Error::Malformed(Cause::Overflow));
@@ -341,7 +337,7 @@ impl<'a> SymbolTable<'a> {
     fn record_at(&self, index: usize) -> Option<&'a [u8]>
         ensures len { IfSome result (λ r. length r.now ≡ 18) }
         ensures value { option_map (λ r. r.now) result
-            ≡ slice_at (table_bytes self.now) (18 * index) 18 }
+            ≡ slice_at (symbol_bytes self.now) (18 * index) 18 }
     {
         let offset = index.checked_mul(COFF_SYMBOL_SIZE)?;
         pread_slice(self.symbols, offset, COFF_SYMBOL_SIZE).ok()
@@ -352,7 +348,7 @@ impl<'a> SymbolTable<'a> {
     /// record.
     pub fn get(&self, index: usize) -> Option<(Option<&'a str>, Symbol)>
         ensures { option_map named_value result
-            ≡ record_at 18 named_symbol (table_bytes self.now) (18 * index) }
+            ≡ record_at 18 name_and_symbol (symbol_bytes self.now) (18 * index) }
     {
         Some(named(self.record_at(index)?))
     }
@@ -361,7 +357,7 @@ impl<'a> SymbolTable<'a> {
     /// `None` if the table has no such record.
     pub fn aux_function_definition(&self, index: usize) -> Option<AuxFunctionDefinition>
         ensures { result
-            ≡ record_at 18 (function_definition_record Endian.Little) (table_bytes self.now)
+            ≡ record_at 18 (function_definition_record Endian.Little) (symbol_bytes self.now)
             (18 * index) }
     {
         let record = self.record_at(index)?;
@@ -372,7 +368,7 @@ impl<'a> SymbolTable<'a> {
     /// `None` if the table has no such record.
     pub fn aux_begin_and_end_function(&self, index: usize) -> Option<AuxBeginAndEndFunction>
         ensures { result
-            ≡ record_at 18 (begin_and_end_function_record Endian.Little) (table_bytes self.now)
+            ≡ record_at 18 (begin_and_end_function_record Endian.Little) (symbol_bytes self.now)
             (18 * index) }
     {
         let record = self.record_at(index)?;
@@ -383,7 +379,7 @@ impl<'a> SymbolTable<'a> {
     /// the table has no such record.
     pub fn aux_weak_external(&self, index: usize) -> Option<AuxWeakExternal>
         ensures { result
-            ≡ record_at 18 (weak_external_record Endian.Little) (table_bytes self.now)
+            ≡ record_at 18 (weak_external_record Endian.Little) (symbol_bytes self.now)
             (18 * index) }
     {
         let record = self.record_at(index)?;
@@ -394,7 +390,7 @@ impl<'a> SymbolTable<'a> {
     /// `None` if the table has no such record.
     pub fn aux_section_definition(&self, index: usize) -> Option<AuxSectionDefinition>
         ensures { result
-            ≡ record_at 18 (section_definition_record Endian.Little) (table_bytes self.now)
+            ≡ record_at 18 (section_definition_record Endian.Little) (symbol_bytes self.now)
             (18 * index) }
     {
         let record = self.record_at(index)?;
@@ -407,7 +403,7 @@ impl<'a> SymbolTable<'a> {
     /// Source: PE Format, "Auxiliary Format 4: Files".
     pub fn aux_file(&self, index: usize, number: usize) -> Option<&'a str>
         ensures { option_map (λ s. s.now) result
-            ≡ file_name_at (table_bytes self.now) index number }
+            ≡ file_name_at (symbol_bytes self.now) index number }
     {
         let offset = index.checked_mul(COFF_SYMBOL_SIZE)?;
         let size = number.checked_mul(COFF_SYMBOL_SIZE)?;
@@ -418,8 +414,8 @@ impl<'a> SymbolTable<'a> {
     /// auxiliary records. The name is `None` if it is in the string table, or is not UTF-8:
     /// [`Symbol::name`] finds the first.
     pub fn iter(&self) -> SymbolIterator<'a>
-        ensures items { symbols_left result ≡ symbols_in (table_bytes self.now) }
-        ensures heads { AreSymbolsOf (table_bytes self.now) (symbols_in (table_bytes self.now)) }
+        ensures items { symbols_left result ≡ symbols_in (symbol_bytes self.now) }
+        ensures heads { AreSymbolsOf (symbol_bytes self.now) (symbols_in (symbol_bytes self.now)) }
     {
         SymbolIterator {
             symbols: self.symbols,
@@ -433,9 +429,9 @@ impl<'a> SymbolTable<'a> {
     /// # Errors
     /// [`Error::Read`] if there is no room, or `bytes` is empty; it is then unchanged.
     pub fn try_into_ctx(self, bytes: &mut [u8], _endian: Endian) -> Result<usize>
-        ensures size { IfOk result (λ n. n ≡ length (table_bytes self.entry)) }
-        ensures written { Writes result (overwritten bytes.old 0 (table_bytes self.entry)) bytes.old
-            bytes.new (IsSliceFault bytes.old 0 (length (table_bytes self.entry))) }
+        ensures size { IfOk result (λ n. n ≡ length (symbol_bytes self.entry)) }
+        ensures written { Writes result (overwritten bytes.old 0 (symbol_bytes self.entry))
+            bytes.old bytes.new (IsSliceFault bytes.old 0 (length (symbol_bytes self.entry))) }
     {
         pwrite_slice(bytes, 0, self.symbols)?;
         Ok(self.symbols.len())

@@ -8,7 +8,9 @@
 //! status is 1.
 use goblin::pe::export::{ExportDirectoryTable, Reexport};
 use goblin::pe::{PE, header::Header, utils};
-use goblin_pe::{Cause, DirectoryType, Forwarder, OptionalHeader, Options, Pe};
+use goblin_pe::{
+    Cause, DirectoryType, Forwarder, OptionalHeader, Options, Pe, RawPointerRule,
+};
 use std::collections::BTreeMap;
 use std::error::Error;
 use std::panic::{AssertUnwindSafe, catch_unwind};
@@ -149,7 +151,7 @@ type Said = Vec<String>;
 
 /// What this library says, and the file offset of the import directory; or the refusal.
 fn ours(file: &[u8]) -> Result<(Said, Option<usize>), goblin_pe::Error> {
-    let options = Options::default().with_rounds_raw_pointers(true);
+    let options = Options::default().with_raw_pointer_rule(RawPointerRule::RoundedTo512);
     let pe = Pe::read(file, &options)?;
     let mut said: Said = pe.sections().map(|s| section_line!(s.name.0, s)).collect();
     // goblin counts the entries that were kept, this library those of the file

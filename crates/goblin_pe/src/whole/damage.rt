@@ -10,12 +10,12 @@ ghost use Rattle.goblin_pe_import.specs.ImportWalks.{IsImportsCause, imports_lef
 ghost use Rattle.goblin_pe.specs.Damages.{AreDamaged, IsDamage, IsDamageOf, IsReadByBoth, IsSound};
 ghost use Rattle.goblin_pe.specs.Damages.{TellsDamage};
 ghost use Rattle.goblin_pe.specs.Layouts.{IsFileImportsCause, file_imports_left, layout_map};
-ghost use Rattle.goblin_pe.specs.Layouts.{layout_places};
+ghost use Rattle.goblin_pe.specs.Layouts.{layout_bytes, layout_places};
 ghost use Rattle.goblin_pe.specs.SectionRoom.{TakesIndex};
 ghost use Rattle.goblin_pe.specs.Whole.{import_list, sections_after};
 
 use crate::import::{Bitfield, Imports, LeftOut};
-use crate::whole::layout::section_records;
+use crate::whole::layout::section_records_of;
 use crate::whole::{FileImports, Layout, Part, Whole};
 use goblin_base::{Error, ErrorOf, Result};
 use goblin_pe_head::header::{DosStub, Header};
@@ -40,6 +40,10 @@ pub struct Damage {
     pub relocations: Option<Error>,
     /// How much permissive mode leaves out of the imports; nothing where they are not asked for.
     pub left_out: LeftOut,
+    /// How many name pointers of the export directory give no export, in either mode: there is no
+    /// ordinal, the ordinal lies past the address table, or it leads to a forwarder whose text cannot
+    /// be read. 0 where the exports are refused.
+    pub left_out_exports: usize,
 }
 
 // The refusal that ends a walk, if one does.
@@ -70,7 +74,8 @@ fn file_refusal_of<'a, 'm, 'e>(imports: FileImports<'a, 'm, 'e>) -> Option<Error
 // What is refused of the imports.
 fn import_damage(layout: &Layout) -> Option<Error>
     ensures { let m = layout_map layout.now in
-        IsDamage (import_list m.opts (offset_of m) (layout_places layout.now)) layout.now.bytes.now
+        IsDamage (import_list m.opts (offset_of m) (layout_places layout.now))
+        (layout_bytes layout.now)
         result }
 {
     match layout.imports() {
@@ -85,14 +90,14 @@ fn import_damage(layout: &Layout) -> Option<Error>
 fn name_damage(bytes: &[u8], header: &Header) -> Option<Error>
     ensures { IsDamage (sections_after true (header_value header.now)) bytes.now result }
 {
-    section_records(bytes, header, &ParseOptions::default()).err()
+    section_records_of(bytes, header, &ParseOptions::default()).err()
 }
 
 // What strict mode refuses of the imports, the exports and the base relocations, and how much
 // permissive mode leaves out of the imports.
 fn table_damage(layout: Layout) -> (Option<Error>, Option<Error>, Option<Error>, LeftOut)
     ensures { let m = layout_map layout.entry in
-        AreDamaged m.opts (offset_of m) (layout_places layout.entry) layout.entry.bytes.now
+        AreDamaged m.opts (offset_of m) (layout_places layout.entry) (layout_bytes layout.entry)
         result.0 result.1 result.2 result.3 }
 {
     let left_out = layout.left_out();
@@ -114,6 +119,7 @@ fn file_damage(alloc: Global, bytes: &[u8], opts: &ParseOptions) -> Result<Damag
 {
     let header = Header::parse_with_opts(bytes, opts)?;
     let layout = Layout::of(alloc, bytes, &header, opts)?;
+    let left_out_exports = layout.left_out_exports();
     let (imports, exports, relocations, left_out) = table_damage(layout);
     Ok(Damage {
         dos_stub: DosStub::parse(bytes, header.dos_header.pe_pointer).err(),
@@ -122,6 +128,7 @@ fn file_damage(alloc: Global, bytes: &[u8], opts: &ParseOptions) -> Result<Damag
         exports,
         relocations,
         left_out,
+        left_out_exports,
     })
 }
 
@@ -140,7 +147,6 @@ impl Whole<'_> {
     /// [`CoffHeader::sections_with_opts`](goblin_pe_head::CoffHeader::sections_with_opts);
     /// [`Error::Memory`] if memory is refused, and only of a file that has more than 96 sections, by
     /// whose windows addresses are mapped, and room for as many as its header says.
-    #[tactic(auto, using(crate::proofs::SoundFiles::sound_told))]
     pub fn damage(alloc: Global, bytes: &[u8], opts: &ParseOptions) -> Result<Damage>
         ensures tells { TellsDamage opts.now bytes.now result }
         ensures sound { IfOk result (λ d. IsSound d → IsReadByBoth opts.now bytes.now) }

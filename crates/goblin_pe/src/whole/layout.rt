@@ -1,6 +1,7 @@
 //! What all tables of a file are read by.
 
-ghost use Rattle.std.specs.Prelude.{◌+◌, ◌≡◌, ◌<◌, ◌/◌, IfErr, IfOk, IsErrAnd, None, Ok, Some, length, map};
+ghost use Rattle.std.specs.Prelude.{◌+◌, ◌≡◌, ◌<◌, ◌/◌, IfErr, IfOk, IsErrAnd, None, Ok, Some};
+ghost use Rattle.std.specs.Prelude.{length, map};
 ghost use Rattle.goblin_base.specs.Answers.{IsMemory};
 ghost use Rattle.goblin_base.specs.Marks.{marked};
 ghost use Rattle.goblin_base.specs.Reading.{Reads, ReadsOrMemory};
@@ -10,12 +11,13 @@ ghost use Rattle.goblin_pe_sect.specs.Options.{is_strict};
 ghost use Rattle.goblin_pe_head.specs.PeHeader.{header_value};
 ghost use Rattle.goblin_pe_head.specs.CoffHeader.{IsTooManySections};
 ghost use Rattle.goblin_pe_sect.specs.Addresses.{map_of, offset_of, strict_map};
-ghost use Rattle.goblin_pe_sect.specs.SectionTable.{section_records, unnamed};
-ghost use Rattle.goblin_pe.specs.Damages.{left_out_of};
+ghost use Rattle.goblin_pe_sect.specs.SectionTable.{recorded_sections, unnamed};
+ghost use Rattle.goblin_pe.specs.Damages.{exports_left_out, left_out_of};
 ghost use Rattle.goblin_pe.specs.LayoutPositions.{StartsAt, file_map, import_start};
 ghost use Rattle.goblin_pe.specs.Layouts.{IsExportWalk, IsFileImportsCause, IsLayoutOf, PartWalks};
-ghost use Rattle.goblin_pe.specs.Layouts.{file_imports_left, layout_map, layout_places};
-ghost use Rattle.goblin_pe.specs.Layouts.{walked_exports};
+ghost use Rattle.goblin_pe.specs.Layouts.{file_imports_left, layout_bytes, layout_header};
+ghost use Rattle.goblin_pe.specs.Layouts.{layout_map, layout_places};
+ghost use Rattle.goblin_pe.specs.Layouts.{layout_sections, walked_exports};
 ghost use Rattle.goblin_pe.specs.SectionRoom.{TakesIndex, TakesSections};
 ghost use Rattle.goblin_pe.specs.Whole.{AreListed, IfRead, export_part, import_list};
 ghost use Rattle.goblin_pe.specs.Whole.{part_map, relocation_part, section_table_offset};
@@ -48,8 +50,8 @@ pub struct Layout<'a, 'h> {
     address_map: AddressMap<'a>,
 }
 
-// The file offset at which an optional header of this size ends.
-fn after_optional_header(pe_pointer: u32, size_of_optional_header: u16) -> usize
+// The file offset of the section table after an optional header of this size.
+fn section_table_after(pe_pointer: u32, size_of_optional_header: u16) -> usize
     ensures { result ≡ pe_pointer + 24 + size_of_optional_header }
 {
     pe_pointer as usize + SIZEOF_PE_MAGIC + SIZEOF_COFF_HEADER + size_of_optional_header as usize
@@ -61,19 +63,19 @@ fn section_table_offset(header: &Header) -> usize
     ensures { result ≡ section_table_offset (header_value header.now) }
 {
     let size = header.coff_header.size_of_optional_header;
-    after_optional_header(header.dos_header.pe_pointer, size)
+    section_table_after(header.dos_header.pe_pointer, size)
 }
 
 // The records of the sections of a file with this header.
 #[inline(always)]
 #[tactic(auto, unfolding(crate::specs::Whole::sections_after))]
-pub(super) fn section_records<'a>(
+pub(super) fn section_records_of<'a>(
     bytes: &'a [u8],
     header: &Header,
     opts: &ParseOptions,
 ) -> Result<SectionRecords<'a>>
     ensures value { let strict = is_strict opts.now.parse_mode in
-        Reads section_records result
+        Reads recorded_sections result
         (mapped (map unnamed) (sections_after strict (header_value header.now))) bytes.now }
     ensures first { let count = header.now.coff_header.number_of_sections in
         length bytes.now / 40 < count → IsErrAnd result (IsTooManySections count bytes.now) }
@@ -125,7 +127,7 @@ impl<'a, 'h> Layout<'a, 'h> {
         opts: &ParseOptions,
     ) -> Result<Layout<'a, 'h>>
         ensures value { let strict = is_strict opts.now.parse_mode in
-            ReadsOrMemory (λ l. section_records l.records) result
+            ReadsOrMemory layout_sections result
             (mapped (map unnamed) (sections_after strict (header_value header.now))) bytes.now }
         ensures over { IfOk result (IsLayoutOf opts.now bytes.now header.now) }
         ensures first { let count = header.now.coff_header.number_of_sections in
@@ -133,7 +135,7 @@ impl<'a, 'h> Layout<'a, 'h> {
         ensures grown { IfErr result
             (λ e. IsMemory e → TakesIndex opts.now bytes.now (header_value header.now)) }
     {
-        let records = section_records(bytes, header, opts)?;
+        let records = section_records_of(bytes, header, opts)?;
         let places = Places::of(&header.optional_header);
         let address_map = AddressMap::of_records(alloc, records, places.file_alignment, opts)?;
         Ok(Layout {
@@ -147,7 +149,7 @@ impl<'a, 'h> Layout<'a, 'h> {
 
     // The same layout, by which damaged tables are refused and not passed over.
     pub(super) fn strictly(self) -> Layout<'a, 'h>
-        ensures over { result.bytes.now ≡ self.entry.bytes.now }
+        ensures over { layout_bytes result ≡ layout_bytes self.entry }
         ensures placed { layout_places result ≡ layout_places self.entry }
         ensures mapped { layout_map result ≡ strict_map (layout_map self.entry) }
     {
@@ -162,14 +164,14 @@ impl<'a, 'h> Layout<'a, 'h> {
 
     /// The bytes of the file.
     pub fn bytes(&self) -> &'a [u8]
-        ensures { result.now ≡ self.now.bytes.now }
+        ensures { result.now ≡ layout_bytes self.now }
     {
         self.bytes
     }
 
     /// The header: everything before the section table.
     pub fn header(&self) -> &'h Header<'a>
-        ensures { result.now ≡ self.now.header.now }
+        ensures { result.now ≡ layout_header self.now }
     {
         self.header
     }
@@ -177,7 +179,7 @@ impl<'a, 'h> Layout<'a, 'h> {
     /// The records of the sections, by which the addresses are mapped. Their sections have no names
     /// from the string table.
     pub fn section_records(&self) -> SectionRecords<'a>
-        ensures { section_records result ≡ section_records self.now.records }
+        ensures { recorded_sections result ≡ layout_sections self.now }
     {
         self.records
     }
@@ -191,9 +193,10 @@ impl<'a, 'h> Layout<'a, 'h> {
     pub fn sections(&self, alloc: Global) -> Result<Vec<SectionTable>>
         ensures value { let strict = is_strict (layout_map self.now).opts.parse_mode in
             ReadsOrMemory (λ v. v.items) result
-            (sections_after strict (header_value self.now.header.now)) self.now.bytes.now }
-        ensures grown { let count = self.now.header.now.coff_header.number_of_sections in
-            IfErr result (λ e. IsMemory e → TakesSections count self.now.bytes.now) }
+            (sections_after strict (header_value (layout_header self.now)))
+            (layout_bytes self.now) }
+        ensures grown { let count = (layout_header self.now).coff_header.number_of_sections in
+            IfErr result (λ e. IsMemory e → TakesSections count (layout_bytes self.now)) }
     {
         sections_of(alloc, self.bytes, self.header, self.address_map.opts())
     }
@@ -206,12 +209,12 @@ impl<'a, 'h> Layout<'a, 'h> {
     pub fn imports<'m, 'e>(&'m self) -> ResultOf<'e, Part<FileImports<'a, 'm, 'e>>>
         ensures walks { let m = layout_map self.now in
             PartWalks file_imports_left IsFileImportsCause (λ xs. xs) result
-            (import_list m.opts (offset_of m) (layout_places self.now)) self.now.bytes.now }
+            (import_list m.opts (offset_of m) (layout_places self.now)) (layout_bytes self.now) }
         ensures listed { let m = layout_map self.now in
-            AreListed m.opts (offset_of m) (layout_places self.now) self.now.bytes.now }
+            AreListed m.opts (offset_of m) (layout_places self.now) (layout_bytes self.now) }
         ensures starts { let m = layout_map self.now in
             let places = layout_places self.now in
-            StartsAt m places.magic self.now.bytes.now
+            StartsAt m places.magic (layout_bytes self.now)
             (import_start m.opts (offset_of m) places None) result }
         ensures over { IfOk result (IfRead (λ walk. file_map walk ≡ layout_map self.now)) }
     {
@@ -227,7 +230,7 @@ impl<'a, 'h> Layout<'a, 'h> {
     ) -> Part<FileImports<'a, 'm, 'e>>
         ensures { let m = layout_map self.now in
             let places = layout_places self.now in
-            StartsAt m places.magic self.now.bytes.now
+            StartsAt m places.magic (layout_bytes self.now)
             (import_start m.opts (offset_of m) places (Some position)) (Ok result) }
     {
         self.places
@@ -242,9 +245,9 @@ impl<'a, 'h> Layout<'a, 'h> {
     pub fn exports<'m>(&'m self) -> Result<Part<Exports<'a, 'm>>>
         ensures value { let m = layout_map self.now in
             Reads (part_map walked_exports) result
-            (export_part m.opts (offset_of m) (layout_places self.now)) self.now.bytes.now }
+            (export_part m.opts (offset_of m) (layout_places self.now)) (layout_bytes self.now) }
         ensures walk { IfOk result
-            (IfRead (IsExportWalk (layout_map self.now) self.now.bytes.now)) }
+            (IfRead (IsExportWalk (layout_map self.now) (layout_bytes self.now))) }
     {
         self.exports_by(self.finder())
     }
@@ -259,9 +262,9 @@ impl<'a, 'h> Layout<'a, 'h> {
         requires { map_of finder ≡ layout_map self.now }
         ensures value { let m = layout_map self.now in
             Reads (part_map walked_exports) result
-            (export_part m.opts (offset_of m) (layout_places self.now)) self.now.bytes.now }
+            (export_part m.opts (offset_of m) (layout_places self.now)) (layout_bytes self.now) }
         ensures walk { IfOk result
-            (IfRead (IsExportWalk (layout_map self.now) self.now.bytes.now)) }
+            (IfRead (IsExportWalk (layout_map self.now) (layout_bytes self.now))) }
     {
         self.places.export_walk(self.bytes, finder)
     }
@@ -281,7 +284,8 @@ impl<'a, 'h> Layout<'a, 'h> {
     pub fn relocations(&self) -> Result<Part<RelocationData<'a>>>
         ensures { let m = layout_map self.now in
             Reads (part_map relocation_bytes) result
-            (relocation_part m.opts (offset_of m) (layout_places self.now)) self.now.bytes.now }
+            (relocation_part m.opts (offset_of m) (layout_places self.now))
+            (layout_bytes self.now) }
     {
         self.places.relocations(self.bytes, &self.address_map)
     }
@@ -289,16 +293,28 @@ impl<'a, 'h> Layout<'a, 'h> {
     /// How much permissive mode leaves out of the imports; nothing where they are not asked for.
     pub fn left_out(&self) -> LeftOut
         ensures { let m = layout_map self.now in
-            result ≡ left_out_of m.opts (offset_of m) (layout_places self.now) self.now.bytes.now }
+            result ≡ left_out_of m.opts (offset_of m) (layout_places self.now)
+            (layout_bytes self.now) }
     {
         self.places.left_out(self.bytes, &self.address_map)
+    }
+
+    /// How many name pointers of the export directory give no export, in either mode: there is no
+    /// ordinal, the ordinal lies past the address table, or it leads to a forwarder whose text cannot
+    /// be read. None where the file has no export directory, or one that strict mode refuses.
+    pub fn left_out_exports(&self) -> usize
+        ensures { let m = layout_map self.now in
+            result ≡ exports_left_out (offset_of m) (layout_places self.now)
+            (layout_bytes self.now) }
+    {
+        self.places.left_out_exports(self.bytes, self.finder())
     }
 
     // Marks the positions on which the tables depend.
     pub(crate) fn mark_tables(&self, marks: &mut Marks)
         ensures { let m = layout_map self.now in
             let read = table_parts m.opts (offset_of m) (layout_places self.now) in
-            marks.new ≡ marked marks.old (read.reaches self.now.bytes.now) }
+            marks.new ≡ marked marks.old (read.reaches (layout_bytes self.now)) }
     {
         self.places.mark(marks, self.bytes, &self.address_map)
     }

@@ -6,14 +6,16 @@ ghost use Rattle.goblin_base.specs.Reading.{ReadsOrMemory};
 ghost use Rattle.goblin_pe_sect.specs.Addresses.{IsIndexed, map_of, offset_of, reads_strictly};
 ghost use Rattle.goblin_pe_export.specs.ExportReadings.{export_read};
 ghost use Rattle.goblin_pe_export.specs.ExportRecords.{export_read_view};
-ghost use Rattle.goblin_pe_export.specs.Exports.{HasEntries, TakesRoomFor, export_data};
+ghost use Rattle.goblin_pe_export.specs.Exports.{HasExportEntries, TakesRoomFor, export_data};
 ghost use Rattle.goblin_pe_import.specs.ImportDirectory.{TakesLibraries};
 ghost use Rattle.goblin_pe_import.specs.ImportReadings.{import_data};
-ghost use Rattle.goblin_pe_import.specs.Imports.{IsImportsFault, imports_of, kept_count};
+ghost use Rattle.goblin_pe_import.specs.Imports.{IsImportListFault, imports_of, kept_count};
 ghost use Rattle.goblin_pe.specs.SectionRoom.{TakesExports, TakesImports, TakesTables};
 ghost use Rattle.goblin_pe.specs.Whole.{IsReadAnd};
-ghost use Rattle.goblin_pe.specs.Whole.{IsImportsPartFault, entry_format, export_part, import_part};
-ghost use Rattle.goblin_pe.specs.Whole.{import_parts, import_read_view, imports_part, items_part};
+ghost use Rattle.goblin_pe.specs.Whole.{IsListedImportsFault, entry_format, export_part};
+ghost use Rattle.goblin_pe.specs.Whole.{import_data_part};
+ghost use Rattle.goblin_pe.specs.Whole.{both_import_parts, import_read_view, items_part};
+ghost use Rattle.goblin_pe.specs.Whole.{listed_imports_part};
 ghost use Rattle.goblin_pe.specs.Whole.{listed_view, part_map, table_parts, table_places};
 
 use crate::export::{Export, ExportData};
@@ -54,7 +56,7 @@ impl Places {
     }
 
     // The import data, if it was asked for.
-    #[tactic(auto, unfolding(crate::specs::Whole::import_part), using(crate::proofs::Parts::becomes_same, crate::proofs::TakenTables::becomes_taken))]
+    #[tactic(auto, unfolding(crate::specs::Whole::import_data_part), using(crate::proofs::Parts::becomes_same, crate::proofs::TakenTables::becomes_taken))]
     fn import_data<'a>(
         &self,
         alloc: Global,
@@ -63,7 +65,7 @@ impl Places {
     ) -> Result<Part<ImportData<'a>>>
         ensures made { let m = map_of address_map.now in
             let places = table_places self.now in
-            ReadsOrMemory (λ x. x) result (import_part m.opts (offset_of m) places) bytes.now }
+            ReadsOrMemory (λ x. x) result (import_data_part m.opts (offset_of m) places) bytes.now }
         ensures grown { let m = map_of address_map.now in
             IfErr result
             (λ e. IsMemory e → TakesImports m (table_places self.now) bytes.now) }
@@ -89,7 +91,7 @@ impl Places {
     ) -> Result<Vec<Import<'a>>>
         ensures made { AnswersOrMemory (λ v. v.items) result
             (imports_of (entry_format self.now.magic).width libraries.now)
-            (IsImportsFault libraries.now) }
+            (IsImportListFault libraries.now) }
         ensures grown { IfErr result (λ e. IsMemory e → 0 < kept_count libraries.now) }
     {
         if self.has_narrow_entries() {
@@ -100,7 +102,7 @@ impl Places {
     }
 
     // The list of imports.
-    #[tactic(auto, unfolding(crate::specs::Whole::imports_part, crate::specs::Whole::part_then, crate::specs::Whole::part_map), using(crate::proofs::Parts::becomes_answered, crate::proofs::TakenTables::becomes_taken))]
+    #[tactic(auto, unfolding(crate::specs::Whole::listed_imports_part, crate::specs::Whole::part_then, crate::specs::Whole::part_map), using(crate::proofs::Parts::becomes_answered, crate::proofs::TakenTables::becomes_taken))]
     fn imports<'a>(
         &self,
         alloc: Global,
@@ -110,8 +112,8 @@ impl Places {
         opts: &ParseOptions,
     ) -> Result<Part<Vec<Import<'a>>>>
         ensures made { AnswersOrMemory items_part result
-            (imports_part opts.now (table_places self.now) import_data.now)
-            (IsImportsPartFault import_data.now) }
+            (listed_imports_part opts.now (table_places self.now) import_data.now)
+            (IsListedImportsFault import_data.now) }
         ensures grown { IfErr result (λ e. IsMemory e
             → IsReadAnd (λ libraries. 0 < kept_count libraries) import_data.now) }
     {
@@ -123,8 +125,8 @@ impl Places {
     }
 
     // The import data, and the list of imports made from it.
-    #[tactic(auto, unfolding(crate::specs::Whole::import_parts))]
-    fn import_parts<'a>(
+    #[tactic(auto, unfolding(crate::specs::Whole::both_import_parts))]
+    fn both_import_parts<'a>(
         &self,
         alloc: Global,
         bytes: &'a [u8],
@@ -133,7 +135,7 @@ impl Places {
     ) -> Result<ImportRead<'a>>
         ensures made { let m = map_of address_map.now in
             let places = table_places self.now in
-            ReadsOrMemory import_read_view result (import_parts m.opts (offset_of m) places)
+            ReadsOrMemory import_read_view result (both_import_parts m.opts (offset_of m) places)
             bytes.now }
         ensures grown { let m = map_of address_map.now in
             IfErr result
@@ -187,7 +189,7 @@ impl Places {
             IfErr result
             (λ e. IsMemory e → TakesTables m (table_places self.now) bytes.now) }
     {
-        let imports = self.import_parts(alloc, bytes, address_map, sections)?;
+        let imports = self.both_import_parts(alloc, bytes, address_map, sections)?;
         let exports = self.exports(alloc, bytes, address_map)?;
         let relocations = self.relocations(bytes, address_map)?;
         Ok(ListedTables {
@@ -223,7 +225,7 @@ fn exports_of<'a>(
         ReadsOrMemory export_read_view result (export_read (offset_of m) directory) bytes.now }
     ensures grown { let m = map_of address_map.now in
         IfErr result (λ e. IsMemory e
-        → IsSomeAnd (export_data (offset_of m) directory bytes.now) HasEntries) }
+        → IsSomeAnd (export_data (offset_of m) directory bytes.now) HasExportEntries) }
     ensures room { IfOk result (λ read. TakesRoomFor 32 read.1) }
 {
     let data = ExportData::parse_by(alloc, bytes, directory, address_map)?;

@@ -11,7 +11,7 @@ ghost use Rattle.goblin_pe_sect.specs.Addresses.{map_of, offset_of, reads_strict
 ghost use Rattle.goblin_pe_import.specs.ImportPositions.{first_import};
 ghost use Rattle.goblin_pe_import.specs.ImportReadings.{import_data};
 ghost use Rattle.goblin_pe_import.specs.Imports.{kept_imports};
-ghost use Rattle.goblin_pe.specs.Damages.{left_out_at, left_out_of};
+ghost use Rattle.goblin_pe.specs.Damages.{exports_left_out, left_out_at, left_out_of};
 ghost use Rattle.goblin_pe.specs.LayoutPositions.{GivesFirst, GivesFrom, StartsAt, file_map};
 ghost use Rattle.goblin_pe.specs.LayoutPositions.{import_start};
 ghost use Rattle.goblin_pe.specs.Layouts.{IsExportWalk, IsFileImportsCause, PartWalks};
@@ -213,6 +213,21 @@ impl Places {
                 self.left_out_at(bytes, directory, address_map)
             }
             _ => LeftOut::default(),
+        }
+    }
+
+    // How many name pointers of the export directory give no export; 0 where it cannot be read.
+    #[tactic(auto, unfolding(crate::specs::Damages::exports_left_out))]
+    pub(super) fn left_out_exports(&self, bytes: &[u8], finder: Finder<'_>) -> usize
+        ensures { let m = map_of finder.entry in
+            result ≡ exports_left_out (offset_of m) (table_places self.now) bytes.now }
+    {
+        let Some(directory) = self.exports else {
+            return 0;
+        };
+        match Exports::by(bytes, directory, finder) {
+            Ok(exports) => exports.left_out(),
+            Err(_) => 0,
         }
     }
 

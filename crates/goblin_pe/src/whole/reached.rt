@@ -4,7 +4,8 @@ ghost use Rattle.std.specs.Prelude.{◌≡◌};
 ghost use Rattle.goblin_base.specs.Marks.{marked};
 ghost use Rattle.goblin_pe_sect.specs.Addresses.{map_of, offset_of, reads_strictly};
 ghost use Rattle.goblin_pe_import.specs.ImportReadings.{import_data};
-ghost use Rattle.goblin_pe.specs.Whole.{entry_format, export_part, import_parts, relocation_part};
+ghost use Rattle.goblin_pe.specs.Whole.{both_import_parts, entry_format, export_part};
+ghost use Rattle.goblin_pe.specs.Whole.{relocation_part};
 ghost use Rattle.goblin_pe.specs.Whole.{table_parts, table_places};
 
 use crate::whole::places::Places;
@@ -30,10 +31,10 @@ impl Places {
     }
 
     // Marks what the imports reach, if they are asked for and there is a directory for them.
-    #[tactic(auto, unfolding(crate::specs::Whole::import_parts, crate::specs::Whole::import_part), using(goblin_base::proofs::Marks::marking))]
+    #[tactic(auto, unfolding(crate::specs::Whole::both_import_parts, crate::specs::Whole::import_data_part), using(goblin_base::proofs::Marks::marking))]
     fn mark_imports(&self, marks: &mut Marks, bytes: &[u8], address_map: &AddressMap)
         ensures { let m = map_of address_map.now in
-            let read = import_parts m.opts (offset_of m) (table_places self.now) in
+            let read = both_import_parts m.opts (offset_of m) (table_places self.now) in
             marks.new ≡ marked marks.old (read.reaches bytes.now) }
     {
         match self.imports {

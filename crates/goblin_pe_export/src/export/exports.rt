@@ -8,7 +8,8 @@ ghost use Rattle.goblin_base.specs.Reading.{Reads};
 ghost use Rattle.goblin_pe_sect.specs.Addresses.{map_of, offset_of};
 ghost use Rattle.goblin_pe_export.specs.ExportReadings.{export_read};
 ghost use Rattle.goblin_pe_export.specs.ExportRecords.{tables_in};
-ghost use Rattle.goblin_pe_export.specs.ExportWalks.{GivesExport, IsOver, KeepsOver, exports_at};
+ghost use Rattle.goblin_pe_export.specs.ExportWalks.{AreExportsOver, GivesExport, KeepsOver};
+ghost use Rattle.goblin_pe_export.specs.ExportWalks.{exports_at};
 ghost use Rattle.goblin_pe_export.specs.ExportWalks.{NumberedExport, exports_bound, exports_left};
 ghost use Rattle.goblin_pe_export.specs.ExportWalks.{numbered_export};
 ghost use Rattle.goblin_pe_export.specs.ExportWalks.{numbered_from, walked_export, walked_tables};
@@ -21,6 +22,8 @@ use goblin_pe_sect::DataDirectory;
 use goblin_pe_sect::address_map::{AddressMap, Finder};
 use std::fmt;
 use std::iter::FusedIterator;
+
+mod left_out;
 
 /// An export, as a walk yields it: without memory.
 #[derive(Debug, Drop)]
@@ -66,7 +69,7 @@ impl<'a, 'm> Exports<'a, 'm> {
         ensures left { let m = map_of address_map.now in
             IfOk result (λ walk. exports_left walk
             ≡ numbered_from (offset_of m) bytes.now (walked_tables walk) 0) }
-        ensures over { IfOk result (IsOver bytes.now (map_of address_map.now)) }
+        ensures over { IfOk result (AreExportsOver bytes.now (map_of address_map.now)) }
     {
         Exports::by(bytes, directory, Finder::of(address_map))
     }
@@ -89,7 +92,7 @@ impl<'a, 'm> Exports<'a, 'm> {
         ensures left { let m = map_of finder.entry in
             IfOk result (λ walk. exports_left walk
             ≡ numbered_from (offset_of m) bytes.now (walked_tables walk) 0) }
-        ensures over { IfOk result (IsOver bytes.now (map_of finder.entry)) }
+        ensures over { IfOk result (AreExportsOver bytes.now (map_of finder.entry)) }
     {
         let tables = TablesInFile::find(bytes, directory, &mut finder)?;
         Ok(Exports {

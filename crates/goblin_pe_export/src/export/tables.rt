@@ -1,11 +1,10 @@
 //! The export directory's record, and the three tables that it leads to.
 
-ghost use Rattle.std.specs.Prelude.{◌≡◌, ◌<◌, ◌-◌, ◌/◌, IfOk, length, min};
-ghost use Rattle.goblin_base.specs.Answers.{IsSliceFault, Writes};
+ghost use Rattle.std.specs.Prelude.{◌≡◌, ◌<◌, ◌-◌, ◌/◌, length, min};
 ghost use Rattle.goblin_base.specs.Reading.{Reads};
-ghost use Rattle.goblin_base.specs.Record.{ReadsBack, WritesBack, encoding, record_over};
+ghost use Rattle.goblin_base.specs.Record.{WritesRecord};
 ghost use Rattle.goblin_pe_export.specs.declared.export.tables.ExportDirectoryTable.{ExportDirectoryTable};
-ghost use Rattle.goblin_pe_export.specs.ExportReadings.{fitting, record_here};
+ghost use Rattle.goblin_pe_export.specs.ExportReadings.{export_record_at, fitting};
 ghost use Rattle.goblin_pe_export.specs.ExportRecords.{address_entry};
 ghost use Rattle.goblin_pe_export.specs.ExportRecords.{export_directory_fields};
 ghost use Rattle.goblin_pe_export.specs.ExportRecords.{export_directory_record};
@@ -117,7 +116,7 @@ impl ExportDirectoryTable {
     /// [`Error::Malformed`] with [`Cause::ExportTable`] if the 40 bytes run past the end of the
     /// file.
     pub fn parse(bytes: &[u8], offset: usize) -> Result<ExportDirectoryTable>
-        ensures { Reads (λ t. t) result (record_here offset) bytes.now }
+        ensures { Reads (λ t. t) result (export_record_at offset) bytes.now }
     {
         match ExportDirectoryTable::read_at(bytes, offset, Endian::Little) {
             Ok(table) => Ok(table),
@@ -132,16 +131,8 @@ impl ExportDirectoryTable {
     /// # Errors
     /// [`Error::Read`] if there is no room for 40 bytes; `bytes` is then unchanged.
     pub fn try_into_ctx(self, bytes: &mut [u8], endian: Endian) -> Result<usize>
-        ensures size { IfOk result (λ n. n ≡ 40) }
-        ensures written { let own = encoding endian (export_directory_fields self) in
-            let after = record_over 40 own bytes.old in
-            Writes result after bytes.old bytes.new (IsSliceFault bytes.old 0 40) }
-        ensures long { let own = encoding endian (export_directory_fields self) in
-            IfOk result (λ n. length own ≡ 40) }
-        ensures back { IfOk result (λ n.
-            WritesBack 40 export_directory_record export_directory_fields) }
-        ensures again { IfOk result (λ n.
-            ReadsBack 40 export_directory_record export_directory_fields self) }
+        ensures { WritesRecord 40 export_directory_record export_directory_fields
+            endian self result bytes.old bytes.new }
     {
         Record::try_into_ctx(self, bytes, endian)
     }

@@ -5,7 +5,7 @@ ghost use Rattle.goblin_base.specs.Answers.{IsMemory};
 ghost use Rattle.goblin_base.specs.Reading.{ReadsOrMemory, TwinsOrMemory};
 ghost use Rattle.goblin_pe_sect.specs.Addresses.{TakesMap, map_by, offset_of};
 ghost use Rattle.goblin_pe_export.specs.ExportReadings.{export_read};
-ghost use Rattle.goblin_pe_export.specs.Exports.{HasEntries, export_data, export_read_view};
+ghost use Rattle.goblin_pe_export.specs.Exports.{HasExportEntries, export_data, export_read_view};
 
 use crate::export::{Export, ExportData};
 use goblin_base::Result;
@@ -34,7 +34,7 @@ pub fn read_exports<'a>(
         ReadsOrMemory export_read_view result (export_read (offset_of m) directory) bytes.now }
     ensures grown { let m = map_by opts.now sections.now file_alignment in
         IfErr result (λ e. IsMemory e →
-        IsSomeAnd (export_data (offset_of m) directory bytes.now) HasEntries
+        IsSomeAnd (export_data (offset_of m) directory bytes.now) HasExportEntries
         ⊎ TakesMap opts.now sections.now file_alignment) }
 {
     let tables = ExportData::parse_with_opts(
@@ -72,11 +72,11 @@ pub fn twin_exports<'a>(
         TwinsOrMemory export_read_view (export_read (offset_of m) directory) a.now b.now result }
     ensures first_grown { let m = map_by opts.now sections.now file_alignment in
         IfErr result.0 (λ e. IsMemory e →
-        IsSomeAnd (export_data (offset_of m) directory a.now) HasEntries
+        IsSomeAnd (export_data (offset_of m) directory a.now) HasExportEntries
         ⊎ TakesMap opts.now sections.now file_alignment) }
     ensures second_grown { let m = map_by opts.now sections.now file_alignment in
         IfErr result.1 (λ e. IsMemory e →
-        IsSomeAnd (export_data (offset_of m) directory b.now) HasEntries
+        IsSomeAnd (export_data (offset_of m) directory b.now) HasExportEntries
         ⊎ TakesMap opts.now sections.now file_alignment) }
 {
     let first = read_exports(alloc, a, directory, sections, file_alignment, opts);

@@ -2,20 +2,20 @@
 //! string table.
 
 ghost use Rattle.std.specs.Prelude.{◌≡◌, ◌+◌, ◌*◌, ◌/◌, ◌<◌, length, option_map, true, IfErr, OnOk};
-ghost use Rattle.std.specs.Prelude.{OnErr, IsErrAnd, IfOk, map};
+ghost use Rattle.std.specs.Prelude.{OnErr, IsErrAnd, map};
 ghost use Rattle.goblin_base.specs.Reading.{Reads, ReadsOrMemory};
-ghost use Rattle.goblin_base.specs.Answers.{IsMemory, IsSliceFault, Writes};
-ghost use Rattle.goblin_base.specs.Record.{ReadsBack, WritesBack, encoding, record_over};
+ghost use Rattle.goblin_base.specs.Answers.{IsMemory};
+ghost use Rattle.goblin_base.specs.Record.{WritesRecord};
 ghost use Rattle.readings.specs.Reads.{mapped, record_at};
 ghost use Rattle.goblin_pe_sect.specs.Options.{is_strict};
-ghost use Rattle.goblin_pe_sect.specs.SectionTable.{section_records, unnamed};
-ghost use Rattle.goblin_pe_symbol.specs.Symbols.{table_bytes};
+ghost use Rattle.goblin_pe_sect.specs.SectionTable.{recorded_sections, unnamed};
+ghost use Rattle.goblin_pe_symbol.specs.Symbols.{symbol_bytes};
 ghost use Rattle.goblin_pe_head.specs.declared.header.coff.CoffHeader.{CoffHeader};
 ghost use Rattle.goblin_pe_head.specs.CoffHeader.{IsTooManySections, coff_fields, coff_header};
 ghost use Rattle.goblin_pe_head.specs.CoffHeader.{string_table_offset, symbols_end};
 ghost use Rattle.goblin_pe_head.specs.CoffReadings as reading;
 
-use crate::header::sections::{read_sections, section_records};
+use crate::header::sections::{read_section_records, read_sections};
 use goblin_base::{
     Cause, Endian, Error, Field, Record, Result, Strtab, field_u16, field_u32, gread_slice,
     pread_u32, put_fields,
@@ -196,7 +196,7 @@ impl CoffHeader {
         ensures value { let strict = is_strict opts.now.parse_mode in
             let table = symbols_end self.now in
             let count = self.now.number_of_sections in
-            Reads section_records result
+            Reads recorded_sections result
             (mapped (map unnamed) (reading.sections_at strict table count offset.old)) bytes.now }
         ensures first { length bytes.now / 40 < self.now.number_of_sections
             → IsErrAnd result (IsTooManySections self.now.number_of_sections bytes.now) }
@@ -207,7 +207,7 @@ impl CoffHeader {
         if bytes.len() / SIZEOF_SECTION_TABLE < count {
             return Err(Error::BufferTooShort(count, "sections"));
         }
-        section_records(bytes, offset, count, opts)
+        read_section_records(bytes, offset, count, opts)
     }
 
     /// The symbol table; `None` if the pointer to it is 0.
@@ -219,7 +219,7 @@ impl CoffHeader {
     /// there are none.
     #[tactic(auto, unfolding(crate::specs::CoffReadings::symbols_of))]
     pub fn symbols<'a>(&self, bytes: &'a [u8]) -> Result<Option<SymbolTable<'a>>>
-        ensures { Reads (option_map table_bytes) result (reading.symbols_of self.now) bytes.now }
+        ensures { Reads (option_map symbol_bytes) result (reading.symbols_of self.now) bytes.now }
     {
         if self.pointer_to_symbol_table == 0 {
             return Ok(None);
@@ -286,13 +286,7 @@ impl CoffHeader {
     /// # Errors
     /// [`Error::Read`] if there is no room for 20 bytes; `bytes` is then unchanged.
     pub fn try_into_ctx(self, bytes: &mut [u8], endian: Endian) -> Result<usize>
-        ensures size { IfOk result (λ n. n ≡ 20) }
-        ensures written { let after = record_over 20 (encoding endian (coff_fields self))
-            bytes.old in
-            Writes result after bytes.old bytes.new (IsSliceFault bytes.old 0 20) }
-        ensures long { IfOk result (λ n. length (encoding endian (coff_fields self)) ≡ 20) }
-        ensures back { IfOk result (λ n. WritesBack 20 coff_header coff_fields) }
-        ensures again { IfOk result (λ n. ReadsBack 20 coff_header coff_fields self) }
+        ensures { WritesRecord 20 coff_header coff_fields endian self result bytes.old bytes.new }
     {
         Record::try_into_ctx(self, bytes, endian)
     }

@@ -5,9 +5,8 @@ ghost use Rattle.std.specs.Prelude.{◌-◌, ◌==◌, ◌≢◌, option_map, sl
 ghost use Rattle.std.specs.Iterator.{UpTo, YieldsFirst, at_most};
 ghost use Rattle.std.specs.Iterator.SizeHint.{IsWithinCount};
 ghost use Rattle.goblin_base.specs.Reading.{Reads};
-ghost use Rattle.goblin_base.specs.Answers.{IsSliceFault, Writes};
 ghost use Rattle.goblin_base.specs.Bytes.{IsBytes};
-ghost use Rattle.goblin_base.specs.Record.{ReadsBack, WritesBack, encoding, record_over};
+ghost use Rattle.goblin_base.specs.Record.{WritesRecord};
 ghost use Rattle.goblin_pe_head.specs.declared.header.rich.RichMetadata.{RichMetadata};
 ghost use Rattle.goblin_pe_head.specs.HeaderLaws.{RichIsMarked, RichIsUnmarked};
 ghost use Rattle.goblin_pe_head.specs.HeaderReadings as reading;
@@ -214,13 +213,8 @@ impl RichMetadata {
     /// # Errors
     /// [`Error::Read`] if there is no room for 8 bytes; `bytes` is then unchanged.
     pub fn try_into_ctx(self, bytes: &mut [u8], endian: Endian) -> Result<usize>
-        ensures size { IfOk result (λ n. n ≡ 8) }
-        ensures written { let after = record_over 8 (encoding endian (metadata_fields self))
-            bytes.old in
-            Writes result after bytes.old bytes.new (IsSliceFault bytes.old 0 8) }
-        ensures long { IfOk result (λ n. length (encoding endian (metadata_fields self)) ≡ 8) }
-        ensures back { IfOk result (λ n. WritesBack 8 metadata_record metadata_fields) }
-        ensures again { IfOk result (λ n. ReadsBack 8 metadata_record metadata_fields self) }
+        ensures { WritesRecord 8 metadata_record metadata_fields
+            endian self result bytes.old bytes.new }
     {
         Record::try_into_ctx(self, bytes, endian)
     }

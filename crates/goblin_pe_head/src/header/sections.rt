@@ -5,11 +5,11 @@ ghost use Rattle.goblin_base.specs.Answers.{IsMemory};
 ghost use Rattle.goblin_base.specs.Reading.{Reads, ReadsOrMemory};
 ghost use Rattle.readings.specs.Reads.{each, mapped};
 ghost use Rattle.goblin_pe_sect.specs.Options.{is_strict};
-ghost use Rattle.goblin_pe_sect.specs.SectionReadings.{section_at};
-ghost use Rattle.goblin_pe_sect.specs.SectionTable.{section_records, unnamed};
+ghost use Rattle.goblin_pe_sect.specs.SectionReadings.{named_section_at};
+ghost use Rattle.goblin_pe_sect.specs.SectionTable.{recorded_sections, unnamed};
 ghost use Rattle.goblin_pe_head.specs.TeReadings as reading;
 
-use crate::header::te::adjust;
+use crate::header::te::adjust_section;
 use goblin_base::Result;
 use goblin_pe_sect::options::ParseOptions;
 use goblin_pe_sect::section_table::{SectionRecords, SectionTable};
@@ -44,7 +44,7 @@ pub(super) fn read_sections(
             string_table_offset,
             opts,
         )?;
-        adjust(&mut section, displacement);
+        adjust_section(&mut section, displacement);
         sections.push_reserved(section);
     }
     *offset = end;
@@ -54,15 +54,16 @@ pub(super) fn read_sections(
 // Tests the records of `count` sections, which follow one another from `offset` on, and moves
 // `offset` past them. The sections are read from them later.
 #[inline(always)]
-pub(super) fn section_records<'a>(
+pub(super) fn read_section_records<'a>(
     bytes: &'a [u8],
     offset: &mut usize,
     count: usize,
     opts: &ParseOptions,
 ) -> Result<SectionRecords<'a>>
     ensures value { let strict = is_strict opts.now.parse_mode in
-        (table : ℕ) → Reads section_records result
-        (mapped (map unnamed) (each (λ i. section_at strict table (offset.old + 40 * i)) count))
+        (table : ℕ) → Reads recorded_sections result
+        (mapped (map unnamed)
+        (each (λ i. named_section_at strict table (offset.old + 40 * i)) count))
         bytes.now }
     ensures ok { OnOk result (offset.new ≡ offset.old + 40 * count) }
     ensures err { OnErr result (offset.new ≡ offset.old) }

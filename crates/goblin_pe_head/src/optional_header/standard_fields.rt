@@ -1,8 +1,7 @@
 //! The standard fields of an optional header, for either width.
 
-ghost use Rattle.std.specs.Prelude.{◌%◌, ◌^◌, ◌≡◌, IfOk, length};
-ghost use Rattle.goblin_base.specs.Answers.{IsSliceFault, Writes};
-ghost use Rattle.goblin_base.specs.Record.{ReadsBack, WritesBack, encoding, record_over};
+ghost use Rattle.std.specs.Prelude.{◌%◌, ◌^◌, ◌≡◌};
+ghost use Rattle.goblin_base.specs.Record.{WritesRecord};
 ghost use Rattle.goblin_pe_head.specs.declared.optional_header.standard_fields.StandardFields32.{StandardFields32};
 ghost use Rattle.goblin_pe_head.specs.declared.optional_header.standard_fields.StandardFields64.{StandardFields64};
 ghost use Rattle.goblin_pe_head.specs.OptionalHeader.{standard_32_record, standard_32_fields};
@@ -99,13 +98,8 @@ impl StandardFields32 {
     /// [`Error::Read`](goblin_base::Error::Read) if there is no room for 28 bytes; `bytes` is then
     /// unchanged.
     pub fn try_into_ctx(self, bytes: &mut [u8], endian: Endian) -> Result<usize>
-        ensures size { IfOk result (λ n. n ≡ 28) }
-        ensures written { let after = record_over 28 (encoding endian (standard_32_fields self))
-            bytes.old in
-            Writes result after bytes.old bytes.new (IsSliceFault bytes.old 0 28) }
-        ensures long { IfOk result (λ n. length (encoding endian (standard_32_fields self)) ≡ 28) }
-        ensures back { IfOk result (λ n. WritesBack 28 standard_32_record standard_32_fields) }
-        ensures again { IfOk result (λ n. ReadsBack 28 standard_32_record standard_32_fields self) }
+        ensures { WritesRecord 28 standard_32_record standard_32_fields
+            endian self result bytes.old bytes.new }
     {
         Record::try_into_ctx(self, bytes, endian)
     }
@@ -193,13 +187,8 @@ impl StandardFields64 {
     /// [`Error::Read`](goblin_base::Error::Read) if there is no room for 24 bytes; `bytes` is then
     /// unchanged.
     pub fn try_into_ctx(self, bytes: &mut [u8], endian: Endian) -> Result<usize>
-        ensures size { IfOk result (λ n. n ≡ 24) }
-        ensures written { let after = record_over 24 (encoding endian (standard_64_fields self))
-            bytes.old in
-            Writes result after bytes.old bytes.new (IsSliceFault bytes.old 0 24) }
-        ensures long { IfOk result (λ n. length (encoding endian (standard_64_fields self)) ≡ 24) }
-        ensures back { IfOk result (λ n. WritesBack 24 standard_64_record standard_64_fields) }
-        ensures again { IfOk result (λ n. ReadsBack 24 standard_64_record standard_64_fields self) }
+        ensures { WritesRecord 24 standard_64_record standard_64_fields
+            endian self result bytes.old bytes.new }
     {
         Record::try_into_ctx(self, bytes, endian)
     }

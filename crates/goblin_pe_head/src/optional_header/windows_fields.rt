@@ -1,8 +1,7 @@
 //! The Windows fields of an optional header, for either width.
 
-ghost use Rattle.std.specs.Prelude.{◌≡◌, IfOk, length};
-ghost use Rattle.goblin_base.specs.Answers.{IsSliceFault, Writes};
-ghost use Rattle.goblin_base.specs.Record.{ReadsBack, WritesBack, encoding, record_over};
+ghost use Rattle.std.specs.Prelude.{◌≡◌};
+ghost use Rattle.goblin_base.specs.Record.{WritesRecord};
 ghost use Rattle.goblin_pe_head.specs.declared.optional_header.windows_fields.WindowsFields32.{WindowsFields32};
 ghost use Rattle.goblin_pe_head.specs.declared.optional_header.windows_fields.WindowsFields64.{WindowsFields64};
 ghost use Rattle.goblin_pe_head.specs.OptionalHeader.{windows_32_record, windows_32_fields};
@@ -165,13 +164,8 @@ impl WindowsFields32 {
     /// # Errors
     /// [`Error::Read`] if there is no room for 68 bytes; `bytes` is then unchanged.
     pub fn try_into_ctx(self, bytes: &mut [u8], endian: Endian) -> Result<usize>
-        ensures size { IfOk result (λ n. n ≡ 68) }
-        ensures written { let after = record_over 68 (encoding endian (windows_32_fields self))
-            bytes.old in
-            Writes result after bytes.old bytes.new (IsSliceFault bytes.old 0 68) }
-        ensures long { IfOk result (λ n. length (encoding endian (windows_32_fields self)) ≡ 68) }
-        ensures back { IfOk result (λ n. WritesBack 68 windows_32_record windows_32_fields) }
-        ensures again { IfOk result (λ n. ReadsBack 68 windows_32_record windows_32_fields self) }
+        ensures { WritesRecord 68 windows_32_record windows_32_fields
+            endian self result bytes.old bytes.new }
     {
         Record::try_into_ctx(self, bytes, endian)
     }
@@ -321,13 +315,8 @@ impl WindowsFields64 {
     /// # Errors
     /// [`Error::Read`] if there is no room for 88 bytes; `bytes` is then unchanged.
     pub fn try_into_ctx(self, bytes: &mut [u8], endian: Endian) -> Result<usize>
-        ensures size { IfOk result (λ n. n ≡ 88) }
-        ensures written { let after = record_over 88 (encoding endian (windows_64_fields self))
-            bytes.old in
-            Writes result after bytes.old bytes.new (IsSliceFault bytes.old 0 88) }
-        ensures long { IfOk result (λ n. length (encoding endian (windows_64_fields self)) ≡ 88) }
-        ensures back { IfOk result (λ n. WritesBack 88 windows_64_record windows_64_fields) }
-        ensures again { IfOk result (λ n. ReadsBack 88 windows_64_record windows_64_fields self) }
+        ensures { WritesRecord 88 windows_64_record windows_64_fields
+            endian self result bytes.old bytes.new }
     {
         Record::try_into_ctx(self, bytes, endian)
     }

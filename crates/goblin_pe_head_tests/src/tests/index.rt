@@ -46,11 +46,12 @@ fn is_prepared(alloc: Global, sections: &[SectionTable], rule: RawPointerRule) -
     matches!(&index, Ok(index) if agrees(index, sections, &opts))
 }
 
-/// Whether that is so of the sections in an order, by both rules.
+/// Whether that is so of the sections in an order, by each rule.
 fn order_agrees(alloc: Global, order: (u8, bool)) -> bool {
     matches!(&table(alloc, order), Ok(sections)
         if is_prepared(alloc, sections, RawPointerRule::AsStored)
-            && is_prepared(alloc, sections, RawPointerRule::RoundedTo512))
+            && is_prepared(alloc, sections, RawPointerRule::RoundedTo512)
+            && is_prepared(alloc, sections, RawPointerRule::ByFileAlignment))
 }
 
 #[test]

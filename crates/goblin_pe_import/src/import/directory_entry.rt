@@ -1,8 +1,7 @@
 //! The records of an import directory.
 
-ghost use Rattle.std.specs.Prelude.{◌≡◌, ◌==◌, ◌&&◌, not, IfOk, length};
-ghost use Rattle.goblin_base.specs.Answers.{IsSliceFault, Writes};
-ghost use Rattle.goblin_base.specs.Record.{ReadsBack, WritesBack, encoding, record_over};
+ghost use Rattle.std.specs.Prelude.{◌≡◌, ◌==◌, ◌&&◌, not};
+ghost use Rattle.goblin_base.specs.Record.{WritesRecord};
 ghost use Rattle.goblin_pe_import.specs.ImportRecords.{import_fields, import_record};
 ghost use Rattle.goblin_pe_import.specs.ImportRecords.{is_last_record};
 ghost use Rattle.goblin_pe_import.specs.declared.import.directory_entry.ImportDirectoryEntry.{ImportDirectoryEntry};
@@ -104,13 +103,8 @@ impl ImportDirectoryEntry {
     /// [`Error::Read`](goblin_base::Error::Read) if there is no room for 20 bytes; `bytes` is then
     /// unchanged.
     pub fn try_into_ctx(self, bytes: &mut [u8], endian: Endian) -> Result<usize>
-        ensures size { IfOk result (λ n. n ≡ 20) }
-        ensures written { let after = record_over 20 (encoding endian (import_fields self))
-            bytes.old in
-            Writes result after bytes.old bytes.new (IsSliceFault bytes.old 0 20) }
-        ensures long { IfOk result (λ n. length (encoding endian (import_fields self)) ≡ 20) }
-        ensures back { IfOk result (λ n. WritesBack 20 import_record import_fields) }
-        ensures again { IfOk result (λ n. ReadsBack 20 import_record import_fields self) }
+        ensures { WritesRecord 20 import_record import_fields
+            endian self result bytes.old bytes.new }
     {
         Record::try_into_ctx(self, bytes, endian)
     }

@@ -1,6 +1,7 @@
 //! A walk over all imports of an image.
 
-ghost use Rattle.std.specs.Prelude.{◌≡◌, ◌&&◌, ◌+◌, ◌-◌, ◌<◌, ◌≤◌, ◌^◌, ◌∷◌, ◌++◌, [], IfErr, IfOk, IfSome};
+ghost use Rattle.std.specs.Prelude.{◌≡◌, ◌&&◌, ◌+◌, ◌-◌, ◌<◌, ◌≤◌, ◌^◌, ◌∷◌, ◌++◌, [], IfErr, IfOk};
+ghost use Rattle.std.specs.Prelude.{IfSome};
 ghost use Rattle.std.specs.Prelude.{MatchOption, MatchResult, None, Some, false, is_none, length};
 ghost use Rattle.std.specs.Prelude.{not, option_map, true};
 ghost use Rattle.std.specs.Prelude.{if◌then◌else◌, IsSome, IsSomeAnd, IsOk, Ok};
@@ -14,19 +15,24 @@ ghost use Rattle.readings.specs.Reads.{mapped};
 ghost use Rattle.readings.specs.Walks.{GivesNext, IsWalkOf, Walks, until_refused};
 ghost use Rattle.goblin_pe_sect.specs.Addresses.{map_of, offset_of, reads_strictly};
 ghost use Rattle.goblin_pe_import.specs.ImportPositions.{BeginsAt, GoesOnAt, first_import};
-ghost use Rattle.goblin_pe_import.specs.ImportReadings.{import_data, libraries_at, record_here};
+ghost use Rattle.goblin_pe_import.specs.ImportReadings.{import_data, import_record_at};
+ghost use Rattle.goblin_pe_import.specs.ImportReadings.{libraries_at};
 ghost use Rattle.goblin_pe_import.specs.ImportRecords.{is_last_record};
 ghost use Rattle.goblin_pe_import.specs.Imports.{kept_imports};
-ghost use Rattle.goblin_pe_import.specs.ImportWalks.{GivesImport, GivesLibrary, GivesPlain, HasPosition};
-ghost use Rattle.goblin_pe_import.specs.ImportWalks.{IsCauseAt, led, moved, plain_at};
-ghost use Rattle.goblin_pe_import.specs.ImportWalks.{IsImportsCause, IsInLibrary, IsOver, imports_at, position_by, position_of};
+ghost use Rattle.goblin_pe_import.specs.ImportWalks.{GivesImport, GivesLibrary, GivesPlain};
+ghost use Rattle.goblin_pe_import.specs.ImportWalks.{HasPosition};
+ghost use Rattle.goblin_pe_import.specs.ImportWalks.{IsCauseAt, plain_at, walk_answer, walk_at};
+ghost use Rattle.goblin_pe_import.specs.ImportWalks.{AreImportsOver, IsImportsCause, IsInLibrary};
+ghost use Rattle.goblin_pe_import.specs.ImportWalks.{imports_at, position_by, position_of};
 ghost use Rattle.goblin_pe_import.specs.ImportWalks.{slots_bound};
 ghost use Rattle.goblin_pe_import.specs.ImportWalks.{IsLaterCause, IsNamedCause, IsPlaced};
 ghost use Rattle.goblin_pe_import.specs.ImportWalks.{IsRecordsCause, IsWalkCause, addresses_of};
 ghost use Rattle.goblin_pe_import.specs.ImportWalks.{begin_at, bound_at, imports_bound};
-ghost use Rattle.goblin_pe_import.specs.ImportWalks.{imports_from, imports_left, kept_import};
+ghost use Rattle.goblin_pe_import.specs.ImportWalks.{imports_from_record, imports_left};
+ghost use Rattle.goblin_pe_import.specs.ImportWalks.{kept_import};
 ghost use Rattle.goblin_pe_import.specs.ImportWalks.{kept_value, later_items, library_items};
-ghost use Rattle.goblin_pe_import.specs.ImportWalks.{library_name, one_if, records_bound, records_left};
+ghost use Rattle.goblin_pe_import.specs.ImportWalks.{library_name, one_if, records_bound};
+ghost use Rattle.goblin_pe_import.specs.ImportWalks.{records_left};
 ghost use Rattle.goblin_pe_import.specs.ImportWalks.{untested_table, walk_bound, walk_left};
 ghost use Rattle.goblin_pe_import.specs.ImportWalks.{walked_value};
 
@@ -54,8 +60,8 @@ pub struct WalkedImport<'a> {
     /// The index of its entry, in the file, in the lookup table and in the address table. Entries
     /// that are left out count.
     pub slot: usize,
-    /// The address (not the file offset) of its own entry in the address table.
-    pub offset: usize,
+    /// The address of its own entry in the address table.
+    pub slot_rva: usize,
     /// The size of an entry of the address table, in bytes.
     pub size: usize,
 }
@@ -64,9 +70,9 @@ pub struct WalkedImport<'a> {
 #[derive(Debug, Copy, Clone, PartialEq, Eq)]
 pub struct ImportPosition {
     /// The file offset of a library's record in the import directory.
-    pub record: usize,
+    pub record_offset: usize,
     /// The file offset of the slot in its lookup table that is read next; `None` before the first.
-    pub slot: Option<usize>,
+    pub slot_offset: Option<usize>,
 }
 
 // A walk, with what it holds of the library that it is in.
@@ -77,8 +83,9 @@ struct Walk<'a, 'm> {
     // The library's name, and the address of its address table.
     dll: &'a str,
     rva: u32,
-    // Where its lookup table begins, and its next slot; `None` between two libraries.
-    offset: usize,
+    // The file offset of its lookup table, and that of the slot that comes next; `None` between two
+    // libraries.
+    table_offset: usize,
     place: Option<usize>,
     // The address of its address table if that is to be tested after its entries.
     untested: Option<u32>,
@@ -128,25 +135,25 @@ fn is_left_out<'a, T: Bitfield<'a>>(
 }
 
 // Where the entries of a table begin to come: at its first slot, or at a given one.
-fn begin_at(slot: Option<usize>, table: Option<usize>) -> Option<usize>
-    ensures { result ≡ begin_at slot table }
+fn begin_at(slot_offset: Option<usize>, table: Option<usize>) -> Option<usize>
+    ensures { result ≡ begin_at slot_offset table }
 {
     let offset = table?;
-    Some(slot.unwrap_or(offset))
+    Some(slot_offset.unwrap_or(offset))
 }
 
-// The import of an entry of the library `dll`, whose lookup table is at the offset `offset` and whose
+// The import of an entry of the library `dll`, whose lookup table is at a file offset and whose
 // address table is at the address `rva`.
 #[inline(always)]
 fn import_of<'a, T: Bitfield<'a>>(
     kept: KeptEntry<'a>,
     dll: &'a str,
     rva: u32,
-    offset: usize,
+    table_offset: usize,
 ) -> WalkedImport<'a>
     requires { kept.place < 2 ^ 63 }
     ensures { walked_value result
-        ≡ kept_import T.format.width dll.now rva offset (kept_value kept.entry) }
+        ≡ kept_import T.format.width dll.now rva table_offset (kept_value kept.entry) }
 {
     let KeptEntry { slot, place, entry } = kept;
     let size = T::size_of();
@@ -154,7 +161,7 @@ fn import_of<'a, T: Bitfield<'a>>(
         entry,
         dll,
         slot,
-        offset: rva as usize + place.saturating_sub(offset),
+        slot_rva: rva as usize + place.saturating_sub(table_offset),
         size,
     }
 }
@@ -187,11 +194,13 @@ fn bound_at(bytes: &[u8], position: Option<ImportPosition>) -> Option<usize>
     let Some(at) = position else {
         return Some(0);
     };
-    if at.slot.is_none() {
-        return records_bound(bytes, at.record);
+    if at.slot_offset.is_none() {
+        return records_bound(bytes, at.record_offset);
     }
-    let next = at.record.saturating_add(SIZEOF_IMPORT_DIRECTORY_ENTRY);
-    let slots = slots_bound(bytes, at.slot) + 1;
+    let next = at
+        .record_offset
+        .saturating_add(SIZEOF_IMPORT_DIRECTORY_ENTRY);
+    let slots = slots_bound(bytes, at.slot_offset) + 1;
     slots.checked_add(records_bound(bytes, next)?)
 }
 
@@ -209,7 +218,7 @@ impl<'a, 'm> Walk<'a, 'm> {
             finder,
             dll: "",
             rva: 0,
-            offset: 0,
+            table_offset: 0,
             place: None,
             untested: None,
             next,
@@ -229,46 +238,47 @@ impl<'a, 'm> Walk<'a, 'm> {
         self.next = None;
     }
 
-    // Leads the walk to the library of a record, from a slot on, and then to those whose records are in
-    // the directory from the offset `next` on.
+    // Leads the walk to the library of a record, from the slot at a file offset on, and then to those
+    // whose records are in the directory from the offset `next` on.
     #[inline(always)]
     fn enter<'e, T: Bitfield<'a>>(
         &mut self,
         entry: &ImportDirectoryEntry,
-        slot: Option<usize>,
+        slot_offset: Option<usize>,
         next: usize,
     ) -> ResultOf<'e, ()>
         ensures gives { let m = map_of self.old.finder in
             let strict = reads_strictly m in
             let bytes = self.old.bytes.now in
             let name = library_name strict (offset_of m) entry.now in
-            MatchResult (led self.new result)
+            MatchResult (walk_answer self.new result)
             (λ t.
             (walk_left T.format t
             ≡ until_refused
-            (library_items strict T.format (offset_of m) bytes slot entry.now
-            ++ imports_from strict T.format (offset_of m) bytes next))
+            (library_items strict T.format (offset_of m) bytes slot_offset entry.now
+            ++ imports_from_record strict T.format (offset_of m) bytes next))
             × ((e : ErrorOf) → IsWalkCause T.format t e
             → (strict ≡ true)
             × FirstFault (name.value bytes) (name.IsCause bytes)
-            (λ _. IsNamedCause strict T.format (offset_of m) bytes slot entry.now
+            (λ _. IsNamedCause strict T.format (offset_of m) bytes slot_offset entry.now
             (IsRecordsCause strict T.format (offset_of m) bytes next)) e))
             (λ e.
-            (library_items strict T.format (offset_of m) bytes slot entry.now ≡ None ∷ [])
+            (library_items strict T.format (offset_of m) bytes slot_offset entry.now ≡ None ∷ [])
             × (strict ≡ true) × (name.value bytes ≡ None) × name.IsCause bytes e) }
-        ensures placed { IfOk (led self.new result) (λ t.
-            20 ≤ next → (record_here (next - 20)).value self.old.bytes.now ≡ Some entry.now
+        ensures placed { IfOk (walk_answer self.new result) (λ t.
+            20 ≤ next → (import_record_at (next - 20)).value self.old.bytes.now ≡ Some entry.now
             → is_last_record entry.now ≡ false → IsInLibrary T.format t) }
         ensures bytes { self.new.bytes.now ≡ self.old.bytes.now }
         ensures finder { self.new.finder ≡ self.old.finder }
-        ensures next { IfOk (led self.new result) (λ t.
-            t.next ≡ Some (record { «record» = next; slot = None })) }
-        ensures place { IfOk (led self.new result) (λ t. IfSome t.place (λ place. IfSome slot (λ slot.
+        ensures next { IfOk (walk_answer self.new result) (λ t.
+            t.next ≡ Some (record { record_offset = next; slot_offset = None })) }
+        ensures place { IfOk (walk_answer self.new result)
+            (λ t. IfSome t.place (λ place. IfSome slot_offset (λ slot.
             place ≡ slot))) }
     {
         self.next = Some(ImportPosition {
-            record: next,
-            slot: None,
+            record_offset: next,
+            slot_offset: None,
         });
         if is_left_out::<T>(self.bytes, entry, self.finder.address_map()) {
             self.place = None;
@@ -278,8 +288,8 @@ impl<'a, 'm> Walk<'a, 'm> {
         self.dll = library_name(self.bytes, entry.name_rva, &mut self.finder)?;
         let table = lookup_offset(entry, &mut self.finder);
         self.rva = entry.import_address_table_rva;
-        self.offset = table.unwrap_or(0);
-        self.place = begin_at(slot, table);
+        self.table_offset = table.unwrap_or(0);
+        self.place = begin_at(slot_offset, table);
         self.untested = Some(address_table_rva(entry));
         Ok(())
     }
@@ -294,14 +304,14 @@ impl<'a, 'm> Walk<'a, 'm> {
             self.old.next)
             (λ e. (reads_strictly m ≡ true)
             × IsLaterCause (reads_strictly m) T.format (offset_of m) bytes
-            self.old.untested self.old.next e) (option_map (led self.new) result) }
-        ensures placed { IfSome (option_map (led self.new) result) (λ r. IfOk r (λ t.
+            self.old.untested self.old.next e) (option_map (walk_answer self.new) result) }
+        ensures placed { IfSome (option_map (walk_answer self.new) result) (λ r. IfOk r (λ t.
             IsInLibrary T.format t)) }
         ensures bytes { self.new.bytes.now ≡ self.old.bytes.now }
         ensures finder { self.new.finder ≡ self.old.finder }
-        ensures nearer { IfSome (option_map (led self.new) result) (λ r. IfOk r (λ t.
+        ensures nearer { IfSome (option_map (walk_answer self.new) result) (λ r. IfOk r (λ t.
             records_left self.old.bytes.now t.next < records_left self.old.bytes.now self.old.next)) }
-        ensures bound { IfSome (option_map (led self.new) result) (λ r. IfOk r (λ t.
+        ensures bound { IfSome (option_map (walk_answer self.new) result) (λ r. IfOk r (λ t.
             walk_bound t ≤ bound_at self.old.bytes.now self.old.next)) }
         ensures there { IfSome result (λ r. IfErr r (λ e.
             1 ≤ one_if self.old.untested + bound_at self.old.bytes.now self.old.next)) }
@@ -313,13 +323,13 @@ impl<'a, 'm> Walk<'a, 'm> {
             return None;
         };
         let size = SIZEOF_IMPORT_DIRECTORY_ENTRY;
-        let Some(record) = next_record(self.bytes, at.record) else {
-            if may_end(self.bytes, at.record, size, self.finder.is_permissive()) {
+        let Some(record) = next_record(self.bytes, at.record_offset) else {
+            if may_end(self.bytes, at.record_offset, size, self.finder.is_permissive()) {
                 return None;
             }
-            return Some(Err(Error::Malformed(Cause::ImportRecordEnd(at.record))));
+            return Some(Err(Error::Malformed(Cause::ImportRecordEnd(at.record_offset))));
         };
-        Some(self.enter::<T>(&record, at.slot, at.record + size))
+        Some(self.enter::<T>(&record, at.slot_offset, at.record_offset + size))
     }
 
     // Where the walk is.
@@ -331,8 +341,10 @@ impl<'a, 'm> Walk<'a, 'm> {
         };
         let next = self.next?;
         Some(ImportPosition {
-            record: next.record.saturating_sub(SIZEOF_IMPORT_DIRECTORY_ENTRY),
-            slot: Some(place),
+            record_offset: next
+                .record_offset
+                .saturating_sub(SIZEOF_IMPORT_DIRECTORY_ENTRY),
+            slot_offset: Some(place),
         })
     }
 
@@ -351,15 +363,15 @@ impl<'a, 'm> Walk<'a, 'm> {
     #[inline(always)]
     fn plain_import<T: Bitfield<'a>>(&self, place: usize) -> Option<WalkedImport<'a>>
         ensures steps { IfSome result (λ import. GivesNext walked_value (walk_left T.format)
-            (IsWalkCause T.format) (moved self.now place) (Some (Ok import))
-            (moved self.now (place + T.format.width))) }
+            (IsWalkCause T.format) (walk_at self.now place) (Some (Ok import))
+            (walk_at self.now (place + T.format.width))) }
         ensures inside { IfSome result (λ _. place + T.format.width ≤ length self.now.bytes.now) }
         ensures short { IfSome result (λ _. place + T.format.width < 2 ^ 63) }
     {
-        let Some(kept) = plain_kept::<T>(self.bytes, self.offset, place, &self.finder) else {
+        let Some(kept) = plain_kept::<T>(self.bytes, self.table_offset, place, &self.finder) else {
             return None;
         };
-        Some(import_of::<T>(kept, self.dll, self.rva, self.offset))
+        Some(import_of::<T>(kept, self.dll, self.rva, self.table_offset))
     }
 
     // A copy of the walk.
@@ -371,7 +383,7 @@ impl<'a, 'm> Walk<'a, 'm> {
             finder: self.finder.again(),
             dll: self.dll,
             rva: self.rva,
-            offset: self.offset,
+            table_offset: self.table_offset,
             place: self.place,
             untested: self.untested,
             next: self.next,
@@ -392,10 +404,10 @@ impl<'a, 'm> Walk<'a, 'm> {
             MatchOption result (position ≡ None) (λ r. IfErr r (λ e. position ≡ None)) }
     {
         'libraries: loop {
-            match next_kept::<T>(self.bytes, self.offset, self.place, &mut self.finder) {
+            match next_kept::<T>(self.bytes, self.table_offset, self.place, &mut self.finder) {
                 Some(Ok(kept)) => {
                     self.place = Some(kept.place + T::size_of());
-                    let import = import_of::<T>(kept, self.dll, self.rva, self.offset);
+                    let import = import_of::<T>(kept, self.dll, self.rva, self.table_offset);
                     return Some(Ok(import));
                 }
                 Some(Err(error)) => {
@@ -453,7 +465,7 @@ impl<'a, 'm, 'e, T: Bitfield<'a>> Imports<'a, 'm, 'e, T> {
             let rva = directory.virtual_address in
             BeginsAt m T.format bytes.now (first_import (reads_strictly m) (offset_of m) rva) result }
         ensures permissive { reads_strictly (map_of address_map.now) ≡ false → IsOk result }
-        ensures over { IfOk result (IsOver bytes.now (map_of address_map.now)) }
+        ensures over { IfOk result (AreImportsOver bytes.now (map_of address_map.now)) }
         ensures position { IfOk result (HasPosition T.format) }
     {
         let rva = directory.virtual_address;
@@ -475,13 +487,13 @@ impl<'a, 'm, 'e, T: Bitfield<'a>> Imports<'a, 'm, 'e, T> {
             (mapped (flat_map (kept_imports (λ x. x) T.format.width)) libraries) bytes.now
             (imports_left T.format result) (IsImportsCause T.format result) }
         ensures begins { GoesOnAt (map_of finder.entry) T.format bytes.now
-            (Some (record { «record» = offset; slot = None })) result }
-        ensures over { IsOver bytes.now (map_of finder.entry) result }
+            (Some (record { record_offset = offset; slot_offset = None })) result }
+        ensures over { AreImportsOver bytes.now (map_of finder.entry) result }
         ensures position { HasPosition T.format result }
     {
         let begin = ImportPosition {
-            record: offset,
-            slot: None,
+            record_offset: offset,
+            slot_offset: None,
         };
         Imports::from_position(bytes, Some(begin), finder)
     }
@@ -500,7 +512,7 @@ impl<'a, 'm, 'e, T: Bitfield<'a>> Imports<'a, 'm, 'e, T> {
             (e : ErrorOf) → IsImportsCause T.format result e
             → (reads_strictly m ≡ true)
             × IsCauseAt (reads_strictly m) T.format (offset_of m) bytes.now position e }
-        ensures over { IsOver bytes.now (map_of finder.entry) result }
+        ensures over { AreImportsOver bytes.now (map_of finder.entry) result }
         ensures position { HasPosition T.format result }
         ensures wide { 1 ≤ T.format.width }
     {

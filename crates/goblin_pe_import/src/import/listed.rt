@@ -7,7 +7,8 @@ ghost use Rattle.std.specs.Option.{option_copied};
 ghost use Rattle.goblin_base.specs.Answers.{AnswersOrMemory, GivesOrMemory, IsMemory};
 ghost use Rattle.goblin_pe_import.specs.ImportBound.{AreFew};
 ghost use Rattle.goblin_pe_import.specs.ImportLookup.{entry_view};
-ghost use Rattle.goblin_pe_import.specs.Imports.{IsImportsFault, IsOverflow, first_without_slots};
+ghost use Rattle.goblin_pe_import.specs.Imports.{IsImportListFault, IsOverflow};
+ghost use Rattle.goblin_pe_import.specs.Imports.{first_without_slots};
 ghost use Rattle.goblin_pe_import.specs.Imports.{has_slots, import_of, import_offset, imports_by};
 ghost use Rattle.goblin_pe_import.specs.Imports.{imports_of, kept_count, kept_entries};
 ghost use Rattle.goblin_pe_import.specs.Imports.{library_imports, ordinal_name};
@@ -110,7 +111,7 @@ impl<'a> Import<'a> {
         _sections: &[SectionTable],
     ) -> ResultOf<'e, Vec<Import<'a>>>
         ensures value { AnswersOrMemory (λ v. v.items) result
-            (imports_of T.format.width import_data.now) (IsImportsFault import_data.now) }
+            (imports_of T.format.width import_data.now) (IsImportListFault import_data.now) }
         ensures counted { IfErr result
             (λ e. IsMemory e → first_without_slots import_data.now ≡ None) }
         ensures grown { IfErr result (λ e. IsMemory e → 0 < kept_count import_data.now) }
@@ -169,7 +170,7 @@ fn count_of(libraries: &[SyntheticImportDirectoryEntry]) -> usize
 }
 
 // Appends the import of an entry, for which there is room.
-#[tactic(auto, unfolding(crate::specs::Imports::import_of))]
+#[tactic(auto, unfolding(crate::specs::Imports::entry_name, crate::specs::Imports::entry_has_name, crate::specs::Imports::entry_ordinal, crate::specs::Imports::entry_name_rva))]
 fn push_entry<'a, 'e>(
     alloc: Global,
     imports: &mut Vec<Import<'a>>,
@@ -285,7 +286,7 @@ fn imports_of<'a, 'e>(
     size: usize,
 ) -> ResultOf<'e, Vec<Import<'a>>>
     ensures value { AnswersOrMemory (λ v. v.items) result (imports_of size libraries.now)
-        (IsImportsFault libraries.now) }
+        (IsImportListFault libraries.now) }
     ensures counted { IfErr result (λ e. IsMemory e → first_without_slots libraries.now ≡ None) }
     ensures grown { IfErr result (λ e. IsMemory e → 0 < kept_count libraries.now) }
     ensures room { IfOk result (λ v. vec_capacity v ≡ kept_count libraries.now) }

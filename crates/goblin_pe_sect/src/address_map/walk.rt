@@ -4,7 +4,7 @@ ghost use Rattle.std.specs.Prelude.{◌≡◌, ◌<◌, IfSome, IsTrue, Some};
 ghost use Rattle.std.specs.Int.{is_power_of_two};
 ghost use Rattle.goblin_pe_sect.specs.Mapping.{file_offset};
 ghost use Rattle.goblin_pe_sect.specs.Runs.{IsRun, offset_in_run};
-ghost use Rattle.goblin_pe_sect.specs.SectionTable.{section_records};
+ghost use Rattle.goblin_pe_sect.specs.SectionTable.{recorded_sections};
 
 use super::run::Run;
 use crate::options::ParseOptions;
@@ -30,8 +30,10 @@ fn find_window(
 ) -> Option<usize>
     requires maps { IsTrue opts.now.resolve_rva }
     requires aligned { IsTrue (is_power_of_two file_alignment) }
-    ensures value { result ≡ file_offset opts.now (section_records records.entry) file_alignment rva }
-    ensures is { let offset_of = file_offset opts.now (section_records records.entry) file_alignment in
+    ensures value { result
+        ≡ file_offset opts.now (recorded_sections records.entry) file_alignment rva }
+    ensures is { let sections = recorded_sections records.entry in
+        let offset_of = file_offset opts.now sections file_alignment in
         IsRun offset_of run.old → IsRun offset_of run.new }
     ensures about { IfSome result (λ p. offset_in_run run.new rva ≡ Some p) }
 {
@@ -52,7 +54,7 @@ fn find_window(
         } else if end <= rva {
             low = low.max(end);
         } else {
-            let pointer = raw_begin(&section, opts) as usize;
+            let pointer = raw_begin(&section, file_alignment, opts) as usize;
             let first = low.max(begin);
             *run = Run {
                 first,
@@ -76,8 +78,10 @@ pub(super) fn find_in_records(
     rva: u32,
     run: &mut Run,
 ) -> Option<usize>
-    ensures value { result ≡ file_offset opts.now (section_records records.entry) file_alignment rva }
-    ensures is { let offset_of = file_offset opts.now (section_records records.entry) file_alignment in
+    ensures value { result
+        ≡ file_offset opts.now (recorded_sections records.entry) file_alignment rva }
+    ensures is { let sections = recorded_sections records.entry in
+        let offset_of = file_offset opts.now sections file_alignment in
         IsRun offset_of run.old → IsRun offset_of run.new }
 {
     if !opts.resolve_rva {

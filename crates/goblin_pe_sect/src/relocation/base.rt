@@ -3,9 +3,8 @@
 ghost use Rattle.std.specs.Prelude.{◌≡◌, ◌+◌, ◌-◌, ◌/◌, ◌%◌, ◌<◌, ◌≤◌, Some, length, IfOk, IfSome};
 ghost use Rattle.std.specs.Iterator.{UpTo, YieldsFirst, YieldsFirstBy, at_most};
 ghost use Rattle.std.specs.Iterator.SizeHint.{IsWithinCount};
-ghost use Rattle.goblin_base.specs.Answers.{IsSliceFault, Writes};
 ghost use Rattle.goblin_base.specs.Reading.{Reads};
-ghost use Rattle.goblin_base.specs.Record.{ReadsBack, WritesBack, encoding, record_over};
+ghost use Rattle.goblin_base.specs.Record.{WritesRecord};
 ghost use Rattle.goblin_pe_sect.specs.declared.relocation.base.RelocationWord.{RelocationWord};
 ghost use Rattle.goblin_pe_sect.specs.AddressReadings.{relocation_data};
 ghost use Rattle.goblin_pe_sect.specs.BaseRelocations.{AreBlocksOf};
@@ -284,13 +283,7 @@ impl RelocationWord {
     /// # Errors
     /// [`Error::Read`] if there is no room for 2 bytes; `bytes` is then unchanged.
     pub fn try_into_ctx(self, bytes: &mut [u8], endian: Endian) -> Result<usize>
-        ensures size { IfOk result (λ n. n ≡ 2) }
-        ensures written { let after = record_over 2 (encoding endian (word_fields self))
-            bytes.old in
-            Writes result after bytes.old bytes.new (IsSliceFault bytes.old 0 2) }
-        ensures long { IfOk result (λ n. length (encoding endian (word_fields self)) ≡ 2) }
-        ensures back { IfOk result (λ n. WritesBack 2 word_record word_fields) }
-        ensures again { IfOk result (λ n. ReadsBack 2 word_record word_fields self) }
+        ensures { WritesRecord 2 word_record word_fields endian self result bytes.old bytes.new }
     {
         Record::try_into_ctx(self, bytes, endian)
     }

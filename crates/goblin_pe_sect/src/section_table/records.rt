@@ -1,7 +1,7 @@
 //! The records of a section table, as they stand in the file.
 
 ghost use Rattle.std.specs.Prelude.{◌≡◌, ◌<◌, ◌/◌, [], ◌∷◌, MatchOption, Some, length, slice_get};
-ghost use Rattle.goblin_pe_sect.specs.SectionTable.{AreBytesAlone, section_records, sections_in};
+ghost use Rattle.goblin_pe_sect.specs.SectionTable.{AreBytesAlone, recorded_sections, sections_in};
 
 use crate::section_table::{SIZEOF_SECTION_TABLE, SectionTable};
 
@@ -28,7 +28,7 @@ fn section_in(records: &[u8], index: usize) -> SectionTable
 impl<'a> SectionRecords<'a> {
     /// The records in these bytes, one after the other. Fewer than 40 bytes at the end are left out.
     pub fn of(records: &'a [u8]) -> SectionRecords<'a>
-        ensures value { section_records result ≡ sections_in records.now }
+        ensures value { recorded_sections result ≡ sections_in records.now }
         ensures whole { AreBytesAlone }
     {
         SectionRecords { records }
@@ -39,8 +39,8 @@ impl<'a> SectionRecords<'a> {
     #[inline(always)]
     #[tactic(auto, using(crate::proofs::SectionRecords::sections_more, crate::proofs::SectionRecords::sections_none), unfolding(crate::specs::SectionTable::section_record))]
     pub fn split_first(&self) -> Option<(SectionTable, SectionRecords<'a>)>
-        ensures { MatchOption result (section_records self.now ≡ [])
-            (λ both. section_records self.now ≡ both.0 ∷ section_records both.1) }
+        ensures { MatchOption result (recorded_sections self.now ≡ [])
+            (λ both. recorded_sections self.now ≡ both.0 ∷ recorded_sections both.1) }
     {
         if self.records.len() < SIZEOF_SECTION_TABLE {
             return None;
@@ -56,7 +56,7 @@ impl<'a> SectionRecords<'a> {
     #[inline(always)]
     #[tactic(auto, using(crate::proofs::SectionRecords::length_sections))]
     pub fn len(&self) -> usize
-        ensures { result ≡ length (section_records self.now) }
+        ensures { result ≡ length (recorded_sections self.now) }
     {
         self.records.len() / SIZEOF_SECTION_TABLE
     }
@@ -65,8 +65,8 @@ impl<'a> SectionRecords<'a> {
     #[inline(always)]
     #[tactic(auto, using(crate::proofs::SectionRecords::length_sections))]
     pub fn at(&self, index: usize) -> SectionTable
-        requires { index < length (section_records self.now) }
-        ensures { slice_get (section_records self.now) index ≡ Some result }
+        requires { index < length (recorded_sections self.now) }
+        ensures { slice_get (recorded_sections self.now) index ≡ Some result }
     {
         section_in(self.records, index)
     }

@@ -4,9 +4,10 @@
 //! sections gives the pieces as they come. Otherwise the cuts are sorted, and then each piece gets
 //! its owner.
 
-ghost use Rattle.std.specs.Prelude.{◌≡◌, ◌+◌, ◌*◌, ◌<◌, ◌≤◌, ◌∷◌, ℕ, [], ◌++◌, length, IsTrue, IfOk};
+ghost use Rattle.std.specs.Prelude.{◌≡◌, ◌+◌, ◌*◌, ◌<◌, ◌≤◌, ◌∷◌, ℕ, [], ◌++◌, length, IsTrue};
+ghost use Rattle.std.specs.Prelude.{IfOk};
 ghost use Rattle.std.specs.Prelude.{None, Some, vec_capacity};
-ghost use Rattle.goblin_pe_sect.specs.WindowDivision.{HasRoom, IsDivision};
+ghost use Rattle.goblin_pe_sect.specs.WindowDivision.{HasPieceRoom, IsDivision};
 ghost use Rattle.goblin_pe_sect.specs.WindowIndex.{begins_of, owners_of};
 
 use super::bounds::Piece;
@@ -18,10 +19,10 @@ use std::alloc::{AllocError, Global};
 
 // Adds a piece.
 fn push_piece(pieces: &mut Vec<Piece>, begin: usize, owner: Option<Owner>)
-    requires { HasRoom pieces.old 1 }
+    requires { HasPieceRoom pieces.old 1 }
     ensures begins { begins_of pieces.new.items ≡ begins_of pieces.old.items ++ begin ∷ [] }
     ensures owners { owners_of pieces.new.items ≡ owners_of pieces.old.items ++ owner ∷ [] }
-    ensures room { (n : ℕ) → HasRoom pieces.old (n + 1) → HasRoom pieces.new n }
+    ensures room { (n : ℕ) → HasPieceRoom pieces.old (n + 1) → HasPieceRoom pieces.new n }
     ensures same { vec_capacity pieces.new ≡ vec_capacity pieces.old }
 {
     pieces.push_reserved(Piece::new(begin, owner));
@@ -30,7 +31,7 @@ fn push_piece(pieces: &mut Vec<Piece>, begin: usize, owner: Option<Owner>)
 // Adds the piece of a window and, where the window does not begin at the end of the one before, the
 // piece between them.
 fn push_window(pieces: &mut Vec<Piece>, end: usize, window: Window)
-    requires { HasRoom pieces.old 2 }
+    requires { HasPieceRoom pieces.old 2 }
     ensures apart_begins { end < window.begin → begins_of pieces.new.items
         ≡ (begins_of pieces.old.items ++ end ∷ []) ++ window.begin ∷ [] }
     ensures apart_owners { end < window.begin → owners_of pieces.new.items
@@ -39,7 +40,7 @@ fn push_window(pieces: &mut Vec<Piece>, end: usize, window: Window)
         ≡ begins_of pieces.old.items ++ window.begin ∷ [] }
     ensures owners { window.begin ≤ end → owners_of pieces.new.items
         ≡ owners_of pieces.old.items ++ Some window.owner ∷ [] }
-    ensures room { (n : ℕ) → HasRoom pieces.old (n + 2) → HasRoom pieces.new n }
+    ensures room { (n : ℕ) → HasPieceRoom pieces.old (n + 2) → HasPieceRoom pieces.new n }
     ensures same { vec_capacity pieces.new ≡ vec_capacity pieces.old }
 {
     if end < window.begin {
@@ -59,7 +60,7 @@ fn push_in_order(
 ) -> bool
     requires aligned { 0 < file_alignment }
     requires empty { pieces.old.items ≡ [] }
-    requires room { HasRoom pieces.old (2 * length sections.now + 1) }
+    requires room { HasPieceRoom pieces.old (2 * length sections.now + 1) }
     ensures made { IsTrue result
         → IsDivision opts.now sections.now file_alignment pieces.new.items }
     ensures same { vec_capacity pieces.new ≡ vec_capacity pieces.old }

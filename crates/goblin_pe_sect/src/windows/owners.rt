@@ -6,11 +6,11 @@
 ghost use Rattle.std.specs.Prelude.{◌≡◌, ◌+◌, ◌^◌, ◌<◌, ◌≤◌, ◌++◌, IfOk, OnOk, map, find, filter};
 ghost use Rattle.std.specs.Prelude.{length, position, vec_capacity, vec_len};
 ghost use Rattle.std.specs.List.Sorted.{IsStrictlyIncreasing};
-ghost use Rattle.goblin_pe_sect.specs.WindowDivision.{HasRoom};
+ghost use Rattle.goblin_pe_sect.specs.WindowDivision.{HasPieceRoom};
 ghost use Rattle.goblin_pe_sect.specs.WindowIndex.{begins_of, first_owner, owners_of};
 ghost use Rattle.goblin_pe_sect.specs.WindowStretches.{window_covers, window_meets};
 ghost use Rattle.goblin_pe_sect.specs.WindowStretches.{owner_among, piece_among, section_window_at};
-ghost use Rattle.goblin_pe_sect.specs.WindowStretches.{section_windows, FindTheSame, IsRising};
+ghost use Rattle.goblin_pe_sect.specs.WindowStretches.{FindTheSame, IsRising, section_windows};
 
 use super::bounds::Piece;
 use crate::options::ParseOptions;
@@ -62,7 +62,7 @@ pub(super) fn window_at(
         owner: Owner {
             index,
             address: section.virtual_address,
-            pointer: raw_begin(section, opts),
+            pointer: raw_begin(section, file_alignment, opts),
         },
     }
 }
@@ -155,7 +155,7 @@ fn piece_at(begin: usize, windows: &[Window]) -> Piece
 
 // Adds the piece that begins at each address, by a walk over the windows for each.
 fn push_each_piece(begins: &[usize], windows: &[Window], pieces: &mut Vec<Piece>)
-    requires { HasRoom pieces.old (length begins.now) }
+    requires { HasPieceRoom pieces.old (length begins.now) }
     ensures made { pieces.new.items
         ≡ pieces.old.items ++ map (piece_among windows.now) begins.now }
     ensures counted { vec_len pieces.new ≡ vec_len pieces.old + length begins.now }
@@ -175,7 +175,7 @@ fn push_pieces(
     pieces: &mut Vec<Piece>,
 ) -> Result<(), AllocError>
     requires rising { IsRising begins.now }
-    requires room { HasRoom pieces.old (length begins.now) }
+    requires room { HasPieceRoom pieces.old (length begins.now) }
     ensures made { OnOk result
         (pieces.new.items ≡ pieces.old.items ++ map (piece_among windows.now) begins.now) }
     ensures counted { OnOk result (vec_len pieces.new ≡ vec_len pieces.old + length begins.now) }

@@ -1,8 +1,7 @@
 //! The auxiliary records of a symbol table, which follow the symbols that they describe.
 
-ghost use Rattle.std.specs.Prelude.{length, IfOk, ◌≡◌};
-ghost use Rattle.goblin_base.specs.Answers.{IsSliceFault, Writes};
-ghost use Rattle.goblin_base.specs.Record.{ReadsBack, WritesBack, encoding, record_over};
+ghost use Rattle.std.specs.Prelude.{length, ◌≡◌};
+ghost use Rattle.goblin_base.specs.Record.{WritesRecord};
 ghost use Rattle.goblin_pe_symbol.specs.declared.symbol.auxiliary.AuxBeginAndEndFunction.{AuxBeginAndEndFunction};
 ghost use Rattle.goblin_pe_symbol.specs.declared.symbol.auxiliary.AuxFunctionDefinition.{AuxFunctionDefinition};
 ghost use Rattle.goblin_pe_symbol.specs.declared.symbol.auxiliary.AuxSectionDefinition.{AuxSectionDefinition};
@@ -85,16 +84,8 @@ impl AuxFunctionDefinition {
     /// [`Error::Read`](goblin_base::Error::Read) if there is no room for 18 bytes; `bytes` is then
     /// unchanged.
     pub fn try_into_ctx(self, bytes: &mut [u8], endian: Endian) -> Result<usize>
-        ensures size { IfOk result (λ n. n ≡ 18) }
-        ensures written { let after = record_over 18
-            (encoding endian (function_definition_fields self)) bytes.old in
-            Writes result after bytes.old bytes.new (IsSliceFault bytes.old 0 18) }
-        ensures long { IfOk result
-            (λ n. length (encoding endian (function_definition_fields self)) ≡ 18) }
-        ensures back { IfOk result
-            (λ n. WritesBack 18 function_definition_record function_definition_fields) }
-        ensures again { IfOk result
-            (λ n. ReadsBack 18 function_definition_record function_definition_fields self) }
+        ensures { WritesRecord 18 function_definition_record function_definition_fields
+            endian self result bytes.old bytes.new }
     {
         Record::try_into_ctx(self, bytes, endian)
     }
@@ -171,16 +162,8 @@ impl AuxBeginAndEndFunction {
     /// [`Error::Read`](goblin_base::Error::Read) if there is no room for 18 bytes; `bytes` is then
     /// unchanged.
     pub fn try_into_ctx(self, bytes: &mut [u8], endian: Endian) -> Result<usize>
-        ensures size { IfOk result (λ n. n ≡ 18) }
-        ensures written { let after = record_over 18
-            (encoding endian (begin_and_end_function_fields self)) bytes.old in
-            Writes result after bytes.old bytes.new (IsSliceFault bytes.old 0 18) }
-        ensures long { IfOk result
-            (λ n. length (encoding endian (begin_and_end_function_fields self)) ≡ 18) }
-        ensures back { IfOk result
-            (λ n. WritesBack 18 begin_and_end_function_record begin_and_end_function_fields) }
-        ensures again { IfOk result
-            (λ n. ReadsBack 18 begin_and_end_function_record begin_and_end_function_fields self) }
+        ensures { WritesRecord 18 begin_and_end_function_record begin_and_end_function_fields
+            endian self result bytes.old bytes.new }
     {
         Record::try_into_ctx(self, bytes, endian)
     }
@@ -248,15 +231,8 @@ impl AuxWeakExternal {
     /// [`Error::Read`](goblin_base::Error::Read) if there is no room for 18 bytes; `bytes` is then
     /// unchanged.
     pub fn try_into_ctx(self, bytes: &mut [u8], endian: Endian) -> Result<usize>
-        ensures size { IfOk result (λ n. n ≡ 18) }
-        ensures written { let after = record_over 18 (encoding endian (weak_external_fields self))
-            bytes.old in
-            Writes result after bytes.old bytes.new (IsSliceFault bytes.old 0 18) }
-        ensures long { IfOk result
-            (λ n. length (encoding endian (weak_external_fields self)) ≡ 18) }
-        ensures back { IfOk result (λ n. WritesBack 18 weak_external_record weak_external_fields) }
-        ensures again { IfOk result
-            (λ n. ReadsBack 18 weak_external_record weak_external_fields self) }
+        ensures { WritesRecord 18 weak_external_record weak_external_fields
+            endian self result bytes.old bytes.new }
     {
         Record::try_into_ctx(self, bytes, endian)
     }
@@ -341,16 +317,8 @@ impl AuxSectionDefinition {
     /// [`Error::Read`](goblin_base::Error::Read) if there is no room for 18 bytes; `bytes` is then
     /// unchanged.
     pub fn try_into_ctx(self, bytes: &mut [u8], endian: Endian) -> Result<usize>
-        ensures size { IfOk result (λ n. n ≡ 18) }
-        ensures written { let after = record_over 18
-            (encoding endian (section_definition_fields self)) bytes.old in
-            Writes result after bytes.old bytes.new (IsSliceFault bytes.old 0 18) }
-        ensures long { IfOk result
-            (λ n. length (encoding endian (section_definition_fields self)) ≡ 18) }
-        ensures back { IfOk result
-            (λ n. WritesBack 18 section_definition_record section_definition_fields) }
-        ensures again { IfOk result
-            (λ n. ReadsBack 18 section_definition_record section_definition_fields self) }
+        ensures { WritesRecord 18 section_definition_record section_definition_fields
+            endian self result bytes.old bytes.new }
     {
         Record::try_into_ctx(self, bytes, endian)
     }

@@ -1,4 +1,4 @@
-use Rattle.std.proofs.Common.{rules, ◌≡◌, length, map, ap, arith, ◌∙◌}
+use Rattle.std.proofs.Common.{rules, length, map, ap, arith, ◌∙◌}
 use Rattle.std.proofs.lemmas.Result.{IfOk-weaker, on_err_weaker}
 use Rattle.goblin_base.specs.Marks.{joined, ranges_of}
 use Rattle.goblin_base.proofs.MarkRanges.{some_of}

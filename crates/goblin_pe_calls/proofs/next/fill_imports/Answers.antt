@@ -1,4 +1,4 @@
-use Rattle.std.proofs.Common.{◌<◌, ◌^◌, ◌+◌, None, Some, Ok, Result, length, set, arith, subst}
+use Rattle.std.proofs.Common.{◌<◌, ◌^◌, ◌+◌, Some, Result, length, set, arith, subst}
 use Rattle.goblin_base.specs.declared.error.ErrorOf.{ErrorOf}
 use Rattle.goblin_pe_import.specs.declared.import.imports.WalkedImport.{WalkedImport}
 use Rattle.goblin_pe.specs.LayoutPositions.{GivesFileImport}

@@ -6,10 +6,11 @@ use Rattle.goblin_pe_head.specs.CoffHeader.{symbols_end}
 use Rattle.goblin_pe_head.specs.declared.header.pe_header.Header.{Header}
 use Rattle.goblin_pe_head.specs.PeHeader.{PeHeader}
 use Rattle.goblin_pe.specs.Whole.{WholeFile}
-use Rattle.goblin_pe_records.specs.Filled.{alone}
+use Rattle.goblin_pe_records.specs.Filled.{without_text}
 use Rattle.goblin_pe_records.specs.Sections.{named_in}
 use Rattle.goblin_pe_calls.specs.Opened.{records_view}
-use Rattle.goblin_pe_calls.proofs.Named.{said-unnamed, sections-named}
+use Rattle.goblin_pe_calls.proofs.Named.{sections-named}
+use Rattle.goblin_pe_records.proofs.Named.{said-unnamed}
 use Rattle.goblin_pe_calls.proofs.Opened.{file-of-records}
 use Rattle.goblin_pe_calls.proofs.open.made_of.Goals as goal
 
@@ -25,7 +26,7 @@ returns-clause-sections c = λ w read.
     let from = sym (ap (λ (x : WholeFile). map unnamed x.sections) same) ∙ of.sections in
     let table = c.symbols_end-table.ensures ∙ ap (λ (h : Header). symbols_end h.coff_header) c.header-header.ensures ∙ sym (ap (λ (h : PeHeader). symbols_end h.coff_header) header) in
     sym c.in_ok-sections.ensures.made
-    ∙ ap (λ (s : List Section). map (λ s. alone (named_in strict bytes c.symbols_end-table.result s)) s) (c.section_records.ensures ∙ sym from)
+    ∙ ap (λ (s : List Section). map (λ s. without_text (named_in strict bytes c.symbols_end-table.result s)) s) (c.section_records.ensures ∙ sym from)
     ∙ said-unnamed strict bytes c.symbols_end-table.result w.sections
-    ∙ ap (λ (t : ℕ). map alone (map (named_in strict bytes t) w.sections)) table
-    ∙ ap (map alone) (sections-named opts bytes w read)
+    ∙ ap (λ (t : ℕ). map without_text (map (named_in strict bytes t) w.sections)) table
+    ∙ ap (map without_text) (sections-named opts bytes w read)

@@ -7,20 +7,20 @@ use Rattle.goblin_pe_head.specs.declared.header.rich.RichMetadata.{RichMetadata}
 use Rattle.goblin_pe_head.specs.RichHeader.{rich_value}
 use Rattle.goblin_pe_head.specs.RichMetadata.{metadata_left}
 use Rattle.goblin_pe_records.specs.Items.{values_of}
-use Rattle.goblin_pe_records.specs.RichHeaders.{entry_items}
+use Rattle.goblin_pe_records.specs.RichHeaders.{rich_items}
 use Rattle.goblin_pe_records.proofs.Items.{count-entries, no-entries, nothing, refused, values-ok}
-use Rattle.goblin_pe_records.proofs.Making.{items-start, items-next, items-end, items-refused, whichever}
+use Rattle.goblin_pe_records.proofs.Making.{items-end, items-next, items-refused, items-start, whichever}
 use Rattle.goblin_pe_records.proofs.rich.item_records.Goals as goal
 
 pub returns-then-rich-clause-values : goal.returns-then-rich-clause-values
 returns-then-rich-clause-values c =
     let none = no-entries c.args.rich.now.key c.args.rich.now.padding_size c.args.rich.now.bytes.now c.if-rich.true in
-    let all = items-end (λ e. e) (entry_items (rich_value c.args.rich.now)) _ _ (items-start _ _ _ _ c.new.ensures.items refl) none in sym (map-id _) ∙ all.values
+    let all = items-end (λ e. e) (rich_items (rich_value c.args.rich.now)) _ _ (items-start _ _ _ _ c.new.ensures.items refl) none in sym (map-id _) ∙ all.values
 
 pub returns-then-rich-clause-rest : goal.returns-then-rich-clause-rest
 returns-then-rich-clause-rest c =
     let none = no-entries c.args.rich.now.key c.args.rich.now.padding_size c.args.rich.now.bytes.now c.if-rich.true in
-    let all = items-end (λ e. e) (entry_items (rich_value c.args.rich.now)) _ _ (items-start _ _ _ _ c.new.ensures.items refl) none in c.no_fault.ensures ∙ all.rest
+    let all = items-end (λ e. e) (rich_items (rich_value c.args.rich.now)) _ _ (items-start _ _ _ _ c.new.ensures.items refl) none in c.no_fault.ensures ∙ all.rest
 
 pub entries-init : goal.entries-init
 entries-init c =
@@ -73,6 +73,6 @@ returns-in_err-records-clause-grown c =
     let count : ℕ = (length c.args.rich.now.bytes.now - c.args.rich.now.padding_size) / 8 in
     let asked : (length c.args.rich.now.bytes.now - c.args.rich.now.padding_size) / c.size.result ≡ count = ap (λ (n : ℕ). (length c.args.rich.now.bytes.now - c.args.rich.now.padding_size) / n) wide in
     elim (cases_lt 0 count) [
-      | inl some ↦ whichever (0 < length (values_of (entry_items (rich_value c.args.rich.now)))) _ (omega (arith, some, count-entries c.args.rich.now.key stretch, length-drop c.args.rich.now.padding_size c.args.rich.now.bytes.now))
+      | inl some ↦ whichever (0 < length (values_of (rich_items (rich_value c.args.rich.now)))) _ (omega (arith, some, count-entries c.args.rich.now.key stretch, length-drop c.args.rich.now.padding_size c.args.rich.now.bytes.now))
       | inr none ↦ absurd (cc (c.in_err-records.ensures.succeeds (omega (arith, none, asked))))
     ]

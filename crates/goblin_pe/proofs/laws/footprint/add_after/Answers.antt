@@ -3,7 +3,7 @@ use Rattle.goblin_base.specs.Answers.{IsMemory}
 use Rattle.goblin_base.specs.Marks.{marked}
 use Rattle.goblin_pe_sect.specs.Addresses.{offset_of}
 use Rattle.goblin_pe_sect.specs.Options.{is_strict}
-use Rattle.goblin_pe_sect.specs.SectionTable.{section_records}
+use Rattle.goblin_pe_sect.specs.SectionTable.{recorded_sections}
 use Rattle.goblin_pe_head.specs.PeHeader.{header_value}
 use Rattle.goblin_pe.specs.Layouts.{layout_map, layout_places}
 use Rattle.goblin_pe.specs.Whole.{sections_after, table_parts}
@@ -18,7 +18,7 @@ returns-in-Ok-clause-added c =
     let l = c.in-Ok.layout in
     let read = (sections_after (is_strict opts.parse_mode) (header_value c.args.header.now)).value bytes in
     let tables = (table_parts (layout_map l).opts (offset_of (layout_map l)) (layout_places l)).reaches l.bytes.now in
-    layout_reached opts bytes c.args.header.now c.args.marks.now c.mark_tables.new.marks read (section_records l.records) l refl c.in-Ok.ensures.value c.in-Ok.ensures.over
+    layout_reached opts bytes c.args.header.now c.args.marks.now c.mark_tables.new.marks read (recorded_sections l.records) l refl c.in-Ok.ensures.value c.in-Ok.ensures.over
     (c.mark_tables.ensures ∙ ap (λ (m : List Bool). marked m tables) c.add_sections.ensures)
 
 pub returns-in-Err-clause-added : goal.returns-in-Err-clause-added

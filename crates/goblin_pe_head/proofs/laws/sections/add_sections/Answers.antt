@@ -4,23 +4,23 @@ use Rattle.goblin_base.specs.Marks.{marked}
 use Rattle.goblin_base.specs.Tables.{concat_below}
 use Rattle.goblin_base.proofs.Ranges.{marked_below}
 use Rattle.goblin_pe_sect.specs.Options.{is_strict}
-use Rattle.goblin_pe_sect.specs.SectionReadings.{section_at}
+use Rattle.goblin_pe_sect.specs.SectionReadings.{named_section_at}
 use Rattle.goblin_base.proofs.Marks.{marked_nil}
 use Rattle.goblin_pe_head.specs.CoffHeader.{symbols_end}
 use Rattle.goblin_pe_head.proofs.laws.sections.add_sections.Goals as goal
 
 -- what the section at an index reaches
 section_reach : Bool → ℕ → ℕ → List ℕ → ℕ → List Range
-section_reach strict table start bytes i = (section_at strict table (start + 40 * i)).reaches bytes
+section_reach strict table start bytes i = (named_section_at strict table (start + 40 * i)).reaches bytes
 
 -- the same, where the place and the string table are known by equations
 section-here : (strict : Bool) (table strings start place i : ℕ) (bytes : List ℕ) → strings ≡ table
     → place ≡ start + 40 * i
-    → (section_at strict strings place).reaches bytes ≡ section_reach strict table start bytes i
+    → (named_section_at strict strings place).reaches bytes ≡ section_reach strict table start bytes i
 unfolding section_reach
 section-here strict table strings start place i bytes same at =
-    ap (λ (t : ℕ). (section_at strict t place).reaches bytes) same
-    ∙ ap (λ (p : ℕ). (section_at strict table p).reaches bytes) at
+    ap (λ (t : ℕ). (named_section_at strict t place).reaches bytes) same
+    ∙ ap (λ (p : ℕ). (named_section_at strict table p).reaches bytes) at
 
 pub records-init : goal.records-init
 unfolding concat_below

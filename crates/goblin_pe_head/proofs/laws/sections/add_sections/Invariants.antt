@@ -3,7 +3,7 @@ use Rattle.std.proofs.Common.{◌≡◌, ◌+◌, ◌*◌}
 use Rattle.goblin_base.specs.Marks.{marked}
 use Rattle.goblin_base.specs.Tables.{concat_below}
 use Rattle.goblin_pe_sect.specs.Options.{is_strict}
-use Rattle.goblin_pe_sect.specs.SectionReadings.{section_at}
+use Rattle.goblin_pe_sect.specs.SectionReadings.{named_section_at}
 use Rattle.goblin_pe_head.specs.CoffHeader.{symbols_end}
 use Rattle.goblin_pe_head.proofs.laws.sections.add_sections.Given as goal
 
@@ -14,5 +14,5 @@ invariant-records l =
     let table = symbols_end l.fn.coff_header in
     record {
       at : l.place ≡ start + 40 * l.counter;
-      listed : l.marks ≡ marked l.initial.marks (concat_below (λ i. (section_at strict table (start + 40 * i)).reaches l.fn.bytes) l.counter);
+      listed : l.marks ≡ marked l.initial.marks (concat_below (λ i. (named_section_at strict table (start + 40 * i)).reaches l.fn.bytes) l.counter);
     }

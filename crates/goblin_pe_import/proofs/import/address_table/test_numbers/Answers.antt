@@ -5,7 +5,7 @@ use Rattle.readings.proofs.Loops.{read-end, read-missing, read-next, read-start}
 use Rattle.goblin_base.specs.declared.error.ErrorOf.TheVariants.{Read}
 use Rattle.goblin_base.specs.declared.error.ReadFault.TheVariants.{BadOffset}
 use Rattle.goblin_pe_import.specs.ImportEntries.{entry_slots}
-use Rattle.goblin_pe_import.specs.LookupReadings.{entry_at, entry_number}
+use Rattle.goblin_pe_import.specs.LookupReadings.{entry_number, entry_value_at}
 use Rattle.goblin_pe_import.proofs.AddressTables.{entry_there, record_past}
 use Rattle.goblin_pe_import.proofs.import.address_table.test_numbers.Goals as goal
 
@@ -15,7 +15,7 @@ returns-then-bytes-offset g c =
     let past : length c.args.bytes.now ≤ c.args.offset = omega (arith, c.if-bytes-offset.true) in
     let none = record_past g.T.Bitfield.format.width g.T.Bitfield.format.value_of c.args.bytes.now c.args.offset past in
     let start = read-start (entry_slots g.T.Bitfield.format) entry_number c.args.bytes.now c.args.offset wide in
-    let both = read-missing (entry_slots g.T.Bitfield.format) entry_number c.args.bytes.now c.args.offset c.args.offset [] start true (entry_at g.T.Bitfield.format) (Read BadOffset) none refl past in
+    let both = read-missing (entry_slots g.T.Bitfield.format) entry_number c.args.bytes.now c.args.offset c.args.offset [] start true (entry_value_at g.T.Bitfield.format) (Read BadOffset) none refl past in
     (ap (option_map _) both.0, both.1)
 
 pub slots-init : goal.slots-init
@@ -27,7 +27,7 @@ pub returns-then-is_zero : goal.returns-then-is_zero
 returns-then-is_zero g c =
     let width : c.size_of-size.result ≡ g.T.Bitfield.format.width = c.size_of-size.ensures.width in
     let read = entry_there g.T.Bitfield.format.width c.size_of-size.result g.T.Bitfield.format.value_of g.T.Bitfield.value c.args.bytes.now c.slots.place c.read.result width c.size_of-size.ensures.positive c.slots-test.true c.slots.invariant.0 c.read.ensures in
-    ap (option_map _) (read-end _ _ _ _ _ _ c.slots.invariant.2 _ (entry_at g.T.Bitfield.format) (Some _) read (sym c.is_zero.ensures ∙ c.if-is_zero.true) refl)
+    ap (option_map _) (read-end _ _ _ _ _ _ c.slots.invariant.2 _ (entry_value_at g.T.Bitfield.format) (Some _) read (sym c.is_zero.ensures ∙ c.if-is_zero.true) refl)
 
 pub slots-preserved : goal.slots-preserved
 slots-preserved g c =
@@ -40,5 +40,5 @@ slots-preserved g c =
 pub returns-in_err-read_entry : goal.returns-in_err-read_entry
 returns-in_err-read_entry g c =
     let e = err_from_is_err_and c.from_residual.result c.from_residual.ensures.1 in
-    let both = read-missing _ _ _ _ _ _ c.slots.invariant.2 _ (entry_at g.T.Bitfield.format) _ c.in_err-read_entry.ensures.0 refl c.in_err-read_entry.ensures.1 in
+    let both = read-missing _ _ _ _ _ _ c.slots.invariant.2 _ (entry_value_at g.T.Bitfield.format) _ c.in_err-read_entry.ensures.0 refl c.in_err-read_entry.ensures.1 in
     rw (e.1, e.2) (ap (option_map _) both.0, both.1)

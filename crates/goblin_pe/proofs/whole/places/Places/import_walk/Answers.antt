@@ -6,10 +6,10 @@ use Rattle.goblin_pe_sect.specs.declared.options.ParseOptions.{ParseOptions}
 use Rattle.goblin_pe_sect.specs.Addresses.{map_of, offset_of, reads_strictly}
 use Rattle.goblin_pe_import.specs.ImportReadings.{import_data}
 use Rattle.goblin_pe_import.specs.Imports.{kept_imports}
-use Rattle.goblin_pe.specs.Whole.{entry_format, import_list, import_part, part_map, table_places}
+use Rattle.goblin_pe.specs.Whole.{entry_format, import_data_part, import_list, part_map, table_places}
 use Rattle.goblin_pe.proofs.Collected.{unasked_mapped}
 use Rattle.goblin_pe.proofs.ImportParts.{list-refused, list-walked}
-use Rattle.goblin_pe.proofs.ImportStarts.{start-refused, start-read}
+use Rattle.goblin_pe.proofs.ImportStarts.{start-read, start-refused}
 use Rattle.goblin_pe.proofs.whole.places.Places.import_walk.Goals as goal
 use Rattle.goblin_pe.proofs.whole.places.Places.import_walk.Goals.{in_default-via-in-Some+else-opts, in_default-via-in_default}
 
@@ -27,7 +27,7 @@ returns-in_ok-imports-in-Some-clause-walks c =
     list-walked m.opts (offset_of m) (table_places c.args.self.now) c.in-Some.directory asked c.in-Some.is c.args.bytes.now _ _ c.imports_at.ensures.walks c.in_ok-imports-in-Some.was
 
 pub returns-in_default-clause-walks : goal.returns-in_default-clause-walks
-unfolding import_list import_part part_map
+unfolding import_list import_data_part part_map
 returns-in_default-clause-walks c =
     let m = map_of c.args.address_map.now in
     let format = entry_format c.args.self.now.magic in

@@ -1,7 +1,7 @@
-use Rattle.std.proofs.Common.{None, arith, ap, inl, map, refl}
+use Rattle.std.proofs.Common.{None, ap, arith, inl, map, refl}
 use Rattle.std.specs.Prelude.{option_map}
 use Rattle.goblin_pe_sect.specs.Options.{is_strict}
-use Rattle.goblin_pe_sect.specs.SectionTable.{section_records, unnamed}
+use Rattle.goblin_pe_sect.specs.SectionTable.{recorded_sections, unnamed}
 use Rattle.goblin_pe_head.specs.CoffHeader.{symbols_end}
 use Rattle.goblin_pe_head.specs.CoffReadings.{sections_at}
 use Rattle.goblin_pe_head.specs.TeReadings.{moved_sections}
@@ -21,5 +21,5 @@ returns-clause-value c =
     let strict = is_strict c.args.opts.now.parse_mode in
     let table = symbols_end c.args.self.now in
     let count = c.args.self.now.number_of_sections in
-    in_room_made section_records c.section_records.result count (map unnamed) (moved_sections None strict table count c.args.offset.now) c.args.bytes.now (omega (arith, c.if-bytes-count.false))
-    (c.section_records.ensures.value table)
+    in_room_made recorded_sections c.read_section_records.result count (map unnamed) (moved_sections None strict table count c.args.offset.now) c.args.bytes.now (omega (arith, c.if-bytes-count.false))
+    (c.read_section_records.ensures.value table)

@@ -11,7 +11,7 @@ returns-then-is_left_out-clause-gives g c =
 pub returns-in_err-self-clause-gives : goal.returns-in_err-self-clause-gives
 returns-in_err-self-clause-gives g c =
     let e = err_from_is_err_and c.from_residual.result c.from_residual.ensures.1 in
-    rw (e.1, e.2) (walk-unnamed _ _ _ _ _ c.args.slot c.args.next _ c.in_err-self.ensures.value.0 c.in_err-self.ensures.value.1)
+    rw (e.1, e.2) (walk-unnamed _ _ _ _ _ c.args.slot_offset c.args.next _ c.in_err-self.ensures.value.0 c.in_err-self.ensures.value.1)
 
 pub returns-clause-gives : goal.returns-clause-gives
 returns-clause-gives g c =

@@ -1,8 +1,8 @@
 use Rattle.goblin_pe_sect.specs.declared.address_map.AddressMap.{AddressMap}
 use Rattle.goblin_pe_import.specs.declared.import.imports.Walk.{Walk}
 use Rattle.std.proofs.Common.{◌≡◌, ◌∙◌, None, Some, ap, subst, ◌+◌, ℕ}
-use Rattle.goblin_pe_import.specs.ImportWalks.{led}
-use Rattle.goblin_pe_import.proofs.ImportSteps.{GivesBy, imports-start, led-ok, next-fault, next-library, next-none, next-one}
+use Rattle.goblin_pe_import.specs.ImportWalks.{walk_answer}
+use Rattle.goblin_pe_import.proofs.ImportSteps.{GivesBy, imports-start, next-fault, next-library, next-none, next-one, walk_answer-ok}
 use Rattle.goblin_pe_import.proofs.ImportSteps.{next-refused}
 use Rattle.goblin_pe_import.proofs.import.imports.Walk.next_import.Goals as goal
 
@@ -26,18 +26,18 @@ libraries-preserved g c =
     let t = c.next_library.new.self in
     let r = c.in-Some-Ok-next_library.field-0 in
     let library = c.in-Some-Ok-next_library.ensures in
-    let gives = subst (λ (m : AddressMap). GivesBy g.T.Bitfield.format s m (Some (led t r))) c.next_kept.ensures.same library.gives in
-    next-library g.T.Bitfield.format c.args.self.now s c.libraries.invariant c.in-None.ensures.steps (led t r) t gives (ap (led t) c.in-Some-Ok-next_library.field-0-is)
-    (led-ok (λ (t : Walk). t.bytes.now ≡ s.bytes.now) t r library.bytes)
-    (led-ok (λ (t : Walk). t.finder ≡ s.finder) t r (library.finder ∙ c.next_kept.ensures.same)) library.bound library.placed
+    let gives = subst (λ (m : AddressMap). GivesBy g.T.Bitfield.format s m (Some (walk_answer t r))) c.next_kept.ensures.same library.gives in
+    next-library g.T.Bitfield.format c.args.self.now s c.libraries.invariant c.in-None.ensures.steps (walk_answer t r) t gives (ap (walk_answer t) c.in-Some-Ok-next_library.field-0-is)
+    (walk_answer-ok (λ (t : Walk). t.bytes.now ≡ s.bytes.now) t r library.bytes)
+    (walk_answer-ok (λ (t : Walk). t.finder ≡ s.finder) t r (library.finder ∙ c.next_kept.ensures.same)) library.bound library.placed
 
 pub returns-in-Some-Err-next_library-clause-steps : goal.returns-in-Some-Err-next_library-clause-steps
 returns-in-Some-Err-next_library-clause-steps g c =
     let s = c.libraries.self in
     let t = c.next_library.new.self in
     let r = c.in-Some-Err-next_library.field-0 in
-    let gives = subst (λ (m : AddressMap). GivesBy g.T.Bitfield.format s m (Some (led t r))) c.next_kept.ensures.same c.in-Some-Err-next_library.ensures.gives in
-    next-refused g.T.Bitfield.format c.args.self.now s c.libraries.invariant c.in-None.ensures.steps (led t r) c.in-Some-Err-next_library.error gives (ap (led t) c.in-Some-Err-next_library.field-0-is) c.end-in-Some-Err-next_library.new.self
+    let gives = subst (λ (m : AddressMap). GivesBy g.T.Bitfield.format s m (Some (walk_answer t r))) c.next_kept.ensures.same c.in-Some-Err-next_library.ensures.gives in
+    next-refused g.T.Bitfield.format c.args.self.now s c.libraries.invariant c.in-None.ensures.steps (walk_answer t r) c.in-Some-Err-next_library.error gives (ap (walk_answer t) c.in-Some-Err-next_library.field-0-is) c.end-in-Some-Err-next_library.new.self
     (record { place = c.end-in-Some-Err-next_library.ensures.place; untested = c.end-in-Some-Err-next_library.ensures.untested; next = c.end-in-Some-Err-next_library.ensures.next })
 
 pub returns-in-None-next_library-clause-steps : goal.returns-in-None-next_library-clause-steps

@@ -5,10 +5,10 @@ use Rattle.goblin_base.specs.declared.error.CauseOf.TheVariants.{ImportRecordEnd
 use Rattle.goblin_pe_import.specs.declared.import.imports.ImportPosition.{ImportPosition}
 use Rattle.goblin_pe_import.specs.ImportRecords.{import_record}
 use Rattle.goblin_pe_sect.specs.Addresses.{map_of, offset_of, reads_strictly}
-use Rattle.goblin_pe_import.specs.ImportWalks.{GivesLibrary, IsLaterCause, IsWalkCause, later_items, led, walk_left}
+use Rattle.goblin_pe_import.specs.ImportWalks.{GivesLibrary, IsLaterCause, IsWalkCause, later_items, walk_answer, walk_left}
 use Rattle.goblin_base.proofs.Records.{record_at-some}
 use Rattle.goblin_pe_import.proofs.ImportsWalk.{bound-given, later-end, later-given, later-missing, later-none, later-refused}
-use Rattle.goblin_pe_import.proofs.ImportSteps.{led-ok}
+use Rattle.goblin_pe_import.proofs.ImportSteps.{walk_answer-ok}
 use Rattle.goblin_pe_import.proofs.Modes.{ends, lacks_end}
 use Rattle.goblin_pe_import.specs.declared.import.imports.Walk.{Walk}
 use Rattle.goblin_pe_import.proofs.import.imports.Walk.next_library.Goals as goal
@@ -31,7 +31,7 @@ returns-then-may_end-clause-gives g c =
 pub returns-in_default-next_record-clause-gives : goal.returns-in_default-next_record-clause-gives
 returns-in_default-next_record-clause-gives g c =
     let lacks = lacks_end _ _ (rw c.test_untested.ensures.same at c.is_permissive.ensures) (import_record Little) _ (sym c.may_end.ensures ∙ c.if-may_end.false) in
-    let all = later-missing _ g.T.Bitfield.format _ _ _ c.in_default.ensures.value c.test_untested.ensures.wide c.in-Some.at (Malformed (ImportRecordEnd c.in-Some.at.«record»)) lacks.1 lacks.0 refl in
+    let all = later-missing _ g.T.Bitfield.format _ _ _ c.in_default.ensures.value c.test_untested.ensures.wide c.in-Some.at (Malformed (ImportRecordEnd c.in-Some.at.record_offset)) lacks.1 lacks.0 refl in
     rw c.in-Some.is (all.0, (all.1, all.2))
 
 pub returns-clause-gives : goal.returns-clause-gives
@@ -43,11 +43,11 @@ returns-clause-gives g c =
     let b = c.args.self.now.bytes.now in
     subst
     (λ (at : Option ImportPosition). GivesLibrary (walk_left f) (IsWalkCause f) (later_items s f o b c.args.self.now.untested at)
-    (λ e. (s ≡ true) × IsLaterCause s f o b c.args.self.now.untested at e) (Some (led c.enter.new.self c.enter.result)))
+    (λ e. (s ≡ true) × IsLaterCause s f o b c.args.self.now.untested at e) (Some (walk_answer c.enter.new.self c.enter.result)))
     (sym c.in-Some.is)
-    (later-given s f o b c.args.self.now.untested c.in_default.ensures.value c.test_untested.ensures.wide c.in-Some.at c.in-Some-next_record.«record» c.in-Some-next_record.ensures.0 c.in-Some-next_record.ensures.1 (walk_left f) (IsWalkCause f) (led c.enter.new.self c.enter.result) (rw c.test_untested.ensures.same at c.enter.ensures.gives))
+    (later-given s f o b c.args.self.now.untested c.in_default.ensures.value c.test_untested.ensures.wide c.in-Some.at c.in-Some-next_record.«record» c.in-Some-next_record.ensures.0 c.in-Some-next_record.ensures.1 (walk_left f) (IsWalkCause f) (walk_answer c.enter.new.self c.enter.result) (rw c.test_untested.ensures.same at c.enter.ensures.gives))
 
 pub returns-clause-bound : goal.returns-clause-bound
 returns-clause-bound g c =
-    let bytes = led-ok (λ (t : Walk). t.bytes.now ≡ c.args.self.now.bytes.now) c.enter.new.self c.enter.result c.enter.ensures.bytes in
-    rw c.in-Some.is (bound-given _ _ (record_at-some 20 _ _ _ _ c.in-Some-next_record.ensures.0).end (led c.enter.new.self c.enter.result) bytes c.enter.ensures.next c.enter.ensures.place)
+    let bytes = walk_answer-ok (λ (t : Walk). t.bytes.now ≡ c.args.self.now.bytes.now) c.enter.new.self c.enter.result c.enter.ensures.bytes in
+    rw c.in-Some.is (bound-given _ _ (record_at-some 20 _ _ _ _ c.in-Some-next_record.ensures.0).end (walk_answer c.enter.new.self c.enter.result) bytes c.enter.ensures.next c.enter.ensures.place)

@@ -1,0 +1,90 @@
+"""Tells of each file of a folder what analysts compare, a line of JSON each: triage.py FOLDER. Four threads look at them, and of
+none is more read than a limit says. What can't be read has a line, too, that says why."""
+import concurrent.futures
+import hashlib
+import itertools
+import json
+import math
+import mmap
+import os
+import sys
+from collections import Counter
+from typing import Any, Dict, Iterator, Optional
+
+from goblin_pe import Kind, Options, Pe, Refused, kind, names_of
+
+# Of no file are more imports read.
+MOST_IMPORTS = 100_000
+
+
+def entropy(data: bytes) -> float:
+    """How random bytes are: 0, where all are alike, up to 8 bits each."""
+    shares = [count / len(data) for count in Counter(data).values()]
+    return sum(share * math.log2(1 / share) for share in shares)
+
+
+def rich_hash(pe: Pe, data: Any) -> Optional[str]:
+    """The MD5 of the Rich header from its first marker on up to the second, without its key; None where there is none."""
+    rich = pe.rich_header
+    if rich is None:
+        return None
+    stored, key = data[rich.start_offset: rich.end_offset], rich.key.to_bytes(4, "little")
+    return hashlib.md5(bytes(it ^ key[i % 4] for i, it in enumerate(stored)), usedforsecurity=False).hexdigest()
+
+
+def overlay(pe: Pe, data: Any) -> Optional[int]:
+    """Where the bytes begin that follow the data of all sections in the file; None where there are none."""
+    ends = (s.pointer_to_raw_data + s.size_of_raw_data for s in pe.sections if s.size_of_raw_data)
+    end = max((it for it in ends if it <= len(data)), default=0)
+    return end if 0 < end < len(data) else None
+
+
+def sections(pe: Pe) -> Iterator[Dict[str, Any]]:
+    """What each section is like; of one that passes the file nothing of its data."""
+    for s in pe.sections:
+        told: Dict[str, Any] = {"name": s.name.decode("utf-8", "backslashreplace"), "flags": names_of(s.characteristics)}
+        try:
+            content, _ = pe.section_data(s)
+            told.update(entropy=round(entropy(content), 3), md5=hashlib.md5(content, usedforsecurity=False).hexdigest())
+        except Refused as refused:
+            told["refused"] = str(refused)
+        yield told
+
+
+def image(data: Any) -> Dict[str, Any]:
+    """What is told of an image; its imports are counted up to the limit."""
+    with Pe(data, Options(is_permissive=True, parse_imports=False)) as pe:
+        walked = itertools.islice(pe.walk_imports(), MOST_IMPORTS)
+        libraries: Counter[bytes] = Counter(it.dll.lower() for it in walked)
+        damage = pe.damage
+        return {
+            "machine": names_of(pe.coff_header.machine, "machine")[0], "time_date_stamp": pe.coff_header.time_date_stamp,
+            "is_64": pe.is_64, "is_lib": pe.is_lib, "entry": pe.entry, "image_base": pe.image_base,
+            "subsystem": pe.optional_header and names_of(pe.optional_header.windows_fields.subsystem, "subsystem")[0],
+            "libraries": {name.decode("utf-8", "backslashreplace"): count for name, count in sorted(libraries.items())},
+            "imphash": pe.imphash() if sum(libraries.values()) < MOST_IMPORTS else None,
+            "exports": sum(1 for _ in pe.walk_exports()), "rich_hash": rich_hash(pe, data), "overlay": overlay(pe, data),
+            "sections": list(sections(pe)), "damage": {part: str(why) for part, why in zip(damage._fields[:5], damage) if why}}
+
+
+def triaged(path: str) -> Dict[str, Any]:
+    """What is told of a file."""
+    told = {"file": os.path.basename(path)}
+    try:
+        with open(path, "rb") as file, mmap.mmap(file.fileno(), 0, access=mmap.ACCESS_READ) as data:
+            what = kind(data)
+            return {**told, "kind": what.name.lower(), **(image(data) if what == Kind.IMAGE else {})}
+    except (OSError, ValueError) as error:  # (a refusal is a ValueError, and so is that an empty file can't be mapped)
+        return {**told, "refused": str(error)}
+
+
+def main(folder: str) -> None:
+    """Tells of all files of a folder, in the order of their names."""
+    paths = [entry.path for entry in sorted(os.scandir(folder), key=lambda it: it.name) if entry.is_file()]
+    with concurrent.futures.ThreadPoolExecutor(4) as threads:
+        for told in threads.map(triaged, paths):
+            print(json.dumps(told))
+
+
+if __name__ == "__main__":
+    main(*sys.argv[1:])

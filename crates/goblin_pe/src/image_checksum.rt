@@ -1,0 +1,65 @@
+//! The checksum of an image.
+
+ghost use Rattle.std.specs.Prelude.{◌≡◌, ◌+◌, ◌*◌, ◌/◌, ◌<◌, length};
+ghost use Rattle.goblin_pe.specs.Checksums.{image_checksum, sum_of_words, summed_byte, summed_word};
+ghost use Rattle.goblin_pe.specs.Checksums.{with_carry};
+
+// The byte at an offset; 0 in the four bytes of the field, and past the end.
+fn summed_byte(bytes: &[u8], field: usize, offset: usize) -> u32
+    ensures value { result ≡ summed_byte bytes.now field offset }
+    ensures small { result < 256 }
+{
+    if field <= offset && offset - field < 4 {
+        return 0;
+    }
+    match bytes.get(offset) {
+        Some(byte) => u32::from(*byte),
+        None => 0,
+    }
+}
+
+// The little-endian word of two bytes at an index.
+fn summed_word(bytes: &[u8], field: usize, index: usize) -> u32
+    requires { 2 * index < length bytes.now }
+    ensures value { result ≡ summed_word bytes.now field index }
+    ensures small { result < 65536 }
+{
+    summed_byte(bytes, field, 2 * index) + 256 * summed_byte(bytes, field, 2 * index + 1)
+}
+
+// The sum cut to 16 bits, and its carry added.
+fn with_carry(sum: u32) -> u32
+    requires { sum < 131071 }
+    ensures value { result ≡ with_carry sum }
+    ensures small { result < 65536 }
+{
+    sum % 65536 + sum / 65536
+}
+
+// The sum of all words in 16 bits, each carry added.
+#[tactic(auto, unfolding(crate::specs::Checksums::sum_of_words))]
+fn sum_of_words(bytes: &[u8], field: usize) -> u32
+    ensures value { result ≡ sum_of_words bytes.now field ((length bytes.now + 1) / 2) }
+    ensures small { result < 65536 }
+{
+    let mut sum = 0;
+    'words: for index in 0..bytes.len().div_ceil(2) {
+        sum = with_carry(sum + summed_word(bytes, field, index));
+    }
+    sum
+}
+
+/// The checksum of the image `bytes`, whose checksum field stands at the file offset `field`: 88 bytes
+/// after the offset of its signature, `pe_pointer`. It is the sum of the little-endian words of two
+/// bytes, in 16 bits and with each carry added, and the length of the file, in 32 bits. The four bytes
+/// of the field, as far as the file has them, count as zeros, and so does the byte that a last word
+/// lacks. Windows loads a driver only where the field has this value.
+///
+/// Source: PE Format, "Optional Header Windows-Specific Fields (Image Only)", `CheckSum`, which leaves
+/// the algorithm to the Windows library IMAGEHLP.
+pub fn checksum(bytes: &[u8], field: usize) -> u32
+    ensures { result ≡ image_checksum bytes.now field }
+{
+    let length = (bytes.len() % (1 << 32)) as u32;
+    sum_of_words(bytes, field).wrapping_add(length)
+}
