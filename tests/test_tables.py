@@ -1,4 +1,5 @@
 """Rich headers, symbols, relocations, and where addresses lie in a file: worked values, which the library for callers reads."""
+import ctypes
 import struct
 import unittest
 
@@ -60,6 +61,14 @@ NAMES = [
     ("the first text", b"\0\0\0\0\x04\0\0\0", b"\x0C\0\0\0abc\0def\0", b"abc"),
     ("a text at 4, whatever stands before the number", b"\0ABC\x08\0\0\0", b"\x0C\0\0\0abc\0def\0", b"def"),
     ("the first text of a table that has no bytes", b"\0\0\0\0\x04\0\0\0", b"\x04\0\0\0", None),
+]
+# The bytes of a string table that nothing has tested, an offset in it, and the name there.
+UNTESTED = [
+    ("a text before bytes that are none", b"abc\0\xFF", 0, b"abc"),
+    ("bytes that are no text", b"abc\0\xFF", 4, None),
+    ("the middle of a character", b"\xC3\xA9\0", 1, None),
+    ("the end, after a text without a NUL", b"ab", 2, b""),
+    ("the end, after a NUL", b"ab\0", 3, None),
 ]
 # How many auxiliary records the first symbol says it has, how many records there are, and the indexes of the symbols.
 INDEXES = [(1, 3, [0, 2]), (0xFF, 1, [0])]
@@ -243,6 +252,29 @@ class Tables(unittest.TestCase):
         for name, stored, strings, wanted in NAMES:
             with self.subTest(name):
                 self.assertEqual([it.name for it in symbols_of(symbol_record(stored), strings)], [wanted])
+
+    def test_a_name_is_tested_where_it_lies(self):
+        calls, records = package()._library.LIB, package().records
+        for name, strings, offset, wanted in UNTESTED:
+            with self.subTest(name):
+                file = b"\0" + symbol_record(struct.pack("<II", 0, offset + 4)) + strings
+                table, symbol = records.SymbolTable(1, 1, 19, len(strings)), records.NamedSymbol()
+                self.assertTrue(calls.goblin_pe_raw_symbol_at(file, len(file), ctypes.byref(table), 0, ctypes.byref(symbol)))
+                found = ctypes.string_at(symbol.name.bytes, symbol.name.length) if symbol.has_name else None
+                self.assertEqual(found, wanted)
+
+    def test_a_table_that_is_not_in_the_file_has_no_symbols(self):
+        calls, records = package()._library.LIB, package().records
+        file, symbol, position, count = bytes(40), records.NamedSymbol(), ctypes.c_size_t(), ctypes.c_size_t(7)
+        most = 2 ** 64 - 1
+        for status, table in ((0, (0, most >> 32, most, most)), (0, (1, 2, 40, 0)), (4, (40, 0, 40, 0)), (4, (1, most >> 32, 0, 0)),
+                              (1, (1, 2, 40, 1)), (1, (1, 2, most, most))):
+            with self.subTest(table=table):
+                said = records.SymbolTable(*table)
+                fault = calls.goblin_pe_raw_next_symbols(
+                    file, len(file), ctypes.byref(said), ctypes.byref(position), ctypes.byref(symbol), 0, ctypes.byref(count))
+                is_there = calls.goblin_pe_raw_symbol_at(file, len(file), ctypes.byref(said), 0, ctypes.byref(symbol))
+                self.assertEqual((fault.status, is_there, position.value), (status, table == (1, 2, 40, 0), 0))
 
     def test_a_string_table_is_as_long_as_its_length_field_at_least(self):
         self.assertEqual(symbols_of(b"", b"\x04\0\0\0"), [])

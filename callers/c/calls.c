@@ -57,16 +57,30 @@ static bool has_auxiliary(const struct goblin_pe_named_symbol *s)
                goblin_pe_read_aux_file(s->auxiliary, &file);
 }
 
+/* Whether the symbol at an index is the one that a walk gave. */
+static bool is_found(const struct goblin_pe_symbol_table *table, const struct goblin_pe_named_symbol *symbol)
+{
+    struct goblin_pe_named_symbol found;
+    return goblin_pe_symbol_at(bytes, length, table, symbol->index, &found) && found.index == symbol->index &&
+           found.name.bytes == symbol->name.bytes && found.name.length == symbol->name.length &&
+           found.auxiliary.bytes == symbol->auxiliary.bytes && found.has_name == symbol->has_name;
+}
+
 /* Whether each symbol is read, one at a time, and has its auxiliary records. */
 static bool has_symbols(const struct goblin_pe_coff_header *header)
 {
+    struct goblin_pe_symbol_table table;
     struct goblin_pe_named_symbol symbol;
     size_t position = 0, count = 0, next = 0;
+    if (goblin_pe_read_symbol_table(bytes, length, header, &table).status != GOBLIN_PE_STATUS_OK)
+        return false;
     for (;;) {
-        if (goblin_pe_next_symbols(bytes, length, header, &position, &symbol, 1, &count).status != GOBLIN_PE_STATUS_OK)
+        if (goblin_pe_next_symbols(bytes, length, &table, &position, &symbol, 1, &count).status != GOBLIN_PE_STATUS_OK)
             return false;
         if (!count)
-            return next == header->number_of_symbol_table || !header->pointer_to_symbol_table;
+            return next == table.record_count && !goblin_pe_symbol_at(bytes, length, &table, next, &symbol);
+        if (!is_found(&table, &symbol))
+            return false;
         if (symbol.index != next || position != next + 1 + symbol.symbol.number_of_aux_symbols || !has_auxiliary(&symbol))
             return false;
         if (!is_in_file(symbol.name) || !is_in_file(symbol.auxiliary))

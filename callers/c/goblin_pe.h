@@ -187,8 +187,8 @@ static inline struct goblin_pe_fault goblin_pe_next_exports(
 
 /* Reads an object, which begins with a COFF header: says in `object` how many sections there are, and fills
    their records as far as there is room. No machine is tested, so a file that is no object may be read as one
-   with sections that make no sense: ask goblin_pe_kind_of before. Of the options only the mode counts. Memory
-   is taken for the sections, and given back. */
+   with sections that make no sense: ask goblin_pe_kind_of before. Of the options only the mode counts. No memory
+   is taken. */
 static inline struct goblin_pe_fault goblin_pe_read_object(
     const uint8_t *bytes, size_t length, const struct goblin_pe_options *options, struct goblin_pe_object *object,
     struct goblin_pe_section *sections, size_t room)
@@ -199,7 +199,7 @@ static inline struct goblin_pe_fault goblin_pe_read_object(
 }
 
 /* Reads a Terse Executable: its header, which says how many sections there are, and those as far as
-   there is room. The signature is not looked at. Memory is taken for the sections, and given back. */
+   there is room. The signature is not looked at. No memory is taken. */
 static inline struct goblin_pe_fault goblin_pe_read_te(
     const uint8_t *bytes, size_t length, struct goblin_pe_te_header *header, struct goblin_pe_section *sections,
     size_t room)
@@ -208,21 +208,40 @@ static inline struct goblin_pe_fault goblin_pe_read_te(
         GOBLIN_PE_BYTES(bytes), length, header, GOBLIN_PE_SOME(struct goblin_pe_section, sections), room);
 }
 
-/* Goes on with the walk over the symbols of an image or an object, by its COFF header, from the record at
-   the index `position` on, 0 at the beginning: fills as many records as there is room for, says in `count`
-   how many, and leaves in `position` the index of the record that is read next. The count 0 without a refusal
-   is the end, where there is room; so it is of a file without a symbol table. The record at the position is
-   read as a symbol, even where it is an auxiliary one of the symbol before it. Refused is a file that is too
-   short for its symbol table or the string table after it, and one whose string table is not UTF-8, or says a
-   length below 4. Each call reads the whole string table, so room for some hundreds is better than for one. No
-   memory is taken. */
+/* Tests the symbol table and the string table of an image or an object, by its COFF header, and says in `table`
+   where they lie: zeros for a file without them. The whole string table is read here, and by no call that takes
+   the table. Refused is a file that is too short for its symbol table or the string table after it, and one whose
+   string table is not UTF-8, or says a length below 4. No memory is taken. */
+static inline struct goblin_pe_fault goblin_pe_read_symbol_table(
+    const uint8_t *bytes, size_t length, const struct goblin_pe_coff_header *header,
+    struct goblin_pe_symbol_table *table)
+{
+    return goblin_pe_raw_read_symbol_table(GOBLIN_PE_BYTES(bytes), length, header, table);
+}
+
+/* Goes on with the walk over the symbols of a table, from the record at the index `position` on, 0 at the
+   beginning: fills as many records as there is room for, says in `count` how many, and leaves in `position` the
+   index of the record that is read next. The count 0 without a refusal is the end, where there is room; so it is
+   of a table of zeros. The record at the position is read as a symbol, even where it is an auxiliary one of the
+   symbol before it. Of a table that goblin_pe_read_symbol_table did not fill, only what is named is tested; one
+   that does not lie in the file is refused. No memory is taken. */
 static inline struct goblin_pe_fault goblin_pe_next_symbols(
-    const uint8_t *bytes, size_t length, const struct goblin_pe_coff_header *header, size_t *position,
+    const uint8_t *bytes, size_t length, const struct goblin_pe_symbol_table *table, size_t *position,
     struct goblin_pe_named_symbol *symbols, size_t room, size_t *count)
 {
     return goblin_pe_raw_next_symbols(
-        GOBLIN_PE_BYTES(bytes), length, header, position, GOBLIN_PE_SOME(struct goblin_pe_named_symbol, symbols), room,
+        GOBLIN_PE_BYTES(bytes), length, table, position, GOBLIN_PE_SOME(struct goblin_pe_named_symbol, symbols), room,
         count);
+}
+
+/* Puts the symbol whose record has this index into `symbol`, and answers whether there is one: relocations and
+   weak externals name symbols so. The record is read as a symbol, even where it is an auxiliary one. No memory is
+   taken. */
+static inline bool goblin_pe_symbol_at(
+    const uint8_t *bytes, size_t length, const struct goblin_pe_symbol_table *table, size_t index,
+    struct goblin_pe_named_symbol *symbol)
+{
+    return goblin_pe_raw_symbol_at(GOBLIN_PE_BYTES(bytes), length, table, index, symbol);
 }
 
 /* Reads the first auxiliary record of a symbol, by the kind that its class says; each answers false, and

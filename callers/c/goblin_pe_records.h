@@ -868,6 +868,19 @@ struct goblin_pe_object {
     struct goblin_pe_coff_header coff_header;
 };
 
+/* Where the symbol table and the string table of an image or an object lie. Zeros say that there
+   are none. */
+struct goblin_pe_symbol_table {
+    /* The file offset of the first record of the symbol table, in bytes; 0 where there is none. */
+    uint32_t offset;
+    /* How many records it has, the auxiliary ones too. */
+    uint32_t record_count;
+    /* The file offset of the texts of the string table, in bytes: after the four of its length. */
+    size_t strings_offset;
+    /* How many bytes these texts have. */
+    size_t strings_length;
+};
+
 /* A symbol, as its record describes it.
 
    Source: PE Format, "COFF Symbol Table". Numbers are as stored; a record has 18 bytes, and `at`
@@ -1004,9 +1017,15 @@ struct goblin_pe_fault goblin_pe_raw_memory_at(
 struct goblin_pe_fault goblin_pe_raw_read_object(
     const uint8_t *bytes, size_t byte_count, const struct goblin_pe_options *options,
     struct goblin_pe_object *object, struct goblin_pe_section *sections, size_t section_room);
-struct goblin_pe_fault goblin_pe_raw_next_symbols(
+struct goblin_pe_fault goblin_pe_raw_read_symbol_table(
     const uint8_t *bytes, size_t byte_count, const struct goblin_pe_coff_header *header,
+    struct goblin_pe_symbol_table *table);
+struct goblin_pe_fault goblin_pe_raw_next_symbols(
+    const uint8_t *bytes, size_t byte_count, const struct goblin_pe_symbol_table *table,
     size_t *position, struct goblin_pe_named_symbol *records, size_t record_room, size_t *count);
+bool goblin_pe_raw_symbol_at(
+    const uint8_t *bytes, size_t byte_count, const struct goblin_pe_symbol_table *table,
+    size_t index, struct goblin_pe_named_symbol *symbol);
 struct goblin_pe_fault goblin_pe_raw_read_relocations(
     const uint8_t *bytes, size_t byte_count, const struct goblin_pe_section *section,
     struct goblin_pe_relocation *records, size_t record_room, size_t *count);
@@ -1312,6 +1331,12 @@ GOBLIN_PE_IS_AT(section_data, zeros, 16);
 GOBLIN_PE_HAS_SIZE(object, 32, 8);
 GOBLIN_PE_IS_AT(object, sections, 0);
 GOBLIN_PE_IS_AT(object, coff_header, 8);
+
+GOBLIN_PE_HAS_SIZE(symbol_table, 24, 8);
+GOBLIN_PE_IS_AT(symbol_table, offset, 0);
+GOBLIN_PE_IS_AT(symbol_table, record_count, 4);
+GOBLIN_PE_IS_AT(symbol_table, strings_offset, 8);
+GOBLIN_PE_IS_AT(symbol_table, strings_length, 16);
 
 GOBLIN_PE_HAS_SIZE(symbol, 20, 4);
 GOBLIN_PE_IS_AT(symbol, name, 0);

@@ -148,11 +148,14 @@ static int list_image(const uint8_t *bytes, size_t length, bool is_permissive)
 static struct goblin_pe_fault put_symbols(const uint8_t *bytes, size_t length,
                                           const struct goblin_pe_coff_header *header)
 {
+    struct goblin_pe_symbol_table table;
     struct goblin_pe_named_symbol symbols[16];
-    struct goblin_pe_fault fault;
+    struct goblin_pe_fault fault = goblin_pe_read_symbol_table(bytes, length, header, &table);
     size_t position = 0, count = 0;
+    if (fault.status != GOBLIN_PE_STATUS_OK)
+        return fault;
     do {
-        fault = goblin_pe_next_symbols(bytes, length, header, &position, symbols, 16, &count);
+        fault = goblin_pe_next_symbols(bytes, length, &table, &position, symbols, 16, &count);
         for (size_t i = 0; fault.status == GOBLIN_PE_STATUS_OK && i < count; i++) {
             const struct goblin_pe_symbol *s = &symbols[i].symbol;
             printf("symbol %zu value=%u section=%d class=%u aux=%u", symbols[i].index, s->value,

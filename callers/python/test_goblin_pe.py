@@ -525,7 +525,10 @@ class Files(unittest.TestCase):
                     self.assertTrue(s.is_section_definition)
                 elif not s.auxiliary:
                     self.assertEqual((s.aux(AuxSectionDefinition), s.aux_file()), (None, None))
-        self.assertEqual(Pe(sample("imports_by_name_x64.dll")).symbols, [])
+            self.assertTrue(all(found.symbol_at(s.index) is s for s in found.symbols))
+            self.assertIsNone(found.symbol_at(found.coff_header.number_of_symbol_table))
+        pe = Pe(sample("imports_by_name_x64.dll"))
+        self.assertEqual((pe.symbols, pe.symbol_at(0)), ([], None))
 
     def test_a_symbol_has_auxiliary_records_of_its_kind_alone(self):
         record = struct.pack("<IIIIH", 1, 2, 3, 4, 0)

@@ -39,6 +39,7 @@ goblin_pe.constants has the numbers of the formats, such as IMAGE_FILE_DLL.
 The reader is the proved library goblin_pe. Its shared library stands beside an installed module; in the repository
 callers/build puts it into callers/lib. The variable GOBLIN_PE_SO names another when the module is imported.
 """
+import bisect as _bisect
 import ctypes as _c
 import dataclasses as _dataclasses
 import hashlib as _hashlib
@@ -122,10 +123,17 @@ def _walk(data: _Kept, kind: _t.Any, row: str, call: _t.Callable[..., records.Fa
         yield from map(getattr(_Rows(data, address, _MOST_KEPT), row), room[: count.value])
 
 
-def _symbols(data: _Kept, header: CoffHeader) -> _t.List[Symbol]:
-    coff = _laid_out.laid_out(CoffHeader)(*header)
+def _symbol_table(data: _Kept, header: CoffHeader) -> records.SymbolTable:
+    # where the symbols lie; the string table is read here alone
+    coff, table = _laid_out.laid_out(CoffHeader)(*header), records.SymbolTable()
+    with _held(data) as (address, length):
+        _test(_LIB.goblin_pe_raw_read_symbol_table(address, length, _c.byref(coff), _c.byref(table)))
+    return table
+
+
+def _symbols(data: _Kept, table: records.SymbolTable) -> _t.List[Symbol]:
     return list(_walk(data, records.NamedSymbol, "symbol", lambda address, length, *to: _LIB.goblin_pe_raw_next_symbols(
-        address, length, _c.byref(coff), *to), _c.c_size_t()))
+        address, length, _c.byref(table), *to), _c.c_size_t()))
 
 
 def kind(data: Data) -> Kind:
@@ -217,6 +225,7 @@ class Pe:
     def __init__(self, data: Data, options: _t.Optional[Options] = None):
         self._data: _t.Optional[_Kept] = _kept(data)
         self._options = _record_of(options)
+        self._symbol_table: _t.Optional[records.SymbolTable] = None  # (until a symbol is asked for)
         file, directories, tables = records.File(), (records.Directory * 16)(), records.Tables()
         with _held(self._data) as (address, length):
             _test(_LIB.goblin_pe_raw_open(address, length, _c.byref(self._options), _c.byref(file), directories, 16, _c.byref(tables)))
@@ -516,7 +525,22 @@ class Pe:
     def symbols(self) -> _t.List[Symbol]:
         """The symbols, which few images have. Refused is raised where the file is too short for their table or its string
         table, and where the string table is not UTF-8, or says a length below 4."""
-        return _symbols(self._bytes(), self.coff_header)
+        return _symbols(self._bytes(), self._found_symbols())
+
+    def symbol_at(self, index: int) -> _t.Optional[Symbol]:
+        """The symbol whose record has this index: relocations and weak externals name symbols so. None where the table ends
+        before it; an auxiliary record is read as a symbol, too. Refused is raised as by `symbols`. The string table is read
+        whole the first time, and then never again."""
+        table, symbol = self._found_symbols(), records.NamedSymbol()
+        with _held(self._bytes()) as (address, length):
+            is_there = _LIB.goblin_pe_raw_symbol_at(address, length, _c.byref(table), _size(index), _c.byref(symbol))
+        return _Rows(self._bytes(), address).symbol(symbol) if is_there else None
+
+    def _found_symbols(self) -> records.SymbolTable:
+        # where the symbols lie, tested once
+        if self._symbol_table is None:
+            self._symbol_table = _symbol_table(self._bytes(), self.coff_header)
+        return self._symbol_table
 
     @property
     def damage(self) -> Damage:
@@ -615,16 +639,14 @@ class ObjectFile:
     """
 
     def __init__(self, data: Data, options: _t.Optional[Options] = None):
-        asked, found, none = _record_of(options), records.Object(), _c.c_size_t()
+        asked, found = _record_of(options), records.Object()
         self._data = _kept(data)
         with _held(self._data) as (address, length):
             for _ in range(2):
                 sections, count = _room(records.Section, found.sections), found.sections
                 _test(_LIB.goblin_pe_raw_read_object(address, length, _c.byref(asked), _c.byref(found), sections, count))
-            coff = _laid_out.laid_out(CoffHeader)(*found.coff_header)
-            room = _room(records.NamedSymbol, 0)
-            _test(_LIB.goblin_pe_raw_next_symbols(address, length, _c.byref(coff), _c.byref(_c.c_size_t()), room, 0, _c.byref(none)))
         self._coff_header: CoffHeader = found.coff_header
+        self._symbol_table = _symbol_table(self._data, found.coff_header)
         self._sections, self._count, self._address = sections, found.sections, address
         self._made: _t.Dict[str, _t.List[_t.Any]] = {}
 
@@ -644,12 +666,18 @@ class ObjectFile:
     def symbols(self) -> _t.List[Symbol]:
         """The symbols."""
         if "symbols" not in self._made:
-            self._made["symbols"] = _symbols(self._data, self.coff_header)
+            self._made["symbols"] = _symbols(self._data, self._symbol_table)
         return self._made["symbols"]
 
     def __getstate__(self) -> _t.Dict[str, _t.Any]:
         rows = {"sections": self.sections, "symbols": self.symbols}
         return {**self.__dict__, "_made": rows, "_data": b"", "_sections": ()}
+
+    def symbol_at(self, index: int) -> _t.Optional[Symbol]:
+        """The symbol whose record has this index: relocations and weak externals name symbols so. None where there is none,
+        also where the record is an auxiliary one."""
+        place = _bisect.bisect_left(self.symbols, (index,))
+        return next((s for s in self.symbols[place: place + 1] if s.index == index), None)
 
     def __repr__(self) -> str:
         return "<ObjectFile machine=%#x sections=%d symbols=%d>" % (

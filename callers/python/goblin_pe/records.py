@@ -785,6 +785,25 @@ class Object(Record):
     coff_header: CoffHeader
 
 
+@record
+class SymbolTable(Record):
+    """Where the symbol table and the string table of an image or an object lie. Zeros say that
+    there are none.
+
+    offset: The file offset of the first record of the symbol table, in bytes; 0 where there is
+        none.
+    record_count: How many records it has, the auxiliary ones too.
+    strings_offset: The file offset of the texts of the string table, in bytes: after the four of
+        its length.
+    strings_length: How many bytes these texts have.
+    """
+
+    offset: Annotated[int, c.c_uint32]
+    record_count: Annotated[int, c.c_uint32]
+    strings_offset: Annotated[int, c.c_size_t]
+    strings_length: Annotated[int, c.c_size_t]
+
+
 @header
 class Symbol(NamedTuple):
     """A symbol, as its record describes it.
@@ -937,8 +956,12 @@ CALLS: Dict[str, Tuple[Any, List[Any]]] = {
         (Fault, [to(Image), c.c_size_t, c.c_size_t, to(SectionData)]),
     "goblin_pe_raw_read_object":
         (Fault, [c.c_void_p, c.c_size_t, to(Options), to(Object), to(Section), c.c_size_t]),
+    "goblin_pe_raw_read_symbol_table":
+        (Fault, [c.c_void_p, c.c_size_t, to(CoffHeader), to(SymbolTable)]),
     "goblin_pe_raw_next_symbols":
-        (Fault, [c.c_void_p, c.c_size_t, to(CoffHeader), to(c.c_size_t), to(NamedSymbol), c.c_size_t, to(c.c_size_t)]),
+        (Fault, [c.c_void_p, c.c_size_t, to(SymbolTable), to(c.c_size_t), to(NamedSymbol), c.c_size_t, to(c.c_size_t)]),
+    "goblin_pe_raw_symbol_at":
+        (c.c_bool, [c.c_void_p, c.c_size_t, to(SymbolTable), c.c_size_t, to(NamedSymbol)]),
     "goblin_pe_raw_read_relocations":
         (Fault, [c.c_void_p, c.c_size_t, to(Section), to(Relocation), c.c_size_t, to(c.c_size_t)]),
     "goblin_pe_raw_read_te":

@@ -404,16 +404,18 @@ impl fmt::Debug for WalkLibraries<'_> {
 #[derive(Clone)]
 pub struct Symbols<'a> {
     bytes: &'a [u8],
-    header: CoffHeader,
+    table: raw::SymbolTable,
     batches: Batches<raw::NamedSymbol<'a>, usize>,
 }
 
 impl<'a> Symbols<'a> {
     // Those that a COFF header tells of, the first of them read.
     pub(crate) fn of(bytes: &'a [u8], header: &CoffHeader) -> Result<Self, Error> {
+        let mut table = raw::SymbolTable::default();
+        Error::test(raw::read_symbol_table(bytes, header, &mut table))?;
         let mut symbols = Symbols {
             bytes,
-            header: *header,
+            table,
             batches: Batches::new(),
         };
         symbols.fill()?;
@@ -421,13 +423,32 @@ impl<'a> Symbols<'a> {
     }
 
     fn fill(&mut self) -> Result<(), Error> {
-        let (bytes, header) = (self.bytes, &self.header);
-        // (each call reads the whole string table)
+        let (bytes, table) = (self.bytes, &self.table);
         self.batches.fill(
-            BATCH,
+            FIRST,
             raw::NamedSymbol::default(),
-            |position, records, count| raw::next_symbols(bytes, header, position, records, count),
+            |position, records, count| raw::next_symbols(bytes, table, position, records, count),
         )
+    }
+
+    /// The symbol whose record has this index in the symbol table, wherever the walk is: relocations and weak
+    /// externals name symbols so. `None` where the table ends before it; a record that says more of the symbol
+    /// before it is read as a symbol, too. It takes no longer for a large table.
+    ///
+    /// ```no_run
+    /// # let bytes = [];
+    /// let object = goblin_pe::Object::read(&bytes, &goblin_pe::Options::default())?;
+    /// let symbols = object.symbols()?;
+    /// for section in object.sections() {
+    ///     for relocation in section.relocations(&bytes)? {
+    ///         let symbol = symbols.at_index(relocation.symbol_table_index as usize);
+    ///         println!("{}", symbol.and_then(|s| s.name).unwrap_or_default());
+    ///     }
+    /// }
+    /// # Ok::<(), goblin_pe::Error>(())
+    /// ```
+    pub fn at_index(&self, index: usize) -> Option<Symbol<'a>> {
+        raw::symbol_at(self.bytes, &self.table, index).map(|it| Symbol::from(&it))
     }
 }
 

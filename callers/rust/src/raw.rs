@@ -371,10 +371,17 @@ pub fn read_te<'a>(bytes: &'a [u8], header: &mut TeHeader, sections: &mut [Secti
     }
 }
 
+/// Tests a symbol table and its string table, and says where they lie.
+pub fn read_symbol_table(bytes: &[u8], header: &CoffHeader, table: &mut SymbolTable) -> Fault {
+    test_interface();
+    // SAFETY: as in `kind`.
+    unsafe { goblin_pe_raw_read_symbol_table(bytes.as_ptr(), bytes.len(), header, table) }
+}
+
 /// Goes on with the walk over symbols; fills the records as far as there is room, and says how many.
 pub fn next_symbols<'a>(
     bytes: &'a [u8],
-    header: &CoffHeader,
+    table: &SymbolTable,
     position: &mut usize,
     symbols: &mut [NamedSymbol<'a>],
     count: &mut usize,
@@ -385,13 +392,28 @@ pub fn next_symbols<'a>(
         goblin_pe_raw_next_symbols(
             bytes.as_ptr(),
             bytes.len(),
-            header,
+            table,
             position,
             symbols.as_mut_ptr(),
             symbols.len(),
             count,
         )
     }
+}
+
+/// The symbol whose record has this index.
+pub fn symbol_at<'a>(
+    bytes: &'a [u8],
+    table: &SymbolTable,
+    index: usize,
+) -> Option<NamedSymbol<'a>> {
+    test_interface();
+    let mut symbol = NamedSymbol::default();
+    // SAFETY: as in `open`.
+    let is_there = unsafe {
+        goblin_pe_raw_symbol_at(bytes.as_ptr(), bytes.len(), table, index, &mut symbol)
+    };
+    is_there.then_some(symbol)
 }
 
 // The first auxiliary record, by one of the calls for it; `None` where there is none.

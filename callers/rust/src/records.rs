@@ -695,6 +695,21 @@ pub struct Object {
     pub coff_header: CoffHeader,
 }
 
+/// Where the symbol table and the string table of an image or an object lie. Zeros say that there
+/// are none.
+#[repr(C)]
+#[derive(Clone, Copy, Default, Debug, PartialEq, Eq, PartialOrd, Ord, Hash)]
+pub struct SymbolTable {
+    /// The file offset of the first record of the symbol table, in bytes; 0 where there is none.
+    pub offset: u32,
+    /// How many records it has, the auxiliary ones too.
+    pub record_count: u32,
+    /// The file offset of the texts of the string table, in bytes: after the four of its length.
+    pub strings_offset: usize,
+    /// How many bytes these texts have.
+    pub strings_length: usize,
+}
+
 /// A symbol, as its record describes it.
 ///
 /// Source: PE Format, "COFF Symbol Table". Numbers are as stored; a record has 18 bytes, and `at`
@@ -1031,6 +1046,11 @@ const _: () = {
     assert!(size_of::<Object>() == 32 && align_of::<Object>() == 8);
     assert!(offset_of!(Object, sections) == 0);
     assert!(offset_of!(Object, coff_header) == 8);
+    assert!(size_of::<SymbolTable>() == 24 && align_of::<SymbolTable>() == 8);
+    assert!(offset_of!(SymbolTable, offset) == 0);
+    assert!(offset_of!(SymbolTable, record_count) == 4);
+    assert!(offset_of!(SymbolTable, strings_offset) == 8);
+    assert!(offset_of!(SymbolTable, strings_length) == 16);
     assert!(size_of::<Symbol>() == 20 && align_of::<Symbol>() == 4);
     assert!(offset_of!(Symbol, name) == 0);
     assert!(offset_of!(Symbol, value) == 8);
@@ -1190,15 +1210,30 @@ unsafe extern "C" {
         section_room: usize,
     ) -> Fault;
 
-    pub fn goblin_pe_raw_next_symbols(
+    pub fn goblin_pe_raw_read_symbol_table(
         bytes: *const u8,
         byte_count: usize,
         header: &CoffHeader,
+        table: &mut SymbolTable,
+    ) -> Fault;
+
+    pub fn goblin_pe_raw_next_symbols(
+        bytes: *const u8,
+        byte_count: usize,
+        table: &SymbolTable,
         position: &mut usize,
         records: *mut NamedSymbol<'_>,
         record_room: usize,
         count: &mut usize,
     ) -> Fault;
+
+    pub fn goblin_pe_raw_symbol_at(
+        bytes: *const u8,
+        byte_count: usize,
+        table: &SymbolTable,
+        index: usize,
+        symbol: &mut NamedSymbol<'_>,
+    ) -> bool;
 
     pub fn goblin_pe_raw_read_relocations(
         bytes: *const u8,

@@ -586,6 +586,13 @@ fn objects_and_terse_executables() {
             assert_eq!(u64::from(it.typ), number(&bytes, place + 8, 2));
         }
     }
+    let symbols = object.symbols().unwrap();
+    for symbol in symbols.clone() {
+        let found = symbols.at_index(symbol.index).unwrap();
+        assert_eq!((found.index, found.name), (symbol.index, symbol.name));
+    }
+    let count = object.coff_header().number_of_symbol_table as usize;
+    assert!(symbols.at_index(count).is_none() && symbols.at_index(usize::MAX).is_none());
     let sections = object.sections().len();
     let definitions = object.symbols().unwrap().filter(|s| s.storage_class == 3);
     for symbol in definitions.filter(|s| s.number_of_aux_symbols == 1) {
@@ -637,7 +644,7 @@ fn more_relocations_than_a_section_counts() {
 // A walk reads some hundreds of records at once.
 #[test]
 fn more_symbols_than_are_read_at_once() {
-    for count in [0, 255, 256, 257, 600] {
+    for count in [0, 15, 16, 17, 272, 600] {
         let mut bytes = vec![0; 20 + 18 * count];
         bytes[8] = 20;
         bytes[12..16].copy_from_slice(&(count as u32).to_le_bytes());

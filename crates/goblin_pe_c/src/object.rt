@@ -2,33 +2,36 @@
 
 ghost use Rattle.std.specs.Prelude.{◌≡◌};
 ghost use Rattle.goblin_pe_sect.specs.Options.{is_strict};
-ghost use Rattle.goblin_pe_records.specs.Calls.{ReadsInto, ReadsWithout, Reported};
-ghost use Rattle.goblin_pe_calls.specs.Objects.{ObjectRecords, SaysObject, TakesMemory, object_file};
-ghost use Rattle.goblin_pe_calls.specs.Objects.{object_header};
+ghost use Rattle.goblin_pe_records.specs.Calls.{ReadsWithout, Reported};
+ghost use Rattle.goblin_pe_records.specs.Found.{Puts};
+ghost use Rattle.goblin_pe_records.specs.Objects.{ObjectRecords, SaysObject, object_file};
 ghost use Rattle.goblin_pe_records.specs.Options.{options_of};
 ghost use Rattle.goblin_pe_records.specs.Relocations.{RelocationRecords, SaysRelocations};
 ghost use Rattle.goblin_pe_records.specs.Relocations.{relocations_of};
 ghost use Rattle.goblin_pe_records.specs.Sections.{section_view};
-ghost use Rattle.goblin_pe_records.specs.Symbols.{SaysSymbols, SymbolRecords, symbol_tables};
+ghost use Rattle.goblin_pe_records.specs.Symbols.{NamesOfText, SaysSymbols, SaysTable};
+ghost use Rattle.goblin_pe_records.specs.Symbols.{SymbolRecords, named_symbol_view, symbol_said};
+ghost use Rattle.goblin_pe_records.specs.Symbols.{symbol_tables, tables_said};
 
 use goblin_pe::header::CoffHeader;
 use goblin_pe::relocation::Relocation;
-use goblin_pe_calls::object::{self, PeObject};
 use goblin_pe_records::fault::{PeFault, status_of};
+use goblin_pe_records::found::put_found;
+use goblin_pe_records::object::{self, PeObject};
 use goblin_pe_records::options::{PeOptions, options_of};
 use goblin_pe_records::relocation::read_relocations;
 use goblin_pe_records::section::PeSection;
-use goblin_pe_records::symbol::{PeNamedSymbol, read_symbols};
+use goblin_pe_records::symbol::{
+    PeNamedSymbol, PeSymbolTable, find_symbol, read_symbol_table, read_symbols,
+};
 use std::alloc::Global;
 
 /// Reads an object, which begins with a COFF header: says in `object` what it is, and fills the
 /// records of its sections as far as there is room. No machine is tested, so a file that is no
 /// object may be read as one with sections that make no sense. Its symbols are a call of their own.
-/// After a refusal nothing is changed; memory is refused (the status 5) only where the header says
-/// that there are sections, and the file has room for as many.
+/// It takes no memory. After a refusal nothing is changed.
 #[unsafe(no_mangle)]
 pub extern "C" fn goblin_pe_raw_read_object<'a>(
-    alloc: Global,
     bytes: &'a [u8],
     options: &PeOptions,
     object: &mut PeObject,
@@ -40,30 +43,51 @@ pub extern "C" fn goblin_pe_raw_read_object<'a>(
         record { object = object.new; sections = sections.new } in
         let strict = is_strict (options_of options.now).parse_mode in
         Reported result
-        (ReadsInto object_header (TakesMemory bytes.now) (object_file strict) bytes.now
-        (λ x. SaysObject x old new) (new ≡ old)) }
+        (ReadsWithout (object_file strict) bytes.now (λ x. SaysObject x old new) (new ≡ old)) }
 {
     let opts = options_of(options);
-    status_of(object::read(alloc, bytes, &opts, object, sections))
+    status_of(object::read(bytes, &opts, object, sections))
 }
 
-/// Fills records of the symbols of an image or an object, which its COFF header leads to, from the
-/// record at the index `position` on: as many as there are and as there is room for. `count` says
+/// Tests the symbol table and the string table of an image or an object, which its COFF header leads
+/// to, and says in `table` where they lie. Where the header's pointer to the symbol table is 0, it
+/// has zeros. The whole string table is read, once for all of its texts. It takes no memory.
+///
+/// It is refused where the records of the table run past the end of the file or begin at it (the
+/// status 4), where the string table after them has no length of four bytes (4) or one below 4 (the
+/// cause 12) or runs past the end of the file (20), and where its texts are not UTF-8 (the status
+/// 4). Nothing is then changed.
+#[unsafe(no_mangle)]
+pub extern "C" fn goblin_pe_raw_read_symbol_table(
+    alloc: Global,
+    bytes: &[u8],
+    header: &CoffHeader,
+    table: &mut PeSymbolTable,
+) -> PeFault
+    ensures tables { Reported result
+        (ReadsWithout (symbol_tables header.now) bytes.now
+        (λ x. SaysTable header.now bytes.now x table.new) (table.new ≡ table.old)) }
+    ensures names { NamesOfText }
+{
+    status_of(read_symbol_table(alloc, bytes, header, table))
+}
+
+/// Fills records of the symbols of a table that
+/// [`goblin_pe_raw_read_symbol_table`](crate::object::goblin_pe_raw_read_symbol_table) told of, from
+/// the record at the index `position` on: as many as there are and as there is room for. `count` says
 /// how many these are, and `position` is then the index of the record that is read next. The first
 /// record is read as a symbol, even where it is an auxiliary one of a symbol before it. After the
-/// last symbol, and where the header's pointer to the table is 0, `count` is 0, as it is without
-/// room; the position then stays. Each call reads the whole string table, so room for many symbols
-/// at once saves time.
+/// last symbol, and where the table's offset is 0, `count` is 0, as it is without room; the position
+/// then stays. It takes no memory, and time for these symbols alone.
 ///
-/// It takes no memory. It is refused where the records of the table run past the end of the file or
-/// begin at it (the status 4), where the string table after them has no length of four bytes (4) or
-/// one below 4 (the cause 12) or runs past the end of the file (20), and where its texts are not
-/// UTF-8 (the status 4). Nothing is then changed.
+/// The table may say anything: of the string table only the names are looked at, each by itself, and
+/// one that is not UTF-8 is not there. Refused are records that run past the end of the file or
+/// begin at it (the status 4), and a string table that runs past it (the cause 20). Nothing is then
+/// changed.
 #[unsafe(no_mangle)]
 pub extern "C" fn goblin_pe_raw_next_symbols<'a>(
-    alloc: Global,
     bytes: &'a [u8],
-    header: &CoffHeader,
+    table: &PeSymbolTable,
     position: &mut usize,
     records: &mut [PeNamedSymbol<'a>],
     count: &mut usize,
@@ -73,10 +97,28 @@ pub extern "C" fn goblin_pe_raw_next_symbols<'a>(
         let new : SymbolRecords =
         record { position = position.new; records = records.new; count = count.new } in
         Reported result
-        (ReadsWithout (symbol_tables header.now) bytes.now (λ x. SaysSymbols x old new)
+        (ReadsWithout (tables_said table.now) bytes.now (λ x. SaysSymbols x old new)
         (new ≡ old)) }
 {
-    status_of(read_symbols(alloc, bytes, header, position, records, count))
+    status_of(read_symbols(bytes, table, position, records, count))
+}
+
+/// Puts the symbol whose record has this index in a table into `symbol`, and answers whether there
+/// is one, as [`goblin_pe_raw_next_symbols`](crate::object::goblin_pe_raw_next_symbols) gives it
+/// from there: relocations and weak externals name symbols by this index. A table that is refused
+/// there has none. Nothing is then changed.
+#[unsafe(no_mangle)]
+#[tactic(auto, using(goblin_pe_records::proofs::Puts::puts_view))]
+pub extern "C" fn goblin_pe_raw_symbol_at<'a>(
+    bytes: &'a [u8],
+    table: &PeSymbolTable,
+    index: usize,
+    symbol: &mut PeNamedSymbol<'a>,
+) -> bool
+    ensures { Puts named_symbol_view result (symbol_said table.now bytes.now index) symbol.old
+        symbol.new }
+{
+    put_found(symbol, find_symbol(bytes, table, index))
 }
 
 /// Reads the relocations of a section of an object, fills the records as far as there is room, and

@@ -1,49 +1,17 @@
--- Sections that were read have their names from the string table.
-use Rattle.std.proofs.Common.{◌≡◌, ℕ, zero, suc, ◌+◌, ◌*◌, Bool, List, [], ◌∷◌, map, refl, ap, subst, sym}
-use Rattle.std.specs.Prelude.{Option, Some}
-use Rattle.std.specs.List.{range_with_len}
-use Rattle.goblin_base.specs.declared.endian.Endian.TheVariants.{Little}
-use Rattle.goblin_base.specs.Record.{record_at}
-use Rattle.goblin_base.specs.Answers.{all_of}
-use Rattle.goblin_base.proofs.Steps.{mapped, same_value, step}
+-- The sections of an image that was read have their names from its string table.
+use Rattle.std.proofs.Common.{◌≡◌, ◌+◌, ◌*◌, List, map, subst, ℕ}
+use Rattle.std.specs.Prelude.{Some}
+use Rattle.goblin_base.proofs.Steps.{mapped, step}
 use Rattle.goblin_pe_sect.specs.declared.options.ParseOptions.{ParseOptions}
 use Rattle.goblin_pe_sect.specs.Options.{is_strict}
-use Rattle.goblin_pe_sect.specs.SectionName.{name_value}
-use Rattle.goblin_pe_sect.specs.SectionReadings.{named_section_at, text_in_table}
-use Rattle.goblin_pe_sect.specs.SectionTable.{Section, section_record, unnamed}
+use Rattle.goblin_pe_sect.specs.SectionReadings.{named_section_at}
 use Rattle.goblin_pe_head.specs.HeaderReadings.{pe_header}
 use Rattle.goblin_pe_head.specs.CoffHeader.{symbols_end}
 use Rattle.goblin_pe_head.specs.CoffReadings.{sections_at}
 use Rattle.goblin_pe.specs.Whole.{TablePlaces, WholeFile, offset_by, places_in, section_table_offset, sections_after, table_parts, whole_file}
 use Rattle.goblin_pe.specs.Whole.{whole_of, whole_with}
-use Rattle.goblin_pe_records.specs.Filled.{without_text}
-use Rattle.goblin_pe_records.specs.Sections.{named_in, real_name_in}
-
-named-made : (strict : Bool) (table : ℕ) (bytes : List ℕ) (s : Section) (value : Option ℕ) → name_value strict s.name ≡ Some value → real_name_in strict bytes table s.name ≡ (text_in_table table value).value bytes
-unfolding real_name_in
-named-made strict table bytes s value e = rw e refl
-
--- a section that was read has its name
-pub section-named : (strict : Bool) (table : ℕ) (bytes : List ℕ) (p : ℕ) (s : Section) → (named_section_at strict table p).value bytes ≡ Some s → named_in strict bytes table s ≡ s
-unfolding named_section_at
-section-named strict table bytes p s h =
-    let first = step (record_at 40 (section_record Little) bytes p) _ s h in
-    let second = step (name_value strict first.value.name) _ s first.then in
-    let made : Section = record first.value { real_name = (text_in_table table second.value).value bytes } in
-    let named : named_in strict bytes table made ≡ made = ap (λ (name : Option (List ℕ)). record first.value { real_name = name }) (named-made strict table bytes first.value second.value second.is) in
-    subst (λ (x : Section). named_in strict bytes table x ≡ x) (same_value made s second.then) named
-
--- what keeps each value keeps all
-pub all-kept : {A : Type 0} (f : A → A) (value : ℕ → Option A) (len start : ℕ) (xs : List A) → ((i : ℕ) (a : A) → value i ≡ Some a → f a ≡ a) → all_of (map value (range_with_len start len)) ≡ Some xs → map f xs ≡ xs
-unfolding all_of
-all-kept {A} f value zero start xs keeps h =
-    let none : [] ≡ xs = cc in
-    rw (sym none) refl
-all-kept {A} f value (suc len) start xs keeps h =
-    let first = step (value start) _ xs h in
-    let rest = step (all_of (map value (range_with_len (start + 1) len))) _ xs first.then in
-    let kept : map f (first.value ∷ rest.value) ≡ first.value ∷ rest.value = rw (keeps start first.value first.is, all-kept f value len (start + 1) rest.value keeps rest.is) refl in
-    subst (λ (ys : List A). map f ys ≡ ys) (same_value (first.value ∷ rest.value) xs rest.then) kept
+use Rattle.goblin_pe_records.specs.Sections.{named_in}
+use Rattle.goblin_pe_records.proofs.Named.{all-kept, section-named}
 
 -- where the sections of a file come from
 pub read-from : (opts : ParseOptions) (bytes : List ℕ) (w : WholeFile) → (whole_file opts).value bytes ≡ Some w
@@ -66,8 +34,3 @@ sections-named opts bytes w h =
     all-kept (named_in strict bytes table) (λ i. (named_section_at strict table (section_table_offset w.header + 40 * i)).value bytes) w.header.coff_header.number_of_sections 0 w.sections
     (λ i s is. section-named strict table bytes (section_table_offset w.header + 40 * i) s is)
     (read-from opts bytes w h)
-
--- whatever names they have, sections are said by those from the string table
-pub said-unnamed : (strict : Bool) (bytes : List ℕ) (table : ℕ) (sections : List Section) → map (λ s. without_text (named_in strict bytes table s)) (map unnamed sections) ≡ map without_text (map (named_in strict bytes table) sections)
-said-unnamed strict bytes table [] = refl
-said-unnamed strict bytes table (s ∷ sections) = ap (λ (rest : List (Section × List ℕ)). without_text (named_in strict bytes table s) ∷ rest) (said-unnamed strict bytes table sections)

@@ -8,7 +8,5 @@ pub mod Files
 pub mod Footprints
 pub mod Growth
 pub mod Imports
-pub mod Objects
 pub mod Opened
-pub mod Te
 pub mod Written

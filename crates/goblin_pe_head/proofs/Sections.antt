@@ -1,16 +1,20 @@
 -- Sections one after the other: where one is missing, and what is answered of those that are moved.
 use Rattle.std.proofs.Common.{◌≡◌, ℕ, ◌+◌, ◌*◌, ◌/◌, ◌-◌, ◌<◌, ◌≤◌, Bool, true, false, List, length}
-use Rattle.std.proofs.Common.{ap, arith, inr, refl}
+use Rattle.std.proofs.Common.{[], ◌∷◌, ◌∙◌, arith, ap, map, refl, inr, sym}
+use Rattle.std.specs.List.{range_with_len}
+use Rattle.std.proofs.lemmas.Simd.{map-map}
 use Rattle.std.specs.Prelude.{Result, Ok, Err, None, Option, Some, nat_le, option_map}
 use Rattle.std.proofs.lemmas.Bool.{lt-leb}
 use Rattle.std.proofs.Math.Bool.{and-false}
 use Rattle.goblin_base.specs.declared.error.CauseOf.TheVariants.{StrippedSize}
 use Rattle.goblin_base.specs.declared.error.ErrorOf.{ErrorOf}
 use Rattle.goblin_base.specs.Reading.{Reading, Reads, ReadsOrMemory}
-use Rattle.goblin_base.proofs.Steps.{all_at-none}
-use Rattle.readings.specs.Reads.{◌>>=◌, mapped, needs}
+use Rattle.goblin_base.specs.Answers as answers
+use Rattle.goblin_base.specs.Answers.{all_at, all_of}
+use Rattle.goblin_base.proofs.Steps.{all_at-none, unmapped}
+use Rattle.readings.specs.Reads.{◌>>=◌, each, mapped, needs}
 use Rattle.goblin_pe_sect.specs.SectionReadings.{named_section_at}
-use Rattle.goblin_pe_sect.specs.SectionTable.{Section}
+use Rattle.goblin_pe_sect.specs.SectionTable.{Section, unnamed}
 use Rattle.goblin_pe_head.specs.declared.header.te.TeHeader.{TeHeader}
 use Rattle.goblin_pe_head.specs.CoffReadings.{sections_at, with_room}
 use Rattle.goblin_pe_head.specs.TeHeader.{displacement, section_adjusted, section_moved}
@@ -98,3 +102,66 @@ pub by_displacement : {X : Type 0} (view : X → List Section) (r : Result X Err
     (needs shift (StrippedSize size) >>= λ d. moved_sections (Some d) true 0 n p) bytes
 by_displacement view (Ok x) shift size d n bytes p is made = rw is made
 by_displacement view (Err e) shift size d n bytes p is made = rw is made
+
+-- ---- records of sections that are moved
+
+made_first : {A B : Type 0} (f : A → B) (a : A) (rest : Option (List A))
+    → answers.◌>>=◌ (option_map (map f) rest) (λ more. Some (f a ∷ more))
+    ≡ option_map (map f) (answers.◌>>=◌ rest (λ more. Some (a ∷ more)))
+made_first f a None = refl
+made_first f a (Some more) = refl
+
+-- what is made of each value is made of all
+all_of-map : {A B : Type 0} (f : A → B) (values : List (Option A))
+    → all_of (map (option_map f) values) ≡ option_map (map f) (all_of values)
+unfolding all_of
+all_of-map f [] = refl
+all_of-map f (None ∷ values) = refl
+all_of-map f (Some a ∷ values) = rw (all_of-map f values) (made_first f a (all_of values))
+
+all_at-map : {A B : Type 0} (f : A → B) (value : ℕ → Option A) (n : ℕ)
+    → all_at (λ i. option_map f (value i)) n ≡ option_map (map f) (all_at value n)
+all_at-map f value n =
+    ap all_of (sym (map-map (option_map f) value (range_with_len 0 n)))
+    ∙ all_of-map f (map value (range_with_len 0 n))
+
+-- what moves sections leaves it open whether they have names
+moved-unnamed : (d : ℕ) (sections : List Section)
+    → map unnamed (map (section_adjusted d) sections) ≡ map (section_adjusted d) (map unnamed sections)
+unfolding section_adjusted
+moved-unnamed d [] = refl
+moved-unnamed d (s ∷ sections) = rw (moved-unnamed d sections) refl
+
+moved-unnamed_if : (d : ℕ) (sections : Option (List Section))
+    → option_map (map unnamed) (option_map (map (section_adjusted d)) sections)
+    ≡ option_map (map (section_adjusted d)) (option_map (map unnamed) sections)
+moved-unnamed_if d None = refl
+moved-unnamed_if d (Some sections) = ap (λ (xs : List Section). Some xs) (moved-unnamed d sections)
+
+-- where something was stripped, the sections of the records are moved by that
+pub records_by_displacement : {X : Type 0} (view : X → List Section) (r : Result X ErrorOf)
+    (shift : Option ℕ) (size d n : ℕ) (bytes : List ℕ) (p : ℕ) → shift ≡ Some d
+    → Reads view r (mapped (map unnamed) (each (λ i. named_section_at true 0 (p + 40 * i)) n)) bytes
+    → Reads (λ x. map (section_moved shift) (view x)) r
+    (mapped (map unnamed)
+    (needs shift (StrippedSize size) >>= λ d. moved_sections (Some d) true 0 n p)) bytes
+records_by_displacement view (Ok x) shift size d n bytes p is made =
+    let value : ℕ → Option Section = λ (i : ℕ). (named_section_at true 0 (p + 40 * i)).value bytes in
+    rw is
+    (ap (option_map (map unnamed)) (all_at-map (section_adjusted d) value n)
+    ∙ moved-unnamed_if d (all_at value n) ∙ ap (option_map (map (section_adjusted d))) made)
+records_by_displacement view (Err e) shift size d n bytes p is made =
+    let value : ℕ → Option Section = λ (i : ℕ). (named_section_at true 0 (p + 40 * i)).value bytes in
+    let none = unmapped (map unnamed) (all_at value n) made.0 in
+    let first = made.1 in
+    let moved = all_at-map (section_adjusted d) value n ∙ ap (option_map (map (section_adjusted d))) none in
+    rw is (
+      ap (option_map (map unnamed)) moved,
+      (
+        first.0,
+        first.1,
+        λ k lt gone. first.2 k lt (unmapped (section_adjusted d) (value k) gone),
+        ap (option_map (section_adjusted d)) first.3,
+        first.4,
+      ),
+    )

@@ -30,4 +30,4 @@ pub use rich::{
     RichMetadataIterator,
 };
 pub use stub::{DOS_STUB_OFFSET, DosStub};
-pub use te::{TE_MAGIC, TeHeader};
+pub use te::{TE_MAGIC, TeHeader, adjust_section};

@@ -44,7 +44,7 @@ slot_there is_last None e = absurd cc
 slot_there is_last (Some v) e = (v, refl)
 
 -- the slots before n lie in the file, where none of them ends the table
-slots_fit : {V : Type 0} (slots : SlotFormat V) (bytes : List ℕ) (o n : ℕ) → ((j : ℕ) → j < n → ends_table slots.is_last (slot_at slots bytes o j) ≡ false) → n * slots.entry.width ≤ length bytes
+pub slots_fit : {V : Type 0} (slots : SlotFormat V) (bytes : List ℕ) (o n : ℕ) → ((j : ℕ) → j < n → ends_table slots.is_last (slot_at slots bytes o j) ≡ false) → n * slots.entry.width ≤ length bytes
 slots_fit slots bytes o zero going = omega arith
 slots_fit slots bytes o (suc n) going =
     let last = slot_there slots.is_last (slot_at slots bytes o n) (going n (omega arith)) in
@@ -73,17 +73,21 @@ module _ {V A : Type 0} (count : List A → ℕ) (none : count [] ≡ 0) (adds :
 
 -- ---- what a table keeps
 
-pub or_left_out-few : {A : Type 0} (strict : Bool) (item : Option A) (xs : List A) → or_left_out strict item ≡ Some xs → length xs ≤ 1
-or_left_out-few {A} strict (Some x) xs e = omega (arith, ap length (same_value (x ∷ []) xs e))
-or_left_out-few true None xs e = absurd cc
-or_left_out-few false None xs e = omega (arith, ap length (same_value [] xs e))
+-- an item that is kept, alone; or none, where permissive mode leaves it out
+pub left_out-or : {A : Type 0} (strict : Bool) (item : Option A) (xs : List A)
+    (Holds : List A → Type 0) → Holds [] → ((x : A) → item ≡ Some x → Holds (x ∷ []))
+    → or_left_out strict item ≡ Some xs → Holds xs
+left_out-or strict (Some x) xs Holds none one e = subst Holds (same_value (x ∷ []) xs e) (one x refl)
+left_out-or true None xs Holds none one e = absurd cc
+left_out-or false None xs Holds none one e = subst Holds (same_value [] xs e) none
 
 kept_name-few : (strict : Bool) (bytes : List ℕ) (rva : ℕ) (place : Option ℕ)
     (xs : List LookupEntry) → (reading.kept_name strict rva place).value bytes ≡ Some xs
     → length xs ≤ 1
 unfolding reading.kept_name
 kept_name-few strict bytes rva None xs e = omega (arith, ap length (same_value [] xs e))
-kept_name-few strict bytes rva (Some p) xs e = or_left_out-few strict _ xs e
+kept_name-few strict bytes rva (Some p) xs e =
+    left_out-or strict _ xs (λ xs. length xs ≤ 1) (omega arith) (λ x is. omega arith) e
 
 one_or : (test : Bool) (x : LookupEntry) (other : Reading (List LookupEntry)) (bytes : List ℕ)
     (xs : List LookupEntry) → (other.value bytes ≡ Some xs → length xs ≤ 1)
@@ -126,6 +130,33 @@ pair_of-right (Some v) None both e = absurd cc
 pair_of-right {A} {B} (Some v) (Some w) both e =
     ap (λ (p : A × B). Some p.1) (same_value (v, w) both e)
 
+-- the libraries of import data: none, or those of the directory at the offset of its address
+module _ (strict : Bool) (format : Format EntryValue) (offset_of : ℕ → Option ℕ) (bytes : List ℕ)
+    (rva : ℕ) (xs : List ImportedLibrary) where
+  pub in_directory : (directory.import_data strict format offset_of rva).value bytes ≡ Some xs
+      → (Holds : List ImportedLibrary → Type 0) → Holds []
+      → ((o : ℕ) → offset_of rva ≡ Some o
+      → (directory.libraries_at strict format offset_of o).value bytes ≡ Some xs → Holds xs)
+      → Holds xs
+  unfolding directory.import_data directory.libraries_past_front
+  in_directory e Holds none at = by_place strict (offset_of rva) at e
+    where
+      by_test : (test : Bool) (libraries : Reading (List ImportedLibrary))
+          → (libraries.value bytes ≡ Some xs → Holds xs)
+          → (cond test (given []) libraries).value bytes ≡ Some xs → Holds xs
+      by_test true libraries here e = subst Holds (same_value [] xs e) none
+      by_test false libraries here e = here e
+
+      by_place : (mode : Bool) (place : Option ℕ)
+          → ((o : ℕ) → place ≡ Some o
+          → (directory.libraries_at mode format offset_of o).value bytes ≡ Some xs → Holds xs)
+          → (in_its_place mode 0 place
+          >>= λ o. (directory.libraries_past_front mode format offset_of o).value bytes) ≡ Some xs
+          → Holds xs
+      by_place mode (Some o) at e = by_test (not mode && nat_eq o 0) _ (at o refl) e
+      by_place true None at e = absurd cc
+      by_place false None at e = subst Holds (same_value [] xs e) none
+
 module _ (strict : Bool) (format : Format EntryValue) (offset_of : ℕ → Option ℕ) (bytes : List ℕ) (some : 0 < format.width) where
   -- how many entries fit the file
   abbrev entries : ℕ
@@ -162,47 +193,19 @@ module _ (strict : Bool) (format : Format EntryValue) (offset_of : ℕ → Optio
       subst (λ (l : ImportedLibrary). length (kept_entries l) ≤ entries) m.made
       (lookup_if-few place m.value.0.1 there)
 
-  kept-few : (library : Option ImportedLibrary) (xs : List ImportedLibrary) → ((l : ImportedLibrary) → library ≡ Some l → length (kept_entries l) ≤ entries) → or_left_out strict library ≡ Some xs → kept_count xs ≤ entries
-  kept-few library xs few e = by_item strict library xs few e
-    where
-      by_item : (strict : Bool) (library : Option ImportedLibrary) (xs : List ImportedLibrary) → ((l : ImportedLibrary) → library ≡ Some l → length (kept_entries l) ≤ entries) → or_left_out strict library ≡ Some xs → kept_count xs ≤ entries
-      by_item strict (Some l) xs few e =
-          let own : kept_count (l ∷ []) ≤ entries = omega (arith, few l refl) in
-          subst (λ (ls : List ImportedLibrary). kept_count ls ≤ entries) (same_value (l ∷ []) xs e) own
-      by_item true None xs few e = absurd cc
-      by_item false None xs few e = subst (λ (ls : List ImportedLibrary). kept_count ls ≤ entries) (same_value [] xs e) (omega arith)
-
   libraries_at-few : (o : ℕ) (xs : List ImportedLibrary) → (directory.libraries_at strict format offset_of o).value bytes ≡ Some xs → kept_count xs ≤ length bytes / 20 * entries
   libraries_at-few o xs e =
       slot_table-count kept_count refl (sum_by-append (λ library. length (kept_entries library))) import_slots strict (λ r. or_left_out strict ((directory.library_of strict format offset_of r).value bytes)) bytes o entries (omega arith)
-      (λ r ys is. kept-few ((directory.library_of strict format offset_of r).value bytes) ys (library_of-few r) is) xs e
-
-  none_kept : (xs : List ImportedLibrary) → Some [] ≡ Some xs → kept_count xs ≤ length bytes / 20 * entries
-  none_kept xs e = subst (λ (ls : List ImportedLibrary). kept_count ls ≤ length bytes / 20 * entries) (same_value [] xs e) (omega arith)
-
-  by_test : (test : Bool) (r : Reading (List ImportedLibrary)) (xs : List ImportedLibrary)
-      → (r.value bytes ≡ Some xs → kept_count xs ≤ length bytes / 20 * entries)
-      → (cond test (given []) r).value bytes ≡ Some xs
-      → kept_count xs ≤ length bytes / 20 * entries
-  by_test true r xs few e = none_kept xs e
-  by_test false r xs few e = few e
-
-  past_front-few : (o : ℕ) (xs : List ImportedLibrary)
-      → (directory.libraries_past_front strict format offset_of o).value bytes ≡ Some xs
-      → kept_count xs ≤ length bytes / 20 * entries
-  unfolding directory.libraries_past_front
-  past_front-few o xs e =
-      by_test (not strict && nat_eq o 0) (directory.libraries_at strict format offset_of o) xs
-      (libraries_at-few o xs) e
+      (λ r ys is. left_out-or strict ((directory.library_of strict format offset_of r).value bytes) ys (λ ls. kept_count ls ≤ entries) (omega arith) (λ l here. omega (arith, library_of-few r l here)) is) xs e
 
   -- the entries that the lookup tables of import data keep
   pub import_data-few : (rva : ℕ) (libraries : List ImportedLibrary)
       → (directory.import_data strict format offset_of rva).value bytes ≡ Some libraries
       → kept_count libraries ≤ length bytes / 20 * entries
-  unfolding directory.import_data
   import_data-few rva libraries e =
-      let s = step (in_its_place strict 0 (offset_of rva)) _ libraries e in
-      past_front-few s.value libraries s.then
+      in_directory strict format offset_of bytes rva libraries e
+      (λ ls. kept_count ls ≤ length bytes / 20 * entries) (omega arith)
+      (λ o is here. libraries_at-few o libraries here)
 
 -- ---- the imports
 

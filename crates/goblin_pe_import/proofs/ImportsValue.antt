@@ -27,7 +27,7 @@ use Rattle.goblin_base.proofs.Footprints.{same-all_at}
 use Rattle.goblin_base.proofs.Steps.{all_at-more, all_at-zero, same_value, step}
 use Rattle.readings.specs.Reads.{given, in_its_place, mapped, pair_of, with_slots}
 use Rattle.readings.specs.Walks.{IsWalkOf, end_items, items_at, refusal_of, table_walk}
-use Rattle.readings.proofs.WalkValues.{all_of-append, all_of-until, walk-holds}
+use Rattle.readings.proofs.WalkValues.{all_of-append, all_of-until, joined-end, walk-holds}
 use Rattle.goblin_pe_sect.specs.Options.{is_strict}
 use Rattle.goblin_pe_import.specs.declared.import.directory_entry.ImportDirectoryEntry.{ImportDirectoryEntry}
 use Rattle.goblin_pe_sect.specs.Addresses.{offset_of}
@@ -232,16 +232,6 @@ join-mapped f (Some xs) None = refl
 join-mapped {X = X} f (Some xs) (Some ys) =
     ap (λ (zs : List X). Some zs) (sym (flat_map-append f xs ys))
 
-end-value : {V X : Type 0} (needed : Bool) (end : Option V) (o : Option (List X))
-    → join o (all_of (end_items needed end)) ≡ cond (needed && not (is_some end)) None o
-unfolding join all_of
-end-value true None None = refl
-end-value true None (Some xs) = refl
-end-value true (Some v) None = refl
-end-value {X = X} true (Some v) (Some xs) = ap (λ (ys : List X). Some ys) (append-nil xs)
-end-value false end None = refl
-end-value {X = X} false end (Some xs) = ap (λ (ys : List X). Some ys) (append-nil xs)
-
 test-mapped : {L X : Type 0} (f : List L → X) (test : Bool) (o : Option (List L))
     → cond test None (option_map f o) ≡ option_map f (cond test None o)
 test-mapped f true o = refl
@@ -402,7 +392,7 @@ module _ (strict : Bool) (format : Format EntryValue) (offset_of : ℕ → Optio
         let end = record_at n in
         all_of-until (concat_below comes_of n ++ end_items strict end)
         ∙ all_of-append (concat_below comes_of n) (end_items strict end)
-        ∙ end-value strict end (all_of (concat_below comes_of n))
+        ∙ joined-end strict end (all_of (concat_below comes_of n))
         ∙ ap
         (λ (o : Option (List ImportValue)). cond (strict && not (is_some end)) None o)
         (below-value n)

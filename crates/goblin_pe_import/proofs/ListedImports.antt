@@ -1,6 +1,6 @@
 -- Of import data that was read a list of imports can be made: each entry that a lookup table keeps has a slot, whose address does not pass 64 bits.
-use Rattle.std.proofs.Common.{◌≡◌, ℕ, zero, suc, ◌+◌, ◌*◌, ◌<◌, ◌≤◌, ◌^◌, ◌&&◌, Bool, true, false, cond, not, List, [], ◌∷◌, ◌++◌, length, map, Option, Some, None, IsSome, refl, sym, ap, subst, arith, ◌∙◌}
-use Rattle.std.specs.Prelude.{nat_eq, slice_get, slice_range, unwrap_or, get_or}
+use Rattle.std.proofs.Common.{◌≡◌, ℕ, zero, suc, ◌+◌, ◌*◌, ◌<◌, ◌≤◌, ◌^◌, ◌&&◌, Bool, true, cond, not, List, [], ◌∷◌, ◌++◌, length, map, Option, Some, None, IsSome, refl, sym, ap, subst, arith, ◌∙◌}
+use Rattle.std.specs.Prelude.{slice_get, slice_range, unwrap_or, get_or}
 use Rattle.std.specs.List.{All, filter, range_with_len}
 use Rattle.std.specs.Option.{is_some}
 use Rattle.std.proofs.lemmas.Bool.{lt-ltb, eq-eqb}
@@ -11,24 +11,23 @@ use Rattle.std.proofs.lemmas.Option.{slice_get-get_or}
 use Rattle.goblin_base.specs.declared.endian.Endian.TheVariants.{Little}
 use Rattle.goblin_base.specs.Answers.{◌>>=◌, all_of}
 use Rattle.goblin_base.specs.Bytes.{IsBytes}
-use Rattle.goblin_base.specs.Tables.{Format, each_below, ends_table, is_kept, kept_slots, made_of, or_left_out, slot_at, slot_place, slot_table, stop}
+use Rattle.goblin_base.specs.Tables.{Format, each_below, is_kept, kept_slots, made_of, or_left_out, slot_at, slot_place, slot_table, stop}
 use Rattle.goblin_base.proofs.Below.{each_below-there, join-parts, least-before}
 use Rattle.goblin_base.proofs.Kept.{without_test}
 use Rattle.goblin_base.proofs.RecordRoundTrip.{IsBytes-slice, number-lt}
 use Rattle.goblin_base.proofs.Records.{record_at-some}
-use Rattle.goblin_base.proofs.SlotTables.{kept-below}
+use Rattle.goblin_base.proofs.SlotTables.{ends, kept-below}
 use Rattle.goblin_base.proofs.Steps.{mapped, same_value, step}
 use Rattle.goblin_pe_sect.specs.AddressReadings.{name_at}
 use Rattle.goblin_pe_import.specs.declared.import.directory_entry.ImportDirectoryEntry.{ImportDirectoryEntry}
-use Rattle.goblin_base.specs.Reading.{Reading}
-use Rattle.readings.specs.Reads.{given, in_its_place, pair_of}
+use Rattle.readings.specs.Reads.{in_its_place, pair_of}
 use Rattle.goblin_pe_import.specs.ImportEntries.{EntryValue, LookupEntry, entry_slots}
 use Rattle.goblin_pe_import.specs.ImportEntries.LookupEntry.{ByOrdinal}
 use Rattle.goblin_pe_import.specs.ImportLookup.{lookup_slots}
 use Rattle.goblin_pe_import.specs.ImportReadings as directory
 use Rattle.goblin_pe_import.specs.ImportRecords.{ImportedLibrary, import_record, import_slots, lookup_offset}
 use Rattle.goblin_pe_import.specs.LookupReadings as reading
-use Rattle.goblin_pe_import.proofs.ImportBound.{kept_entry-few, pair_of-left, pair_of-right, with_slots-kept, with_slots-value}
+use Rattle.goblin_pe_import.proofs.ImportBound.{in_directory, kept_entry-few, left_out-or, pair_of-left, pair_of-right, slots_fit, with_slots-kept, with_slots-value}
 use Rattle.goblin_pe_import.specs.Imports.{has_slots, import_at, import_of, import_offset, imports_by, imports_of, kept_entries, library_imports}
 
 -- ---- what holds of each of a list
@@ -108,17 +107,10 @@ module _ (strict : Bool) (format : Format EntryValue) (offset_of : ℕ → Optio
   abbrev AreSlots : List ℕ → Type 0
   AreSlots slots = All (λ slot. format.width * slot ≤ length file) slots
 
-  slot_there : (slot : Option EntryValue) → ends_table (entry_slots format).is_last slot ≡ false → (v : EntryValue) × (slot ≡ Some v)
-  slot_there None e = absurd cc
-  slot_there (Some v) e = (v, refl)
-
   in_file : (o slot : ℕ) → slot < stop (entry_slots format) file o → format.width * slot ≤ length file
   unfolding stop
   in_file o slot below =
-      let test : ℕ → Bool = λ i. ends_table (entry_slots format).is_last (slot_at (entry_slots format) file o i) in
-      let there = slot_there (slot_at (entry_slots format) file o slot) (least-before test (length file) slot below) in
-      let is = record_at-some format.width format.value_of file (slot_place (entry_slots format) o slot) there.0 there.1 in
-      omega (arith, is.end)
+      omega (arith, slots_fit (entry_slots format) file o slot (λ j before. least-before (ends (entry_slots format) file o) (length file) j (omega (arith, before, below))))
 
   table-slots : (o : ℕ) → AreSlots (lookup_slots strict format offset_of file o)
   table-slots o k d within = in_file o _ (kept-below (entry_slots format) (λ entry. (reading.kept_entry strict offset_of entry).value file) file o k d within)
@@ -153,11 +145,6 @@ module _ (strict : Bool) (format : Format EntryValue) (offset_of : ℕ → Optio
       let there = pair_of-right name look m.value.0 (pair_of-left (pair_of name look) _ m.value m.is) in
       subst IsListed m.made (table_if-slots place m.value.0.1 there, low)
 
-  kept-listed : (strictly : Bool) (library : Option ImportedLibrary) (xs : List ImportedLibrary) → ((l : ImportedLibrary) → library ≡ Some l → IsListed l) → or_left_out strictly library ≡ Some xs → Each IsListed xs
-  kept-listed strictly (Some l) xs listed e = subst (Each IsListed) (same_value (l ∷ []) xs e) (listed l refl, tt)
-  kept-listed true None xs listed e = absurd cc
-  kept-listed false None xs listed e = subst (Each IsListed) (same_value [] xs e) tt
-
   module _ (bytes : IsBytes file) where
     pub address-low : (p : ℕ) → (import_record Little (slice_range file p (p + 20))).import_address_table_rva < 2 ^ 32
     unfolding import_record
@@ -174,22 +161,11 @@ module _ (strict : Bool) (format : Format EntryValue) (offset_of : ℕ → Optio
         let s = step (slot_at import_slots file o j) piece ys is in
         let record_there = record_at-some 20 (import_record Little) file (slot_place import_slots o j) s.value s.is in
         let low : s.value.import_address_table_rva < 2 ^ 32 = subst (λ (r : ImportDirectoryEntry). r.import_address_table_rva < 2 ^ 32) (sym record_there.is) (address-low (slot_place import_slots o j)) in
-        kept-listed strict ((directory.library_of strict format offset_of s.value).value file) ys (λ l. library-listed s.value l low) s.then)
+        left_out-or strict ((directory.library_of strict format offset_of s.value).value file) ys (Each IsListed) tt (λ l here. (library-listed s.value l low here, tt)) s.then)
         xs made
 
-    by_test : (test : Bool) (r : Reading (List ImportedLibrary)) (xs : List ImportedLibrary) → (r.value file ≡ Some xs → Each IsListed xs) → (cond test (given []) r).value file ≡ Some xs → Each IsListed xs
-    by_test true r xs listed e = subst (Each IsListed) (same_value [] xs e) tt
-    by_test false r xs listed e = listed e
-
-    past_front : (o : ℕ) (xs : List ImportedLibrary) → (directory.libraries_past_front strict format offset_of o).value file ≡ Some xs → Each IsListed xs
-    unfolding directory.libraries_past_front
-    past_front o xs e = by_test (not strict && nat_eq o 0) (directory.libraries_at strict format offset_of o) xs (libraries_at-listed o xs) e
-
     imported : (rva : ℕ) (xs : List ImportedLibrary) → (directory.import_data strict format offset_of rva).value file ≡ Some xs → Each IsListed xs
-    unfolding directory.import_data
-    imported rva xs e =
-        let s = step (in_its_place strict 0 (offset_of rva)) _ xs e in
-        past_front s.value xs s.then
+    imported rva xs e = in_directory strict format offset_of file rva xs e (Each IsListed) tt (λ o is here. libraries_at-listed o xs here)
 
   -- ---- the imports of a library that has its slots
 

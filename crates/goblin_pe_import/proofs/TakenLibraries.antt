@@ -1,7 +1,6 @@
 -- A library that is listed is one that memory is taken for.
-use Rattle.std.proofs.Common.{◌≡◌, ◌<◌, ◌&&◌, ℕ, zero, suc, Bool, true, false, cond, not, List, [], length}
+use Rattle.std.proofs.Common.{◌≡◌, ◌<◌, ◌&&◌, ℕ, zero, suc, Bool, not, List, [], length}
 use Rattle.std.proofs.Common.{Option, Some, None, ap, arith, inl, inr, subst, sym, IsSomeAnd}
-use Rattle.std.specs.Prelude.{nat_eq}
 use Rattle.std.specs.Option.{is_some}
 use Rattle.std.proofs.lemmas.Bool.{cases_lt}
 use Rattle.std.proofs.lemmas.List.{length-append}
@@ -10,7 +9,7 @@ use Rattle.goblin_base.specs.Tables.{Format, each_below, slot_at, slot_table, st
 use Rattle.goblin_base.proofs.Below.{join-parts}
 use Rattle.goblin_base.proofs.Kept.{without_test}
 use Rattle.goblin_base.proofs.Steps.{same_value}
-use Rattle.readings.specs.Reads.{given, in_its_place}
+use Rattle.goblin_pe_import.proofs.ImportBound.{in_directory}
 use Rattle.goblin_pe_import.specs.ImportDirectory.{TakesLibraries, TakesLibrary}
 use Rattle.goblin_pe_import.specs.ImportEntries.{EntryValue}
 use Rattle.goblin_pe_import.specs.ImportReadings as directory
@@ -61,31 +60,15 @@ module _ (format : Format EntryValue) (offset_of : ℕ → Option ℕ) (bytes : 
       let found = some-below (λ i. slot_at import_slots bytes o i >>= piece) n libraries made some in
       (found.0, found.1, in-record strict (slot_at import_slots bytes o found.0) (some-of (slot_at import_slots bytes o found.0) piece found.2))
 
-  past-front : (strict test : Bool) (o : ℕ) (libraries : List ImportedLibrary)
-      → (cond test (given []) (directory.libraries_at strict format offset_of o)).value bytes
-      ≡ Some libraries
-      → 0 < length libraries → TakesLibraries strict format offset_of bytes o
-  past-front strict true o libraries e some =
-      absurd (omega (arith, some, ap length (same_value [] libraries e)))
-  past-front strict false o libraries e some = directory-taken strict o libraries e some
-
-  by-place : (strict : Bool) (place : Option ℕ) (libraries : List ImportedLibrary)
-      → (in_its_place strict 0 place
-      >>= λ o. (directory.libraries_past_front strict format offset_of o).value bytes)
-      ≡ Some libraries
-      → 0 < length libraries
-      → IsSomeAnd place (TakesLibraries strict format offset_of bytes)
-  unfolding directory.libraries_past_front
-  by-place strict (Some o) libraries e some =
-      past-front strict (not strict && nat_eq o 0) o libraries e some
-  by-place true None libraries e some = absurd cc
-  by-place false None libraries e some =
-      absurd (omega (arith, some, ap length (same_value [] libraries e)))
-
   -- import data that has a library takes memory
   pub libraries-taken : (strict : Bool) (rva : ℕ) (libraries : List ImportedLibrary)
       → (directory.import_data strict format offset_of rva).value bytes ≡ Some libraries
       → 0 < length libraries
       → IsSomeAnd (offset_of rva) (TakesLibraries strict format offset_of bytes)
-  unfolding directory.import_data
-  libraries-taken strict rva libraries e some = by-place strict (offset_of rva) libraries e some
+  libraries-taken strict rva libraries e =
+      in_directory strict format offset_of bytes rva libraries e
+      (λ ls. 0 < length ls → IsSomeAnd (offset_of rva) (TakesLibraries strict format offset_of bytes))
+      (λ some. absurd (omega (arith, some)))
+      (λ o is here some.
+      subst (λ (place : Option ℕ). IsSomeAnd place (TakesLibraries strict format offset_of bytes)) (sym is)
+      (directory-taken strict o libraries here some))

@@ -1,8 +1,13 @@
 pub mod Filling
 pub mod Items
 pub mod Making
+pub mod Named
+pub mod NamedObject
+pub mod NamedTe
+pub mod Names
 pub mod Offsets
 pub mod Puts
 pub mod Symbols
+pub mod SymbolTables
 pub mod Viewed
 pub mod Written

@@ -1,24 +1,42 @@
 -- The symbols of a table from one of its records on, and what a call gives of them.
 use Rattle.std.specs.Prelude.{◌≡◌, ℕ, zero, suc, ◌+◌, ◌-◌, ◌*◌, ◌/◌, ◌==◌, min, if◌then◌else◌}
-use Rattle.std.specs.Prelude.{List, [], length, map, take, drop, slice_index, Option, Some, None}
+use Rattle.std.specs.Prelude.{List, [], length, map, nat_lt, take, drop, slice_index, true}
+use Rattle.std.specs.Prelude.{Option, Some, None, option_map}
+use Rattle.std.specs.Str.{is_utf8}
+use Rattle.goblin_base.specs.declared.error.CauseOf.TheVariants.{StringTable}
 use Rattle.goblin_base.specs.Answers.{◌>>=◌}
+use Rattle.goblin_base.specs.Bytes.{stretch, text_of}
 use Rattle.goblin_base.specs.Reading.{Reading}
-use Rattle.goblin_base.specs.Strtab.{rest_at}
+use Rattle.goblin_base.specs.Strtab.{is_in_piece, rest_at}
 use Rattle.readings.specs.Reads as reads
-use Rattle.readings.specs.Reads.{mapped}
+use Rattle.readings.specs.Reads.{because, bytes_between, given, mapped, pair_of, pick, slice_at}
+use Rattle.readings.specs.Reads.{◌beside◌}
 use Rattle.goblin_pe_symbol.specs.declared.symbol.Symbol.{Symbol}
-use Rattle.goblin_pe_symbol.specs.Symbols.{SymbolItem, aux, name_offset_of, symbols_from}
+use Rattle.goblin_pe_symbol.specs.Symbols.{SymbolItem, aux, name_offset_of, symbol_of}
+use Rattle.goblin_pe_symbol.specs.Symbols.{symbols_from}
 use Rattle.goblin_pe_head.specs.declared.header.coff.CoffHeader.{CoffHeader}
+use Rattle.goblin_pe_head.specs.CoffHeader.{symbols_end}
 use Rattle.goblin_pe_head.specs.CoffReadings.{strings_of, symbols_of}
 use Rattle.goblin_pe_records.specs.declared.symbol.PeNamedSymbol.{PeNamedSymbol}
+use Rattle.goblin_pe_records.specs.declared.symbol.PeSymbolTable.{PeSymbolTable}
 use Rattle.goblin_pe_records.specs.Filled.{Filled, without_text}
+
+-- the name at an offset of the bytes of a string table: what is left of the piece there, where that
+-- is UTF-8, whatever the other bytes are
+abbrev pub name_at : List ℕ → ℕ → Option (List ℕ)
+name_at strings o = if is_in_piece strings o then text_of (stretch strings o) else None
+
+-- Of bytes that are UTF-8 as a whole, these are the texts of the string table that they are.
+abbrev pub NamesOfText : Type 0
+NamesOfText =
+    (strings : List ℕ) (o : ℕ) → is_utf8 strings ≡ true → name_at strings o ≡ rest_at strings o
 
 -- the name: if a number is stored in its place, what the string table has at that offset, else the
 -- one in the record
 abbrev pub name_in : List ℕ → Option (List ℕ) → Symbol → Option (List ℕ)
 name_in strings inline_name symbol =
     if slice_index symbol.name 0 == 0
-    then (name_offset_of symbol.name >>= rest_at strings)
+    then (name_offset_of symbol.name >>= name_at strings)
     else inline_name
 
 -- a symbol with its index, its name, and the bytes of its auxiliary records
@@ -88,14 +106,56 @@ pub record GivesSymbols (table strings : List ℕ) (old new : SymbolRecords) : T
   pub left : symbols_onward table new.position
       ≡ drop new.count (symbols_onward table old.position)
 
+-- the symbol at index i of a table, if it has so many records
+abbrev pub symbol_in : List ℕ → List ℕ → ℕ → Option (NamedSymbol × List ℕ)
+symbol_in table strings i =
+    if nat_lt i (length table / 18)
+    then Some (named_symbol table strings (symbol_of table i))
+    else None
+
+-- ---- where the tables lie
+
 -- the symbol table and the string table that a header leads to
 abbrev pub symbol_tables : CoffHeader → Reading (Option (List ℕ) × Option (List ℕ))
 symbol_tables header =
     reads.◌>>=◌ (symbols_of header)
     (λ symbols. mapped (λ strings. (symbols, strings)) (strings_of header))
 
+-- the record of these, by the length of the string table's texts, if there is one
+abbrev pub table_record : CoffHeader → Option ℕ → PeSymbolTable
+table_record header None =
+    record { offset = 0; record_count = 0; strings_offset = 0; strings_length = 0 }
+table_record header (Some n) = record {
+  offset = header.pointer_to_symbol_table;
+  record_count = header.number_of_symbol_table;
+  strings_offset = symbols_end header + 4;
+  strings_length = n;
+}
+
+-- the n bytes at p, of which there may be none
+abbrev pub strings_said : ℕ → ℕ → Reading (List ℕ)
+strings_said p n = because (StringTable p n) (bytes_between p (p + n))
+
+-- the bytes of the symbol table and of the texts of the string table that a record says, whatever
+-- they are: none where the offset is 0
+unfoldable pub tables_said : PeSymbolTable → Reading (Option (List ℕ × List ℕ))
+tables_said t =
+    pick (t.offset == 0) (given None)
+    (mapped (λ both. Some both)
+    (slice_at t.offset (18 * t.record_count) beside strings_said t.strings_offset t.strings_length))
+
+-- The record says where the tables lie that a header leads to.
+pub record SaysTable (header : CoffHeader) (bytes : List ℕ)
+    (tables : Option (List ℕ) × Option (List ℕ)) (table : PeSymbolTable) : Type 0 where
+  pub is : table ≡ table_record header (option_map (λ s. length s) tables.1)
+  pub leads : (tables_said table).value bytes ≡ Some (pair_of tables.0 tables.1)
+
 -- what a call gives of these tables; where there are none, only that there are no symbols
-abbrev pub SaysSymbols : Option (List ℕ) × Option (List ℕ) → SymbolRecords → SymbolRecords → Type 0
-SaysSymbols (Some table, Some strings) old new = GivesSymbols table strings old new
-SaysSymbols (Some table, None) old new = new ≡ record old { count = 0 }
-SaysSymbols (None, strings) old new = new ≡ record old { count = 0 }
+abbrev pub SaysSymbols : Option (List ℕ × List ℕ) → SymbolRecords → SymbolRecords → Type 0
+SaysSymbols (Some tables) old new = GivesSymbols tables.0 tables.1 old new
+SaysSymbols None old new = new ≡ record old { count = 0 }
+
+-- the symbol at index i of the table that a record says; none where there is no such table
+abbrev pub symbol_said : PeSymbolTable → List ℕ → ℕ → Option (NamedSymbol × List ℕ)
+symbol_said table bytes i =
+    (tables_said table).value bytes >>= λ both. both >>= λ t. symbol_in t.0 t.1 i

@@ -1,11 +1,11 @@
 //! What callers that are not written in Rattle see of the parts of a file, but for its imports and
 //! exports: the records of headers, sections, symbols, relocations and refusals, and the functions
-//! that fill them, or write what they say.
+//! that fill them, or write what they say. So are objects and Terse Executables, which have neither
+//! imports nor exports.
 //!
 //! Each text in a record is a slice of the caller's bytes, as tests check, so no text is copied.
-//! The crate `goblin_pe_calls` reads files as a whole into these records and its own: images,
-//! objects and Terse Executables. For images it needs the readers of imports and exports; this
-//! crate does not, and is proved beside them.
+//! The crate `goblin_pe_calls` reads images as a whole into these records and its own. It needs the
+//! readers of imports and exports; this crate does not, and is proved beside them.
 #![tactic(auto)]
 
 pub mod address;
@@ -20,6 +20,7 @@ pub mod image;
 pub mod kind;
 mod mapping;
 pub mod memory;
+pub mod object;
 pub mod options;
 pub mod relocation;
 pub mod rich;
@@ -27,4 +28,5 @@ pub mod room;
 pub mod section;
 pub mod section_data;
 pub mod symbol;
+pub mod te;
 pub mod write;

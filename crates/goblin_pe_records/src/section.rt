@@ -1,9 +1,10 @@
 //! The records of sections.
 
-ghost use Rattle.std.specs.Prelude.{◌≡◌, ◌<◌, IfOk, OnErr, length, map, option_map};
+ghost use Rattle.std.specs.Prelude.{◌≡◌, ◌<◌, IfOk, OnErr, Some, length, map, option_map, slice_get};
 ghost use Rattle.goblin_pe_sect.specs.Options.{is_strict};
 ghost use Rattle.goblin_pe_sect.specs.SectionTable.{recorded_sections, unnamed};
 ghost use Rattle.goblin_base.specs.Answers.{GivesOrMemory};
+ghost use Rattle.goblin_pe_head.specs.TeHeader.{section_moved};
 ghost use Rattle.goblin_pe_records.specs.Blocked.{HasNoSpareRoom};
 ghost use Rattle.goblin_pe_records.specs.Filled.{Filled, without_text};
 ghost use Rattle.goblin_pe_records.specs.Sections.{named_in, real_name_in, section_said};
@@ -11,6 +12,7 @@ ghost use Rattle.goblin_pe_records.specs.Sections.{section_view};
 
 use goblin_base::Result;
 use goblin_base::read::pread_str;
+use goblin_pe_head::header::adjust_section;
 use goblin_pe_sect::options::ParseOptions;
 use goblin_pe_sect::section_table::{SectionRecords, SectionTable};
 use std::alloc::Global;
@@ -140,24 +142,44 @@ fn name_record<'a>(
     }
 }
 
-/// Fills the records of sections, as far as there is room.
+// The section of the record at an index; with a displacement, as it is in the stripped file.
+#[inline(always)]
+fn stored_section(
+    sections: &SectionRecords,
+    index: usize,
+    displacement: Option<u32>,
+) -> SectionTable
+    requires { index < length (recorded_sections sections.now) }
+    ensures { option_map (section_moved displacement)
+        (slice_get (recorded_sections sections.now) index)
+        ≡ Some result }
+{
+    let mut section = sections.at(index);
+    adjust_section(&mut section, displacement);
+    section
+}
+
+/// Fills the records of the sections of a section table, as far as there is room, each with its name
+/// from the string table at `table`; with a displacement, as they are in the stripped file.
 pub fn fill_sections<'a>(
     records: &mut [PeSection<'a>],
     bytes: &'a [u8],
-    sections: &[SectionTable],
+    sections: SectionRecords,
+    displacement: Option<u32>,
     table: usize,
     opts: &ParseOptions,
 )
-    ensures { Filled section_said
-        (map (λ s. without_text (named_in (is_strict opts.now.parse_mode) bytes.now table s))
-        sections.now)
+    ensures { let strict = is_strict opts.now.parse_mode in
+        Filled section_said
+        (map (λ s. without_text (named_in strict bytes.now table (section_moved displacement s)))
+        (recorded_sections sections.entry))
         records.old records.new }
 {
     let count = sections.len().min(records.len());
     'records: for i in 0..count {
-        let section = &sections[i];
-        records[i] = section_record(bytes, section);
-        name_record(&mut records[i], bytes, section, table, opts);
+        let section = stored_section(&sections, i, displacement);
+        records[i] = section_record(bytes, &section);
+        name_record(&mut records[i], bytes, &section, table, opts);
     }
 }
 

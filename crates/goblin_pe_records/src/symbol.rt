@@ -1,19 +1,42 @@
 //! The symbols of an image or an object.
 
 ghost use Rattle.std.specs.Prelude.{◌≡◌, ◌/◌, ◌<◌, ◌≤◌, IfSome, None, length, option_map};
+ghost use Rattle.goblin_base.specs.Bytes.{before_nul, text_of};
 ghost use Rattle.goblin_base.specs.Reading.{Reads};
+ghost use Rattle.goblin_base.specs.Strtab.{is_in_piece};
 ghost use Rattle.goblin_pe_symbol.specs.Symbols.{symbol_of};
-ghost use Rattle.goblin_pe_head.specs.CoffReadings.{symbols_of};
 ghost use Rattle.goblin_pe_records.specs.Calls.{ReadsWithout};
-ghost use Rattle.goblin_pe_records.specs.Symbols.{GivesSymbols, SaysSymbols, SymbolRecords};
-ghost use Rattle.goblin_pe_records.specs.Symbols.{auxiliary_of, name_in, named_symbol};
-ghost use Rattle.goblin_pe_records.specs.Symbols.{named_symbol_view, symbol_named, symbol_tables};
+ghost use Rattle.goblin_pe_records.specs.Symbols.{GivesSymbols, NamesOfText, SaysSymbols};
+ghost use Rattle.goblin_pe_records.specs.Symbols.{SaysTable, SymbolRecords};
+ghost use Rattle.goblin_pe_records.specs.Symbols.{auxiliary_of, name_at, name_in, named_symbol};
+ghost use Rattle.goblin_pe_records.specs.Symbols.{named_symbol_view, strings_said, symbol_in};
+ghost use Rattle.goblin_pe_records.specs.Symbols.{symbol_named, symbol_said, symbol_tables};
+ghost use Rattle.goblin_pe_records.specs.Symbols.{table_record, tables_said};
 
-use goblin_base::read::pread_slice;
-use goblin_base::{Result, Strtab};
+use goblin_base::read::{pread_slice, pread_str};
+use goblin_base::{Cause, Error, Result, Strtab};
 use goblin_pe_head::header::CoffHeader;
 use goblin_pe_symbol::symbol::{COFF_SYMBOL_SIZE, Symbol};
 use std::alloc::Global;
+use std::str;
+
+// The size of the length at the front of a string table, in bytes.
+const LENGTH_FIELD_SIZE: usize = 4;
+
+/// Where the symbol table and the string table of an image or an object lie. Zeros say that there
+/// are none.
+#[repr(C)]
+#[derive(Copy, Clone)]
+pub struct PeSymbolTable {
+    /// The file offset of the first record of the symbol table, in bytes; 0 where there is none.
+    pub offset: u32,
+    /// How many records it has, the auxiliary ones too.
+    pub record_count: u32,
+    /// The file offset of the texts of the string table, in bytes: after the four of its length.
+    pub strings_offset: usize,
+    /// How many bytes these texts have.
+    pub strings_length: usize,
+}
 
 /// A symbol with its name and the bytes of its auxiliary records.
 #[repr(C)]
@@ -32,18 +55,54 @@ pub struct PeNamedSymbol<'a> {
     pub has_name: bool,
 }
 
+// The text that bytes are.
+#[tactic(auto, using(goblin_base::proofs::Texts::is_utf8_true, goblin_base::proofs::Texts::is_utf8_false))]
+fn text(bytes: &[u8]) -> Option<&str>
+    ensures { option_map (λ s. s.now) result ≡ text_of bytes.now }
+{
+    match str::from_utf8(bytes) {
+        Ok(text) => Some(text),
+        Err(_) => None,
+    }
+}
+
+// The text at the front of bytes, up to a NUL or the end; there may be no bytes.
+#[tactic(auto, using(crate::proofs::Names::front_of_none))]
+fn front_text(bytes: &[u8]) -> Option<&str>
+    ensures { option_map (λ s. s.now) result ≡ text_of (before_nul bytes.now) }
+{
+    if bytes.is_empty() {
+        return text(bytes);
+    }
+    pread_str(bytes, 0).ok()
+}
+
+// Whether a piece of a string table begins at or before an offset and ends at or after it.
+fn is_in_piece(strings: &[u8], offset: usize) -> bool
+    ensures { result ≡ is_in_piece strings.now offset }
+{
+    offset < strings.len() || offset == strings.len() && 0 < offset && strings[offset - 1] != 0
+}
+
+// The name at an offset of the bytes of a string table.
+fn name_at(strings: &[u8], offset: usize) -> Option<&str>
+    ensures { option_map (λ s. s.now) result ≡ name_at strings.now offset }
+{
+    if is_in_piece(strings, offset) {
+        front_text(&strings[offset..])
+    } else {
+        None
+    }
+}
+
 // The name of a symbol: where a number stands in its place, the text of the string table there, and
 // else the one that stands in the record.
-fn name_in<'a>(
-    inline_name: Option<&'a str>,
-    symbol: &Symbol,
-    strings: &Strtab<'a>,
-) -> Option<&'a str>
+fn name_in<'a>(inline_name: Option<&'a str>, symbol: &Symbol, strings: &'a [u8]) -> Option<&'a str>
     ensures { option_map (λ s. s.now) result
         ≡ name_in strings.now (option_map (λ s. s.now) inline_name.entry) symbol.now }
 {
     if symbol.name[0] == 0 {
-        strings.get_at(symbol.name_offset()? as usize)
+        name_at(strings, symbol.name_offset()? as usize)
     } else {
         inline_name
     }
@@ -93,7 +152,7 @@ fn named_record<'a>(
 fn symbol_at<'a>(
     bytes: &'a [u8],
     table: &'a [u8],
-    strings: &Strtab<'a>,
+    strings: &'a [u8],
     index: usize,
 ) -> Option<PeNamedSymbol<'a>>
     ensures inside { IfSome result (λ s. index < length table.now / 18) }
@@ -101,6 +160,7 @@ fn symbol_at<'a>(
         (λ s. named_symbol_view s
         ≡ named_symbol table.now strings.now (symbol_of table.now index)) }
     ensures none { result ≡ None → length table.now / 18 ≤ index }
+    ensures value { option_map named_symbol_view result ≡ symbol_in table.now strings.now index }
 {
     if table.len() / COFF_SYMBOL_SIZE <= index {
         return None;
@@ -115,7 +175,7 @@ fn symbol_at<'a>(
 fn fill_symbols_at<'a>(
     bytes: &'a [u8],
     table: &'a [u8],
-    strings: &Strtab<'a>,
+    strings: &'a [u8],
     position: &mut usize,
     records: &mut [PeNamedSymbol<'a>],
 ) -> usize
@@ -135,28 +195,88 @@ fn fill_symbols_at<'a>(
     records.len()
 }
 
-// The bytes of the symbol table that a header leads to.
-#[tactic(auto, unfolding(goblin_pe_head::specs::CoffReadings::symbols_of))]
-fn table_of<'a>(bytes: &'a [u8], header: &CoffHeader) -> Result<Option<&'a [u8]>>
-    ensures { Reads (option_map (λ t. t.now)) result (symbols_of header.now) bytes.now }
-{
-    if header.pointer_to_symbol_table == 0 {
-        return Ok(None);
-    }
-    let size = COFF_SYMBOL_SIZE * header.number_of_symbol_table as usize;
-    let table = pread_slice(bytes, header.pointer_to_symbol_table as usize, size)?;
-    Ok(Some(table))
-}
-
-/// Fills records of the symbols that a COFF header leads to, from the record at the index `position`
-/// on, as far as there is room, says in `count` how many these are, and moves `position` past them.
+/// Tests the symbol table and the string table that a COFF header leads to, and says in `table`
+/// where they lie. The texts of the string table are read once, all of them.
 ///
 /// # Errors
 /// A symbol table or a string table that cannot be read; nothing is then changed.
-pub fn read_symbols<'a>(
+#[tactic(auto, using(crate::proofs::Names::names_of_text))]
+pub fn read_symbol_table(
     alloc: Global,
-    bytes: &'a [u8],
+    bytes: &[u8],
     header: &CoffHeader,
+    table: &mut PeSymbolTable,
+) -> Result<()>
+    ensures tables { ReadsWithout (symbol_tables header.now) bytes.now
+        (λ x. SaysTable header.now bytes.now x table.new) (table.new ≡ table.old) result }
+    ensures names { NamesOfText }
+{
+    header.symbols(bytes)?;
+    let strings = header.strings(alloc, bytes)?;
+    *table = table_record(header, &strings);
+    Ok(())
+}
+
+// The record of the tables that a header leads to.
+fn table_record(header: &CoffHeader, strings: &Option<Strtab>) -> PeSymbolTable
+    ensures { result ≡ table_record header.now (option_map (λ s. length s) strings.now) }
+{
+    match strings {
+        Some(strings) => PeSymbolTable {
+            offset: header.pointer_to_symbol_table,
+            record_count: header.number_of_symbol_table,
+            strings_offset: header.symbols_end() + LENGTH_FIELD_SIZE,
+            strings_length: strings.len(),
+        },
+        None => PeSymbolTable {
+            offset: 0,
+            record_count: 0,
+            strings_offset: 0,
+            strings_length: 0,
+        },
+    }
+}
+
+// The bytes of a symbol table, and those of the texts of a string table.
+#[derive(Copy, Clone)]
+struct Tables<'a> {
+    records: &'a [u8],
+    strings: &'a [u8],
+}
+
+// So many bytes at an offset; there may be none.
+fn strings_said(bytes: &[u8], offset: usize, length: usize) -> Result<&[u8]>
+    ensures { Reads (λ s. s.now) result (strings_said offset length) bytes.now }
+{
+    if bytes.len() < offset || bytes.len() - offset < length {
+        return Err(Error::Malformed(Cause::StringTable(offset, length)));
+    }
+    Ok(&bytes[offset..offset + length])
+}
+
+// The tables that a record says; `None` where it says that there are none.
+#[tactic(auto, unfolding(crate::specs::Symbols::tables_said))]
+fn tables_said<'a>(bytes: &'a [u8], table: &PeSymbolTable) -> Result<Option<Tables<'a>>>
+    ensures { Reads (option_map (λ t. (t.records.now, t.strings.now))) result
+        (tables_said table.now) bytes.now }
+{
+    if table.offset == 0 {
+        return Ok(None);
+    }
+    let size = COFF_SYMBOL_SIZE * table.record_count as usize;
+    let records = pread_slice(bytes, table.offset as usize, size)?;
+    let strings = strings_said(bytes, table.strings_offset, table.strings_length)?;
+    Ok(Some(Tables { records, strings }))
+}
+
+/// Fills records of the symbols of a table from the record at the index `position` on, as far as
+/// there is room, says in `count` how many these are, and moves `position` past them.
+///
+/// # Errors
+/// A symbol table or a string table that does not lie in the file; nothing is then changed.
+pub fn read_symbols<'a>(
+    bytes: &'a [u8],
+    table: &PeSymbolTable,
     position: &mut usize,
     records: &mut [PeNamedSymbol<'a>],
     count: &mut usize,
@@ -165,14 +285,25 @@ pub fn read_symbols<'a>(
         record { position = position.old; records = records.old; count = count.old } in
         let new : SymbolRecords =
         record { position = position.new; records = records.new; count = count.new } in
-        ReadsWithout (symbol_tables header.now) bytes.now (λ x. SaysSymbols x old new)
-        (new ≡ old) result }
+        ReadsWithout (tables_said table.now) bytes.now (λ x. SaysSymbols x old new) (new ≡ old)
+        result }
 {
-    let table = table_of(bytes, header)?;
-    let strings = header.strings(alloc, bytes)?;
-    *count = match (table, &strings) {
-        (Some(table), Some(strings)) => fill_symbols_at(bytes, table, strings, position, records),
-        _ => 0,
+    *count = match tables_said(bytes, table)? {
+        Some(tables) => fill_symbols_at(bytes, tables.records, tables.strings, position, records),
+        None => 0,
     };
     Ok(())
+}
+
+/// The symbol at an index of a table, which counts auxiliary records, too; `None` where the table
+/// has no such record, or does not lie in the file.
+pub fn find_symbol<'a>(
+    bytes: &'a [u8],
+    table: &PeSymbolTable,
+    index: usize,
+) -> Option<PeNamedSymbol<'a>>
+    ensures { option_map named_symbol_view result ≡ symbol_said table.now bytes.now index }
+{
+    let tables = tables_said(bytes, table).ok()??;
+    symbol_at(bytes, tables.records, tables.strings, index)
 }

@@ -11,6 +11,7 @@ use Rattle.std.proofs.lemmas.List.Elements.{filter-append}
 use Rattle.goblin_base.specs.Answers.{all_of}
 use Rattle.goblin_base.specs.Tables.{concat_below, each_below, is_kept, join}
 use Rattle.goblin_base.proofs.Below.{join-none}
+use Rattle.goblin_base.proofs.Kept.{without_test}
 use Rattle.goblin_base.proofs.Steps.{same_value}
 use Rattle.readings.specs.Reads.{with_slots}
 use Rattle.readings.specs.Walks.{end_items, items_of, until_refused}
@@ -59,6 +60,17 @@ pub all_of-items : {A B : Type 0} (item : A → B) (made : Option (List A))
 unfolding all_of
 all_of-items item None = refl
 all_of-items item (Some xs) = all_of-made item xs
+
+-- with the end of a table, where it is needed
+pub joined-end : {V B : Type 0} (needed : Bool) (end : Option V) (items : Option (List B))
+    → join items (all_of (end_items needed end)) ≡ cond (needed && not (is_some end)) None items
+unfolding join all_of
+joined-end true None None = refl
+joined-end true None (Some xs) = refl
+joined-end true (Some v) None = refl
+joined-end {B = B} true (Some v) (Some xs) = ap (λ (ys : List B). Some ys) (append-nil xs)
+joined-end false end None = refl
+joined-end {B = B} false end (Some xs) = ap (λ (ys : List B). Some ys) (append-nil xs)
 
 pub range-next : (n : ℕ) → range_with_len 0 (suc n) ≡ range_with_len 0 n ++ n ∷ []
 range-next n =
@@ -160,17 +172,6 @@ module _ {A B : Type 0} (item : ℕ → A → B) (entry : B → A) (slot : B →
   abbrev in_pair : List B → List A × List ℕ
   in_pair items = (map entry items, map slot items)
 
-  joined-end : {V : Type 0} (needed : Bool) (end : Option V) (items : Option (List B))
-      → join items (all_of (end_items needed end))
-      ≡ cond (needed && not (is_some end)) None items
-  unfolding join all_of
-  joined-end true None None = refl
-  joined-end true None (Some xs) = refl
-  joined-end true (Some v) None = refl
-  joined-end true (Some v) (Some xs) = ap (λ (ys : List B). Some ys) (append-nil xs)
-  joined-end false end None = refl
-  joined-end false end (Some xs) = ap (λ (ys : List B). Some ys) (append-nil xs)
-
   by_test : (test : Bool) (n : ℕ) → IsCollected n
       → option_map in_pair (cond test None (all_of (all n)))
       ≡ with_slots (kept n) (cond test None (each_below made n))
@@ -188,8 +189,6 @@ module _ {A B : Type 0} (item : ℕ → A → B) (entry : B → A) (slot : B →
       ∙ all_of-append (all n) (end_items needed end)
       ∙ joined-end needed end (all_of (all n)))
       ∙ by_test (needed && not (is_some end)) n (collected n)
-
--- ---- where an item comes
 
 -- ---- what holds of the items that are collected
 
@@ -221,11 +220,8 @@ module _ {A B : Type 0} (item : ℕ → A → B) (made : ℕ → Option (List A)
 
   by_end : {V : Type 0} (needed : Bool) (end : Option V) (o : Option (List B)) (items : List B)
       → join o (all_of (end_items needed end)) ≡ Some items → o ≡ Some items
-  unfolding join all_of
-  by_end needed end None items e = absurd cc
-  by_end true None (Some xs) items e = absurd cc
-  by_end true (Some v) (Some xs) items e = ap (λ (ys : List B). Some ys) (sym (append-nil xs)) ∙ e
-  by_end false end (Some xs) items e = ap (λ (ys : List B). Some ys) (sym (append-nil xs)) ∙ e
+  by_end needed end o items e =
+      without_test (needed && not (is_some end)) o items (sym (joined-end needed end o) ∙ e)
 
   pub walk-holds : {V : Type 0} (needed : Bool) (end : Option V) (n : ℕ) (items : List B)
       → all_of (until_refused (walked n ++ end_items needed end)) ≡ Some items → Holds items

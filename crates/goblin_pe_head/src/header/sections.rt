@@ -9,7 +9,7 @@ ghost use Rattle.goblin_pe_sect.specs.SectionReadings.{named_section_at};
 ghost use Rattle.goblin_pe_sect.specs.SectionTable.{recorded_sections, unnamed};
 ghost use Rattle.goblin_pe_head.specs.TeReadings as reading;
 
-use crate::header::te::adjust;
+use crate::header::te::adjust_section;
 use goblin_base::Result;
 use goblin_pe_sect::options::ParseOptions;
 use goblin_pe_sect::section_table::{SectionRecords, SectionTable};
@@ -44,7 +44,7 @@ pub(super) fn read_sections(
             string_table_offset,
             opts,
         )?;
-        adjust(&mut section, displacement);
+        adjust_section(&mut section, displacement);
         sections.push_reserved(section);
     }
     *offset = end;

@@ -2,24 +2,26 @@
 //! sections.
 
 ghost use Rattle.std.specs.Prelude.{◌≡◌, ◌+◌, ◌*◌, ◌/◌, ◌<◌, ◌≤◌, length, IfErr, IsErrAnd, OnOk};
-ghost use Rattle.std.specs.Prelude.{OnErr};
+ghost use Rattle.std.specs.Prelude.{OnErr, map};
 ghost use Rattle.goblin_base.specs.Reading.{Reads, ReadsOrMemory};
 ghost use Rattle.goblin_base.specs.Answers.{Answers, IsMemory};
 ghost use Rattle.goblin_base.specs.Record.{WritesRecord};
+ghost use Rattle.readings.specs.Reads.{mapped};
+ghost use Rattle.goblin_pe_sect.specs.SectionTable.{recorded_sections, unnamed};
 ghost use Rattle.goblin_pe_head.specs.declared.header.te.TeHeader.{TeHeader};
 ghost use Rattle.goblin_pe_head.specs.CoffHeader.{IsTooManySections};
 ghost use Rattle.goblin_pe_head.specs.TeHeader.{IsStrippedFault, displacement, moved_address};
 ghost use Rattle.goblin_pe_head.specs.TeHeader.{pointer_moved, section_moved, te_fields, te_record};
 ghost use Rattle.goblin_pe_head.specs.TeReadings as reading;
 
-use crate::header::sections::read_sections;
+use crate::header::sections::{read_section_records, read_sections};
 use goblin_base::{
     Cause, Endian, Error, Field, Record, Result, field_u8, field_u16, field_u32, field_u64,
     gread_slice, put_fields,
 };
 use goblin_pe_sect::data_directories::DataDirectory;
 use goblin_pe_sect::options::ParseOptions;
-use goblin_pe_sect::section_table::{SIZEOF_SECTION_TABLE, SectionTable};
+use goblin_pe_sect::section_table::{SIZEOF_SECTION_TABLE, SectionRecords, SectionTable};
 use std::alloc::Global;
 
 /// The signature of a Terse Executable, `VZ`.
@@ -119,8 +121,12 @@ impl Record for TeHeader {
 }
 
 impl TeHeader {
-    // By how much everything moved to the front when the headers were stripped.
-    fn displacement(&self) -> Result<u32>
+    /// By how much everything moved to the front when the headers were stripped, in bytes: by what
+    /// was stripped, less the 40 that this header takes.
+    ///
+    /// # Errors
+    /// [`Error::Malformed`] with [`Cause::StrippedSize`] if fewer than 40 bytes were stripped.
+    pub fn displacement(&self) -> Result<u32>
         ensures { Answers (λ d. d) result (displacement self.now) (IsStrippedFault self.now) }
     {
         let stripped_size = u32::from(self.stripped_size);
@@ -199,6 +205,32 @@ impl TeHeader {
         read_sections(alloc, bytes, offset, count, 0, &opts, Some(displacement))
     }
 
+    /// Tests the section table, whose records follow one another from the file offset `offset` on,
+    /// moves `offset` past it, as [`TeHeader::sections`] does, and returns the records. They take no
+    /// memory. Their sections are as stored, without names from the string table: [`adjust_section`] makes
+    /// of each the one in the stripped file.
+    ///
+    /// # Errors
+    /// As [`TeHeader::sections`], but for [`Error::Memory`].
+    #[tactic(auto, unfolding(crate::specs::TeReadings::te_sections_at))]
+    pub fn section_records<'a>(
+        &self,
+        bytes: &'a [u8],
+        offset: &mut usize,
+    ) -> Result<SectionRecords<'a>>
+        ensures value { Reads (λ r. map (section_moved (displacement self.now)) (recorded_sections r))
+            result (mapped (map unnamed) (reading.te_sections_at self.now offset.old)) bytes.now }
+        ensures ok { OnOk result (offset.new ≡ offset.old + 40 * self.now.number_of_sections) }
+        ensures err { OnErr result (offset.new ≡ offset.old) }
+    {
+        let count = self.number_of_sections as usize;
+        if bytes.len() / SIZEOF_SECTION_TABLE < count {
+            return Err(Error::BufferTooShort(count, "sections"));
+        }
+        self.displacement()?;
+        read_section_records(bytes, offset, count, &ParseOptions::default())
+    }
+
     /// Writes the record to the front of `bytes`, its numbers as they are, and returns its size,
     /// 40. A record that was read as stored is written back unchanged, and any record reads back as
     /// stored from what was written, in the same byte order.
@@ -237,10 +269,11 @@ fn pointer_moved(pointer: u32, displacement: u32) -> u32
     }
 }
 
-// Makes the address and the pointers of a section those in the stripped file, where something was
-// stripped.
+/// Makes the address of a section, and each of its three pointers that is not 0, those in a file
+/// whose front was stripped, by what [`TeHeader::displacement`] says; without a displacement the
+/// section stays as stored.
 #[tactic(auto, unfolding(crate::specs::TeHeader::section_adjusted))]
-pub(super) fn adjust(section: &mut SectionTable, displacement: Option<u32>)
+pub fn adjust_section(section: &mut SectionTable, displacement: Option<u32>)
     ensures { section.new ≡ section_moved displacement section.old }
 {
     let Some(displacement) = displacement else {

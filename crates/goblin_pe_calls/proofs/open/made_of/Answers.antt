@@ -9,7 +9,8 @@ use Rattle.goblin_pe.specs.Whole.{WholeFile}
 use Rattle.goblin_pe_records.specs.Filled.{without_text}
 use Rattle.goblin_pe_records.specs.Sections.{named_in}
 use Rattle.goblin_pe_calls.specs.Opened.{records_view}
-use Rattle.goblin_pe_calls.proofs.Named.{said-unnamed, sections-named}
+use Rattle.goblin_pe_calls.proofs.Named.{sections-named}
+use Rattle.goblin_pe_records.proofs.Named.{said-unnamed}
 use Rattle.goblin_pe_calls.proofs.Opened.{file-of-records}
 use Rattle.goblin_pe_calls.proofs.open.made_of.Goals as goal
 

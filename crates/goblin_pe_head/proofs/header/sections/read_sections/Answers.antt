@@ -30,8 +30,8 @@ records-preserved c =
     let before = c.records.invariant in
     let at = c.args.offset.now + 40 * c.records.counter in
     let stored = sym (ap (λ (p : ℕ). (named_section_at strict table p).value bytes) before.end) ∙ c.in_ok-section.ensures.value in
-    let here = moved-value strict table bytes at move c.in_ok-section.section stored ∙ ap (λ (s : Section). Some s) (sym c.adjust.ensures) in
-    let more = all_at-more (λ i. (moved_section move strict table (c.args.offset.now + 40 * i)).value bytes) c.records.counter c.records.sections.items c.adjust.new.section before.read here in
+    let here = moved-value strict table bytes at move c.in_ok-section.section stored ∙ ap (λ (s : Section). Some s) (sym c.adjust_section.ensures) in
+    let more = all_at-more (λ i. (moved_section move strict table (c.args.offset.now + 40 * i)).value bytes) c.records.counter c.records.sections.items c.adjust_section.new.section before.read here in
     record {
       end = omega (arith, before.end, c.in_ok-section.ensures.ok);
       read = more ∙ ap (λ (xs : List Section). Some xs) (sym c.push_reserved.ensures.items);

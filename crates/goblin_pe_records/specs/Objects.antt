@@ -2,13 +2,12 @@
 use Rattle.std.specs.Prelude.{◌≡◌, ℕ, ◌+◌, Bool, List, length, map}
 use Rattle.goblin_base.specs.declared.endian.Endian.TheVariants.{Little}
 use Rattle.goblin_base.specs.Reading.{Reading}
-use Rattle.goblin_pe.specs.Reads.{◌>>=◌, mapped, record_at}
-use Rattle.goblin_pe_sect.specs.SectionTable.{Section}
+use Rattle.readings.specs.Reads.{◌>>=◌, mapped, record_at}
+use Rattle.goblin_pe_sect.specs.SectionTable.{Section, unnamed}
 use Rattle.goblin_pe_head.specs.declared.header.coff.CoffHeader.{CoffHeader}
 use Rattle.goblin_pe_head.specs.CoffHeader.{coff_header, symbols_end}
 use Rattle.goblin_pe_head.specs.CoffReadings.{sections_at}
-use Rattle.goblin_pe.specs.SectionRoom.{TakesSections}
-use Rattle.goblin_pe_calls.specs.declared.object.PeObject.{PeObject}
+use Rattle.goblin_pe_records.specs.declared.object.PeObject.{PeObject}
 use Rattle.goblin_pe_records.specs.declared.section.PeSection.{PeSection}
 use Rattle.goblin_pe_records.specs.Filled.{Filled, without_text}
 use Rattle.goblin_pe_records.specs.Sections.{section_said}
@@ -27,16 +26,16 @@ abbrev pub object_sections : Bool → CoffHeader → Reading (List Section)
 object_sections strict h =
     sections_at strict (symbols_end h) h.number_of_sections (20 + h.size_of_optional_header)
 
--- memory is taken only for sections, and only if the file has room for as many
-abbrev pub TakesMemory : List ℕ → CoffHeader → Type 0
-TakesMemory bytes h = TakesSections h.number_of_sections bytes
-
 -- an object: its header is at the front of the file
 unfoldable pub object_file : Bool → Reading ObjectFile
 object_file strict =
     object_header >>= λ header.
     mapped (λ sections. record { header = header; sections = sections })
     (object_sections strict header)
+
+-- the header, and the sections without their names from the string table
+abbrev pub unnamed_object : ObjectFile → ObjectFile
+unnamed_object x = record x { sections = map unnamed x.sections }
 
 abbrev pub object_record : ObjectFile → PeObject
 object_record x =

@@ -1,11 +1,10 @@
 -- What a call reports of a Terse Executable.
 use Rattle.std.specs.Prelude.{◌≡◌, ℕ, List, map}
 use Rattle.goblin_base.specs.Reading.{Reading}
-use Rattle.goblin_pe.specs.Reads.{mapped}
-use Rattle.goblin_pe_sect.specs.SectionTable.{Section}
+use Rattle.readings.specs.Reads.{mapped}
+use Rattle.goblin_pe_sect.specs.SectionTable.{Section, unnamed}
 use Rattle.goblin_pe_head.specs.declared.header.te.TeHeader.{TeHeader}
 use Rattle.goblin_pe_head.specs.TeReadings.{te_image}
-use Rattle.goblin_pe.specs.SectionRoom.{TakesSections}
 use Rattle.goblin_pe_records.specs.declared.section.PeSection.{PeSection}
 use Rattle.goblin_pe_records.specs.Filled.{Filled, without_text}
 use Rattle.goblin_pe_records.specs.Sections.{section_said}
@@ -19,9 +18,9 @@ pub record TeImage : Type 0 where
 unfoldable pub te_file : Reading TeImage
 te_file = mapped (λ both. record { header = both.0; sections = both.1 }) (te_image 0)
 
--- memory is taken only for sections, and only if the file has room for as many
-abbrev pub TakesMemory : List ℕ → TeHeader → Type 0
-TakesMemory bytes h = TakesSections h.number_of_sections bytes
+-- the header, and the sections without their names from the string table
+abbrev pub unnamed_image : TeImage → TeImage
+unnamed_image x = record x { sections = map unnamed x.sections }
 
 -- what a caller passes in to be filled
 pub record TeRecords : Type 0 where

@@ -1,15 +1,17 @@
 -- Sections of a Terse Executable that were read have their names from the front of the file.
-use Rattle.std.proofs.Common.{◌≡◌, ℕ, ◌+◌, ◌*◌, true, List, map, refl, ap, subst, ◌∙◌}
-use Rattle.std.specs.Prelude.{Some, option_map}
+use Rattle.std.proofs.Common.{◌≡◌, ℕ, ◌+◌, ◌*◌, true, List, map, refl, ap, subst, sym, ◌∙◌}
+use Rattle.std.specs.Prelude.{IsSomeAnd, Some, option_map}
+use Rattle.std.proofs.lemmas.Simd.{map-map}
 use Rattle.goblin_base.proofs.Steps.{mapped, step}
 use Rattle.goblin_pe_sect.specs.SectionReadings.{named_section_at}
-use Rattle.goblin_pe_sect.specs.SectionTable.{Section}
+use Rattle.goblin_pe_sect.specs.SectionTable.{Section, unnamed}
 use Rattle.goblin_pe_head.specs.declared.header.te.TeHeader.{TeHeader}
 use Rattle.goblin_pe_head.specs.TeHeader.{displacement, section_adjusted, section_moved}
 use Rattle.goblin_pe_head.specs.TeReadings.{te_header, te_image, te_sections_at}
-use Rattle.goblin_pe_records.specs.Sections.{named_in}
-use Rattle.goblin_pe_calls.specs.Te.{TeImage, te_file}
-use Rattle.goblin_pe_calls.proofs.Named.{all-kept, section-named}
+use Rattle.goblin_pe_records.specs.Filled.{Filled, without_text}
+use Rattle.goblin_pe_records.specs.Sections.{named_in, section_said}
+use Rattle.goblin_pe_records.specs.TeImages.{SaysImage, TeImage, TeRecords, te_file, unnamed_image}
+use Rattle.goblin_pe_records.proofs.Named.{all-kept, said-unnamed, section-named}
 
 -- what moves a section leaves its name
 moved-named : (bytes : List ℕ) (d : ℕ) (s : Section) → named_in true bytes 0 (section_adjusted d s) ≡ section_adjusted d (named_in true bytes 0 s)
@@ -37,3 +39,19 @@ image-named bytes x h =
     let s2 = mapped ((te_sections_at s1.value 40).value bytes) (λ (sections : List Section). (s1.value, sections)) all.value s1.then in
     subst (λ (y : TeImage). map (named_in true bytes 0) y.sections ≡ y.sections) all.made
     (subst (λ (both : TeHeader × List Section). map (named_in true bytes 0) both.1 ≡ both.1) s2.made (sections-named s1.value bytes 40 s2.value s2.is))
+
+-- what is filled by the records of the sections holds the image
+pub says_image : (bytes : List ℕ) (header : TeHeader) (stored : List Section) (old new : TeRecords)
+    → option_map unnamed_image (te_file.value bytes) ≡ Some (record { header = header; sections = map (section_moved (displacement header)) stored })
+    → new.header ≡ header
+    → Filled section_said (map (λ s. without_text (named_in true bytes 0 (section_moved (displacement header) s))) stored) old.sections new.sections
+    → IsSomeAnd (te_file.value bytes) (λ x. SaysImage x old new)
+says_image bytes header stored old new is said filled =
+    let move = section_moved (displacement header) in
+    let x = mapped (te_file.value bytes) unnamed_image (record { header = header; sections = map move stored }) is in
+    let same_header : header ≡ x.value.header = ap (λ (o : TeImage). o.header) (sym x.made) in
+    let same_sections : map move stored ≡ map unnamed x.value.sections = ap (λ (o : TeImage). o.sections) (sym x.made) in
+    let each = map-map (λ (s : Section). without_text (named_in true bytes 0 s)) move stored in
+    let names = sym each ∙ ap (map (λ (s : Section). without_text (named_in true bytes 0 s))) same_sections
+    ∙ said-unnamed true bytes 0 x.value.sections ∙ ap (map without_text) (image-named bytes x.value x.is) in
+    rw x.is (said ∙ same_header, subst (λ (xs : List (Section × List ℕ)). Filled section_said xs old.sections new.sections) names filled)
