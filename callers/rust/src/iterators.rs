@@ -447,6 +447,7 @@ impl<'a> Symbols<'a> {
     /// }
     /// # Ok::<(), goblin_pe::Error>(())
     /// ```
+    #[must_use]
     pub fn at_index(&self, index: usize) -> Option<Symbol<'a>> {
         raw::symbol_at(self.bytes, &self.table, index).map(|it| Symbol::from(&it))
     }
