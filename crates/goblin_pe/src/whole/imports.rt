@@ -1,11 +1,12 @@
 //! The imports of a file, one by one.
 
-ghost use Rattle.std.specs.Prelude.{◌≡◌, ◌<◌, ◌^◌, ℕ, Bool, IfSome, IsSome, List, option_map};
+ghost use Rattle.std.specs.Prelude.{◌≡◌, ◌<◌, ◌^◌, ℕ, Bool, IfSome, IsSome, List, find, option_map};
 ghost use Rattle.std.specs.Fn.{FnReturnsAt};
 ghost use Rattle.std.specs.Iterator.{UpTo, at_most};
 ghost use Rattle.std.specs.Iterator.SizeHint.{IsWithinCount};
 ghost use Rattle.goblin_base.specs.declared.error.ErrorOf.{ErrorOf};
 ghost use Rattle.goblin_base.specs.Answers.{Answers, all_of};
+ghost use Rattle.goblin_pe_import.specs.ImportWalks.{walked_value};
 ghost use Rattle.goblin_pe_import.specs.Imports.{ImportValue};
 ghost use Rattle.goblin_pe.specs.Callers.{IsTest, counted, has_any};
 ghost use Rattle.goblin_pe_sect.specs.Addresses.{MapOfAddresses, map_of};
@@ -90,6 +91,31 @@ impl<'a, 'm, 'e> FileImports<'a, 'm, 'e> {
             }
         }
         Ok(count)
+    }
+
+    /// The first of the imports that passes a test; `None` where none does. The walk goes on after it, as a
+    /// later one may be refused.
+    ///
+    /// # Errors
+    /// In strict mode as the walk, at its end.
+    pub fn find_import<F: Fn(&WalkedImport<'a>) -> bool>(
+        self,
+        test: F,
+    ) -> ResultOf<'e, Option<WalkedImport<'a>>>
+        requires { F.IsAlwaysCallable test }
+        ensures { (p : ImportValue → Bool) → IsTest (FnReturnsAt F.Fn test) p
+            → Answers (option_map walked_value) result
+            (option_map (find p) (all_of (file_imports_left self.entry)))
+            (IsFileImportsCause self.entry) }
+    {
+        let mut found = None;
+        'imports: for import in self {
+            let import = import?;
+            if found.is_none() && test(&import) {
+                found = Some(import);
+            }
+        }
+        Ok(found)
     }
 
     /// A finder by the map that the walk goes by, with what the walk has at hand.
