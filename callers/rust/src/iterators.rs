@@ -1,5 +1,6 @@
 //! The iterators over what was read, each with a name. Each knows its length, goes from either end, and is
-//! cloned to go again; but walks read the file as they go, and know neither their length nor their end.
+//! cloned to go again; but walks read the file as they go, and know neither their length nor their end. The
+//! copy of a walk has room of its own: where memory for it is refused, the process ends as it does for a `Vec`.
 
 use std::fmt;
 use std::iter::{Enumerate, FusedIterator, Zip};
