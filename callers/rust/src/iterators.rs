@@ -1,6 +1,5 @@
 //! The iterators over what was read, each with a name. Each knows its length, goes from either end, and is
-//! cloned to go again; but walks read the file as they go, and know neither their length nor their end. The
-//! copy of a walk has room of its own: where memory for it is refused, the process ends as it does for a `Vec`.
+//! cloned to go again; but walks read the file as they go, and know neither their length nor their end.
 
 use std::fmt;
 use std::iter::{Enumerate, FusedIterator, Zip};
@@ -313,10 +312,11 @@ macro_rules! walks {
 }
 
 walks! {
-    /// A walk over the imports of an image, in constant memory.
+    /// A walk over the imports of an image, in constant memory. A copy has room of its own; where memory for it is
+    /// refused, the process ends as it does for a [`Vec`].
     WalkImports by raw::next_imports, Import from raw::ImportPosition => Import<'a>;
 
-    /// A walk over the exports of an image, in constant memory.
+    /// A walk over the exports of an image, in constant memory. A copy is as that of [`WalkImports`].
     WalkExports by raw::next_exports, Export from usize => Export<'a>;
 }
 
@@ -401,7 +401,7 @@ impl fmt::Debug for WalkLibraries<'_> {
     }
 }
 
-/// A walk over the symbols of an image or an object, in constant memory.
+/// A walk over the symbols of an image or an object, in constant memory. A copy is as that of [`WalkImports`].
 #[derive(Clone)]
 pub struct Symbols<'a> {
     bytes: &'a [u8],
