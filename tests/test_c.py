@@ -141,16 +141,24 @@ class Walk(Case):
         """Of 32 KiB, with so many libraries that each have all their records as table."""
         image = images.own_tables(1609)
         self.assertLessEqual(len(image), 32 << 10)
-        self.assertEqual(self.walked(1 << 62, image), (0, b"%d imports\n" % (5 * 1609 ** 2), b""))
+        self.assertEqual(self.walked(1 << 62, image), (0, b"%d imports\n0 exports\n" % (5 * 1609 ** 2), b""))
 
     def test_a_walk_stops_where_there_are_too_many(self):
-        self.assertEqual(self.walked(10000, images.shared_image(650, 1600)), (0, b"10240 imports and perhaps more\n", b""))
+        self.assertEqual(self.walked(10000, images.shared_image(650, 1600)), (0, b"10240 imports and perhaps more\n0 exports\n", b""))
+
+    def test_hostile_images(self):
+        for name, image, told in (("shared", images.shared_image(20000, 50000), b"1000448 imports and perhaps more\n0 exports\n"),
+                                  ("sections", images.one_long_name(60000, 1 << 16), b"0 imports\n0 exports\n"),
+                                  ("nowhere", images.pointers_to_nowhere(1000000), b"0 imports\n1 exports\n"),
+                                  ("large", images.large_image(exports=60000), b"96000 imports\n60000 exports\n")):
+            with self.subTest(name):
+                self.assertEqual(self.walked(1000000, image), (0, told, b""))
 
     def test_a_refusal_ends_it(self):
         """The name of the third of four libraries stands at an address that no section maps."""
         image = images.shared_image(libraries=4, functions=3)
         image[0x200 + 20 * 2 + 12: 0x200 + 20 * 2 + 16] = b"\0\x90\0\0"
-        self.assertEqual(self.walked(100, image), (1, b"6 imports\n", b""))
+        self.assertEqual(self.walked(100, image), (1, b"6 imports\n0 exports\n", b""))
 
 
 class Loader(Case):

@@ -131,8 +131,8 @@ impl fmt::Debug for Error {
 impl std::error::Error for Error {}
 
 impl From<Error> for io::Error {
-    /// An error of the kind [`io::ErrorKind::OutOfMemory`] where memory was refused, else of
-    /// [`io::ErrorKind::InvalidData`].
+    /// An error of the kind [`io::ErrorKind::OutOfMemory`] where memory was refused, for which none is taken;
+    /// else of [`io::ErrorKind::InvalidData`], with this one in it.
     fn from(error: Error) -> io::Error {
         match error.kind() {
             // (which takes no memory)

@@ -312,10 +312,11 @@ macro_rules! walks {
 }
 
 walks! {
-    /// A walk over the imports of an image, in constant memory.
+    /// A walk over the imports of an image, in constant memory. A copy has room of its own; where memory for it is
+    /// refused, the process ends as it does for a [`Vec`].
     WalkImports by raw::next_imports, Import from raw::ImportPosition => Import<'a>;
 
-    /// A walk over the exports of an image, in constant memory.
+    /// A walk over the exports of an image, in constant memory. A copy is as that of [`WalkImports`].
     WalkExports by raw::next_exports, Export from usize => Export<'a>;
 }
 
@@ -400,7 +401,7 @@ impl fmt::Debug for WalkLibraries<'_> {
     }
 }
 
-/// A walk over the symbols of an image or an object, in constant memory.
+/// A walk over the symbols of an image or an object, in constant memory. A copy is as that of [`WalkImports`].
 #[derive(Clone)]
 pub struct Symbols<'a> {
     bytes: &'a [u8],
@@ -447,6 +448,7 @@ impl<'a> Symbols<'a> {
     /// }
     /// # Ok::<(), goblin_pe::Error>(())
     /// ```
+    #[must_use]
     pub fn at_index(&self, index: usize) -> Option<Symbol<'a>> {
         raw::symbol_at(self.bytes, &self.table, index).map(|it| Symbol::from(&it))
     }

@@ -410,9 +410,8 @@ pub fn symbol_at<'a>(
     test_interface();
     let mut symbol = NamedSymbol::default();
     // SAFETY: as in `open`.
-    let is_there = unsafe {
-        goblin_pe_raw_symbol_at(bytes.as_ptr(), bytes.len(), table, index, &mut symbol)
-    };
+    let is_there =
+        unsafe { goblin_pe_raw_symbol_at(bytes.as_ptr(), bytes.len(), table, index, &mut symbol) };
     is_there.then_some(symbol)
 }
 

@@ -131,6 +131,21 @@ fn a_walk_that_has_begun_needs_no_more_memory() {
     assert!(rest && walk.next().is_none());
 }
 
+// An object of six hundred symbols, which are not read at once.
+#[test]
+fn a_walk_over_symbols_needs_no_more_memory() {
+    let count = 600_u32;
+    let mut bytes = vec![0; 20 + 18 * count as usize];
+    bytes[8] = 20;
+    bytes[12..16].copy_from_slice(&count.to_le_bytes());
+    bytes.extend([4, 0, 0, 0]);
+    let object = Object::read(&bytes, &Options::default()).unwrap();
+    let mut symbols = object.symbols().unwrap();
+    let indexes = 0..count as usize;
+    let rest = without_memory(|| symbols.by_ref().map(|it| it.index).eq(indexes));
+    assert!(rest && symbols.next().is_none());
+}
+
 // What is said of a refusal, and shown of a text, takes no memory.
 #[test]
 fn a_refusal_is_told_without_memory() {
