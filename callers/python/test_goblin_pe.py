@@ -198,6 +198,9 @@ class Buffers(unittest.TestCase):
         self.assertEqual(([x.dll for x in pe.imports], pe.imphash(), pe.find_offset(0x1020)),
                          ([b"KERNEL32.dll"], "27abfd9cfda7519d5efb3f08a2a4f3ce", 0x420))
         self.assertRegex(repr(pe), "imports=1 exports=2")
+        again = pickle.loads(pickle.dumps(pe))
+        self.assertEqual((again.imports, again.find_offset(0x1020), repr(again)), (pe.imports, 0x420, repr(pe)))
+        self.assertRaises(ValueError, lambda: again.exports)
 
     def test_threads_ask_for_rows_while_another_closes(self):
         data = sample("forwarders_x64.dll")

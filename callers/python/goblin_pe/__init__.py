@@ -81,16 +81,10 @@ def __dir__() -> _t.List[str]:
     return sorted([*public - {"options"}, "constants", "__doc__", "__version__"])
 
 
-def _records_of(sections: _t.List[Section]) -> _t.Any:
-    # sections, for the mapping of addresses; one more than there are
-    return (records.Section * (len(sections) + 1))(*map(_section_record, sections))
-
-
-def _mapping_of(tables: records.Tables) -> _t.Any:
-    # the same of those that were read: their records, without their names, which are in the file
-    count = tables.count("sections")
+def _mapping_of(stored: _t.Any, count: int) -> _t.Any:
+    # sections, for the mapping of addresses: their records, without their names, which are in the file, and one more
     mapping = (records.Section * (count + 1))()
-    _c.memmove(mapping, tables.sections, count * _c.sizeof(records.Section))
+    _c.memmove(mapping, stored, count * _c.sizeof(records.Section))
     for it in mapping:
         it.real_name, it.has_real_name = _NO_TEXT, False
     return mapping
@@ -234,7 +228,7 @@ class Pe:
         self._address = address
         self._made: _t.Dict[str, _t.List[_t.Any]] = {}
         self._counts = {name: tables.count(name) for name in tables.KINDS}
-        self._mapping = _mapping_of(tables)
+        self._mapping = _mapping_of(tables.sections, tables.count("sections"))
         self._take_headers(file, directories[: file.directories])
         self._stub = _c.string_at(tables.dos_stub.bytes, tables.dos_stub.length)  # (it need not lie in the file)
         self._export_directory = _Rows(self._data, address).export_directory(tables.export_directory)
@@ -391,13 +385,13 @@ class Pe:
             self.coff_header.machine, *(self._counts[it] for it in ("sections", "imports", "exports", "blocks")))
 
     def __getstate__(self) -> _t.Dict[str, _t.Any]:
-        rows = {name: getattr(self, name) for name in self._counts}
-        left = {name: it for name, it in self.__dict__.items() if name != "_mapping"}
-        return {**left, "_made": rows, "_data": None, "_tables": None}
+        # (of a closed one, the rows that were asked for)
+        rows = self._made if self._data is None else {name: getattr(self, name) for name in self._counts}
+        return {**self.__dict__, "_made": rows, "_data": None, "_tables": None, "_mapping": bytes(self._mapping)}
 
     def __setstate__(self, state: _t.Dict[str, _t.Any]) -> None:
         self.__dict__.update(state)
-        self._mapping = _records_of(self.sections)
+        self._mapping = _mapping_of(state["_mapping"], self._counts["sections"])
 
     def __enter__(self) -> "Pe":
         return self
