@@ -67,27 +67,6 @@ impl<'a> Model for ImportData<'a> {
     ghost view = { λ imports. imports.import_data.items };
 }
 
-// The library of a record; in permissive mode `None` if there is none.
-fn kept_library<'a, 'e, T: Bitfield<'a>>(
-    alloc: Global,
-    bytes: &'a [u8],
-    entry: ImportDirectoryEntry,
-    address_map: &AddressMap,
-) -> ResultOf<'e, Option<SyntheticImportDirectoryEntry<'a>>>
-    ensures value { let m = map_of address_map.now in
-        ReadsOrMemory option_to_list result
-        (reading.kept_library (reads_strictly m) T.format (offset_of m) entry) bytes.now }
-    ensures grown { let m = map_of address_map.now in
-        IfErr result (λ e. IsMemory e
-        → KeepsImports (reads_strictly m) T.format (offset_of m) bytes.now entry) }
-{
-    match SyntheticImportDirectoryEntry::parse_by::<T>(alloc, bytes, entry, address_map) {
-        Ok(library) => Ok(Some(library)),
-        Err(error) if is_passed_over(&error, address_map.is_permissive()) => Ok(None),
-        Err(error) => Err(error),
-    }
-}
-
 // Reads the library of a record, and appends it if it is kept.
 fn add_library<'a, 'e, T: Bitfield<'a>>(
     libraries: &mut Vec<SyntheticImportDirectoryEntry<'a>>,
@@ -104,9 +83,10 @@ fn add_library<'a, 'e, T: Bitfield<'a>>(
         → TakesLibrary (reads_strictly m) T.format (offset_of m) bytes.now entry) }
 {
     let alloc = *libraries.allocator();
-    let library = kept_library::<T>(alloc, bytes, entry, address_map)?;
-    if let Some(library) = library {
-        libraries.push(library)?;
+    match SyntheticImportDirectoryEntry::parse_by::<T>(alloc, bytes, entry, address_map) {
+        Ok(library) => libraries.push(library)?,
+        Err(error) if is_passed_over(&error, address_map.is_permissive()) => (),
+        Err(error) => return Err(error),
     }
     Ok(())
 }

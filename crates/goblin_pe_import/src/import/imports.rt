@@ -324,7 +324,12 @@ impl<'a, 'm> Walk<'a, 'm> {
         };
         let size = SIZEOF_IMPORT_DIRECTORY_ENTRY;
         let Some(record) = next_record(self.bytes, at.record_offset) else {
-            if may_end(self.bytes, at.record_offset, size, self.finder.is_permissive()) {
+            if may_end(
+                self.bytes,
+                at.record_offset,
+                size,
+                self.finder.is_permissive(),
+            ) {
                 return None;
             }
             return Some(Err(Error::Malformed(Cause::ImportRecordEnd(at.record_offset))));
