@@ -1,5 +1,6 @@
 """The crate for callers in Rust, and goblin beside it."""
 import functools
+import hashlib
 import pathlib
 import re
 import shutil
@@ -57,19 +58,29 @@ class Crate(Case):
         for sample, line in zip(IMAGES * 2, lines):
             listed = beside(sample, "permissive").splitlines()
             imports, exports = (sum(it.startswith(kind) for it in listed) for kind in (b"import ", b"export "))
-            imphash = f", imphash {HASHES[sample.name]}" if imports else ""
-            self.assertEqual(line, f"{sample}: {imports} imports, {exports} exports{imphash}")
+            self.assertEqual(line, f"{sample}: {imports} imports, {exports} exports")
         self.assertEqual(len(lines), len(files))
         told = ("more than 100000 imports$", "more than 100000 imports$", "0 imports, 1 exports$", "0 imports, 0 exports$")
         wanted = (*(f"{it}: {line}" for it, line in zip(hostile, told)),
-                  f"{damaged}: 1 imports, 0 exports, imphash {HASHES[BY_NAME.name]}, exports: .",
+                  f"{damaged}: 1 imports, 0 exports, exports: .",
                   f"{CALLERS}/build: refused: .", f"{lost}: read failed: .")
         for line, it in zip(lines[-7:], wanted, strict=True):
             self.assertRegex(line, f"^{it}")
 
-    def test_its_fingerprints_are_those_of_the_package_for_python(self):
-        told = succeed([example("fingerprint"), *IMAGES]).splitlines()
-        self.assertEqual(told, [package().Pe(it.read_bytes()).fingerprint() for it in IMAGES])
+    def test_its_texts_have_the_hashes_that_others_tell(self):
+        """The fingerprint is that of the package for Python, and the hash of the imports what pefile tells, and for libraries
+        and ordinals that the samples don't have, what the package does."""
+        ordinal, number = IMAGES[0].with_name("imports_by_ordinal_x64.dll").read_bytes(), (1 << 63 | 901).to_bytes(8, "little")
+        changed = [self.written(f"{index}.dll", ordinal.replace(b"KERNEL32.dll", dll.ljust(12, b"\0")).replace(
+            number, (1 << 63 | to).to_bytes(8, "little"))) for index, (dll, to) in enumerate((
+                (b"WS2_32.dll", 115), (b"wsock32.DLL", 1142), (b"OLEAUT32.dll", 6), (b"oleaut32.dll", 999), (b"OLEAUT32.sys", 6),
+                (b"a.b.OCX", 7), (b"WINSPOOL.DRV", 7), (b"x", 65535), (b"a.dll", 0), (b"", 5)))]
+        for it in (*IMAGES, *changed):
+            pe = package().Pe(it.read_bytes())
+            (_, key, _), (_, text, _) = (run([example("fingerprint"), *words, it]) for words in ([], ["--imports"]))
+            self.assertEqual(hashlib.sha256(key).hexdigest(), pe.fingerprint())
+            told = HASHES.get(it.name, pe.imphash())
+            self.assertEqual(hashlib.md5(text).hexdigest() if text else "", told, it)
 
     def test_the_programs_of_the_readmes(self):
         """That of the repository has the crate's program, and one in Rattle."""

@@ -1,10 +1,23 @@
-//! Tells the fingerprint of each image: fingerprint FILE.. Files with the same one are read alike.
-use goblin_pe::Pe;
+//! Writes the text whose SHA-256 is the fingerprint of an image, or whose MD5 is the hash of its imports:
+//! fingerprint [--imports] FILE. Files with the same fingerprint are read alike.
+use goblin_pe::{Options, Pe};
+use std::io::{self, Write};
 
-fn main() -> Result<(), Box<dyn std::error::Error>> {
-    for path in std::env::args().skip(1) {
-        let bytes = std::fs::read(path)?;
-        println!("{}", Pe::parse(&bytes)?.fingerprint()?);
+fn main() -> io::Result<()> {
+    let words: Vec<String> = std::env::args().skip(1).collect();
+    let (of_imports, path) = match &words[..] {
+        [word, path] if word == "--imports" => (true, path),
+        [path] => (false, path),
+        _ => return Err(io::Error::other("usage: fingerprint [--imports] FILE")),
+    };
+    let bytes = std::fs::read(path)?;
+    let mut out = io::stdout().lock();
+    if of_imports {
+        // (in constant memory)
+        let unlisted = Options::default().with_parse_imports(false);
+        Pe::read(&bytes, &unlisted)?.write_imphash_text(&mut out)?;
+    } else {
+        Pe::parse(&bytes)?.write_fingerprint_text(&mut out)?;
     }
-    Ok(())
+    out.flush()
 }

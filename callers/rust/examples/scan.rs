@@ -1,5 +1,5 @@
 //! Scans files by four threads: scan FILE.. tells of each image, in the order of the words, how many imports and exports
-//! it has, the hash of its imports and what is damaged, or why it was refused. Of an image that lists more imports than a
+//! it has and what is damaged, or why it was refused. Of an image that lists more imports than a
 //! limit says, only so many are looked at: it takes no memory for them.
 use goblin_pe::{Error, Options, Pe};
 use std::thread;
@@ -17,9 +17,6 @@ fn found(bytes: &[u8]) -> Result<String, Error> {
     let pe = Pe::read(bytes, &options)?;
     let (imports, exports) = (pe.imports().len(), pe.exports().len());
     let mut text = format!("{imports} imports, {exports} exports");
-    if let Some(hash) = pe.imphash()? {
-        text += &format!(", imphash {hash}");
-    }
     for (part, error) in pe.damage()?.parts() {
         text += &format!(", {part}: {error}");
     }

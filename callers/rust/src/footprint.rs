@@ -1,9 +1,9 @@
 //! On which bytes of a file a read depends.
 
 use std::fmt;
+use std::io::{self, Write};
 use std::ops::Range;
 
-use crate::digest::{Digest, Hash, SHA_256};
 use crate::error::Error;
 use crate::iterators::FootprintRanges;
 use crate::raw::{self, Options};
@@ -21,19 +21,14 @@ impl Footprint {
         Ok(Footprint(ranges))
     }
 
-    // The hash of the length of the file, and of each range and its bytes.
-    pub(crate) fn digest(&self, bytes: &[u8]) -> Hash<32> {
-        let mut digest = Digest::new(SHA_256);
-        add_number(&mut digest, bytes.len());
+    // Writes the length of the file, and each range and its bytes.
+    pub(crate) fn write_text(&self, bytes: &[u8], to: &mut impl Write) -> io::Result<()> {
+        write!(to, "{}", bytes.len())?;
         for range in self {
-            digest.update(*b" ");
-            add_number(&mut digest, range.start);
-            digest.update(*b" ");
-            add_number(&mut digest, range.end);
-            digest.update(*b" ");
-            digest.update(bytes[range].iter().copied());
+            write!(to, " {} {} ", range.start, range.end)?;
+            to.write_all(&bytes[range])?;
         }
-        digest.finish()
+        Ok(())
     }
 
     /// The ranges.
@@ -49,13 +44,6 @@ impl Footprint {
         let before = ranges.partition_point(|it| it.offset <= offset);
         before > 0 && offset - ranges[before - 1].offset < ranges[before - 1].length
     }
-}
-
-// Adds the decimal digits of a number.
-fn add_number(digest: &mut Digest<8>, number: usize) {
-    let digits = number.checked_ilog10().map_or(1, |it| it + 1);
-    let powers = (0..digits).rev().map(|it| 10_usize.pow(it));
-    digest.update(powers.map(|power| b"0123456789"[number / power % 10]));
 }
 
 impl<'p> IntoIterator for &'p Footprint {

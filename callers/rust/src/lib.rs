@@ -26,7 +26,7 @@
 //! | [`Pe::read`] | as long as what it lists, some microseconds for a small file | a record for each row, of 8 to 96 bytes |
 //! | [`Pe::walk_imports`], [`Pe::walk_exports`], [`Pe::symbols`] | as they go on | room for 256 rows; an index of more than 96 sections |
 //! | [`Pe::damage`] | as a read | an index of more than 96 sections |
-//! | [`Pe::footprint`], [`Pe::fingerprint`] | as two reads | a bit for each byte of the file, and the ranges |
+//! | [`Pe::footprint`], [`Pe::write_fingerprint_text`] | as two reads | a bit for each byte of the file, and the ranges |
 //! | [`Pe::find_offset`] and what is at an address | a walk over the sections | none |
 //! | [`Object::read`], [`Te::read`] | as many sections as there are | a record for each section |
 //! | rows, names and texts | none: they are places in the bytes | none |
@@ -56,7 +56,6 @@
 
 #[allow(clippy::doc_markdown)] // (processors are called PowerPC and the like)
 pub mod constants;
-mod digest;
 mod error;
 mod footprint;
 mod imphash;
@@ -75,7 +74,6 @@ mod tables;
 mod te;
 mod text;
 
-pub use digest::Hash;
 pub use error::Error;
 pub use footprint::Footprint;
 pub use iterators::{

@@ -1,12 +1,12 @@
 //! Images.
 
 use std::fmt;
+use std::io::{self, Write};
 
 use crate::constants::{IMAGE_FILE_DLL, MAGIC_64};
-use crate::digest::Hash;
 use crate::error::Error;
 use crate::footprint::Footprint;
-use crate::imphash::imphash;
+use crate::imphash;
 use crate::iterators::{
     Blocks, DataDirectories, ExportAddresses, Exports, Imports, IntoImports, Sections, Symbols,
     WalkExports, WalkImports, WalkLibraries,
@@ -419,26 +419,25 @@ impl<'a> Pe<'a> {
         IntoImports::of(self.tables.imports)
     }
 
-    /// The hash of the imports that analysts compare, an MD5; `None` where there are no imports. Other tools
-    /// tell the same where they see the same imports. Where the options left the imports out, it walks over
-    /// them.
+    /// Writes the text whose MD5 is the hash of the imports that analysts compare: nothing where there are no
+    /// imports. Other tools hash the same where they see the same imports. Where the options left the imports
+    /// out, it walks over them. A hash of the crate `md-5` is such a writer.
     ///
     /// # Errors
-    /// As of [`Pe::walk_imports`], where the options left the imports out.
+    /// As of [`Pe::walk_imports`], where the options left the imports out; and as of the writer.
     ///
     /// ```no_run
     /// # let bytes = [];
     /// let pe = goblin_pe::Pe::parse(&bytes)?;
-    /// if let Some(hash) = pe.imphash()? {
-    ///     println!("{hash}");
-    /// }
-    /// # Ok::<(), goblin_pe::Error>(())
+    /// let mut text = Vec::new();
+    /// pe.write_imphash_text(&mut text)?;
+    /// # Ok::<(), std::io::Error>(())
     /// ```
-    pub fn imphash(&self) -> Result<Option<Hash<16>>, Error> {
+    pub fn write_imphash_text(&self, to: &mut impl Write) -> io::Result<()> {
         if self.options.parse_imports {
-            imphash(self.imports().map(Ok))
+            imphash::write_text(self.imports().map(Ok), to)
         } else {
-            imphash(self.walk_imports())
+            imphash::write_text(self.walk_imports(), to)
         }
     }
 
@@ -857,22 +856,24 @@ impl<'a> Pe<'a> {
         Footprint::of(self.bytes, self.options)
     }
 
-    /// A key of what [`Pe::read`] lists, for one choice of options: the SHA-256 of the length of the file and of its
+    /// Writes a key of what [`Pe::read`] lists, for one choice of options: the length of the file, and its
     /// footprint, the ranges and their bytes. Files that have the same are read alike by the same options. It
-    /// covers what the footprint does.
+    /// covers what the footprint does. Its SHA-256, for which a hash of the crate `sha2` is such a writer, is the
+    /// fingerprint of the package for Python.
     ///
     /// # Errors
-    /// [`ErrorKind::Memory`](crate::ErrorKind::Memory) alone.
+    /// [`io::ErrorKind::OutOfMemory`], and as of the writer.
     ///
     /// ```no_run
     /// # use goblin_pe::Pe;
     /// # let bytes = [];
     /// let pe = Pe::parse(&bytes)?;
-    /// println!("{}", pe.fingerprint()?);
-    /// # Ok::<(), goblin_pe::Error>(())
+    /// let mut key = Vec::new();
+    /// pe.write_fingerprint_text(&mut key)?;
+    /// # Ok::<(), std::io::Error>(())
     /// ```
-    pub fn fingerprint(&self) -> Result<Hash<32>, Error> {
-        Ok(self.footprint()?.digest(self.bytes))
+    pub fn write_fingerprint_text(&self, to: &mut impl Write) -> io::Result<()> {
+        self.footprint()?.write_text(self.bytes, to)
     }
 }
 

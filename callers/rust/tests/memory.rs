@@ -70,8 +70,6 @@ fn refused_memory_is_an_error() {
     assert_eq!(refused(|| pe.footprint()), None); // (its ranges are in the library's memory)
     assert_eq!(refused(|| pe.damage()), None);
     assert_eq!(refused(|| Pe::read(&image, &options)), None);
-    assert_eq!(refused(|| pe.imphash()), None);
-    assert_eq!(refused(|| pe.fingerprint()), None);
     assert_eq!(refused(|| pe.walk_libraries().next().unwrap()), None);
     assert_eq!(refused(|| pe.libraries()), memory);
     assert_eq!(refused(|| pe.symbols()), memory);

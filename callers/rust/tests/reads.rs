@@ -454,62 +454,10 @@ fn libraries_have_records() {
     assert_eq!(Pe::parse(&bytes).unwrap().walk_libraries().count(), 0);
 }
 
-// The values that pefile 2023.2.7 tells.
-#[test]
-fn the_hash_of_imports_is_that_of_other_tools() {
-    for (name, wanted) in [
-        (
-            "imports_by_name_x64.dll",
-            Some("27abfd9cfda7519d5efb3f08a2a4f3ce"),
-        ),
-        (
-            "imports_by_name_x86.dll",
-            Some("5fd9bbcd68e633c2417c6dd0c112ae23"),
-        ),
-        ("forwarders_x64.dll", None),
-    ] {
-        let bytes = sample(name);
-        let unlisted = Options::default().with_parse_imports(false);
-        for options in [Options::default(), unlisted] {
-            let pe = Pe::read(&bytes, &options).unwrap();
-            let hash = pe.imphash().unwrap().map(|it| it.to_string());
-            assert_eq!(hash.as_deref(), wanted, "{name}");
-        }
-    }
-    let sample = sample("imports_by_ordinal_x64.dll");
-    let changed = |dll: &[u8], ordinal: u64| {
-        let mut bytes = sample.clone();
-        let at = (0..bytes.len()).find(|at| bytes[*at..].starts_with(b"KERNEL32.dll"));
-        let at = at.unwrap();
-        bytes[at..at + 12].fill(0);
-        bytes[at..at + dll.len()].copy_from_slice(dll);
-        let number = (1 << 63 | 901_u64).to_le_bytes();
-        for at in 0..bytes.len() - 8 {
-            if bytes[at..at + 8] == number {
-                bytes[at..at + 8].copy_from_slice(&(1 << 63 | ordinal).to_le_bytes());
-            }
-        }
-        let hash = Pe::parse(&bytes).unwrap().imphash().unwrap();
-        hash.map(|it| it.to_string())
-    };
-    for (dll, ordinal, wanted) in [
-        (
-            &b"KERNEL32.dll"[..],
-            901,
-            "149d2e96f294661822cac53bee31923e",
-        ),
-        (b"WS2_32.dll", 115, "b37125ceef051f12e08e29efb577946e"),
-        (b"wsock32.DLL", 1142, "2abbd9ade07297967661cfa09c911406"),
-        (b"OLEAUT32.dll", 6, "34cc24834ac54238d20258721638305d"),
-        (b"oleaut32.dll", 999, "ac4335c367c483416ad8947728b70e5d"),
-        (b"OLEAUT32.sys", 6, "0b95961135d7de048291c05a30a259f5"),
-        (b"a.b.OCX", 7, "f97b2ce4f275cbebbfc8005f20b35541"),
-        (b"WINSPOOL.DRV", 7, "c527aa300d7842640afcc4bcdda0752e"),
-        (b"x", 65535, "715966133c5213185739d6c03fd6a968"),
-    ] {
-        assert_eq!(changed(dll, ordinal).as_deref(), Some(wanted), "{dll:?}");
-    }
-    assert_eq!((changed(b"a.dll", 0), changed(b"", 5)), (None, None));
+fn key(pe: &Pe<'_>) -> Vec<u8> {
+    let mut key = Vec::new();
+    pe.write_fingerprint_text(&mut key).unwrap();
+    key
 }
 
 // All of a file is changed but for its footprint: the rest is read alike.
@@ -530,10 +478,10 @@ fn a_file_depends_on_its_footprint_alone() {
         }
         let other = Pe::read(&other, &options).unwrap();
         assert_eq!(footprint, other.footprint().unwrap(), "{name}");
-        assert_eq!(pe.fingerprint(), other.fingerprint());
+        assert_eq!(key(&pe), key(&other));
         let longer = [&bytes[..], &[0]].concat();
         let longer = Pe::read(&longer, &options).unwrap();
-        assert_ne!(pe.fingerprint(), longer.fingerprint());
+        assert_ne!(key(&pe), key(&longer));
         assert!(pe.imports().eq(other.imports()), "{name}");
         assert!(pe.exports().eq(other.exports()), "{name}");
         assert_eq!(pe.header(), other.header());

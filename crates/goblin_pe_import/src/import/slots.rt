@@ -8,7 +8,7 @@ ghost use Rattle.goblin_pe_import.specs.ImportRecords.{import_slots};
 
 use crate::import::bitfield::{Bitfield, read_entry};
 use crate::import::directory_entry::ImportDirectoryEntry;
-use goblin_base::{Endian, Record, pread_slice};
+use goblin_base::{Endian, Record};
 
 // The entry in the slot at an offset; `None` if the table ends there.
 #[inline(always)]
@@ -38,5 +38,5 @@ pub(crate) fn next_record(bytes: &[u8], offset: usize) -> Option<ImportDirectory
 pub(crate) fn may_end(bytes: &[u8], offset: usize, width: usize, permissive: bool) -> bool
     ensures { result ≡ (permissive || is_some (slice_at bytes.now offset width)) }
 {
-    permissive || pread_slice(bytes, offset, width).is_ok()
+    permissive || (offset < bytes.len() && width <= bytes.len() - offset)
 }
