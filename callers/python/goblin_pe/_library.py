@@ -56,10 +56,9 @@ class _Buffer(c.Structure):
                 ("suboffsets", c.c_void_p), ("internal", c.c_void_p)]
 
 
-_get_buffer = c.pythonapi.PyObject_GetBuffer
-_get_buffer.restype, _get_buffer.argtypes = c.c_int, [c.py_object, c.POINTER(_Buffer), c.c_int]
-_release_buffer = c.pythonapi.PyBuffer_Release
-_release_buffer.restype, _release_buffer.argtypes = None, [c.POINTER(_Buffer)]
+# (of its own: the types of a function of c.pythonapi would be others' types, too)
+_get_buffer = c.PYFUNCTYPE(c.c_int, c.py_object, c.POINTER(_Buffer), c.c_int)(("PyObject_GetBuffer", c.pythonapi))
+_release_buffer = c.PYFUNCTYPE(None, c.POINTER(_Buffer))(("PyBuffer_Release", c.pythonapi))
 
 
 def _is_writable(view: memoryview) -> bool:
