@@ -19,7 +19,8 @@ use Rattle.goblin_pe_export.specs.ExportRecords.{ExportRow, ExportTables}
 use Rattle.goblin_pe_export.specs.LeftOutExports.{pointers_left_out}
 use Rattle.goblin_pe.specs.declared.whole.damage.Damage.{Damage}
 use Rattle.goblin_pe.specs.Modes.{in_mode, in_permissive_mode}
-use Rattle.goblin_pe.specs.Whole.{TablePlaces, entry_format, export_part, import_list, layout, offset_by}
+use Rattle.goblin_pe.specs.Whole.{TablePlaces, entry_format, export_part, import_list, layout}
+use Rattle.goblin_pe.specs.Whole.{offset_by}
 use Rattle.goblin_pe.specs.Whole.{places_in, relocation_part, sections_after, whole_file}
 
 -- There is a value and no damage, or there is none and the cause is true.
@@ -32,9 +33,10 @@ abbrev pub IsDamage : {A : Type 0} → Reading A → List ℕ → Option ErrorOf
 IsDamage reading bytes damage = IsDamageOf (reading.value bytes) (reading.IsCause bytes) damage
 
 -- how much permissive mode leaves out of the imports that a directory leads to, if there is one
-abbrev pub left_out_at : Format EntryValue → (ℕ → Option ℕ) → List ℕ → Option DataDirectory → LeftOut
-left_out_at format offset_of bytes None = record { libraries = 0; entries = 0 }
-left_out_at format offset_of bytes (Some d) = record {
+abbrev pub imports_left_out_at : Format EntryValue → (ℕ → Option ℕ) → List ℕ
+    → Option DataDirectory → LeftOut
+imports_left_out_at format offset_of bytes None = record { libraries = 0; entries = 0 }
+imports_left_out_at format offset_of bytes (Some d) = record {
   libraries = libraries_left_out format offset_of bytes d.virtual_address;
   entries = min (entries_left_out format offset_of bytes d.virtual_address) (2 ^ 64 - 1);
 }
@@ -42,11 +44,12 @@ left_out_at format offset_of bytes (Some d) = record {
 -- the same of a file's imports; nothing where they are not asked for
 unfoldable pub left_out_of : ParseOptions → (ℕ → Option ℕ) → TablePlaces → List ℕ → LeftOut
 left_out_of opts offset_of places bytes =
-    left_out_at (entry_format places.magic) offset_of bytes
+    imports_left_out_at (entry_format places.magic) offset_of bytes
     (if opts.parse_imports then places.imports else None)
 
 -- how many name pointers of the export directory that was read give no export; 0 without one
-abbrev pub exports_left_out_of : (ℕ → Option ℕ) → List ℕ → Option (ExportTables × List ExportRow) → ℕ
+abbrev pub exports_left_out_of : (ℕ → Option ℕ) → List ℕ
+    → Option (ExportTables × List ExportRow) → ℕ
 exports_left_out_of offset_of bytes None = 0
 exports_left_out_of offset_of bytes (Some read) = pointers_left_out offset_of bytes read.0
 
@@ -62,7 +65,8 @@ pub record AreDamaged (opts : ParseOptions) (offset_of : ℕ → Option ℕ) (pl
     : Type 0 where
   pub imports : IsDamage (import_list (in_mode Strict opts) offset_of places) bytes of_imports
   pub exports : IsDamage (export_part (in_mode Strict opts) offset_of places) bytes of_exports
-  pub relocations : IsDamage (relocation_part (in_mode Strict opts) offset_of places) bytes of_relocations
+  pub relocations : IsDamage (relocation_part (in_mode Strict opts) offset_of places) bytes
+      of_relocations
   pub left_out : of_left_out ≡ left_out_of opts offset_of places bytes
 
 -- What strict mode would refuse of a file with this header and these sections.
@@ -71,7 +75,8 @@ pub record IsDamaged (opts : ParseOptions) (h : PeHeader) (sections : List Secti
   pub dos_stub : IsDamage (stub_at h.dos_header.pe_pointer) bytes d.dos_stub
   pub section_names : IsDamage (sections_after true h) bytes d.section_names
   pub tables : let places = places_in h.optional_header in
-      AreDamaged opts (offset_by opts sections places) places bytes d.imports d.exports d.relocations d.left_out
+      AreDamaged opts (offset_by opts sections places) places bytes
+      d.imports d.exports d.relocations d.left_out
   pub left_out_exports : let places = places_in h.optional_header in
       d.left_out_exports ≡ exports_left_out (offset_by opts sections places) places bytes
 

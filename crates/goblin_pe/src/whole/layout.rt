@@ -1,39 +1,45 @@
 //! What all tables of a file are read by.
 
-ghost use Rattle.std.specs.Prelude.{◌+◌, ◌≡◌, ◌<◌, ◌/◌, IfErr, IfOk, IsErrAnd, None, Ok, Some};
-ghost use Rattle.std.specs.Prelude.{length, map};
+ghost use Rattle.std.specs.Prelude.{◌+◌, ◌/◌, ◌<◌, ◌≡◌, IfErr, IfOk, IsErrAnd, None, Ok, Some};
+ghost use Rattle.std.specs.Prelude.{Option, length, map, ℕ};
+ghost use Rattle.std.specs.List.{flat_map};
 ghost use Rattle.goblin_base.specs.Answers.{IsMemory};
-ghost use Rattle.goblin_base.specs.Marks.{marked};
 ghost use Rattle.goblin_base.specs.Reading.{Reads, ReadsOrMemory};
 ghost use Rattle.readings.specs.Reads.{mapped};
+ghost use Rattle.readings.specs.Walks.{Walks};
+ghost use Rattle.goblin_pe_sect.specs.declared.options.ParseOptions.{ParseOptions};
+ghost use Rattle.goblin_pe_sect.specs.Addresses.{map_of, offset_of, reads_strictly, strict_map};
 ghost use Rattle.goblin_pe_sect.specs.BaseRelocations.{relocation_bytes};
 ghost use Rattle.goblin_pe_sect.specs.Options.{is_strict};
-ghost use Rattle.goblin_pe_head.specs.PeHeader.{header_value};
-ghost use Rattle.goblin_pe_head.specs.CoffHeader.{IsTooManySections};
-ghost use Rattle.goblin_pe_sect.specs.Addresses.{map_of, offset_of, strict_map};
 ghost use Rattle.goblin_pe_sect.specs.SectionTable.{recorded_sections, unnamed};
-ghost use Rattle.goblin_pe.specs.Damages.{exports_left_out, left_out_of};
-ghost use Rattle.goblin_pe.specs.LayoutPositions.{StartsAt, file_map, import_start};
+ghost use Rattle.goblin_pe_head.specs.CoffHeader.{IsTooManySections};
+ghost use Rattle.goblin_pe_head.specs.PeHeader.{header_value};
+ghost use Rattle.goblin_pe_import.specs.ImportPositions.{first_import};
+ghost use Rattle.goblin_pe_import.specs.ImportReadings.{import_data};
+ghost use Rattle.goblin_pe_import.specs.Imports.{kept_imports};
+ghost use Rattle.goblin_pe.specs.Damages.{exports_left_out, imports_left_out_at, left_out_of};
+ghost use Rattle.goblin_pe.specs.LayoutPositions.{GivesFirst, GivesFrom, StartsAt, file_map};
+ghost use Rattle.goblin_pe.specs.LayoutPositions.{import_start};
 ghost use Rattle.goblin_pe.specs.Layouts.{IsExportWalk, IsFileImportsCause, IsLayoutOf, PartWalks};
 ghost use Rattle.goblin_pe.specs.Layouts.{file_imports_left, layout_bytes, layout_header};
-ghost use Rattle.goblin_pe.specs.Layouts.{layout_map, layout_places};
-ghost use Rattle.goblin_pe.specs.Layouts.{layout_sections, walked_exports};
+ghost use Rattle.goblin_pe.specs.Layouts.{layout_map, layout_places, layout_sections};
+ghost use Rattle.goblin_pe.specs.Layouts.{walked_exports};
 ghost use Rattle.goblin_pe.specs.SectionRoom.{TakesIndex, TakesSections};
-ghost use Rattle.goblin_pe.specs.Whole.{AreListed, IfRead, export_part, import_list};
+ghost use Rattle.goblin_pe.specs.Whole.{AreListed, IfRead, TablePlaces, entry_format, export_part};
+ghost use Rattle.goblin_pe.specs.Whole.{import_list};
 ghost use Rattle.goblin_pe.specs.Whole.{part_map, relocation_part, section_table_offset};
-ghost use Rattle.goblin_pe.specs.Whole.{sections_after, table_parts};
+ghost use Rattle.goblin_pe.specs.Whole.{sections_after};
 
 use crate::export::Exports;
-use crate::import::{ImportPosition, LeftOut};
-use crate::whole::places::Places;
+use crate::import::{ImportPosition, Imports, LeftOut};
+use crate::whole::places::{Places, part_of};
 use crate::whole::{FileImports, Part};
-use goblin_base::footprint::Marks;
 use goblin_base::{Result, ResultOf};
 use goblin_pe_head::header::{Header, SIZEOF_COFF_HEADER, SIZEOF_PE_MAGIC};
 use goblin_pe_sect::address_map::{AddressMap, Finder};
 use goblin_pe_sect::relocation::RelocationData;
 use goblin_pe_sect::section_table::SectionRecords;
-use goblin_pe_sect::{ParseOptions, SectionTable};
+use goblin_pe_sect::{DataDirectory, ParseOptions, SectionTable};
 use std::alloc::Global;
 
 /// What all tables of a file are read by: its header, the records of its sections, and where its
@@ -45,9 +51,9 @@ use std::alloc::Global;
 pub struct Layout<'a, 'h> {
     bytes: &'a [u8],
     header: &'h Header<'a>,
-    places: Places,
+    pub(super) places: Places,
     records: SectionRecords<'a>,
-    address_map: AddressMap<'a>,
+    pub(super) address_map: AddressMap<'a>,
 }
 
 // The file offset of the section table after an optional header of this size.
@@ -109,15 +115,27 @@ pub(super) fn sections_of(
         .sections_with_opts(alloc, bytes, &mut offset, opts)
 }
 
+// The bytes over which imports are walked. By their type, the list of imports has what a walk
+// gives.
+#[inline(always)]
+#[tactic(auto, using(crate::proofs::ImportParts::are_listed))]
+fn walked(bytes: &[u8]) -> &[u8]
+    ensures same { result.now ≡ bytes.now }
+    ensures listed { (opts : ParseOptions) (offset_of : ℕ → Option ℕ) (places : TablePlaces)
+        → AreListed opts offset_of places bytes.now }
+{
+    bytes
+}
+
 impl<'a, 'h> Layout<'a, 'h> {
     /// Refuses the sections of a file with this header where [`Whole::read`](crate::Whole::read)
-    /// does, and prepares what maps its addresses. Memory is taken only for an index of more than 96
-    /// sections, by whose windows addresses are mapped.
+    /// does, and prepares what maps its addresses. Memory is taken only for an index of more than
+    /// 96 sections, by whose windows addresses are mapped.
     ///
     /// # Errors
     /// As [`CoffHeader::sections_with_opts`](goblin_pe_head::CoffHeader::sections_with_opts), but
-    /// [`Error::Memory`](goblin_base::Error::Memory) only of more than 96 sections, where their windows
-    /// map addresses.
+    /// [`Error::Memory`](goblin_base::Error::Memory) only of more than 96 sections, where their
+    /// windows map addresses.
     #[inline(always)]
     #[tactic(auto, using(crate::proofs::SectionNames::mapped_by_names, crate::proofs::SectionNames::takes_index))]
     pub fn of(
@@ -184,12 +202,12 @@ impl<'a, 'h> Layout<'a, 'h> {
         self.records
     }
 
-    /// The sections, in the order of their records, with their names from the string table, in memory
-    /// of their own.
+    /// The sections, in the order of their records, with their names from the string table, in
+    /// memory of their own.
     ///
     /// # Errors
-    /// As [`CoffHeader::sections_with_opts`](goblin_pe_head::CoffHeader::sections_with_opts), so of a
-    /// layout that was read only [`Error::Memory`](goblin_base::Error::Memory).
+    /// As [`CoffHeader::sections_with_opts`](goblin_pe_head::CoffHeader::sections_with_opts), so of
+    /// a layout that was read only [`Error::Memory`](goblin_base::Error::Memory).
     pub fn sections(&self, alloc: Global) -> Result<Vec<SectionTable>>
         ensures value { let strict = is_strict (layout_map self.now).opts.parse_mode in
             ReadsOrMemory (λ v. v.items) result
@@ -206,6 +224,7 @@ impl<'a, 'h> Layout<'a, 'h> {
     /// # Errors
     /// In strict mode as [`Imports::of`](crate::import::Imports::of).
     #[inline(always)]
+    #[tactic(auto, unfolding(crate::specs::LayoutPositions::import_start))]
     pub fn imports<'m, 'e>(&'m self) -> ResultOf<'e, Part<FileImports<'a, 'm, 'e>>>
         ensures walks { let m = layout_map self.now in
             PartWalks file_imports_left IsFileImportsCause (λ xs. xs) result
@@ -218,12 +237,21 @@ impl<'a, 'h> Layout<'a, 'h> {
             (import_start m.opts (offset_of m) places None) result }
         ensures over { IfOk result (IfRead (λ walk. file_map walk ≡ layout_map self.now)) }
     {
-        self.places.import_walk(self.bytes, &self.address_map)
+        let bytes = walked(self.bytes);
+        let opts = self.address_map.opts();
+        match self.places.imports {
+            Some(directory) if opts.parse_imports => {
+                let imports = self.imports_at(bytes, directory)?;
+                Ok(Part::Read(imports))
+            }
+            _ => Ok(Part::Absent),
+        }
     }
 
     /// The imports from a position on, as [`FileImports::position`] gave it, where the file has an
     /// import directory and they are asked for: what was still to come there. There are none
     /// without a position.
+    #[tactic(auto, unfolding(crate::specs::LayoutPositions::import_start))]
     pub fn imports_from<'m, 'e>(
         &'m self,
         position: Option<ImportPosition>,
@@ -233,8 +261,12 @@ impl<'a, 'h> Layout<'a, 'h> {
             StartsAt m places.magic (layout_bytes self.now)
             (import_start m.opts (offset_of m) places (Some position)) (Ok result) }
     {
-        self.places
-            .import_walk_from(self.bytes, position, &self.address_map)
+        match self.places.imports {
+            Some(_) if self.address_map.opts().parse_imports => {
+                Part::Read(self.imports_after(position))
+            }
+            _ => Part::Absent,
+        }
     }
 
     /// The exports that the export directory lists, one by one, each with its numbers.
@@ -252,12 +284,13 @@ impl<'a, 'h> Layout<'a, 'h> {
         self.exports_by(self.finder())
     }
 
-    /// The exports, as [`Layout::exports`], by a finder of this layout: what it has at hand takes no
-    /// search.
+    /// The exports, as [`Layout::exports`], by a finder of this layout: what it has at hand takes
+    /// no search.
     ///
     /// # Errors
     /// As [`Layout::exports`].
     #[inline(always)]
+    #[tactic(auto, unfolding(crate::specs::Whole::export_part, crate::specs::Whole::part_map))]
     pub fn exports_by<'m>(&self, finder: Finder<'m>) -> Result<Part<Exports<'a, 'm>>>
         requires { map_of finder ≡ layout_map self.now }
         ensures value { let m = layout_map self.now in
@@ -266,7 +299,11 @@ impl<'a, 'h> Layout<'a, 'h> {
         ensures walk { IfOk result
             (IfRead (IsExportWalk (layout_map self.now) (layout_bytes self.now))) }
     {
-        self.places.export_walk(self.bytes, finder)
+        let Some(directory) = self.places.exports else {
+            return Ok(Part::Absent);
+        };
+        let opts = *finder.opts();
+        part_of(Exports::by(self.bytes, directory, finder), &opts)
     }
 
     /// A finder by the map of the file's addresses.
@@ -291,31 +328,93 @@ impl<'a, 'h> Layout<'a, 'h> {
     }
 
     /// How much permissive mode leaves out of the imports; nothing where they are not asked for.
+    #[tactic(auto, unfolding(crate::specs::Damages::left_out_of))]
     pub fn left_out(&self) -> LeftOut
         ensures { let m = layout_map self.now in
             result ≡ left_out_of m.opts (offset_of m) (layout_places self.now)
             (layout_bytes self.now) }
     {
-        self.places.left_out(self.bytes, &self.address_map)
+        let opts = self.address_map.opts();
+        match self.places.imports {
+            Some(directory) if opts.parse_imports => self.imports_left_out_at(directory),
+            _ => LeftOut::default(),
+        }
     }
 
     /// How many name pointers of the export directory give no export, in either mode: there is no
-    /// ordinal, the ordinal lies past the address table, or it leads to a forwarder whose text cannot
-    /// be read. None where the file has no export directory, or one that strict mode refuses.
+    /// ordinal, the ordinal lies past the address table, or it leads to a forwarder whose text
+    /// cannot be read. None where the file has no export directory, or one that strict mode
+    /// refuses.
+    #[tactic(auto, unfolding(crate::specs::Damages::exports_left_out))]
     pub fn left_out_exports(&self) -> usize
         ensures { let m = layout_map self.now in
             result ≡ exports_left_out (offset_of m) (layout_places self.now)
             (layout_bytes self.now) }
     {
-        self.places.left_out_exports(self.bytes, self.finder())
+        let Some(directory) = self.places.exports else {
+            return 0;
+        };
+        match Exports::by(self.bytes, directory, self.finder()) {
+            Ok(exports) => exports.left_out(),
+            Err(_) => 0,
+        }
     }
 
-    // Marks the positions on which the tables depend.
-    pub(crate) fn mark_tables(&self, marks: &mut Marks)
-        ensures { let m = layout_map self.now in
-            let read = table_parts m.opts (offset_of m) (layout_places self.now) in
-            marks.new ≡ marked marks.old (read.reaches (layout_bytes self.now)) }
+    // The imports of a directory, as a walk.
+    #[inline(always)]
+    #[tactic(auto, unfolding(crate::specs::Whole::entry_format))]
+    fn imports_at<'m, 'e>(
+        &'m self,
+        bytes: &'a [u8],
+        directory: DataDirectory,
+    ) -> ResultOf<'e, FileImports<'a, 'm, 'e>>
+        ensures walks { let m = layout_map self.now in
+            let format = entry_format (layout_places self.now).magic in
+            let rva = directory.virtual_address in
+            Walks file_imports_left IsFileImportsCause (λ xs. xs) result
+            (mapped (flat_map (kept_imports (λ x. x) format.width))
+            (import_data (reads_strictly m) format (offset_of m) rva))
+            bytes.now }
+        ensures first { let m = layout_map self.now in
+            let rva = directory.virtual_address in
+            GivesFirst m (layout_places self.now).magic bytes.now
+            (first_import (reads_strictly m) (offset_of m) rva) result }
+        ensures over { IfOk result (λ walk. file_map walk ≡ layout_map self.now) }
     {
-        self.places.mark(marks, self.bytes, &self.address_map)
+        if self.places.has_narrow_entries() {
+            let imports = Imports::<u32>::of(bytes, directory, &self.address_map)?;
+            Ok(FileImports::Narrow(imports))
+        } else {
+            let imports = Imports::<u64>::of(bytes, directory, &self.address_map)?;
+            Ok(FileImports::Wide(imports))
+        }
+    }
+
+    // The imports from a position on.
+    #[tactic(auto, unfolding(crate::specs::Whole::entry_format))]
+    fn imports_after<'m, 'e>(&'m self, position: Option<ImportPosition>) -> FileImports<'a, 'm, 'e>
+        ensures { let magic = (layout_places self.now).magic in
+            GivesFrom (layout_map self.now) magic (layout_bytes self.now) position result }
+    {
+        if self.places.has_narrow_entries() {
+            FileImports::Narrow(Imports::from_position(self.bytes, position, self.finder()))
+        } else {
+            FileImports::Wide(Imports::from_position(self.bytes, position, self.finder()))
+        }
+    }
+
+    // How much permissive mode leaves out of the imports of a directory.
+    #[tactic(auto, unfolding(crate::specs::Whole::entry_format))]
+    fn imports_left_out_at(&self, directory: DataDirectory) -> LeftOut
+        ensures { let format = entry_format (layout_places self.now).magic in
+            result
+            ≡ imports_left_out_at format (offset_of (layout_map self.now)) (layout_bytes self.now)
+            (Some directory) }
+    {
+        if self.places.has_narrow_entries() {
+            LeftOut::of::<u32>(self.bytes, directory, &self.address_map)
+        } else {
+            LeftOut::of::<u64>(self.bytes, directory, &self.address_map)
+        }
     }
 }

@@ -3,35 +3,36 @@ use Rattle.std.specs.Prelude.{◌⊎◌}
 use Rattle.std.specs.List.{flat_map}
 use Rattle.std.proofs.lemmas.Result.{err_from_is_err_and}
 use Rattle.goblin_pe_sect.specs.declared.options.ParseOptions.{ParseOptions}
-use Rattle.goblin_pe_sect.specs.Addresses.{map_of, offset_of, reads_strictly}
+use Rattle.goblin_pe_sect.specs.Addresses.{offset_of, reads_strictly}
 use Rattle.goblin_pe_import.specs.ImportReadings.{import_data}
 use Rattle.goblin_pe_import.specs.Imports.{kept_imports}
-use Rattle.goblin_pe.specs.Whole.{entry_format, import_data_part, import_list, part_map, table_places}
+use Rattle.goblin_pe.specs.Layouts.{layout_bytes, layout_map, layout_places}
+use Rattle.goblin_pe.specs.Whole.{entry_format, import_data_part, import_list, part_map}
 use Rattle.goblin_pe.proofs.Collected.{unasked_mapped}
 use Rattle.goblin_pe.proofs.ImportParts.{list-refused, list-walked}
 use Rattle.goblin_pe.proofs.ImportStarts.{start-read, start-refused}
-use Rattle.goblin_pe.proofs.whole.places.Places.import_walk.Goals as goal
-use Rattle.goblin_pe.proofs.whole.places.Places.import_walk.Goals.{in_default-via-in-Some+else-opts, in_default-via-in_default}
+use Rattle.goblin_pe.proofs.whole.layout.Layout.imports.Goals as goal
+use Rattle.goblin_pe.proofs.whole.layout.Layout.imports.Goals.{in_default-via-in-Some+else-opts, in_default-via-in_default}
 
 pub returns-in_err-imports-in-Some-clause-walks : goal.returns-in_err-imports-in-Some-clause-walks
 returns-in_err-imports-in-Some-clause-walks c =
-    let m = map_of c.args.address_map.now in
+    let m = layout_map c.args.self.now in
     let asked : m.opts.parse_imports ≡ true = sym (ap (λ (o : ParseOptions). o.parse_imports) c.opts-opts.ensures) ∙ c.if-opts.true in
     let e = err_from_is_err_and c.from_residual.result c.from_residual.ensures.1 in
-    rw (e.1, e.2) (list-refused m.opts (offset_of m) (table_places c.args.self.now) c.in-Some.directory asked c.in-Some.is c.args.bytes.now _ _ c.imports_at.ensures.walks c.in_err-imports-in-Some.was)
+    rw (e.1, e.2) (list-refused m.opts (offset_of m) (layout_places c.args.self.now) c.in-Some.directory asked c.in-Some.is (layout_bytes c.args.self.now) _ _ (rw c.walked-bytes.ensures.same at c.imports_at.ensures.walks) c.in_err-imports-in-Some.was)
 
 pub returns-in_ok-imports-in-Some-clause-walks : goal.returns-in_ok-imports-in-Some-clause-walks
 returns-in_ok-imports-in-Some-clause-walks c =
-    let m = map_of c.args.address_map.now in
+    let m = layout_map c.args.self.now in
     let asked : m.opts.parse_imports ≡ true = sym (ap (λ (o : ParseOptions). o.parse_imports) c.opts-opts.ensures) ∙ c.if-opts.true in
-    list-walked m.opts (offset_of m) (table_places c.args.self.now) c.in-Some.directory asked c.in-Some.is c.args.bytes.now _ _ c.imports_at.ensures.walks c.in_ok-imports-in-Some.was
+    list-walked m.opts (offset_of m) (layout_places c.args.self.now) c.in-Some.directory asked c.in-Some.is (layout_bytes c.args.self.now) _ _ (rw c.walked-bytes.ensures.same at c.imports_at.ensures.walks) c.in_ok-imports-in-Some.was
 
 pub returns-in_default-clause-walks : goal.returns-in_default-clause-walks
 unfolding import_list import_data_part part_map
 returns-in_default-clause-walks c =
-    let m = map_of c.args.address_map.now in
-    let format = entry_format c.args.self.now.magic in
-    let none : (m.opts.parse_imports ≡ false) ⊎ (c.args.self.now.imports ≡ None) =
+    let m = layout_map c.args.self.now in
+    let format = entry_format (layout_places c.args.self.now).magic in
+    let none : (m.opts.parse_imports ≡ false) ⊎ ((layout_places c.args.self.now).imports ≡ None) =
     elim c.in_default.branch [
       | in_default-via-in-Some+else-opts w ↦
           inl (sym (ap (λ (o : ParseOptions). o.parse_imports) c.opts-opts.ensures) ∙ w.if-opts.false)
@@ -39,17 +40,17 @@ returns-in_default-clause-walks c =
     ] in
     unasked_mapped (λ x. x) (flat_map (kept_imports (λ x. x) format.width)) (reads_strictly m) m.opts.parse_imports
     (λ d. import_data (reads_strictly m) format (offset_of m) d.virtual_address)
-    c.args.self.now.imports c.args.bytes.now none
+    (layout_places c.args.self.now).imports (layout_bytes c.args.self.now) none
 
 pub returns-in_err-imports-in-Some-clause-starts : goal.returns-in_err-imports-in-Some-clause-starts
 returns-in_err-imports-in-Some-clause-starts c =
-    let m = map_of c.args.address_map.now in
+    let m = layout_map c.args.self.now in
     let asked : m.opts.parse_imports ≡ true = sym (ap (λ (o : ParseOptions). o.parse_imports) c.opts-opts.ensures) ∙ c.if-opts.true in
     let e = err_from_is_err_and c.from_residual.result c.from_residual.ensures.1 in
-    rw (e.1, e.2) (start-refused m (table_places c.args.self.now) c.args.bytes.now c.in-Some.directory asked c.in-Some.is c.imports_at.result c.imports_at.ensures.first _ c.in_err-imports-in-Some.was)
+    rw (e.1, e.2) (start-refused m (layout_places c.args.self.now) (layout_bytes c.args.self.now) c.in-Some.directory asked c.in-Some.is c.imports_at.result (rw c.walked-bytes.ensures.same at c.imports_at.ensures.first) _ c.in_err-imports-in-Some.was)
 
 pub returns-in_ok-imports-in-Some-clause-starts : goal.returns-in_ok-imports-in-Some-clause-starts
 returns-in_ok-imports-in-Some-clause-starts c =
-    let m = map_of c.args.address_map.now in
+    let m = layout_map c.args.self.now in
     let asked : m.opts.parse_imports ≡ true = sym (ap (λ (o : ParseOptions). o.parse_imports) c.opts-opts.ensures) ∙ c.if-opts.true in
-    start-read m (table_places c.args.self.now) c.args.bytes.now c.in-Some.directory asked c.in-Some.is c.imports_at.result c.imports_at.ensures.first _ c.in_ok-imports-in-Some.was
+    start-read m (layout_places c.args.self.now) (layout_bytes c.args.self.now) c.in-Some.directory asked c.in-Some.is c.imports_at.result (rw c.walked-bytes.ensures.same at c.imports_at.ensures.first) _ c.in_ok-imports-in-Some.was
