@@ -42,7 +42,7 @@ import ctypes as c
 import dataclasses
 import hashlib
 import operator
-from typing import Any, Callable, Dict, Iterable, Iterator, List, NamedTuple, Optional
+from typing import Any, Callable, Dict, Iterable, Iterator, List, NamedTuple, Optional, Tuple, Union
 
 from . import _laid_out, records
 from ._imphash import imphash as _imphash
@@ -301,6 +301,15 @@ class Pe:
             image = self._image(address, length)
             refused = calls.goblin_pe_raw_memory_at(c.byref(image), _size(rva), _size(size), c.byref(seen)).status
             return None if refused else SectionData(_Rows(in_bytes, address).text(seen.bytes), seen.zeros)
+
+    def forwarder_at(self, rva: int) -> Optional[Tuple[bytes, Union[bytes, int]]]:
+        """The forwarder whose text is at an address, as an ExportAddress that forwards has it, also of an export without a name:
+        the library without its ending, and the export's name or ordinal there. None where the address has no offset in the
+        file, there is no text, or the text is no forwarder."""
+        found = records.Forwarder()
+        with memoryview(self._bytes()) as view, _held(view) as (calls, address, length), view.cast("B") as in_bytes:
+            refused = calls.goblin_pe_raw_forwarder_at(c.byref(self._image(address, length)), _size(rva), c.byref(found)).status
+            return None if refused else _Rows(in_bytes, address).forwarder(found)
 
     def section_at(self, rva: int) -> Optional[Section]:
         """The section of an address: the first by which it is mapped; None where there is none."""

@@ -57,7 +57,7 @@ pub use error::Error;
 pub use footprint::Footprint;
 pub use iterators::{
     Blocks, DataDirectories, ExportAddresses, Exports, FootprintRanges, Imports, Sections, Symbols,
-    WalkExports, WalkImports, Words,
+    WalkExports, WalkImports, WalkRelocations, Words,
 };
 pub use numbers::{
     Cause, Counted, DirectoryType, ErrorKind, Kind, Part, RawPointerRule, ReadFault,

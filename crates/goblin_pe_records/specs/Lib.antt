@@ -10,6 +10,7 @@ pub mod Images
 pub mod Items
 pub mod Kinds
 pub mod Memory
+pub mod Onward
 pub mod Options
 pub mod Relocations
 pub mod RichHeaders
@@ -17,4 +18,5 @@ pub mod SectionData
 pub mod Sections
 pub mod States
 pub mod Symbols
+pub mod Words
 pub mod Written
