@@ -151,7 +151,7 @@ def record_of(doc: str, text: str) -> Declared:
 
 def enum_of(doc: str, text: str) -> Declared:
     """An enum of numbers; a variant without a number has the one after that before it."""
-    (name,) = read(r"(?:pub )?enum (\w+) \{\n", text)
+    (name,) = read(r"(?:pub(?:\(crate\))? )?enum (\w+) \{\n", text)
     items: List[Item] = []
     for variant, number, said in rows_of(text, r"(\w+)(?: = (\d+))?,"):
         items.append(Item(variant, Type("number", "u32"), said, number or str(int(items[-1].number) + 1 if items else 0)))
@@ -204,7 +204,7 @@ class Interface:
 
     def take(self, doc: str, marks: str, text: str) -> None:
         """Takes a declaration up, if it is one of the interface."""
-        enum = re.match(r"(?:pub )?enum (\w+) \{", text)
+        enum = re.match(r"(?:pub(?:\(crate\))? )?enum (\w+) \{", text)
         if "#[repr(C)]" in marks:
             read(r"#\[repr\(C\)\](\n#\[derive\([\w, ]+\)\])?$", marks)
             record = record_of(doc, text)
@@ -497,6 +497,7 @@ const _: () = {
 %s};
 
 #[rustfmt::skip]
+#[allow(dead_code)] // (the words of a block are read here without the library)
 unsafe extern "C" {
 %s}
 """

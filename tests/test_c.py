@@ -73,10 +73,10 @@ class Programs(Case):
         succeed([built("threads", "-std=c11", "-pthread", "-fsanitize=thread"), "256", *THREADED])
 
     def test_each_growth_is_refused(self):
-        for call, samples in (("open", IMAGES), ("footprint", IMAGES), ("object", OBJECTS), ("te", TERSE)):
+        for call, samples, takes_memory in (("open", IMAGES, True), ("footprint", IMAGES, True), ("object", OBJECTS, False), ("te", TERSE, False)):
             for sample in samples:
                 with self.subTest(call=call, sample=sample.name):
-                    self.assertGreater(refused(call, sample), 0)
+                    self.assertEqual(refused(call, sample) > 0, takes_memory)
 
     def test_memory_for_an_index_is_taken_of_more_than_96_sections(self):
         for count in (96, 97):

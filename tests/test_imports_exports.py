@@ -219,14 +219,16 @@ class Exports(Read):
     def test_forwarders_name_a_library_and_a_name_or_an_ordinal(self):
         for text, wanted in FORWARDERS:
             with self.subTest(text):
-                self.assertEqual([it.forwarder for it in read(images.library(b"a.dll", [(b"f", text)])).exports], [wanted])
+                pe = read(images.library(b"a.dll", [(b"f", text)]))
+                self.assertEqual([it.forwarder for it in pe.exports], [wanted])
+                self.assertEqual([pe.forwarder_at(it.rva) for it in pe.export_addresses], [wanted])
 
     def test_texts_that_are_no_forwarders_are_no_exports(self):
         for text in NO_FORWARDERS:
             with self.subTest(text):
                 pe = read(images.library(b"a.dll", [(b"f", text)]))
                 self.assertEqual((pe.exports, [it.forwards for it in pe.export_addresses]), ([], [True]))
-                self.assertEqual(pe.damage.left_out_exports, 1)
+                self.assertEqual((pe.damage.left_out_exports, pe.forwarder_at(pe.export_addresses[0].rva)), (1, None))
 
 
 class Damage(Read):

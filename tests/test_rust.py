@@ -89,14 +89,13 @@ class Crate(Case):
         succeed(["cargo", "add", "-q", "--offline", "--manifest-path", user / "Cargo.toml", "--path", CALLERS / "rust"], env=env)
         image = self.written("some.dll", BY_NAME.read_bytes())
         first = "GetTickCount from KERNEL32.dll\n"
-        hashes = r"Some\(Hash\(%s\)\) [0-9a-f]{64}\n" % HASHES[BY_NAME.name]
         for readme, count, wanted in ((TOP / "README.md", 1, first),
-                                      (CALLERS / "rust/README.md", 3, first + "COFF_MACHINE_X86_64, 64 bits, library: true\n" + hashes)):
+                                      (CALLERS / "rust/README.md", 3, first + "COFF_MACHINE_X86_64, 64 bits, library: true\n")):
             with self.subTest(readme=readme):
                 programs = re.findall(r"(?s)```rust\n(.*?)```", readme.read_text("utf-8"))[:count]
                 (user / "src/main.rs").write_text(README % "".join(programs), "utf-8")
                 command = ["cargo", "run", "-q", "--offline", "--manifest-path", user / "Cargo.toml", image.name]
-                self.assertRegex(succeed(command, env=env, cwd=self.folder), f"^{wanted}$")
+                self.assertEqual(succeed(command, env=env, cwd=self.folder), wanted)
 
     def test_its_documentation(self):
         cargo("doc", RUSTDOCFLAGS="-D warnings")

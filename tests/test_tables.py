@@ -285,6 +285,21 @@ class Tables(unittest.TestCase):
         section, = package().ObjectFile(file).sections
         self.assertEqual(section.relocations(file), [(address, symbol, 4) for address, symbol in RELOCATIONS])
 
+        self.assertEqual(list(section.walk_relocations(file)), section.relocations(file))
+
+    def test_a_walk_gives_all_relocations_where_the_first_record_has_their_number(self):
+        flag = package().constants.IMAGE_SCN_LNK_NRELOC_OVFL
+        row = struct.Struct("<IIH")
+        for count in (0x10000, 0x10001, 0x20000):
+            file = relocated(b"") + row.pack(count, 0, 0) + b"".join(row.pack(i, 7, 4) for i in range(count - 1))
+            section, = package().ObjectFile(file).sections
+            full = section._replace(number_of_relocations=0xFFFF, characteristics=flag)
+            with self.subTest(count=count):
+                self.assertEqual(list(full.walk_relocations(file)), [(i, 7, 4) for i in range(count - 1)])
+                self.assertEqual(refusal(list, full.walk_relocations(file[:-1])), ("READ", "TOO_BIG", 0, 0))
+            for other in (full._replace(number_of_relocations=2), full._replace(characteristics=0, number_of_relocations=2)):
+                self.assertEqual(list(other.walk_relocations(file)), [(count, 0, 0), (0, 7, 4)])
+
     def test_no_relocations_are_read_before_the_end_and_refused_at_it(self):
         section = package().ObjectFile(relocated(b"")).sections[0]._replace(pointer_to_relocations=0)
         self.assertEqual(section.relocations(b"a"), [])

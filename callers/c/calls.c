@@ -255,9 +255,65 @@ static bool maps_by_records_of_zeros(void)
            data.bytes.bytes == file + 0x600 && data.bytes.length == 0x200 && !data.zeros;
 }
 
+/* Whether an offset has the address that is mapped to it, an address its section, and what a loader sees at it is told, of
+   sections whose records a caller made. */
+static bool looks_up(void)
+{
+    static uint8_t file[0x800];
+    struct goblin_pe_section section;
+    struct goblin_pe_image image = { { file, sizeof file }, &section, 1, 0x200, GOBLIN_PE_DEFAULT_OPTIONS };
+    struct goblin_pe_section_data seen = { { file, 77 }, 77 };
+    struct goblin_pe_forwarder forwarder;
+    size_t rva = 7, index = 7;
+    memset(&section, 0, sizeof section);
+    section.virtual_address = 0x1000;
+    section.virtual_size = 0x300;
+    section.size_of_raw_data = 0x200;
+    section.pointer_to_raw_data = 0x400;
+    memcpy(file + 0x410, "NTDLL.#12", 9);
+    if (goblin_pe_find_rva(&image, 0x3FF, &rva) || goblin_pe_section_at(&image, 0x1200, &index) || rva != 7 || index != 7)
+        return false;
+    if (!goblin_pe_find_rva(&image, 0x410, &rva) || !goblin_pe_section_at(&image, rva, &index) || rva != 0x1010 || index != 0)
+        return false;
+    if (!is_fault(goblin_pe_memory_at(&image, 0x12FF, 2, &seen), GOBLIN_PE_STATUS_MALFORMED, GOBLIN_PE_CAUSE_UNMAPPED) || seen.zeros != 77)
+        return false;
+    if (!is_fault(goblin_pe_forwarder_at(&image, 0x1016, &forwarder), GOBLIN_PE_STATUS_MALFORMED, GOBLIN_PE_CAUSE_FORWARDER))
+        return false;
+    return goblin_pe_memory_at(&image, 0x11F0, 0x20, &seen).status == GOBLIN_PE_STATUS_OK && seen.bytes.bytes == file + 0x5F0 &&
+           seen.bytes.length == 0x10 && seen.zeros == 0x10 &&
+           goblin_pe_forwarder_at(&image, 0x1010, &forwarder).status == GOBLIN_PE_STATUS_OK && forwarder.ordinal == 12 &&
+           forwarder.forwards == GOBLIN_PE_FORWARDS_ORDINAL && forwarder.lib.bytes == file + 0x410 && forwarder.lib.length == 5;
+}
+
+/* Whether the words of a block and the relocations of a section are walked over in batches, and a checksum is added up. */
+static bool walks_and_adds(void)
+{
+    static const uint8_t words[] = { 0x04, 0x30, 0xFF, 0xAF, 0x00, 0x00, 0x07 }, relocation[20] = { 2, 0, 0, 0, 1 };
+    struct goblin_pe_block block = { { words, sizeof words }, 0xFFFFF000, 0 };
+    struct goblin_pe_section section;
+    struct goblin_pe_relocation found[2];
+    struct goblin_pe_word word[2];
+    size_t position = 0, count;
+    if (goblin_pe_next_words(&block, &position, word, 2) != 2 || position != 2 || word[0].rva != 0xFFFFF004 || word[0].typ != 3 ||
+        word[1].rva != 0xFFFFFFFF || word[1].typ != 10)
+        return false;
+    if (goblin_pe_next_words(&block, &position, word, 2) != 1 || word[0].rva != 0xFFFFF000 || word[0].typ != 0 || position != 3 ||
+        goblin_pe_next_words(&block, &position, NULL, 0) || goblin_pe_next_words(&block, &position, word, 2))
+        return false;
+    memset(&section, 0, sizeof section);
+    section.number_of_relocations = 2;
+    position = 1;
+    if (goblin_pe_next_relocations(relocation, 20, &section, &position, found, 2, &count).status || count != 1 || position != 2)
+        return false;
+    if (!is_fault(goblin_pe_next_relocations(relocation, 19, &section, &position, found, 2, &count), GOBLIN_PE_STATUS_READ,
+                  GOBLIN_PE_READ_FAULT_TOO_BIG))
+        return false;
+    return goblin_pe_checksum(words, sizeof words, 2) == 0x300B + 7 && goblin_pe_checksum(NULL, 0, 0) == 0;
+}
+
 int main(int argc, char **argv)
 {
-    if (!sets_names() || !is_told() || !maps_by_records_of_zeros() || goblin_pe_kind_of(NULL, 0) != GOBLIN_PE_KIND_UNKNOWN)
+    if (!sets_names() || !is_told() || !maps_by_records_of_zeros() || !looks_up() || !walks_and_adds() || goblin_pe_kind_of(NULL, 0) != GOBLIN_PE_KIND_UNKNOWN)
         return 4;
     for (int i = 1; i < argc; i++) {
         FILE *from = fopen(argv[i], "rb");

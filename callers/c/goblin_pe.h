@@ -281,9 +281,9 @@ static inline bool goblin_pe_read_aux_file(struct goblin_pe_text auxiliary, stru
 /* Reads the relocations of a section of an object: says in `count` how many there are, and fills as many
    records as there is room for. These are as many as the section's record says, at most 65,535. Where it says
    so many and has the flag IMAGE_SCN_LNK_NRELOC_OVFL, the section has more than these: the first record is none
-   of them, and its virtual_address tells how many follow one another there, itself among them. Refused is a file
-   that is too short for them, and one in which they begin at or past the end, even where there are none. No memory
-   is taken. */
+   of them, and its virtual_address tells how many follow one another there, itself among them;
+   goblin_pe_next_relocations gives all. Refused is a file that is too short for them, and one in which they begin at
+   or past the end, even where there are none. No memory is taken. */
 static inline struct goblin_pe_fault goblin_pe_read_relocations(
     const uint8_t *bytes, size_t length, const struct goblin_pe_section *section,
     struct goblin_pe_relocation *relocations, size_t room, size_t *count)
@@ -291,6 +291,32 @@ static inline struct goblin_pe_fault goblin_pe_read_relocations(
     struct goblin_pe_section sound = goblin_pe_sound_section(section);
     return goblin_pe_raw_read_relocations(
         GOBLIN_PE_BYTES(bytes), length, &sound, GOBLIN_PE_SOME(struct goblin_pe_relocation, relocations), room, count);
+}
+
+/* Goes on with the walk over all relocations of a section of an object from the index `position` on, 0 at the
+   beginning: fills as many records as there is room for, says in `count` how many, and moves `position` past them.
+   The count 0 without a refusal is the end, where there is room. Where the section has more than its counter can say,
+   the first record, which has their number, is none of them. Refused is what goblin_pe_read_relocations refuses. No
+   memory is taken. */
+static inline struct goblin_pe_fault goblin_pe_next_relocations(
+    const uint8_t *bytes, size_t length, const struct goblin_pe_section *section, size_t *position,
+    struct goblin_pe_relocation *relocations, size_t room, size_t *count)
+{
+    struct goblin_pe_section sound = goblin_pe_sound_section(section);
+    return goblin_pe_raw_next_relocations(
+        GOBLIN_PE_BYTES(bytes), length, &sound, position, GOBLIN_PE_SOME(struct goblin_pe_relocation, relocations), room,
+        count);
+}
+
+/* Goes on with the walk over the words of a block of base relocations from the index `position` on, 0 at the
+   beginning: fills as many records as there is room for, moves `position` past them, and answers how many these
+   are; 0 is the end, where there is room. A byte that is left after the words is no word. */
+static inline size_t goblin_pe_next_words(
+    const struct goblin_pe_block *block, size_t *position, struct goblin_pe_word *words, size_t room)
+{
+    struct goblin_pe_block sound = *block;
+    sound.words.bytes = GOBLIN_PE_BYTES(sound.words.bytes);
+    return goblin_pe_raw_next_words(&sound, position, GOBLIN_PE_SOME(struct goblin_pe_word, words), room);
 }
 
 /* What maps the addresses of an image that was opened. */
@@ -353,6 +379,16 @@ static inline struct goblin_pe_fault goblin_pe_text_at(
 {
     struct goblin_pe_image sound = goblin_pe_sound_image(image);
     return goblin_pe_raw_text_at(&sound, rva, text);
+}
+
+/* The forwarder whose text is at an address, as an entry of the export address table has it, also of an export
+   without a name. Refused are an address without an offset in the file, one where there is no text, and a text that
+   is no forwarder. No memory is taken. */
+static inline struct goblin_pe_fault goblin_pe_forwarder_at(
+    const struct goblin_pe_image *image, size_t rva, struct goblin_pe_forwarder *forwarder)
+{
+    struct goblin_pe_image sound = goblin_pe_sound_image(image);
+    return goblin_pe_raw_forwarder_at(&sound, rva, forwarder);
 }
 
 /* So many bytes of the file from the offset of an address on. The end of its section is not looked at, so where they

@@ -852,6 +852,20 @@ struct goblin_pe_image {
     struct goblin_pe_options options;
 };
 
+/* What a forwarder stands for: an export of another library. */
+struct goblin_pe_forwarder {
+    /* The library, without its ending. */
+    struct goblin_pe_text lib;
+    /* Of a forwarder by name the export's name in that library. */
+    struct goblin_pe_text name;
+    /* Of a forwarder by ordinal the export's ordinal in that library. */
+    size_t ordinal;
+    /* Which of the two it is, by the numbers of `goblin_pe_forwards`. */
+    uint32_t forwards;
+    /* Zero. It stands where padding would be, so that each byte of the record is defined. */
+    uint32_t reserved;
+};
+
 /* The data of a section, as it is in memory. */
 struct goblin_pe_section_data {
     /* The bytes that the file has of it. */
@@ -967,6 +981,18 @@ struct goblin_pe_te_header {
     struct goblin_pe_data_directory debug_dir;
 };
 
+/* A word of a block of base relocations: which bytes a loader changes, and how.
+
+   Source: PE Format, "Base Relocation Block". */
+struct goblin_pe_word {
+    /* Where the bytes begin: their address, relative to the image's base. */
+    size_t rva;
+    /* How they are changed, an `IMAGE_REL_BASED_*`. Type 0 changes nothing and fills up a block. */
+    uint32_t typ;
+    /* Zero. It stands where padding would be, so that each byte of the record is defined. */
+    uint32_t reserved;
+};
+
 /* The library's own calls, for those who declare them in another language. As the calls of goblin_pe.h, which are made
    of them, but none of their pointers may be null. */
 bool goblin_pe_raw_read_aux_function_definition(
@@ -1001,6 +1027,8 @@ struct goblin_pe_fault goblin_pe_raw_read_damage(
 struct goblin_pe_fault goblin_pe_raw_footprint(
     const uint8_t *bytes, size_t byte_count, const struct goblin_pe_options *options,
     struct goblin_pe_ranges *ranges);
+struct goblin_pe_fault goblin_pe_raw_forwarder_at(
+    const struct goblin_pe_image *image, size_t rva, struct goblin_pe_forwarder *forwarder);
 bool goblin_pe_raw_find_offset(const struct goblin_pe_image *image, size_t rva, size_t *offset);
 struct goblin_pe_fault goblin_pe_raw_text_at(
     const struct goblin_pe_image *image, size_t rva, struct goblin_pe_text *text);
@@ -1032,6 +1060,12 @@ struct goblin_pe_fault goblin_pe_raw_read_relocations(
 struct goblin_pe_fault goblin_pe_raw_read_te(
     const uint8_t *bytes, size_t byte_count, struct goblin_pe_te_header *header,
     struct goblin_pe_section *sections, size_t section_room);
+struct goblin_pe_fault goblin_pe_raw_next_relocations(
+    const uint8_t *bytes, size_t byte_count, const struct goblin_pe_section *section,
+    size_t *position, struct goblin_pe_relocation *records, size_t record_room, size_t *count);
+size_t goblin_pe_raw_next_words(
+    const struct goblin_pe_block *block, size_t *position, struct goblin_pe_word *words,
+    size_t word_room);
 struct goblin_pe_fault goblin_pe_raw_write_header(
     const struct goblin_pe_file *file, const struct goblin_pe_directory *directories,
     size_t directory_count, const uint8_t *stub, size_t stub_count, uint8_t *out, size_t out_room,
@@ -1324,6 +1358,13 @@ GOBLIN_PE_IS_AT(image, section_count, 24);
 GOBLIN_PE_IS_AT(image, file_alignment, 32);
 GOBLIN_PE_IS_AT(image, options, 36);
 
+GOBLIN_PE_HAS_SIZE(forwarder, 48, 8);
+GOBLIN_PE_IS_AT(forwarder, lib, 0);
+GOBLIN_PE_IS_AT(forwarder, name, 16);
+GOBLIN_PE_IS_AT(forwarder, ordinal, 32);
+GOBLIN_PE_IS_AT(forwarder, forwards, 40);
+GOBLIN_PE_IS_AT(forwarder, reserved, 44);
+
 GOBLIN_PE_HAS_SIZE(section_data, 24, 8);
 GOBLIN_PE_IS_AT(section_data, bytes, 0);
 GOBLIN_PE_IS_AT(section_data, zeros, 16);
@@ -1369,6 +1410,11 @@ GOBLIN_PE_IS_AT(te_header, base_of_code, 12);
 GOBLIN_PE_IS_AT(te_header, image_base, 16);
 GOBLIN_PE_IS_AT(te_header, reloc_dir, 24);
 GOBLIN_PE_IS_AT(te_header, debug_dir, 32);
+
+GOBLIN_PE_HAS_SIZE(word, 16, 8);
+GOBLIN_PE_IS_AT(word, rva, 0);
+GOBLIN_PE_IS_AT(word, typ, 8);
+GOBLIN_PE_IS_AT(word, reserved, 12);
 
 #undef GOBLIN_PE_TEST
 #undef GOBLIN_PE_ALIGNMENT

@@ -450,6 +450,15 @@ class Pe:
             refused = _LIB.goblin_pe_raw_memory_at(_c.byref(image), _size(rva), _size(size), _c.byref(seen)).status
             return None if refused else SectionData(_Rows(data, address).text(seen.bytes), seen.zeros)
 
+    def forwarder_at(self, rva: int) -> _t.Optional[_t.Tuple[bytes, _t.Union[bytes, int]]]:
+        """The forwarder whose text is at an address, as an ExportAddress that forwards has it, also of an export without a name:
+        the library without its ending, and the export's name or ordinal there. None where the address has no offset in the
+        file, there is no text, or the text is no forwarder."""
+        found, data = records.Forwarder(), self._bytes()
+        with _held(data) as (address, length):
+            refused = _LIB.goblin_pe_raw_forwarder_at(_c.byref(self._image(address, length)), _size(rva), _c.byref(found)).status
+            return None if refused else _Rows(data, address).forwarder(found)
+
     def section_at(self, rva: int) -> _t.Optional[Section]:
         """The section of an address: the first by which it is mapped; None where there is none."""
         index = _c.c_size_t()

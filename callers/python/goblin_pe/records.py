@@ -762,6 +762,24 @@ class Image(Record):
 
 
 @record
+class Forwarder(Record):
+    """What a forwarder stands for: an export of another library.
+
+    lib: The library, without its ending.
+    name: Of a forwarder by name the export's name in that library.
+    ordinal: Of a forwarder by ordinal the export's ordinal in that library.
+    forwards: Which of the two it is, by the numbers of `Forwards`.
+    reserved: Zero. It stands where padding would be, so that each byte of the record is defined.
+    """
+
+    lib: Text
+    name: Text
+    ordinal: Annotated[int, c.c_size_t]
+    forwards: Annotated[int, c.c_uint32]
+    reserved: Annotated[int, c.c_uint32]
+
+
+@record
 class SectionData(Record):
     """The data of a section, as it is in memory.
 
@@ -910,6 +928,22 @@ class TeHeader(NamedTuple):
     debug_dir: DataDirectory
 
 
+@record
+class Word(Record):
+    """A word of a block of base relocations: which bytes a loader changes, and how.
+
+    Source: PE Format, "Base Relocation Block".
+
+    rva: Where the bytes begin: their address, relative to the image's base.
+    typ: How they are changed, an `IMAGE_REL_BASED_*`. Type 0 changes nothing and fills up a block.
+    reserved: Zero. It stands where padding would be, so that each byte of the record is defined.
+    """
+
+    rva: Annotated[int, c.c_size_t]
+    typ: Annotated[int, c.c_uint32]
+    reserved: Annotated[int, c.c_uint32]
+
+
 # The calls: what each answers and takes.
 CALLS: Dict[str, Tuple[Any, List[Any]]] = {
     "goblin_pe_raw_read_aux_function_definition":
@@ -940,6 +974,8 @@ CALLS: Dict[str, Tuple[Any, List[Any]]] = {
         (Fault, [c.c_void_p, c.c_size_t, to(Options), to(Damage)]),
     "goblin_pe_raw_footprint":
         (Fault, [c.c_void_p, c.c_size_t, to(Options), to(Ranges)]),
+    "goblin_pe_raw_forwarder_at":
+        (Fault, [to(Image), c.c_size_t, to(Forwarder)]),
     "goblin_pe_raw_find_offset":
         (c.c_bool, [to(Image), c.c_size_t, to(c.c_size_t)]),
     "goblin_pe_raw_text_at":
@@ -966,6 +1002,10 @@ CALLS: Dict[str, Tuple[Any, List[Any]]] = {
         (Fault, [c.c_void_p, c.c_size_t, to(Section), to(Relocation), c.c_size_t, to(c.c_size_t)]),
     "goblin_pe_raw_read_te":
         (Fault, [c.c_void_p, c.c_size_t, to(TeHeader), to(Section), c.c_size_t]),
+    "goblin_pe_raw_next_relocations":
+        (Fault, [c.c_void_p, c.c_size_t, to(Section), to(c.c_size_t), to(Relocation), c.c_size_t, to(c.c_size_t)]),
+    "goblin_pe_raw_next_words":
+        (c.c_size_t, [to(Block), to(c.c_size_t), to(Word), c.c_size_t]),
     "goblin_pe_raw_write_header":
         (Fault, [to(File), to(Directory), c.c_size_t, c.c_void_p, c.c_size_t, c.c_void_p, c.c_size_t, to(c.c_size_t)]),
     "goblin_pe_raw_write_section":

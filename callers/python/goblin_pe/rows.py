@@ -2,7 +2,7 @@
 import ctypes as c
 import operator
 import struct
-from typing import Any, Callable, Dict, List, NamedTuple, Optional, Tuple, Type, TypeVar, Union
+from typing import Any, Callable, Dict, Iterator, List, NamedTuple, Optional, Tuple, Type, TypeVar, Union
 
 from . import _laid_out, records
 from ._library import LIB, Data, Kept, held, kept
@@ -53,11 +53,24 @@ class Section(NamedTuple):
         raised where the bytes pass the file, and where they begin past its end, even if there are none."""
         return data_of(self, kept(file), records.Options(), 0)
 
+    def walk_relocations(self, file: Data) -> Iterator[Relocation]:
+        """All its relocations in the object, one by one, also where there are more than number_of_relocations can say: then
+        without the first record, which has their number. Refused is raised where the file is too short for them, and where
+        they begin at or past its end, even if there are none."""
+        kind, record, position, count = _laid_out.laid_out(Relocation), record_of(self), c.c_size_t(), c.c_size_t(1)
+        found, data = room(kind, 256), kept(file)
+        while count.value:
+            with held(data) as (address, length):
+                test(LIB.goblin_pe_raw_next_relocations(
+                    address, length, c.byref(record), c.byref(position), found, 256, c.byref(count)))
+                batch = [_laid_out.read(Relocation, it) for it in found[: count.value]]
+            yield from batch
+
     def relocations(self, file: Data) -> List[Relocation]:
         """Its relocations in the object: as many as number_of_relocations says, so at most 65,535. Where that is 65,535, and
         characteristics have the flag IMAGE_SCN_LNK_NRELOC_OVFL, the section has more than these: the first row is none of
-        them, and its virtual_address tells how many follow one another there, itself among them. Refused is raised where the file is too short for them, and where they begin at or
-        past its end, even if there are none."""
+        them, and its virtual_address tells how many follow one another there, itself among them; walk_relocations gives all.
+        Refused is raised where the file is too short for them, and where they begin at or past its end, even if there are none."""
         count, kind = c.c_size_t(), _laid_out.laid_out(Relocation)
         with held(kept(file)) as (address, length):
             for _ in range(2):
@@ -276,6 +289,10 @@ class Rows:
         forwarder = (self.text(x.forward_lib), what) if x.forwards else None
         offset = x.offset if x.has_offset else None
         return Export(self.text(x.name) if x.has_name else None, x.ordinal, x.hint, x.rva, offset, forwarder)
+
+    def forwarder(self, f: records.Forwarder) -> Tuple[bytes, Union[bytes, int]]:
+        """The library and the name or ordinal of a forwarder."""
+        return self.text(f.lib), self.text(f.name) if f.forwards == Forwards.NAME else f.ordinal
 
     def export_directory(self, d: records.ExportDirectory) -> ExportDirectory:
         """The row of the record of the exports."""

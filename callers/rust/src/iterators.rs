@@ -8,7 +8,7 @@ use std::slice::{ChunksExact, Iter};
 
 use crate::error::Error;
 use crate::memory::grown;
-use crate::raw::{self, CoffHeader, Fault, Options};
+use crate::raw::{self, CoffHeader, Fault, Options, Relocation};
 use crate::rows::{Block, Export, ExportAddress, Import, Library, Section, Symbol};
 use crate::text::Text;
 
@@ -398,6 +398,52 @@ impl FusedIterator for WalkLibraries<'_> {}
 impl fmt::Debug for WalkLibraries<'_> {
     fn fmt(&self, f: &mut fmt::Formatter<'_>) -> fmt::Result {
         f.debug_struct("WalkLibraries").finish_non_exhaustive()
+    }
+}
+
+/// A walk over all relocations of a section of an object, in constant memory.
+#[derive(Clone)]
+pub struct WalkRelocations<'a> {
+    bytes: &'a [u8],
+    section: raw::Section<'static>,
+    batches: Option<Batches<Relocation, usize>>,
+}
+
+impl<'a> WalkRelocations<'a> {
+    // From the beginning.
+    pub(crate) fn of(bytes: &'a [u8], section: raw::Section<'static>) -> Self {
+        WalkRelocations {
+            bytes,
+            section,
+            batches: Some(Batches::new()),
+        }
+    }
+}
+
+impl Iterator for WalkRelocations<'_> {
+    type Item = Result<Relocation, Error>;
+
+    fn next(&mut self) -> Option<Result<Relocation, Error>> {
+        let (bytes, section) = (self.bytes, &self.section);
+        let batches = self.batches.as_mut()?;
+        if batches.is_taken() {
+            let filled = batches.fill(FIRST, Relocation::default(), |position, records, count| {
+                raw::next_relocations(bytes, section, position, records, count)
+            });
+            if let Err(error) = filled {
+                self.batches = None;
+                return Some(Err(error));
+            }
+        }
+        batches.pop().map(|it| Ok(*it))
+    }
+}
+
+impl FusedIterator for WalkRelocations<'_> {}
+
+impl fmt::Debug for WalkRelocations<'_> {
+    fn fmt(&self, f: &mut fmt::Formatter<'_>) -> fmt::Result {
+        f.debug_struct("WalkRelocations").finish_non_exhaustive()
     }
 }
 

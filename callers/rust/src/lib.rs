@@ -78,7 +78,7 @@ pub use error::Error;
 pub use footprint::Footprint;
 pub use iterators::{
     Blocks, DataDirectories, ExportAddresses, Exports, FootprintRanges, Imports, IntoImports,
-    Sections, Symbols, WalkExports, WalkImports, WalkLibraries, Words,
+    Sections, Symbols, WalkExports, WalkImports, WalkLibraries, WalkRelocations, Words,
 };
 pub use names::{DllFlags, FileFlags, Machine, SectionFlags, Subsystem};
 pub use numbers::{

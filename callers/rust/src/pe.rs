@@ -16,7 +16,8 @@ use crate::raw::{
     self, CoffHeader, DataDirectory, DosHeader, OptionalHeader, Options, RichMetadata,
 };
 use crate::rows::{
-    Damage, Export, ExportAddress, ExportDirectory, Header, RichHeader, Section, section_table,
+    Damage, Export, ExportAddress, ExportDirectory, Forwarder, Header, RichHeader, Section,
+    section_table,
 };
 use crate::text::Text;
 
@@ -734,6 +735,28 @@ impl<'a> Pe<'a> {
         let mut data = raw::SectionData::default();
         Error::test(raw::memory_at(&self.image(), rva, size, &mut data))?;
         Ok((data.bytes.get(), data.zeros))
+    }
+
+    /// The forwarder whose text is at an address, as an [`ExportAddress`](crate::ExportAddress) that
+    /// forwards has it, also of an export without a name.
+    ///
+    /// # Errors
+    /// Where the address has no offset in the file, where there is no text, and where the text is no
+    /// forwarder.
+    ///
+    /// ```no_run
+    /// # use goblin_pe::{Options, Pe};
+    /// # let bytes = [];
+    /// let pe = Pe::read(&bytes, &Options::default())?;
+    /// for address in pe.export_addresses().filter(|it| it.forwards) {
+    ///     println!("{}: {:?}", address.ordinal, pe.forwarder_at(address.rva as usize));
+    /// }
+    /// # Ok::<(), goblin_pe::Error>(())
+    /// ```
+    pub fn forwarder_at(&self, rva: usize) -> Result<Forwarder<'a>, Error> {
+        let mut found = raw::Forwarder::default();
+        Error::test(raw::forwarder_at(&self.image(), rva, &mut found))?;
+        Ok(Forwarder::from(&found))
     }
 
     /// The section of an address: the first by which it is mapped; `None` where there is none.

@@ -481,6 +481,41 @@ pub fn find_offset(image: &Image<'_, '_>, rva: usize) -> Option<usize> {
     is_there.then_some(offset)
 }
 
+/// All relocations of a section from an index on; fills the records as far as there is room, and says how
+/// many these are.
+pub fn next_relocations(
+    bytes: &[u8],
+    section: &Section<'_>,
+    position: &mut usize,
+    relocations: &mut [Relocation],
+    count: &mut usize,
+) -> Fault {
+    test_interface();
+    // SAFETY: as in `kind`.
+    unsafe {
+        goblin_pe_raw_next_relocations(
+            bytes.as_ptr(),
+            bytes.len(),
+            section,
+            position,
+            relocations.as_mut_ptr(),
+            relocations.len(),
+            count,
+        )
+    }
+}
+
+/// The forwarder whose text is at an address.
+pub fn forwarder_at<'a>(
+    image: &Image<'_, 'a>,
+    rva: usize,
+    forwarder: &mut Forwarder<'a>,
+) -> Fault {
+    test_interface();
+    // SAFETY: as in `open`.
+    unsafe { goblin_pe_raw_forwarder_at(image, rva, forwarder) }
+}
+
 /// The index of the section of an address.
 pub fn section_at(image: &Image<'_, '_>, rva: usize) -> Option<usize> {
     test_interface();

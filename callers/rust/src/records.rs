@@ -675,6 +675,22 @@ pub struct Image<'p, 'a> {
     pub options: Options,
 }
 
+/// What a forwarder stands for: an export of another library.
+#[repr(C)]
+#[derive(Clone, Copy, Default)]
+pub struct Forwarder<'a> {
+    /// The library, without its ending.
+    pub lib: Slice<'a>,
+    /// Of a forwarder by name the export's name in that library.
+    pub name: Slice<'a>,
+    /// Of a forwarder by ordinal the export's ordinal in that library.
+    pub ordinal: usize,
+    /// Which of the two it is, by the numbers of `Forwards`.
+    pub forwards: u32,
+    /// Zero. It stands where padding would be, so that each byte of the record is defined.
+    pub reserved: u32,
+}
+
 /// The data of a section, as it is in memory.
 #[repr(C)]
 #[derive(Clone, Copy, Default)]
@@ -803,6 +819,20 @@ pub struct TeHeader {
     pub reloc_dir: DataDirectory,
     /// Where the debug data lies, at 32; in a header that was parsed, with the address adjusted.
     pub debug_dir: DataDirectory,
+}
+
+/// A word of a block of base relocations: which bytes a loader changes, and how.
+///
+/// Source: PE Format, "Base Relocation Block".
+#[repr(C)]
+#[derive(Clone, Copy, Default, Debug, PartialEq, Eq, PartialOrd, Ord, Hash)]
+pub struct Word {
+    /// Where the bytes begin: their address, relative to the image's base.
+    pub rva: usize,
+    /// How they are changed, an `IMAGE_REL_BASED_*`. Type 0 changes nothing and fills up a block.
+    pub typ: u32,
+    /// Zero. It stands where padding would be, so that each byte of the record is defined.
+    pub reserved: u32,
 }
 
 impl Options {
@@ -1040,6 +1070,12 @@ const _: () = {
     assert!(offset_of!(Image, sections) == 16);
     assert!(offset_of!(Image, file_alignment) == 32);
     assert!(offset_of!(Image, options) == 36);
+    assert!(size_of::<Forwarder>() == 48 && align_of::<Forwarder>() == 8);
+    assert!(offset_of!(Forwarder, lib) == 0);
+    assert!(offset_of!(Forwarder, name) == 16);
+    assert!(offset_of!(Forwarder, ordinal) == 32);
+    assert!(offset_of!(Forwarder, forwards) == 40);
+    assert!(offset_of!(Forwarder, reserved) == 44);
     assert!(size_of::<SectionData>() == 24 && align_of::<SectionData>() == 8);
     assert!(offset_of!(SectionData, bytes) == 0);
     assert!(offset_of!(SectionData, zeros) == 16);
@@ -1079,9 +1115,14 @@ const _: () = {
     assert!(offset_of!(TeHeader, image_base) == 16);
     assert!(offset_of!(TeHeader, reloc_dir) == 24);
     assert!(offset_of!(TeHeader, debug_dir) == 32);
+    assert!(size_of::<Word>() == 16 && align_of::<Word>() == 8);
+    assert!(offset_of!(Word, rva) == 0);
+    assert!(offset_of!(Word, typ) == 8);
+    assert!(offset_of!(Word, reserved) == 12);
 };
 
 #[rustfmt::skip]
+#[allow(dead_code)] // (the words of a block are read here without the library)
 unsafe extern "C" {
     pub fn goblin_pe_raw_read_aux_function_definition(
         bytes: *const u8,
@@ -1163,6 +1204,12 @@ unsafe extern "C" {
         byte_count: usize,
         options: &Options,
         ranges: &mut Ranges<'_>,
+    ) -> Fault;
+
+    pub fn goblin_pe_raw_forwarder_at<'a>(
+        image: &Image<'_, 'a>,
+        rva: usize,
+        forwarder: &mut Forwarder<'a>,
     ) -> Fault;
 
     pub fn goblin_pe_raw_find_offset(
@@ -1251,6 +1298,23 @@ unsafe extern "C" {
         sections: *mut Section<'_>,
         section_room: usize,
     ) -> Fault;
+
+    pub fn goblin_pe_raw_next_relocations(
+        bytes: *const u8,
+        byte_count: usize,
+        section: &Section<'_>,
+        position: &mut usize,
+        records: *mut Relocation,
+        record_room: usize,
+        count: &mut usize,
+    ) -> Fault;
+
+    pub fn goblin_pe_raw_next_words(
+        block: &Block<'_>,
+        position: &mut usize,
+        words: *mut Word,
+        word_room: usize,
+    ) -> usize;
 
     pub fn goblin_pe_raw_write_header(
         file: &File,

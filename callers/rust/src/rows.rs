@@ -2,7 +2,7 @@
 
 use crate::constants::MAGIC_64;
 use crate::error::Error;
-use crate::iterators::Words;
+use crate::iterators::{WalkRelocations, Words};
 use crate::memory::records;
 use crate::numbers::Forwards;
 use crate::raw::{
@@ -318,7 +318,7 @@ impl<'a> Section<'a> {
     /// most 65,535. Where that is 65,535, and `characteristics` have the flag
     /// [`IMAGE_SCN_LNK_NRELOC_OVFL`](crate::constants::IMAGE_SCN_LNK_NRELOC_OVFL), the section has more than
     /// these: the first row is none of them, and its `virtual_address` tells how many follow one another
-    /// there, itself among them.
+    /// there, itself among them; [`Section::walk_relocations`] gives all.
     ///
     /// # Errors
     /// Why they were refused; memory may be. So they are where they begin at or past the end, even if
@@ -341,6 +341,23 @@ impl<'a> Section<'a> {
         let fault = raw::read_relocations(bytes, &section, &mut relocations, &mut count);
         Error::test(fault)?;
         Ok(relocations)
+    }
+
+    /// A walk over all relocations of a section of the object `bytes`, also where there are more than
+    /// `number_of_relocations` can say: then without the first record, which has their number. What is
+    /// refused ends it.
+    ///
+    /// ```no_run
+    /// # let bytes = [];
+    /// let object = goblin_pe::Object::read(&bytes, &goblin_pe::Options::default())?;
+    /// for section in object.sections() {
+    ///     println!("{} has {} relocations", section.name, section.walk_relocations(&bytes).count());
+    /// }
+    /// # Ok::<(), goblin_pe::Error>(())
+    /// ```
+    #[must_use]
+    pub fn walk_relocations<'b>(&self, bytes: &'b [u8]) -> WalkRelocations<'b> {
+        WalkRelocations::of(bytes, self.record())
     }
 
     /// Puts into `raw_name` that the name stands at this offset of the string table.
@@ -521,6 +538,16 @@ pub enum Forwarder<'a> {
     },
 }
 
+impl<'a> From<&raw::Forwarder<'a>> for Forwarder<'a> {
+    fn from(f: &raw::Forwarder<'a>) -> Forwarder<'a> {
+        let (lib, export, ordinal) = (Text(f.lib.get()), Text(f.name.get()), f.ordinal);
+        match Forwards::try_from(f.forwards) {
+            Ok(Forwards::Name) => Forwarder::Name { lib, export },
+            _ => Forwarder::Ordinal { lib, ordinal },
+        }
+    }
+}
+
 /// An export.
 #[derive(Clone, Copy, Debug, PartialEq, Eq, PartialOrd, Ord, Hash)]
 #[non_exhaustive]
@@ -566,7 +593,7 @@ pub struct ExportAddress {
     /// The ordinal.
     pub ordinal: usize,
     /// The address, relative to the image's base; of a forwarder that of its text, which
-    /// [`Pe::text_at`](crate::Pe::text_at) reads.
+    /// [`Pe::forwarder_at`](crate::Pe::forwarder_at) reads.
     pub rva: u32,
     /// Whether it is a forwarder.
     pub forwards: bool,

@@ -6,6 +6,7 @@ pub mod ExportDirectories
 pub mod Exports
 pub mod Files
 pub mod Footprints
+pub mod ForwardersAt
 pub mod Growth
 pub mod Imports
 pub mod Opened

@@ -32,7 +32,7 @@ use std::alloc::Global;
 
 /// What an export forwards to.
 #[derive(Copy, Clone)]
-enum Forwards {
+pub(crate) enum Forwards {
     /// It is no forwarder.
     None = 0,
     /// An export of another library, by its name.

@@ -16,6 +16,7 @@ pub mod export;
 pub mod export_directory;
 pub mod file;
 pub mod footprint;
+pub mod forwarder;
 pub mod import;
 pub mod next;
 pub mod open;

@@ -1,4 +1,5 @@
 pub mod Filling
+pub mod GivenOnward
 pub mod Items
 pub mod Making
 pub mod Named

@@ -11,6 +11,7 @@ pub mod Items
 pub mod Kinds
 pub mod Memory
 pub mod Objects
+pub mod Onward
 pub mod Options
 pub mod Relocations
 pub mod RichHeaders
@@ -19,4 +20,5 @@ pub mod Sections
 pub mod States
 pub mod Symbols
 pub mod TeImages
+pub mod Words
 pub mod Written

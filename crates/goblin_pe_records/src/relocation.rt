@@ -1,18 +1,23 @@
 //! The relocations of a section of an object.
 
-ghost use Rattle.std.specs.Prelude.{◌≡◌, length};
+ghost use Rattle.std.specs.Prelude.{◌≡◌, ◌<◌, ◌^◌, IfOk, length, slice_get};
 ghost use Rattle.goblin_base.specs.Reading.{Reads};
-ghost use Rattle.goblin_pe_sect.specs.Relocations.{relocations_left};
+ghost use Rattle.goblin_pe_sect.specs.Relocations.{relocations_in, relocations_left};
 ghost use Rattle.goblin_pe_records.specs.Calls.{ReadsWithout};
 ghost use Rattle.goblin_pe_records.specs.Filled.{Filled};
 ghost use Rattle.goblin_pe_records.specs.Relocations.{RelocationRecords, SaysRelocations};
+ghost use Rattle.goblin_pe_records.specs.Onward.{GivesOnward};
+ghost use Rattle.goblin_pe_records.specs.Relocations.{all_relocations, counts_in_first};
 ghost use Rattle.goblin_pe_records.specs.Relocations.{relocations_of};
 ghost use Rattle.goblin_pe_records.specs.Sections.{section_view};
 
 use crate::filled::put;
+use crate::onward::fill_onward;
 use crate::section::{PeSection, section_of};
-use goblin_base::Result;
-use goblin_pe_sect::relocation::{Relocation, Relocations};
+use goblin_base::read::pread_slice;
+use goblin_base::{Endian, Record, Result};
+use goblin_pe_sect::relocation::{COFF_RELOCATION_SIZE, Relocation, Relocations};
+use goblin_pe_sect::section_table::IMAGE_SCN_LNK_NRELOC_OVFL;
 
 // Fills the records of relocations as far as there is room, and answers how many there are.
 fn fill_relocations(records: &mut [Relocation], relocations: Relocations) -> usize
@@ -45,5 +50,69 @@ pub fn read_relocations(
 {
     let relocations = section_of(section).relocations(bytes)?;
     *count = fill_relocations(records, relocations);
+    Ok(())
+}
+
+// Whether a section's first relocation has the number of all: there are more than its counter can say.
+fn counts_in_first(section: &PeSection) -> bool
+    ensures { result ≡ counts_in_first (section_view section.now) }
+{
+    section.number_of_relocations == 0xFFFF
+        && section.characteristics & IMAGE_SCN_LNK_NRELOC_OVFL != 0
+}
+
+// The bytes of all relocations of a section, 10 for each.
+fn all_records<'a>(bytes: &'a [u8], section: &PeSection) -> Result<&'a [u8]>
+    ensures value { Reads (λ table. relocations_in table.now) result
+        (all_relocations (section_view section.now)) bytes.now }
+    ensures short { IfOk result (λ table. length table.now < 2 ^ 63) }
+{
+    let begin = section.pointer_to_relocations as usize;
+    if !counts_in_first(section) {
+        let count = section.number_of_relocations as usize;
+        return pread_slice(bytes, begin, COFF_RELOCATION_SIZE * count);
+    }
+    let first = Relocation::read_at(bytes, begin, Endian::Little)?;
+    let count = (first.virtual_address as usize).saturating_sub(1);
+    pread_slice(
+        bytes,
+        begin + COFF_RELOCATION_SIZE,
+        COFF_RELOCATION_SIZE * count,
+    )
+}
+
+// The relocation at an index, where there is one.
+#[tactic(auto, using(crate::proofs::GivenOnward::record_inside, crate::proofs::GivenOnward::record_outside))]
+fn relocation_at(table: &[u8], index: usize) -> Option<Relocation>
+    ensures { result ≡ slice_get (relocations_in table.now) index }
+{
+    if table.len() / COFF_RELOCATION_SIZE <= index {
+        return None;
+    }
+    let begin = COFF_RELOCATION_SIZE * index;
+    let record = &table[begin..begin + COFF_RELOCATION_SIZE];
+    Some(Relocation::in_record(record, Endian::Little))
+}
+
+/// Fills records of all relocations of a section of an object from the one at the index `position` on,
+/// as far as there is room, moves `position` past them, and says in `count` how many these are. Where
+/// the section has more than its counter can say, the first record has their number, and is none of
+/// them.
+///
+/// # Errors
+/// Relocations that do not lie in the file; nothing is then changed.
+pub fn next_relocations(
+    bytes: &[u8],
+    section: &PeSection,
+    position: &mut usize,
+    records: &mut [Relocation],
+    count: &mut usize,
+) -> Result<()>
+    ensures { ReadsWithout (all_relocations (section_view section.now)) bytes.now
+        (λ all. GivesOnward all position.old records.old position.new records.new count.new)
+        ((position.new ≡ position.old) × (records.new ≡ records.old) × (count.new ≡ count.old)) result }
+{
+    let table = all_records(bytes, section)?;
+    *count = fill_onward(|index| relocation_at(table, index), position, records);
     Ok(())
 }

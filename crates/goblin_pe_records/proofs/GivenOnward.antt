@@ -1,0 +1,84 @@
+-- A list whose items fill records from an index on.
+use Rattle.std.proofs.Common.{◌≡◌, ◌<◌, ◌≤◌, ◌^◌, ◌*◌, ◌/◌, ℕ, ◌+◌, ◌-◌, List, length, map, drop, min, set, Some, None, Option, slice_get, get_or, [], ◌∷◌, ap, sym, subst, refl, arith, ◌∙◌, inl, inr}
+use Rattle.std.specs.Prelude.{slice_range}
+use Rattle.std.specs.List.{range_with_len}
+use Rattle.std.proofs.lemmas.List.{get_or-drop, length-drop, map-id}
+use Rattle.std.proofs.lemmas.List.FromFn.{get_or-map-range_with_len, length-map-range_with_len}
+use Rattle.std.proofs.lemmas.Option.{get_or_from_slice_get, slice_get_cases, slice_get-get_or, slice_get_past, slice_get_within}
+use Rattle.goblin_base.specs.Tables.{records_in}
+use Rattle.goblin_base.proofs.RecordItems.{length-records_in}
+use Rattle.goblin_pe_records.specs.Filled.{Filled}
+use Rattle.goblin_pe_records.specs.Onward.{GivesOnward}
+use Rattle.goblin_pe_records.proofs.Filling.{IsFilling, filling-end, filling-next, filling-start}
+
+-- ---- a loop that fills records
+
+-- the first i records hold the items from an index on, of which there are so many
+pub record IsOnward {W : Type 0} (items : List W) (from : ℕ) (old : List W) (i : ℕ) (records : List W) : Type 0 where
+  pub filling : IsFilling (λ (w : W). w) (λ (w : W). w) (drop from items) old i records
+  pub few : i ≤ length items - from
+
+pub onward-start : {W : Type 0} (items : List W) (from : ℕ) (old : List W) → IsOnward items from old 0 old
+onward-start items from old = record { filling = filling-start _ _ _ _; few = omega arith }
+
+module _ {W : Type 0} (items : List W) (from : ℕ) (old : List W) (i : ℕ) (records : List W) (short : length items < 2 ^ 64) (fits : from < 2 ^ 64) (is : IsOnward items from old i records) where
+  -- an item that is there, and its place
+  place_of : (at : ℕ) (r : W) → at ≡ min (from + i) (2 ^ 64 - 1) → slice_get items at ≡ Some r → at ≡ from + i
+  place_of at r place there = let within = slice_get_within items at r there in omega (arith, within, place, short)
+
+  pub onward-next : (at : ℕ) (r : W) → at ≡ min (from + i) (2 ^ 64 - 1) → slice_get items at ≡ Some r → i < length records → IsOnward items from old (i + 1) (set records i r)
+  onward-next at r place there room =
+      let within = slice_get_within items at r there in
+      let here = place_of at r place there in
+      let left = length-drop from items in
+      let own : r ≡ get_or (drop from items) i r = sym (get_or-drop from items i r ∙ ap (λ (k : ℕ). get_or items k r) (sym here) ∙ get_or_from_slice_get items at r r there) in
+      record {
+        filling = filling-next (λ (w : W). w) (λ (w : W). w) (drop from items) old i records r r is.filling (omega (arith, within, here, left)) room own refl;
+        few = omega (arith, within, here);
+      }
+
+  missing : (at : ℕ) → at ≡ min (from + i) (2 ^ 64 - 1) → slice_get items at ≡ None → length items ≤ from + i
+  missing at place none =
+      elim (slice_get_cases items at).1 [
+        | inl there ↦ absurd (cc (there.2, none))
+        | inr past ↦ let end = past.0 in omega (arith, end, place)
+      ]
+
+  -- where no item is left
+  pub onward-all : (at to : ℕ) → at ≡ min (from + i) (2 ^ 64 - 1) → to ≡ min (from + i) (2 ^ 64 - 1) → slice_get items at ≡ None → i < length records → length records ≡ length old → GivesOnward items from old to records i
+  onward-all at to place end none room same =
+      let past = missing at place none in
+      let few = is.few in
+      let left = length-drop from items in
+      record {
+        filled = subst (λ (made : List W). Filled (λ (w : W). w) made old records) (map-id (drop from items))
+            (filling-end (λ (w : W). w) (λ (w : W). w) (drop from items) old records i is.filling same (omega (arith, few, left)) (omega (arith, room, same)) (inl (omega (arith, past, left))));
+        counted = omega (arith, past, few, room, same);
+        position = omega (arith, few, short, fits, past, end);
+      }
+
+  -- and where no room is
+  pub onward-full : (n to : ℕ) → n ≡ i → to ≡ min (from + n) (2 ^ 64 - 1) → i ≡ length records → length records ≡ length old → GivesOnward items from old to records n
+  onward-full n to all end full same =
+      let few = is.few in
+      let left = length-drop from items in
+      record {
+        filled = subst (λ (made : List W). Filled (λ (w : W). w) made old records) (map-id (drop from items))
+            (filling-end (λ (w : W). w) (λ (w : W). w) (drop from items) old records i is.filling same (omega (arith, few, left)) (omega (arith, full, same)) (inr (omega (arith, full, same))));
+        counted = omega (arith, few, full, same, all);
+        position = omega (arith, few, short, fits, end, all);
+      }
+
+-- ---- the records in bytes
+
+module _ {V : Type 0} (w : ℕ) (value : List ℕ → V) (bytes : List ℕ) where
+  pub record_inside : (i : ℕ) → i < length bytes / w → slice_get (records_in w value bytes) i ≡ Some (value (slice_range bytes (w * i) (w * i + w)))
+  unfolding records_in
+  record_inside i within =
+      let own : ℕ → V = λ (i : ℕ). value (slice_range bytes (w * i) (w * i + w)) in
+      let all : List V = map own (range_with_len 0 (length bytes / w)) in
+      slice_get-get_or all i (own i) (omega (arith, within, length-map-range_with_len own 0 (length bytes / w)))
+      ∙ ap (λ (s : V). Some s) (get_or-map-range_with_len own 0 (length bytes / w) i i (own i) within (omega arith))
+
+  pub record_outside : (i : ℕ) → length bytes / w ≤ i → slice_get (records_in w value bytes) i ≡ None
+  record_outside i past = slice_get_past (records_in w value bytes) i (omega (arith, past, length-records_in w value bytes))

@@ -1,0 +1,15 @@
+use Rattle.std.proofs.Common.{arith, rules, subst, sym}
+use Rattle.std.specs.Prelude.{IsSomeAnd}
+use Rattle.goblin_base.specs.declared.endian.Endian.TheVariants.{Little}
+use Rattle.goblin_base.proofs.RecordItems.{length-records_in}
+use Rattle.goblin_pe_sect.specs.Relocations.{relocation_record, relocations_in}
+use Rattle.goblin_pe_records.specs.Onward.{GivesOnward}
+use Rattle.goblin_pe_records.proofs.relocation.next_relocations.Goals as goal
+
+pub returns : goal.returns
+returns c =
+    let table = c.in_ok-table.table.now in
+    let count = length-records_in 10 (relocation_record Little) table in
+    subst (λ read. IsSomeAnd read (λ all. GivesOnward all c.args.position.now c.args.records.now c.fill_onward.new.position c.fill_onward.new.records c.fill_onward.result))
+    (sym c.in_ok-table.ensures.value)
+    (c.fill_onward.ensures (relocations_in table) (omega (arith, count, c.in_ok-table.ensures.short)) (search rules))

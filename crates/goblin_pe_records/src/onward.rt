@@ -1,0 +1,29 @@
+//! A list from a position on, as far as there is room.
+
+ghost use Rattle.std.specs.Prelude.{◌≡◌, ◌<◌, ◌^◌, List, length, slice_get};
+ghost use Rattle.goblin_pe_records.specs.Onward.{GivesOnward};
+
+// Fills records with the items of a list from the index `position` on, as far as there is room, moves
+// the index past them, and answers how many these are. `item` answers the item at an index, where
+// there is one.
+pub(crate) fn fill_onward<W: Copy, F: Fn(usize) -> Option<W>>(
+    item: F,
+    position: &mut usize,
+    records: &mut [W],
+) -> usize
+    requires { (index : _) → F.pre item index }
+    ensures { (items : List W) → length items < 2 ^ 64
+        → ((index : _) (found : _) → F.post item index found → found ≡ slice_get items index)
+        → GivesOnward items position.old records.old position.new records.new result }
+{
+    let start = *position;
+    'records: for count in 0..records.len() {
+        let Some(found) = item(start.saturating_add(count)) else {
+            *position = start.saturating_add(count);
+            return count;
+        };
+        records[count] = found;
+    }
+    *position = start.saturating_add(records.len());
+    records.len()
+}
