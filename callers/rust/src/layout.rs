@@ -27,7 +27,7 @@ use crate::text::Text;
 pub struct Layout<'a> {
     bytes: &'a [u8],
     options: Options,
-    layout: raw::Layout<'a>,
+    whole: raw::Layout<'a>,
     directories: [raw::Directory; 16],
     sections: Vec<raw::Section<'a>>,
 }
@@ -45,17 +45,17 @@ impl<'a> Layout<'a> {
     /// # Ok::<(), goblin_pe::Error>(())
     /// ```
     pub fn read(bytes: &'a [u8], options: &Options) -> Result<Layout<'a>, Error> {
-        let mut layout = raw::Layout::default();
+        let mut whole = raw::Layout::default();
         let mut directories = [raw::Directory::default(); 16];
-        let fault = raw::read_layout(bytes, options, &mut layout, &mut directories, &mut []);
+        let fault = raw::read_layout(bytes, options, &mut whole, &mut directories, &mut []);
         Error::test(fault)?;
-        let mut sections = records(raw::Section::default(), layout.sections)?;
-        let fault = raw::read_layout(bytes, options, &mut layout, &mut [], &mut sections);
+        let mut sections = records(raw::Section::default(), whole.sections)?;
+        let fault = raw::read_layout(bytes, options, &mut whole, &mut [], &mut sections);
         Error::test(fault)?;
         Ok(Layout {
             bytes,
             options: *options,
-            layout,
+            whole,
             directories,
             sections,
         })
@@ -71,7 +71,7 @@ impl<'a> Layout<'a> {
     /// ```
     #[must_use]
     pub fn dos_header(&self) -> &DosHeader {
-        &self.layout.dos_header
+        &self.whole.dos_header
     }
 
     /// The COFF header.
@@ -84,7 +84,7 @@ impl<'a> Layout<'a> {
     /// ```
     #[must_use]
     pub fn coff_header(&self) -> &CoffHeader {
-        &self.layout.coff_header
+        &self.whole.coff_header
     }
 
     /// The optional header; `None` where the file has none, and then it has no tables.
@@ -97,7 +97,7 @@ impl<'a> Layout<'a> {
     /// ```
     #[must_use]
     pub fn optional_header(&self) -> Option<&OptionalHeader> {
-        (self.layout.directories != 0).then_some(&self.layout.optional_header)
+        (self.whole.directories != 0).then_some(&self.whole.optional_header)
     }
 
     /// The data directories that are there, as pairs (index, directory), by rising index; an index
@@ -113,7 +113,7 @@ impl<'a> Layout<'a> {
     /// ```
     #[must_use]
     pub fn data_directories(&self) -> DataDirectories<'_> {
-        let count = self.layout.directories.min(self.directories.len());
+        let count = self.whole.directories.min(self.directories.len());
         DataDirectories(self.directories[..count].iter().enumerate())
     }
 
@@ -127,7 +127,7 @@ impl<'a> Layout<'a> {
     /// ```
     #[must_use]
     pub fn sections(&self) -> Sections<'_, 'a> {
-        let table = section_table(&self.layout.dos_header, &self.layout.coff_header);
+        let table = section_table(&self.whole.dos_header, &self.whole.coff_header);
         Sections::at(self.bytes, table, &self.sections)
     }
 
@@ -322,7 +322,7 @@ impl<'a> Layout<'a> {
         raw::Image {
             bytes: raw::Slice::from(self.bytes),
             sections: raw::Shared::from(&self.sections[..]),
-            file_alignment: self.layout.optional_header.windows_fields.file_alignment,
+            file_alignment: self.whole.optional_header.windows_fields.file_alignment,
             options: self.options,
         }
     }
