@@ -506,11 +506,7 @@ pub fn next_relocations(
 }
 
 /// The forwarder whose text is at an address.
-pub fn forwarder_at<'a>(
-    image: &Image<'_, 'a>,
-    rva: usize,
-    forwarder: &mut Forwarder<'a>,
-) -> Fault {
+pub fn forwarder_at<'a>(image: &Image<'_, 'a>, rva: usize, forwarder: &mut Forwarder<'a>) -> Fault {
     test_interface();
     // SAFETY: as in `open`.
     unsafe { goblin_pe_raw_forwarder_at(image, rva, forwarder) }
