@@ -10,7 +10,7 @@ use Rattle.std.proofs.lemmas.Str.{IsUtf8-between, IsUtf8-from_is_utf8, is_utf8-f
 use Rattle.goblin_base.specs.Bytes.{before_nul, stretch, text_of}
 use Rattle.goblin_base.specs.Strtab.{is_border, is_in_piece, rest_at}
 use Rattle.goblin_base.proofs.Pieces.{rest_by_pieces}
-use Rattle.goblin_pe_records.specs.Symbols.{NamesOfText, name_at}
+use Rattle.goblin_pe_records.specs.Symbols.{NamesOfText, name_in_piece}
 
 -- a table may be cut where a piece ends
 cut_at_end : (table : List ℕ) (end : ℕ) → (end ≡ length table) ⊎ ((end < length table) × (slice_index table end ≡ 0)) → IsCharBoundary table end

@@ -23,20 +23,20 @@ use Rattle.goblin_pe_records.specs.Filled.{Filled, without_text}
 
 -- the name at an offset of the bytes of a string table: what is left of the piece there, where that
 -- is UTF-8, whatever the other bytes are
-abbrev pub name_at : List ℕ → ℕ → Option (List ℕ)
-name_at strings o = if is_in_piece strings o then text_of (stretch strings o) else None
+abbrev pub name_in_piece : List ℕ → ℕ → Option (List ℕ)
+name_in_piece strings o = if is_in_piece strings o then text_of (stretch strings o) else None
 
 -- Of bytes that are UTF-8 as a whole, these are the texts of the string table that they are.
 abbrev pub NamesOfText : Type 0
 NamesOfText =
-    (strings : List ℕ) (o : ℕ) → is_utf8 strings ≡ true → name_at strings o ≡ rest_at strings o
+    (strings : List ℕ) (o : ℕ) → is_utf8 strings ≡ true → name_in_piece strings o ≡ rest_at strings o
 
 -- the name: if a number is stored in its place, what the string table has at that offset, else the
 -- one in the record
 abbrev pub name_in : List ℕ → Option (List ℕ) → Symbol → Option (List ℕ)
 name_in strings inline_name symbol =
     if slice_index symbol.name 0 == 0
-    then (name_offset_of symbol.name >>= name_at strings)
+    then (name_offset_of symbol.name >>= name_in_piece strings)
     else inline_name
 
 -- a symbol with its index, its name, and the bytes of its auxiliary records

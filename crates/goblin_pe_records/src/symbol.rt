@@ -8,7 +8,8 @@ ghost use Rattle.goblin_pe_symbol.specs.Symbols.{symbol_of};
 ghost use Rattle.goblin_pe_records.specs.Calls.{ReadsWithout};
 ghost use Rattle.goblin_pe_records.specs.Symbols.{GivesSymbols, NamesOfText, SaysSymbols};
 ghost use Rattle.goblin_pe_records.specs.Symbols.{SaysTable, SymbolRecords};
-ghost use Rattle.goblin_pe_records.specs.Symbols.{auxiliary_of, name_at, name_in, named_symbol};
+ghost use Rattle.goblin_pe_records.specs.Symbols.{auxiliary_of, name_in, name_in_piece};
+ghost use Rattle.goblin_pe_records.specs.Symbols.{named_symbol};
 ghost use Rattle.goblin_pe_records.specs.Symbols.{named_symbol_view, strings_said, symbol_in};
 ghost use Rattle.goblin_pe_records.specs.Symbols.{symbol_named, symbol_said, symbol_tables};
 ghost use Rattle.goblin_pe_records.specs.Symbols.{table_record, tables_said};
@@ -85,8 +86,8 @@ fn is_in_piece(strings: &[u8], offset: usize) -> bool
 }
 
 // The name at an offset of the bytes of a string table.
-fn name_at(strings: &[u8], offset: usize) -> Option<&str>
-    ensures { option_map (λ s. s.now) result ≡ name_at strings.now offset }
+fn name_in_piece(strings: &[u8], offset: usize) -> Option<&str>
+    ensures { option_map (λ s. s.now) result ≡ name_in_piece strings.now offset }
 {
     if is_in_piece(strings, offset) {
         front_text(&strings[offset..])
@@ -102,7 +103,7 @@ fn name_in<'a>(inline_name: Option<&'a str>, symbol: &Symbol, strings: &'a [u8])
         ≡ name_in strings.now (option_map (λ s. s.now) inline_name.entry) symbol.now }
 {
     if symbol.name[0] == 0 {
-        name_at(strings, symbol.name_offset()? as usize)
+        name_in_piece(strings, symbol.name_offset()? as usize)
     } else {
         inline_name
     }

@@ -322,19 +322,15 @@ impl<'a, 'm> Walk<'a, 'm> {
         let Some(at) = self.next else {
             return None;
         };
+        let offset = at.record_offset;
         let size = SIZEOF_IMPORT_DIRECTORY_ENTRY;
-        let Some(record) = next_record(self.bytes, at.record_offset) else {
-            if may_end(
-                self.bytes,
-                at.record_offset,
-                size,
-                self.finder.is_permissive(),
-            ) {
+        let Some(record) = next_record(self.bytes, offset) else {
+            if may_end(self.bytes, offset, size, self.finder.is_permissive()) {
                 return None;
             }
-            return Some(Err(Error::Malformed(Cause::ImportRecordEnd(at.record_offset))));
+            return Some(Err(Error::Malformed(Cause::ImportRecordEnd(offset))));
         };
-        Some(self.enter::<T>(&record, at.slot_offset, at.record_offset + size))
+        Some(self.enter::<T>(&record, at.slot_offset, offset + size))
     }
 
     // Where the walk is.

@@ -10,7 +10,7 @@ ghost use Rattle.goblin_pe_sect.specs.Addresses.{TakesMap, map_by, map_of, offse
 ghost use Rattle.goblin_pe_sect.specs.Addresses.{reads_strictly};
 ghost use Rattle.goblin_pe_import.specs.ImportReadings.{import_data, libraries_at, library_of};
 ghost use Rattle.goblin_pe_import.specs.ImportReadings.{lookup_if};
-ghost use Rattle.goblin_pe_import.specs.LookupReadings.{address_table, kept_entry, lookup_table};
+ghost use Rattle.goblin_pe_import.specs.LookupReadings.{address_table, kept_entry};
 
 use crate::import::{
     Bitfield, ImportDirectoryEntry, SIZEOF_IMPORT_DIRECTORY_ENTRY, address_table_rva,
@@ -73,19 +73,22 @@ fn add_slots(marks: &mut Marks, bytes: &[u8], offset: usize, last: usize, width:
     }
 }
 
-// Marks the footprint of the lookup table at an offset.
-#[tactic(auto, using(goblin_base::proofs::Marks::marking))]
+// Marks the footprint of the lookup table at a place, where there is one.
+#[tactic(auto, unfolding(crate::specs::ImportReadings::lookup_if), using(goblin_base::proofs::Marks::marking))]
 fn add_lookup_table<'a, T: Bitfield<'a>>(
     marks: &mut Marks,
     bytes: &'a [u8],
-    offset: usize,
+    table: Option<usize>,
     address_map: &AddressMap,
 )
     ensures { let m = map_of address_map.now in
         let reached =
-        (lookup_table (reads_strictly m) T.format (offset_of m) offset).reaches bytes.now in
+        (lookup_if (reads_strictly m) T.format (offset_of m) table).reaches bytes.now in
         marks.new ≡ marked marks.old reached }
 {
+    let Some(offset) = table else {
+        return;
+    };
     let size = T::size_of();
     let mut place = offset;
     'slots: while let Some(entry) = next_entry::<T>(bytes, place) {
@@ -95,12 +98,16 @@ fn add_lookup_table<'a, T: Bitfield<'a>>(
     add_slots(marks, bytes, offset, place, size)
 }
 
-// Marks the footprint of the address table at an offset.
-#[tactic(auto, using(goblin_base::proofs::Marks::marking))]
-fn add_address_table<'a, T: Bitfield<'a>>(marks: &mut Marks, bytes: &'a [u8], offset: usize)
-    ensures { let reached = (address_table T.format offset).reaches bytes.now in
+// Marks the footprint of the address table at a place, where there is one.
+#[tactic(auto, unfolding(goblin_base::specs::Footprints::led_to), using(goblin_base::proofs::Marks::marking))]
+fn add_address_table<'a, T: Bitfield<'a>>(marks: &mut Marks, bytes: &'a [u8], table: Option<usize>)
+    ensures { let reached =
+        led_to table (λ o. (address_table T.format o).reaches bytes.now) in
         marks.new ≡ marked marks.old reached }
 {
+    let Some(offset) = table else {
+        return;
+    };
     let size = T::size_of();
     let mut place = offset;
     'slots: while let Some(_) = next_entry::<T>(bytes, place) {
@@ -121,38 +128,6 @@ fn add_text(marks: &mut Marks, bytes: &[u8], place: Option<usize>)
     }
 }
 
-// Marks the footprint of the lookup table at a place, where there is one.
-#[tactic(auto, unfolding(crate::specs::ImportReadings::lookup_if), using(goblin_base::proofs::Marks::marking))]
-fn add_lookup<'a, T: Bitfield<'a>>(
-    marks: &mut Marks,
-    bytes: &'a [u8],
-    place: Option<usize>,
-    address_map: &AddressMap,
-)
-    ensures { let m = map_of address_map.now in
-        let reached =
-        (lookup_if (reads_strictly m) T.format (offset_of m) place).reaches bytes.now in
-        marks.new ≡ marked marks.old reached }
-{
-    match place {
-        Some(offset) => add_lookup_table::<T>(marks, bytes, offset, address_map),
-        None => (),
-    }
-}
-
-// Marks the footprint of the address table at a place, where there is one.
-#[tactic(auto, unfolding(goblin_base::specs::Footprints::led_to), using(goblin_base::proofs::Marks::marking))]
-fn add_addresses<'a, T: Bitfield<'a>>(marks: &mut Marks, bytes: &'a [u8], place: Option<usize>)
-    ensures { let reached =
-        led_to place (λ o. (address_table T.format o).reaches bytes.now) in
-        marks.new ≡ marked marks.old reached }
-{
-    match place {
-        Some(offset) => add_address_table::<T>(marks, bytes, offset),
-        None => (),
-    }
-}
-
 // Marks what a record of an import directory leads to.
 #[tactic(auto, unfolding(crate::specs::ImportReadings::library_of, goblin_pe_sect::specs::AddressReadings::name_at), using(goblin_base::proofs::Marks::marking))]
 fn add_library<'a, T: Bitfield<'a>>(
@@ -168,9 +143,9 @@ fn add_library<'a, T: Bitfield<'a>>(
 {
     add_text(marks, bytes, address_map.offset_of(entry.name_rva));
     let lookup = lookup_offset(entry, &mut Finder::of(address_map));
-    add_lookup::<T>(marks, bytes, lookup, address_map);
+    add_lookup_table::<T>(marks, bytes, lookup, address_map);
     let addresses = address_map.offset_of(address_table_rva(entry));
-    add_addresses::<T>(marks, bytes, addresses)
+    add_address_table::<T>(marks, bytes, addresses)
 }
 
 // Marks the footprint of the import directory at an offset.

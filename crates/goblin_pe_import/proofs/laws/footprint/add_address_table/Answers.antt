@@ -1,4 +1,5 @@
 use Rattle.std.proofs.Common.{sym, arith}
+use Rattle.goblin_base.specs.Footprints.{led_to}
 use Rattle.goblin_base.proofs.Marks.{marked_nil}
 use Rattle.goblin_base.proofs.SlotFootprints.{ranges-end, ranges-next, ranges-start}
 use Rattle.goblin_pe_import.proofs.laws.footprint.add_address_table.Goals as goal
@@ -6,10 +7,11 @@ use Rattle.goblin_pe_import.proofs.laws.footprint.add_address_table.Goals as goa
 pub slots-init : goal.slots-init
 slots-init g c = ranges-start _ _ _ _ _ (omega (arith, c.size_of-size.ensures.width, c.size_of-size.ensures.positive))
 
-pub slots-preserved-in-Some : goal.slots-preserved-in-Some
-slots-preserved-in-Some g c =
-    rw c.size_of-size.ensures.width (ranges-next _ _ _ _ _ _ _ c.slots.invariant _ _ c.in-Some.ensures.0 c.in-Some.ensures.1 (sym (marked_nil _)))
+pub slots-preserved-in-Some-next_entry : goal.slots-preserved-in-Some-next_entry
+slots-preserved-in-Some-next_entry g c =
+    rw c.size_of-size.ensures.width (ranges-next _ _ _ _ _ _ _ c.slots.invariant _ _ c.in-Some-next_entry.ensures.0 c.in-Some-next_entry.ensures.1 (sym (marked_nil _)))
 
 pub returns : goal.returns
+unfolding led_to
 returns g c =
-    rw (← ranges-end _ _ _ _ _ _ _ c.slots.invariant c.in_default.ensures, ← c.size_of-size.ensures.width) c.add_slots.ensures
+    rw (c.in-Some.is, ← ranges-end _ _ _ _ _ _ _ c.slots.invariant c.in_default-next_entry.ensures, ← c.size_of-size.ensures.width) c.add_slots.ensures

@@ -16,10 +16,10 @@ returns g c =
     let Text : Option ℕ → Type 0 =
     λ place. c.add_text.new.marks ≡ marked c.args.marks.now (led_to place (stretch_footprint bytes)) in
     let Lookup : Option ℕ → Type 0 =
-    λ place. c.add_lookup.new.marks ≡ marked c.add_text.new.marks ((lookup_if (reads_strictly m) g.T.Bitfield.format (offset_of m) place).reaches bytes) in
+    λ place. c.add_lookup_table.new.marks ≡ marked c.add_text.new.marks ((lookup_if (reads_strictly m) g.T.Bitfield.format (offset_of m) place).reaches bytes) in
     let Addresses : Option ℕ → Type 0 =
-    λ place. c.add_addresses.new.marks ≡ marked c.add_lookup.new.marks (led_to place (λ o. (address_table g.T.Bitfield.format o).reaches bytes)) in
+    λ place. c.add_address_table.new.marks ≡ marked c.add_lookup_table.new.marks (led_to place (λ o. (address_table g.T.Bitfield.format o).reaches bytes)) in
     let text = subst Text c.offset_of.ensures c.add_text.ensures in
-    let lookup = subst Lookup (rw c.of.ensures at c.lookup_offset-lookup.ensures.value) c.add_lookup.ensures in
+    let lookup = subst Lookup (rw c.of.ensures at c.lookup_offset-lookup.ensures.value) c.add_lookup_table.ensures in
     let place = c.offset_of-addresses.ensures ∙ ap (offset_of m) c.address_table_rva.ensures in
-    marked_then _ _ _ _ _ (marked_then _ _ _ _ _ text lookup) (subst Addresses place c.add_addresses.ensures)
+    marked_then _ _ _ _ _ (marked_then _ _ _ _ _ text lookup) (subst Addresses place c.add_address_table.ensures)

@@ -1,5 +1,6 @@
 use Rattle.std.proofs.Common.{arith}
 use Rattle.goblin_base.proofs.SlotFootprints.{ranges-end, ranges-next, ranges-start}
+use Rattle.goblin_pe_import.specs.ImportReadings.{lookup_if}
 use Rattle.goblin_pe_import.proofs.laws.footprint.add_lookup_table.Goals as goal
 
 pub slots-init : goal.slots-init
@@ -7,8 +8,9 @@ slots-init g c = ranges-start _ _ _ _ _ (omega (arith, c.size_of-size.ensures.wi
 
 pub slots-preserved : goal.slots-preserved
 slots-preserved g c =
-    rw c.size_of-size.ensures.width (ranges-next _ _ _ _ _ _ _ c.slots.invariant _ _ c.in-Some.ensures.0 c.in-Some.ensures.1 c.add_entry.ensures)
+    rw c.size_of-size.ensures.width (ranges-next _ _ _ _ _ _ _ c.slots.invariant _ _ c.in-Some-next_entry.ensures.0 c.in-Some-next_entry.ensures.1 c.add_entry.ensures)
 
 pub returns : goal.returns
+unfolding lookup_if
 returns g c =
-    rw (← ranges-end _ _ _ _ _ _ _ c.slots.invariant c.in_default.ensures, ← c.size_of-size.ensures.width) c.add_slots.ensures
+    rw (c.in-Some.is, ← ranges-end _ _ _ _ _ _ _ c.slots.invariant c.in_default-next_entry.ensures, ← c.size_of-size.ensures.width) c.add_slots.ensures

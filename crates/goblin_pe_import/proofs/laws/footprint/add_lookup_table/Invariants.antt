@@ -10,7 +10,7 @@ abbrev pub invariant-slots : goal.invariant-slots
 invariant-slots g l =
     AtRanges (entry_slots g.T.Bitfield.format)
     (reach_of (kept_entry (reads_strictly (map_of l.fn.address_map)) (offset_of (map_of l.fn.address_map)))
-    l.fn.bytes) l.fn.bytes l.fn.offset l.place l.initial.marks l.marks
+    l.fn.bytes) l.fn.bytes l.offset l.place l.initial.marks l.marks
 
 abbrev pub decreases-slots : goal.decreases-slots
 decreases-slots g l = length l.fn.bytes - l.place
