@@ -288,7 +288,7 @@ class Tables(unittest.TestCase):
         self.assertEqual(list(section.walk_relocations(file)), section.relocations(file))
 
     def test_a_walk_gives_all_relocations_where_the_first_record_has_their_number(self):
-        flag = package().constants.IMAGE_SCN_LNK_NRELOC_OVFL
+        flag = 0x01000000  # (IMAGE_SCN_LNK_NRELOC_OVFL)
         row = struct.Struct("<IIH")
         for count in (0x10000, 0x10001, 0x20000):
             file = relocated(b"") + row.pack(count, 0, 0) + b"".join(row.pack(i, 7, 4) for i in range(count - 1))

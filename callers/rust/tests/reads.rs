@@ -700,3 +700,41 @@ fn one_after_the_other_and_at_once() {
         }
     });
 }
+
+#[test]
+fn addresses_are_looked_up_both_ways() {
+    let bytes = sample("forwarders_x64.dll");
+    let pe = Pe::read(&bytes, &Options::default()).unwrap();
+    for s in pe.sections().filter(|s| s.size_of_raw_data != 0) {
+        let rva = s.virtual_address as usize;
+        assert_eq!(pe.section_at(rva), Some(s));
+        assert_eq!(pe.find_rva(pe.find_offset(rva).unwrap()), Some(rva));
+        let size = s.virtual_size as usize;
+        let (data, zeros) = pe.memory_at(rva, size).unwrap();
+        assert_eq!(place(&bytes, data), s.pointer_to_raw_data as usize);
+        assert_eq!(data.len() + zeros, size);
+        assert!(pe.memory_at(rva, size + 1).is_err());
+    }
+    assert_eq!(pe.find_rva(bytes.len()), None);
+}
+
+#[test]
+fn each_forwarder_is_at_its_address() {
+    let bytes = sample("forwarders_x64.dll");
+    let pe = Pe::read(&bytes, &Options::default()).unwrap();
+    assert!(pe.exports().any(|x| x.forwarder.is_some()));
+    for x in pe.exports() {
+        let found = pe.forwarder_at(x.rva).ok();
+        assert!(x.forwarder.is_none() || found == x.forwarder);
+    }
+}
+
+#[test]
+fn a_walk_gives_all_relocations() {
+    let bytes = sample("object_x64.obj");
+    let object = Object::read(&bytes, &Options::default()).unwrap();
+    for s in object.sections().filter(|s| s.number_of_relocations != 0) {
+        let all: Result<Vec<_>, _> = s.walk_relocations(&bytes).collect();
+        assert_eq!(all, s.relocations(&bytes));
+    }
+}

@@ -72,6 +72,7 @@ impl<'a> Reexport<'a> {
     /// [`Error::Read`] if there is no text; [`Error::Malformed`]: [`Cause::Forwarder`] if it has no
     /// dot with something after it, [`Cause::ForwarderOrdinal`] if no ordinal below 2^32 follows
     /// the `#`.
+    #[inline(always)]
     #[tactic(auto, using(crate::proofs::Grammar::by_grammar))]
     pub fn parse(bytes: &'a [u8], offset: usize) -> Result<Reexport<'a>>
         ensures value { Reads forwarder_value result (forwarder_at offset) bytes.now }
