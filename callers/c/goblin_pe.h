@@ -31,24 +31,29 @@
    A call may be made from any thread, and from several at once. After a refusal nothing is changed.
 
    What a file of n bytes may take, beside the caller's records. A name is a text of the file, which nothing
-   bounds but the file's end, and which is read once for each who has it: m names take n * m steps at most, a
-   step of a long text about a sixteenth of a nanosecond. A walk is stopped after any batch; no other call is.
+   bounds but the file's end, and which is read once for each who has it: m names take n * m steps at most. A step
+   of a long text takes about a tenth of a nanosecond, and half of one in a footprint. A walk is stopped after any
+   batch; no other call is.
 
    call                              memory at most                        time at most
    kind_of, read_section_data,
-     bytes_at, write_*, set_*        none                                  no more than the records say
+     bytes_at, write_*, set_*        none                                  what the records say
    read_layout                       none                                  n, and a name for each section with room
    read_object, read_te              none                                  a name for each section with room
-   read_symbol_table                 none                                  n
+   read_symbol_table, checksum       none                                  n
    next_symbols, symbol_at           none                                  a name for each record
-   read_relocations, read_aux_*      none                                  the records
-   find_offset, text_at              none                                  the sections, and one text
-   next_imports, next_exports        none, or for more than 96 sections    n once a batch, and a name for each
-                                     an index of 32 bytes for each         record
+   read_relocations, next_words,
+     next_relocations, read_aux_*    none                                  the records
+   find_offset, find_rva, text_at,
+     section_at, memory_at,
+     forwarder_at                    none                                  the sections, and one text
+   next_imports, next_exports        none, or for more than 96 sections    n once a batch, and a name for each record
+                                     an index of some 300 bytes for each
    read_damage                       the same                              a name for each import and each export
    open                              its tables, which no n bounds: see    what these take
                                      below
-   footprint                         n / 8 and 8 * n bytes                 a name for each import and each export
+   footprint                         n / 8 and 8 * n bytes, and such an    a name for each section, import and export
+                                     index
 
    How much memory a file may take is for the caller to limit, as a small file may list much: its
    libraries may share one table of imports, and that may be their own records. So 32 KiB can list nearly 13
@@ -198,7 +203,7 @@ static inline void goblin_pe_free_ranges(struct goblin_pe_ranges *ranges)
    walk ends with a refusal where goblin_pe_open has one for its imports; what comes before it is given first, and
    no law says on which bytes that depends. Each call reads the header and the sections anew, so room for some
    hundreds is better than for one. Memory is taken only for an index of more than 96 sections, which Windows does
-   not load, and given back: each call makes it anew, of 65,535 sections in some 35 milliseconds, so give room
+   not load, and given back: each call makes it anew, of 65,535 sections in some 25 milliseconds, so give room
    for thousands then. */
 static inline struct goblin_pe_fault goblin_pe_next_imports(
     const uint8_t *bytes, size_t length, const struct goblin_pe_options *options,
