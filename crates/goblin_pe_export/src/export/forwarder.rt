@@ -42,6 +42,7 @@ fn ordinal_of(text: &str) -> Option<u32>
 
 impl<'a> Reexport<'a> {
     // What a forwarder's text says.
+    #[inline(always)]
     fn of_text(text: &'a str) -> Result<Reexport<'a>>
         ensures { Answers forwarder_value result (forwarder_of text.now)
             (IsForwarderFault text.now) }
