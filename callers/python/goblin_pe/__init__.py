@@ -237,7 +237,7 @@ class Layout:
         self._options = _record_of(options)
         self._symbol_table: _t.Optional[records.SymbolTable] = None  # (until a symbol is asked for)
 
-    def _take_headers(self, file: _t.Any, directories: _t.List[records.Directory]) -> None:
+    def _take_headers(self, file: _t.Union[records.File, records.Layout], directories: _t.List[records.Directory]) -> None:
         self._dos_header, self._coff_header, self._header = file.dos_header, file.coff_header, file.optional_header
         self._directories = {_named(DirectoryType, index): d.directory for index, d in enumerate(directories) if d.is_present}
         self._has_directories = bool(directories)
