@@ -173,6 +173,25 @@ static bool is_told(void)
     return is_right;
 }
 
+/* Whether a layout says what an open says. */
+static bool is_laid_out(const struct goblin_pe_file *file, const struct goblin_pe_tables *tables)
+{
+    static struct goblin_pe_section sections[100];
+    struct goblin_pe_directory directories[16];
+    struct goblin_pe_layout layout;
+    if (goblin_pe_read_layout(bytes, length, NULL, &layout, NULL, 0, NULL, 0).status != GOBLIN_PE_STATUS_OK ||
+        goblin_pe_read_layout(bytes, length, NULL, &layout, directories, 16, sections, 100).status != GOBLIN_PE_STATUS_OK)
+        return false;
+    for (size_t i = 0; i < layout.sections && i < 100; i++)
+        if (sections[i].virtual_address != tables->sections[i].virtual_address ||
+            sections[i].real_name.bytes != tables->sections[i].real_name.bytes)
+            return false;
+    struct goblin_pe_image image = goblin_pe_image_of_layout(bytes, length, NULL, &layout, sections);
+    return are_mapped(&image, 0x1000) && layout.sections == file->sections && layout.directories == file->directories &&
+           layout.dos_stub.bytes == tables->dos_stub.bytes && layout.dos_stub.length == tables->dos_stub.length &&
+           !memcmp(&layout.coff_header, &file->coff_header, sizeof layout.coff_header);
+}
+
 static bool is_image(void)
 {
     struct goblin_pe_file file;
@@ -181,7 +200,8 @@ static bool is_image(void)
     if (!is_sound() || goblin_pe_open(bytes, length, NULL, &file, directories, 16, &tables).status != GOBLIN_PE_STATUS_OK)
         return false;
     struct goblin_pe_image image = goblin_pe_image_of(bytes, length, NULL, &file, &tables);
-    bool is_right = has_symbols(&file.coff_header) && are_mapped(&image, 0) && are_mapped(&image, SIZE_MAX);
+    bool is_right = is_laid_out(&file, &tables) && has_symbols(&file.coff_header) && are_mapped(&image, 0) &&
+                    are_mapped(&image, SIZE_MAX);
     for (size_t i = 0; i < tables.section_count; i++)
         is_right &= are_mapped(&image, tables.sections[i].virtual_address) &&
                     are_mapped(&image, tables.sections[i].virtual_address + tables.sections[i].virtual_size);

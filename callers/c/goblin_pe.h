@@ -30,11 +30,36 @@
    - malloc, realloc and free are those of one allocator, and no call is made from a signal handler.
    A call may be made from any thread, and from several at once. After a refusal nothing is changed.
 
+   What a file of n bytes may take, beside the caller's records. A name is a text of the file, which nothing
+   bounds but the file's end, and which is read once for each who has it: m names take n * m steps at most. A step
+   of a long text takes about a tenth of a nanosecond, and half of one in a footprint. A walk is stopped after any
+   batch; no other call is.
+
+   call                              memory at most                        time at most
+   kind_of, read_section_data,
+     bytes_at, write_*, set_*        none                                  what the records say
+   read_layout                       none                                  n, and a name for each section with room
+   read_object, read_te              none                                  a name for each section with room
+   read_symbol_table, checksum       none                                  n
+   next_symbols, symbol_at           none                                  a name for each record
+   read_relocations, next_words,
+     next_relocations, read_aux_*    none                                  the records
+   find_offset, find_rva, text_at,
+     section_at, memory_at,
+     forwarder_at                    none                                  the sections, and one text
+   next_imports, next_exports        none, or for more than 96 sections    n once a batch, and a name for each record
+                                     an index of some 300 bytes for each
+   read_damage                       the same                              a name for each import and each export
+   open                              its tables, which no n bounds: see    what these take
+                                     below
+   footprint                         n / 8 and 8 * n bytes, and such an    a name for each section, import and export
+                                     index
+
    How much memory a file may take is for the caller to limit, as a small file may list much: its
    libraries may share one table of imports, and that may be their own records. So 32 KiB can list nearly 13
-   million imports, 0.8 GB of records, and 256 KiB 850 million, over 50 GB. Where no limit can be set, open with
-   parse_imports false, and walk over the imports by goblin_pe_next_imports, with parse_imports true: it takes
-   memory only for an index of more than 96 sections, and gives it back; stop when it is enough.
+   million imports, 0.8 GB of records, and 256 KiB 850 million, over 50 GB. Where no limit can be set, read a
+   layout, and walk over its tables; stop when it is enough. Names in one long text take time, too: of half a
+   mebibyte whose imports begin two bytes apart in one text read_damage takes some twenty seconds.
 
    goblin_pe_records.h has the records, the numbers in them and the default options, as the proved library
    declares them. What a later version adds to a record stands at its end. */
@@ -125,6 +150,21 @@ static inline void goblin_pe_free(struct goblin_pe_tables *tables)
     memset(tables, 0, sizeof *tables);
 }
 
+/* Reads an image without its tables: says in `layout` what it is, how many data directories and how many
+   sections it has, and fills their records as far as there is room. A first call without room tells how much is
+   needed. Refused are a header or sections that goblin_pe_open refuses. No memory is taken, however much the
+   tables of the file list. */
+static inline struct goblin_pe_fault goblin_pe_read_layout(
+    const uint8_t *bytes, size_t length, const struct goblin_pe_options *options, struct goblin_pe_layout *layout,
+    struct goblin_pe_directory *directories, size_t directory_room, struct goblin_pe_section *sections,
+    size_t section_room)
+{
+    return goblin_pe_raw_read_layout(
+        GOBLIN_PE_BYTES(bytes), length, goblin_pe_options_or_default(options), layout,
+        GOBLIN_PE_SOME(struct goblin_pe_directory, directories), directory_room,
+        GOBLIN_PE_SOME(struct goblin_pe_section, sections), section_room);
+}
+
 /* Tells what strict mode would refuse of an image, part by part, each for itself, where its header and its
    sections are read as the options say. A file without damage is one that strict mode reads, and permissive
    mode alike; but an import directory at file offset 0 is an empty list there, without damage. Refused are a
@@ -163,7 +203,8 @@ static inline void goblin_pe_free_ranges(struct goblin_pe_ranges *ranges)
    walk ends with a refusal where goblin_pe_open has one for its imports; what comes before it is given first, and
    no law says on which bytes that depends. Each call reads the header and the sections anew, so room for some
    hundreds is better than for one. Memory is taken only for an index of more than 96 sections, which Windows does
-   not load, and given back. */
+   not load, and given back: each call makes it anew, of 65,535 sections in some 25 milliseconds, so give room
+   for thousands then. */
 static inline struct goblin_pe_fault goblin_pe_next_imports(
     const uint8_t *bytes, size_t length, const struct goblin_pe_options *options,
     struct goblin_pe_import_position *position, struct goblin_pe_import *imports, size_t room, size_t *count)
@@ -319,19 +360,38 @@ static inline size_t goblin_pe_next_words(
     return goblin_pe_raw_next_words(&sound, position, GOBLIN_PE_SOME(struct goblin_pe_word, words), room);
 }
 
+/* What maps the addresses of an image with these sections and this file alignment. */
+static inline struct goblin_pe_image goblin_pe_image_by(
+    const uint8_t *bytes, size_t length, const struct goblin_pe_options *options,
+    const struct goblin_pe_section *sections, size_t section_count, uint32_t file_alignment)
+{
+    struct goblin_pe_image image;
+    image.bytes.bytes = GOBLIN_PE_BYTES(bytes);
+    image.bytes.length = length;
+    image.sections = GOBLIN_PE_SOME(const struct goblin_pe_section, sections);
+    image.section_count = section_count;
+    image.file_alignment = file_alignment;
+    image.options = *goblin_pe_options_or_default(options);
+    return image;
+}
+
 /* What maps the addresses of an image that was opened. */
 static inline struct goblin_pe_image goblin_pe_image_of(
     const uint8_t *bytes, size_t length, const struct goblin_pe_options *options, const struct goblin_pe_file *file,
     const struct goblin_pe_tables *tables)
 {
-    struct goblin_pe_image image;
-    image.bytes.bytes = GOBLIN_PE_BYTES(bytes);
-    image.bytes.length = length;
-    image.sections = GOBLIN_PE_SOME(const struct goblin_pe_section, tables->sections);
-    image.section_count = tables->section_count;
-    image.file_alignment = file->optional_header.windows_fields.file_alignment;
-    image.options = *goblin_pe_options_or_default(options);
-    return image;
+    return goblin_pe_image_by(
+        bytes, length, options, tables->sections, tables->section_count,
+        file->optional_header.windows_fields.file_alignment);
+}
+
+/* The same of a layout, all of whose sections had room. */
+static inline struct goblin_pe_image goblin_pe_image_of_layout(
+    const uint8_t *bytes, size_t length, const struct goblin_pe_options *options,
+    const struct goblin_pe_layout *layout, const struct goblin_pe_section *sections)
+{
+    return goblin_pe_image_by(
+        bytes, length, options, sections, layout->sections, layout->optional_header.windows_fields.file_alignment);
 }
 
 /* Puts the file offset of an address into `offset`, and answers whether there is one. There is none where no

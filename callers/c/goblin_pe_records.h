@@ -789,6 +789,24 @@ struct goblin_pe_tables {
     struct goblin_pe_text dos_stub;
 };
 
+/* An image as a whole, without its tables. */
+struct goblin_pe_layout {
+    /* The optional header. */
+    struct goblin_pe_optional_header optional_header;
+    /* How many data directories there are, whatever the room: sixteen, or none where there is no
+       optional header. Records past them are not filled. */
+    size_t directories;
+    /* How many sections there are, whatever the room. */
+    size_t sections;
+    /* The DOS header. */
+    struct goblin_pe_dos_header dos_header;
+    /* The COFF header. */
+    struct goblin_pe_coff_header coff_header;
+    /* The DOS stub, which is written with a header: bytes of the file, or where permissive mode
+       could not read them a stub of the library's own. */
+    struct goblin_pe_text dos_stub;
+};
+
 /* Where a walk over imports goes on; zeros are the beginning. It may be kept, and copied. */
 struct goblin_pe_import_position {
     /* The file offset of a library's record; the greatest number once the end has been reached,
@@ -1014,6 +1032,10 @@ struct goblin_pe_fault goblin_pe_raw_open(
     const uint8_t *bytes, size_t byte_count, const struct goblin_pe_options *options,
     struct goblin_pe_file *file, struct goblin_pe_directory *directories, size_t directory_room,
     struct goblin_pe_tables *tables);
+struct goblin_pe_fault goblin_pe_raw_read_layout(
+    const uint8_t *bytes, size_t byte_count, const struct goblin_pe_options *options,
+    struct goblin_pe_layout *layout, struct goblin_pe_directory *directories, size_t directory_room,
+    struct goblin_pe_section *sections, size_t section_room);
 struct goblin_pe_fault goblin_pe_raw_next_imports(
     const uint8_t *bytes, size_t byte_count, const struct goblin_pe_options *options,
     struct goblin_pe_import_position *position, struct goblin_pe_import *records,
@@ -1328,6 +1350,14 @@ GOBLIN_PE_IS_AT(tables, blocks, 80);
 GOBLIN_PE_IS_AT(tables, block_count, 88);
 GOBLIN_PE_IS_AT(tables, export_directory, 96);
 GOBLIN_PE_IS_AT(tables, dos_stub, 160);
+
+GOBLIN_PE_HAS_SIZE(layout, 264, 8);
+GOBLIN_PE_IS_AT(layout, optional_header, 0);
+GOBLIN_PE_IS_AT(layout, directories, 144);
+GOBLIN_PE_IS_AT(layout, sections, 152);
+GOBLIN_PE_IS_AT(layout, dos_header, 160);
+GOBLIN_PE_IS_AT(layout, coff_header, 224);
+GOBLIN_PE_IS_AT(layout, dos_stub, 248);
 
 GOBLIN_PE_HAS_SIZE(import_position, 16, 8);
 GOBLIN_PE_IS_AT(import_position, record_offset, 0);

@@ -20,7 +20,7 @@ import unittest.mock
 
 import goblin_pe
 from goblin_pe import (AuxBeginAndEndFunction, AuxFunctionDefinition, AuxSectionDefinition, AuxWeakExternal, Cause, DataDirectory,
-                       DirectoryType, Kind, ObjectFile, Options, Pe, RawPointerRule, ReadFault, Refused, State, Status, Te, kind)
+                       DirectoryType, Kind, Layout, ObjectFile, Options, Pe, RawPointerRule, ReadFault, Refused, State, Status, Te, kind)
 from goblin_pe.records import Text
 from goblin_pe.rows import Rows
 
@@ -512,6 +512,21 @@ class Files(unittest.TestCase):
         self.assertEqual((str(pe.damage.dos_stub), pe.damage[1:]), (str(caught.exception), (None, None, None, None, 0, 0, 0)))
         self.assertEqual(caught.exception.cause, Cause.STUB_BEFORE_START)
         self.assertRaises(ValueError, pe.write)
+
+    def test_a_layout_has_what_an_image_has_but_its_lists(self):
+        for name in ("imports_by_name_x64.dll", "forwarders_x64.dll", "firmware_x64.efi"):
+            data = sample(name)
+            pe = Pe(data)
+            with Layout(data, Options(parse_imports=False)) as layout:
+                for what in ("dos_header", "coff_header", "optional_header", "data_directories", "sections", "symbols"):
+                    self.assertEqual(getattr(layout, what), getattr(pe, what))
+                self.assertEqual((list(layout.walk_imports()), list(layout.walk_exports())), (pe.imports, pe.exports))
+                for s in pe.sections:
+                    found = [(it.find_offset(s.virtual_address), it.bytes_at(s.virtual_address, 4)) for it in (layout, pe)]
+                    self.assertEqual(found[0], found[1])
+                self.assertEqual((layout.imphash(), repr(pickle.loads(pickle.dumps(layout)))), (pe.imphash(), repr(layout)))
+            self.assertRaises(ValueError, layout.walk_exports)
+        self.assertRaises(Refused, Layout, b"")
 
     def test_symbols_and_relocations_of_objects(self):
         for name in ("object_x64.obj", "object_x86.obj"):

@@ -15,7 +15,7 @@ relocations, objects with their symbols, and Terse Executables.
 
 `python -m goblin_pe FILE` lists a file, and with --json many of them.
 
-Pe, ObjectFile and Te read bytes, a memoryview, a mapped file or any other buffer that lies in one piece; Options say how.
+Pe, Layout, ObjectFile and Te read bytes, a memoryview, a mapped file or any other buffer that lies in one piece; Options say how.
 Texts are bytes. Addresses (rva) are relative to the image's base, offsets are file offsets, both in bytes. `kind` tells what
 a file is.
 
@@ -25,8 +25,8 @@ view of one, is copied first. A mapped file must not be written or cut by whatev
 
 The rows of a table are made when they are first asked for, of the file's bytes, and are Python's own then: they stay when
 the bytes are gone. A file of 256 KiB can have more than 800 million imports, and exports whose names have 2 GB. Where
-memory can't be limited, read it by Options(parse_imports=False), and use Pe.walk_imports and Pe.walk_exports, which keep no
-row.
+memory can't be limited, read a Layout, which lists nothing, and use its walk_imports and walk_exports, which keep no row. A
+Pe is a Layout with its lists.
 
 A refusal raises Refused, also where the library is refused memory: its status is then Status.MEMORY. MemoryError
 comes from Python alone, where there is no memory for what was read.
@@ -207,43 +207,67 @@ def _record_of(how: _t.Optional[Options]) -> records.Options:
     return records.Options(how.is_permissive, how.resolve_rva, how.raw_pointer_rule, how.parse_imports)
 
 
-class Pe:
-    """An image that was read: Pe(data, options), where `data` are the file's bytes and `options` are Options. A file that is
-    refused raises Refused.
+_L = _t.TypeVar("_L", bound="Layout")
 
-    It keeps `data`, or the copy of a buffer that could be written, until close() or the end of a `with`. Tables whose rows were
-    not asked for before, symbols, damage and the methods raise ValueError then, but find_offset needs the bytes no longer. A
-    copy, as it is sent to another process, has all but `data`.
+
+class Layout:
+    """An image by its header and its sections: Layout(data, options), where `data` are the file's bytes and `options` are
+    Options. A file whose header or sections are refused raises Refused. Nothing of it is listed, so it takes memory for its
+    sections alone, however much its tables list: these are walked over, or looked up.
+
+    It keeps `data`, or the copy of a buffer that could be written, until close() or the end of a `with`. Symbols, damage and the
+    methods raise ValueError then, but find_offset needs the bytes no longer. A copy, as it is sent to another process, has all
+    but `data`.
     """
 
     def __init__(self, data: Data, options: _t.Optional[Options] = None):
+        self._hold(data, options)
+        layout, directories = records.Layout(), (records.Directory * 16)()
+        with _held(self._bytes()) as (address, length):
+            for _ in range(2):
+                sections, count = _room(records.Section, layout.sections), layout.sections
+                _test(_LIB.goblin_pe_raw_read_layout(
+                    address, length, _c.byref(self._options), _c.byref(layout), directories, 16, sections, count))
+        self._take_headers(layout, directories[: layout.directories])
+        self._sections = list(map(_Rows(self._bytes(), address).section, sections[:count]))
+        self._mapping = _mapping_of(sections, count)
+
+    def _hold(self, data: Data, options: _t.Optional[Options]) -> None:
         self._data: _t.Optional[_Kept] = _kept(data)
         self._options = _record_of(options)
         self._symbol_table: _t.Optional[records.SymbolTable] = None  # (until a symbol is asked for)
-        file, directories, tables = records.File(), (records.Directory * 16)(), records.Tables()
-        with _held(self._data) as (address, length):
-            _test(_LIB.goblin_pe_raw_open(address, length, _c.byref(self._options), _c.byref(file), directories, 16, _c.byref(tables)))
-        # (the library's own, which lie where the file's bytes did; and the rows that were made of them)
-        self._tables: _t.Optional[records.Tables] = tables
-        self._address = address
-        self._made: _t.Dict[str, _t.List[_t.Any]] = {}
-        self._counts = {name: tables.count(name) for name in tables.KINDS}
-        self._mapping = _mapping_of(tables.sections, tables.count("sections"))
-        self._take_headers(file, directories[: file.directories])
-        self._stub = _c.string_at(tables.dos_stub.bytes, tables.dos_stub.length)  # (it need not lie in the file)
-        self._export_directory = _Rows(self._data, address).export_directory(tables.export_directory)
 
-    def _take_headers(self, file: records.File, directories: _t.List[records.Directory]) -> None:
+    def _take_headers(self, file: _t.Any, directories: _t.List[records.Directory]) -> None:
         self._dos_header, self._coff_header, self._header = file.dos_header, file.coff_header, file.optional_header
         self._directories = {_named(DirectoryType, index): d.directory for index, d in enumerate(directories) if d.is_present}
         self._has_directories = bool(directories)
-        rich = file.rich_header
-        self._rich_header = RichHeader(rich.key, rich.padding_size, rich.start_offset, rich.end_offset) if rich.is_present else None
-        self._rests = _refusal(rich.rest), _refusal(file.relocations.rest)
-        self._states = State(file.imports.state), State(file.exports.state), State(file.relocations.blocks.state)
+
+    @property
+    def sections(self) -> _t.List[Section]:
+        """The sections."""
+        return self._sections
+
+    def __repr__(self) -> str:
+        return "<Layout machine=%#x sections=%d>" % (self.coff_header.machine, len(self.sections))
+
+    def __getstate__(self) -> _t.Dict[str, _t.Any]:
+        return {**self.__dict__, "_data": None, "_mapping": bytes(self._mapping)}
+
+    def __setstate__(self, state: _t.Dict[str, _t.Any]) -> None:
+        self.__dict__.update(state)
+        self._mapping = _mapping_of(state["_mapping"], len(self._sections))
+
+    def close(self) -> None:
+        """Lets go of the file's bytes."""
+        self._data = None
+
+    def imphash(self) -> str:
+        """The hash of the imports that analysts compare: the MD5 in hexadecimal, or an empty text where there are no
+        imports. Other tools tell the same where they see the same imports. It walks over them, and keeps none."""
+        return _imphash(self.walk_imports())
 
     @classmethod
-    def open(cls, path: _t.Union[str, "_os.PathLike[str]"], options: _t.Optional[Options] = None) -> "Pe":
+    def open(cls: _t.Type[_L], path: _t.Union[str, "_os.PathLike[str]"], options: _t.Optional[Options] = None) -> _L:
         """The image in a file, which is read whole. OSError is raised where it can't be read."""
         with open(path, "rb") as file:
             return cls(file.read(), options)
@@ -288,120 +312,11 @@ class Pe:
         """The address at which the image is best loaded; 0 where it has no optional header."""
         return self._header.windows_fields.image_base if self._has_directories else 0
 
-    @property
-    def name(self) -> _t.Optional[bytes]:
-        """The name with which it was linked as a library; None where it has none."""
-        return self.export_directory.name if self.export_directory else None
-
-    @property
-    def libraries(self) -> _t.List[bytes]:
-        """The names of the libraries of which something is imported, sorted, each once."""
-        return sorted({x.dll for x in self.imports})
-
-    @property
-    def rich_header(self) -> _t.Optional[RichHeader]:
-        """The Rich header; None where the file has none."""
-        return self._rich_header
-
-    @property
-    def rich_entries(self) -> _t.List[RichMetadata]:
-        """The entries of the Rich header."""
-        return self._rows("rich_entries")
-
-    @property
-    def rich_rest(self) -> _t.Optional[Refused]:
-        """Why the rest that follows these entries is no entry; None where there is no rest."""
-        return self._rests[0]
-
-    @property
-    def sections(self) -> _t.List[Section]:
-        """The sections."""
-        return self._rows("sections")
-
-    @property
-    def import_table(self) -> State:
-        """How the imports stand; only what was read has entries."""
-        return self._states[0]
-
-    @property
-    def imports(self) -> _t.List[Import]:
-        """The imports."""
-        return self._rows("imports")
-
-    @property
-    def export_table(self) -> State:
-        """How the exports stand."""
-        return self._states[1]
-
-    @property
-    def exports(self) -> _t.List[Export]:
-        """The exports."""
-        return self._rows("exports")
-
-    @property
-    def export_directory(self) -> _t.Optional[ExportDirectory]:
-        """The record of the exports; None where these were not read."""
-        return self._export_directory if self.export_table == State.READ else None
-
-    @property
-    def export_addresses(self) -> _t.List[ExportAddress]:
-        """The entries of the export address table, by rising ordinals, also those without a name."""
-        return self._rows("export_addresses")
-
-    @property
-    def relocation_table(self) -> State:
-        """How the base relocations stand."""
-        return self._states[2]
-
-    @property
-    def blocks(self) -> _t.List[Block]:
-        """The blocks of base relocations."""
-        return self._rows("blocks")
-
-    @property
-    def block_rest(self) -> _t.Optional[Refused]:
-        """Why the rest that follows the blocks is no block; None where there is no rest."""
-        return self._rests[1]
-
-    def _each(self, table: str, most_kept: _t.Optional[int] = _MOST_KEPT) -> _t.Iterator[_t.Any]:
-        # the rows of a table, one by one (the tables stay while they are gone through)
-        tables, data = self._tables, self._bytes()
-        rows = _Rows(data, self._address, most_kept)
-        ordinals = _itertools.count(self._export_directory.table.ordinal_base)
-        rows_of: _t.Dict[str, _t.Callable[[_t.Any], _t.Any]] = {
-            "rich_entries": lambda entry: _laid_out.read(RichMetadata, entry), "sections": rows.section, "imports": rows.imported,
-            "exports": rows.exported, "export_addresses": lambda it: ExportAddress(next(ordinals), it.rva, it.forwards),
-            "blocks": rows.block}
-        return map(rows_of[table], tables.records(table)) if tables else iter(())
-
-    def _rows(self, table: str) -> _t.List[_t.Any]:
-        # the rows of a table, made when they are first asked for
-        if table not in self._made:
-            self._made[table] = list(self._each(table, None)) if self._counts[table] else []
-        return self._made[table]
-
-    def __repr__(self) -> str:
-        return "<Pe machine=%#x sections=%d imports=%d exports=%d blocks=%d>" % (
-            self.coff_header.machine, *(self._counts[it] for it in ("sections", "imports", "exports", "blocks")))
-
-    def __getstate__(self) -> _t.Dict[str, _t.Any]:
-        # (of a closed one, the rows that were asked for)
-        rows = self._made if self._data is None else {name: getattr(self, name) for name in self._counts}
-        return {**self.__dict__, "_made": rows, "_data": None, "_tables": None, "_mapping": bytes(self._mapping)}
-
-    def __setstate__(self, state: _t.Dict[str, _t.Any]) -> None:
-        self.__dict__.update(state)
-        self._mapping = _mapping_of(state["_mapping"], self._counts["sections"])
-
-    def __enter__(self) -> "Pe":
+    def __enter__(self: _L) -> _L:
         return self
 
     def __exit__(self, *error: object) -> None:
         self.close()
-
-    def close(self) -> None:
-        """Lets go of the file's bytes, and of the tables whose rows were not asked for."""
-        self._data = self._tables = None
 
     def _bytes(self) -> _Kept:
         if self._data is None:
@@ -554,15 +469,6 @@ class Pe:
         return Damage(_refusal(d.dos_stub), _refusal(d.section_names), _refusal(d.imports), _refusal(d.exports),
                       _refusal(d.relocations), d.left_out_libraries, d.left_out_entries, d.left_out_exports)
 
-    def imphash(self) -> str:
-        """The hash of the imports that analysts compare: the MD5 in hexadecimal, or an empty text where there are no
-        imports. Other tools tell the same where they see the same imports. Where the options left the imports out, it
-        walks over them, and keeps none."""
-        if not self._options.parse_imports:
-            return _imphash(self.walk_imports())
-        is_made = "imports" in self._made or not self._counts["imports"]
-        return _imphash(self.imports if is_made else self._each("imports"))
-
     def footprint(self) -> _t.List[Range]:
         """The bytes of the file on which what Pe lists depends, its attributes but for symbols and damage: a file of the same
         length that has the same bytes in these ranges is read alike, by the same options. It does not cover what is read
@@ -584,6 +490,157 @@ class Pe:
                 digest.update(b" %d %d " % (begin, begin + length))
                 digest.update(in_bytes[begin: begin + length])
         return digest.hexdigest()
+
+
+class Pe(Layout):
+    """An image that was read, with its lists: Pe(data, options), where `data` are the file's bytes and `options` are Options. A
+    file that is refused raises Refused.
+
+    It keeps `data`, or the copy of a buffer that could be written, until close() or the end of a `with`. Tables whose rows were
+    not asked for before, symbols, damage and the methods raise ValueError then, but find_offset needs the bytes no longer. A
+    copy, as it is sent to another process, has all but `data`.
+    """
+
+    def __init__(self, data: Data, options: _t.Optional[Options] = None):
+        self._hold(data, options)
+        file, directories, tables = records.File(), (records.Directory * 16)(), records.Tables()
+        with _held(self._bytes()) as (address, length):
+            _test(_LIB.goblin_pe_raw_open(address, length, _c.byref(self._options), _c.byref(file), directories, 16, _c.byref(tables)))
+        # (the library's own, which lie where the file's bytes did; and the rows that were made of them)
+        self._tables: _t.Optional[records.Tables] = tables
+        self._address = address
+        self._made: _t.Dict[str, _t.List[_t.Any]] = {}
+        self._counts = {name: tables.count(name) for name in tables.KINDS}
+        self._mapping = _mapping_of(tables.sections, tables.count("sections"))
+        self._take_headers(file, directories[: file.directories])
+        self._take_tables(file)
+        self._stub = _c.string_at(tables.dos_stub.bytes, tables.dos_stub.length)  # (it need not lie in the file)
+        self._export_directory = _Rows(self._bytes(), address).export_directory(tables.export_directory)
+
+    def _take_tables(self, file: records.File) -> None:
+        rich = file.rich_header
+        self._rich_header = RichHeader(rich.key, rich.padding_size, rich.start_offset, rich.end_offset) if rich.is_present else None
+        self._rests = _refusal(rich.rest), _refusal(file.relocations.rest)
+        self._states = State(file.imports.state), State(file.exports.state), State(file.relocations.blocks.state)
+
+    @property
+    def name(self) -> _t.Optional[bytes]:
+        """The name with which it was linked as a library; None where it has none."""
+        return self.export_directory.name if self.export_directory else None
+
+    @property
+    def libraries(self) -> _t.List[bytes]:
+        """The names of the libraries of which something is imported, sorted, each once."""
+        return sorted({x.dll for x in self.imports})
+
+    @property
+    def rich_header(self) -> _t.Optional[RichHeader]:
+        """The Rich header; None where the file has none."""
+        return self._rich_header
+
+    @property
+    def rich_entries(self) -> _t.List[RichMetadata]:
+        """The entries of the Rich header."""
+        return self._rows("rich_entries")
+
+    @property
+    def rich_rest(self) -> _t.Optional[Refused]:
+        """Why the rest that follows these entries is no entry; None where there is no rest."""
+        return self._rests[0]
+
+    @property
+    def sections(self) -> _t.List[Section]:
+        """The sections."""
+        return self._rows("sections")
+
+    @property
+    def import_table(self) -> State:
+        """How the imports stand; only what was read has entries."""
+        return self._states[0]
+
+    @property
+    def imports(self) -> _t.List[Import]:
+        """The imports."""
+        return self._rows("imports")
+
+    @property
+    def export_table(self) -> State:
+        """How the exports stand."""
+        return self._states[1]
+
+    @property
+    def exports(self) -> _t.List[Export]:
+        """The exports."""
+        return self._rows("exports")
+
+    @property
+    def export_directory(self) -> _t.Optional[ExportDirectory]:
+        """The record of the exports; None where these were not read."""
+        return self._export_directory if self.export_table == State.READ else None
+
+    @property
+    def export_addresses(self) -> _t.List[ExportAddress]:
+        """The entries of the export address table, by rising ordinals, also those without a name."""
+        return self._rows("export_addresses")
+
+    @property
+    def relocation_table(self) -> State:
+        """How the base relocations stand."""
+        return self._states[2]
+
+    @property
+    def blocks(self) -> _t.List[Block]:
+        """The blocks of base relocations."""
+        return self._rows("blocks")
+
+    @property
+    def block_rest(self) -> _t.Optional[Refused]:
+        """Why the rest that follows the blocks is no block; None where there is no rest."""
+        return self._rests[1]
+
+    def _each(self, table: str, most_kept: _t.Optional[int] = _MOST_KEPT) -> _t.Iterator[_t.Any]:
+        # the rows of a table, one by one (the tables stay while they are gone through)
+        tables, data = self._tables, self._bytes()
+        rows = _Rows(data, self._address, most_kept)
+        ordinals = _itertools.count(self._export_directory.table.ordinal_base)
+        rows_of: _t.Dict[str, _t.Callable[[_t.Any], _t.Any]] = {
+            "rich_entries": lambda entry: _laid_out.read(RichMetadata, entry), "sections": rows.section, "imports": rows.imported,
+            "exports": rows.exported, "export_addresses": lambda it: ExportAddress(next(ordinals), it.rva, it.forwards),
+            "blocks": rows.block}
+        return map(rows_of[table], tables.records(table)) if tables else iter(())
+
+    def _rows(self, table: str) -> _t.List[_t.Any]:
+        # the rows of a table, made when they are first asked for
+        if table not in self._made:
+            self._made[table] = list(self._each(table, None)) if self._counts[table] else []
+        return self._made[table]
+
+    def __repr__(self) -> str:
+        return "<Pe machine=%#x sections=%d imports=%d exports=%d blocks=%d>" % (
+            self.coff_header.machine, *(self._counts[it] for it in ("sections", "imports", "exports", "blocks")))
+
+    def __getstate__(self) -> _t.Dict[str, _t.Any]:
+        # (of a closed one, the rows that were asked for)
+        rows = self._made if self._data is None else {name: getattr(self, name) for name in self._counts}
+        return {**self.__dict__, "_made": rows, "_data": None, "_tables": None, "_mapping": bytes(self._mapping)}
+
+    def __setstate__(self, state: _t.Dict[str, _t.Any]) -> None:
+        self.__dict__.update(state)
+        self._mapping = _mapping_of(state["_mapping"], self._counts["sections"])
+
+    def close(self) -> None:
+        """Lets go of the file's bytes, and of the tables whose rows were not asked for."""
+        super().close()
+        self._tables = None
+
+    def imphash(self) -> str:
+        """The hash of the imports that analysts compare: the MD5 in hexadecimal, or an empty text where there are no
+        imports. Other tools tell the same where they see the same imports. Where the options left the imports out, it
+        walks over them, and keeps none."""
+        if not self._options.parse_imports:
+            return _imphash(self.walk_imports())
+        is_made = "imports" in self._made or not self._counts["imports"]
+        return _imphash(self.imports if is_made else self._each("imports"))
 
     def write(self, coff_header: _t.Optional[CoffHeader] = None, optional_header: _t.Optional[OptionalHeader] = None,
               sections: _t.Optional[_t.Iterable[Section]] = None, data_directories: _t.Optional[_t.Mapping[int, DataDirectory]] = None,

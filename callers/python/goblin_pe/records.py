@@ -678,6 +678,28 @@ class Tables(HandedOver):
 
 
 @record
+class Layout(Record):
+    """An image as a whole, without its tables.
+
+    optional_header: The optional header.
+    directories: How many data directories there are, whatever the room: sixteen, or none where
+        there is no optional header. Records past them are not filled.
+    sections: How many sections there are, whatever the room.
+    dos_header: The DOS header.
+    coff_header: The COFF header.
+    dos_stub: The DOS stub, which is written with a header: bytes of the file, or where permissive
+        mode could not read them a stub of the library's own.
+    """
+
+    optional_header: OptionalHeader
+    directories: Annotated[int, c.c_size_t]
+    sections: Annotated[int, c.c_size_t]
+    dos_header: DosHeader
+    coff_header: CoffHeader
+    dos_stub: Text
+
+
+@record
 class ImportPosition(Record):
     """Where a walk over imports goes on; zeros are the beginning. It may be kept, and copied.
 
@@ -966,6 +988,8 @@ CALLS: Dict[str, Tuple[Any, List[Any]]] = {
         (c.c_uint32, [c.c_void_p, c.c_size_t]),
     "goblin_pe_raw_open":
         (Fault, [c.c_void_p, c.c_size_t, to(Options), to(File), to(Directory), c.c_size_t, to(Tables)]),
+    "goblin_pe_raw_read_layout":
+        (Fault, [c.c_void_p, c.c_size_t, to(Options), to(Layout), to(Directory), c.c_size_t, to(Section), c.c_size_t]),
     "goblin_pe_raw_next_imports":
         (Fault, [c.c_void_p, c.c_size_t, to(Options), to(ImportPosition), to(Import), c.c_size_t, to(c.c_size_t)]),
     "goblin_pe_raw_next_exports":

@@ -60,6 +60,7 @@ mod error;
 mod footprint;
 mod imphash;
 mod iterators;
+mod layout;
 mod memory;
 mod names;
 mod numbers;
@@ -80,6 +81,7 @@ pub use iterators::{
     Blocks, DataDirectories, ExportAddresses, Exports, FootprintRanges, Imports, IntoImports,
     Sections, Symbols, WalkExports, WalkImports, WalkLibraries, WalkRelocations, Words,
 };
+pub use layout::Layout;
 pub use names::{DllFlags, FileFlags, Machine, SectionFlags, Subsystem};
 pub use numbers::{
     Cause, Counted, DirectoryType, ErrorKind, Kind, Part, RawPointerRule, ReadFault,

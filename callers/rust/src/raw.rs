@@ -2,7 +2,7 @@
 //! unsafe.
 
 use crate::numbers::RawPointerRule;
-use std::alloc::{Layout, handle_alloc_error};
+use std::alloc::{self, handle_alloc_error};
 use std::ffi::c_void;
 use std::marker::PhantomData;
 use std::mem::offset_of;
@@ -163,7 +163,7 @@ impl<T: Copy> Clone for List<'_, T> {
         if count == 0 {
             return Self::default();
         }
-        let layout = Layout::for_value(self.get());
+        let layout = alloc::Layout::for_value(self.get());
         // SAFETY: it may be asked for any size.
         let Some(first) = NonNull::new(unsafe { malloc(layout.size()) }) else {
             handle_alloc_error(layout)
@@ -271,6 +271,30 @@ pub fn open<'a>(
             directories.as_mut_ptr(),
             directories.len(),
             tables,
+        )
+    }
+}
+
+/// Reads the header and the sections of a file; fills the records as far as there is room.
+pub fn read_layout<'a>(
+    bytes: &'a [u8],
+    options: &Options,
+    layout: &mut Layout<'a>,
+    directories: &mut [Directory],
+    sections: &mut [Section<'a>],
+) -> Fault {
+    test_interface();
+    // SAFETY: as in `open`.
+    unsafe {
+        goblin_pe_raw_read_layout(
+            bytes.as_ptr(),
+            bytes.len(),
+            options,
+            layout,
+            directories.as_mut_ptr(),
+            directories.len(),
+            sections.as_mut_ptr(),
+            sections.len(),
         )
     }
 }

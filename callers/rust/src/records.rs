@@ -603,6 +603,26 @@ pub struct Tables<'a> {
     pub dos_stub: Slice<'a>,
 }
 
+/// An image as a whole, without its tables.
+#[repr(C)]
+#[derive(Clone, Copy, Default)]
+pub struct Layout<'a> {
+    /// The optional header.
+    pub optional_header: OptionalHeader,
+    /// How many data directories there are, whatever the room: sixteen, or none where there is no
+    /// optional header. Records past them are not filled.
+    pub directories: usize,
+    /// How many sections there are, whatever the room.
+    pub sections: usize,
+    /// The DOS header.
+    pub dos_header: DosHeader,
+    /// The COFF header.
+    pub coff_header: CoffHeader,
+    /// The DOS stub, which is written with a header: bytes of the file, or where permissive mode
+    /// could not read them a stub of the library's own.
+    pub dos_stub: Slice<'a>,
+}
+
 /// Where a walk over imports goes on; zeros are the beginning. It may be kept, and copied.
 #[repr(C)]
 #[derive(Clone, Copy, Default, Debug, PartialEq, Eq, PartialOrd, Ord, Hash)]
@@ -1048,6 +1068,13 @@ const _: () = {
     assert!(offset_of!(Tables, blocks) == 80);
     assert!(offset_of!(Tables, export_directory) == 96);
     assert!(offset_of!(Tables, dos_stub) == 160);
+    assert!(size_of::<Layout>() == 264 && align_of::<Layout>() == 8);
+    assert!(offset_of!(Layout, optional_header) == 0);
+    assert!(offset_of!(Layout, directories) == 144);
+    assert!(offset_of!(Layout, sections) == 152);
+    assert!(offset_of!(Layout, dos_header) == 160);
+    assert!(offset_of!(Layout, coff_header) == 224);
+    assert!(offset_of!(Layout, dos_stub) == 248);
     assert!(size_of::<ImportPosition>() == 16 && align_of::<ImportPosition>() == 8);
     assert!(offset_of!(ImportPosition, record_offset) == 0);
     assert!(offset_of!(ImportPosition, slot_offset) == 8);
@@ -1170,6 +1197,17 @@ unsafe extern "C" {
         directories: *mut Directory,
         directory_room: usize,
         tables: &mut Tables<'_>,
+    ) -> Fault;
+
+    pub fn goblin_pe_raw_read_layout<'a>(
+        bytes: *const u8,
+        byte_count: usize,
+        options: &Options,
+        layout: &mut Layout<'a>,
+        directories: *mut Directory,
+        directory_room: usize,
+        sections: *mut Section<'a>,
+        section_room: usize,
     ) -> Fault;
 
     pub fn goblin_pe_raw_next_imports(

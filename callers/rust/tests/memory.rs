@@ -67,6 +67,11 @@ fn refused_memory_is_an_error() {
     let memory = Some(ErrorKind::Memory);
     assert_eq!(refused(|| Object::read(&object, &options)), memory);
     assert_eq!(refused(|| Te::read(&te)), memory);
+    let layout = goblin_pe::Layout::read(&image, &options).unwrap();
+    let read = || goblin_pe::Layout::read(&image, &options);
+    assert_eq!(refused(read), memory);
+    assert_eq!(refused(|| layout.damage()), None);
+    assert_eq!(refused(|| layout.symbols()), memory);
     assert_eq!(refused(|| pe.footprint()), None); // (its ranges are in the library's memory)
     assert_eq!(refused(|| pe.damage()), None);
     assert_eq!(refused(|| Pe::read(&image, &options)), None);

@@ -1,7 +1,7 @@
 //! Reads samples, and what is no image.
 use goblin_pe::constants::{COFF_MACHINE_X86_64, IMAGE_SCN_LNK_NRELOC_OVFL};
 use goblin_pe::{
-    Cause, DirectoryType, ErrorKind, Forwarder, Imported, Kind, Object, Options, Part, Pe,
+    Cause, DirectoryType, ErrorKind, Forwarder, Imported, Kind, Layout, Object, Options, Part, Pe,
     RawPointerRule, ReadFault, Te, Text,
 };
 
@@ -507,6 +507,46 @@ fn what_was_read_is_shared_and_shown() {
     is_shared(&te);
     assert!(format!("{te:?}").starts_with("Te { machine: 34404, "));
     is_shared(&Te::read(b"").err().unwrap());
+}
+
+#[test]
+fn a_layout_has_what_an_open_has_but_its_lists() {
+    for name in [
+        "imports_by_name_x64.dll",
+        "forwarders_x64.dll",
+        "firmware_x64.efi",
+    ] {
+        let bytes = sample(name);
+        let options = Options::default();
+        let pe = Pe::read(&bytes, &options).unwrap();
+        let layout = Layout::read(&bytes, &options.with_parse_imports(false)).unwrap();
+        assert_eq!(layout.dos_header(), pe.dos_header());
+        assert_eq!(layout.coff_header(), pe.coff_header());
+        assert_eq!(layout.optional_header(), pe.optional_header());
+        assert!(layout.data_directories().eq(pe.data_directories()));
+        let names: Vec<_> = layout.sections().map(|s| s.name).collect();
+        assert!(pe.sections().map(|s| s.name).eq(names));
+        for section in pe.sections() {
+            let rva = section.virtual_address as usize;
+            assert_eq!(layout.find_offset(rva), pe.find_offset(rva));
+            assert_eq!(layout.bytes_at(rva, 4).ok(), pe.bytes_at(rva, 4).ok());
+            assert_eq!(
+                layout.section_data(&section).ok(),
+                pe.section_data(&section).ok()
+            );
+        }
+        let imports = layout.walk_imports().map(|import| import.unwrap().slot_rva);
+        assert!(imports.eq(pe.imports().map(|import| import.slot_rva)));
+        let exports = layout.walk_exports().map(|export| export.unwrap().ordinal);
+        assert!(exports.eq(pe.exports().map(|export| export.ordinal)));
+        assert_eq!(layout.symbols().unwrap().count(), 0);
+        assert_eq!(
+            format!("{:?}", layout.damage()),
+            format!("{:?}", pe.damage())
+        );
+    }
+    let error = Layout::read(b"", &Options::default()).err().unwrap();
+    assert_eq!(error.named_cause(), Some(Cause::NoDosSignature));
 }
 
 #[test]

@@ -1,10 +1,9 @@
 -- A loop over the imports of a file that gathers something: what it has gathered so far, and what at each way out.
-use Rattle.std.proofs.Common.{◌≡◌, ℕ, ◌+◌, ◌-◌, ◌^◌, ◌||◌, Bool, true, false, cond, List, [], ◌∷◌, ◌++◌, map, Option, Some, None, Result, Ok, Err, arith}
-use Rattle.std.proofs.Common.{refl, sym, ap, ◌∙◌}
+use Rattle.std.proofs.Common.{◌≡◌, ℕ, ◌+◌, ◌-◌, ◌^◌, ◌||◌, Bool, true, false, cond, List, [], ◌∷◌, ◌++◌, Option, Some, None, Result, Ok, Err, arith}
+use Rattle.std.proofs.Common.{refl, sym, ap, subst, ◌∙◌}
 use Rattle.std.specs.Prelude.{count_by, find, min, option_map}
 use Rattle.std.specs.Option.{option_or}
 use Rattle.std.specs.List.{list_any}
-use Rattle.std.proofs.lemmas.List.{map-id}
 use Rattle.std.proofs.lemmas.List.Folds.{find-append, list_any-append}
 use Rattle.std.proofs.lemmas.List.Sums.{sum_by-append}
 use Rattle.goblin_base.specs.declared.error.ErrorOf.{ErrorOf}
@@ -16,45 +15,37 @@ use Rattle.goblin_pe.specs.declared.whole.imports.FileImports.{FileImports}
 use Rattle.goblin_pe.specs.Callers.{counted, has_any}
 use Rattle.goblin_pe.specs.LayoutPositions.{GivesFileImport}
 use Rattle.goblin_pe.specs.Layouts.{IsFileImportsCause, file_imports_left}
-use Rattle.goblin_pe.proofs.Walked.{AtMade, made-all, made-fault, made-more, made-start}
-
-mapped-same : {A : Type 0} (o : Option (List A)) {xs : List A} → option_map (map (λ x. x)) o ≡ Some xs → o ≡ Some xs
-mapped-same None is = absurd cc
-mapped-same (Some ys) is = ap (λ (ys : List _). Some ys) (sym (map-id ys)) ∙ is
-
-unmapped-same : {A : Type 0} (o : Option (List A)) → option_map (map (λ x. x)) o ≡ None → o ≡ None
-unmapped-same None is = refl
-unmapped-same (Some ys) is = absurd cc
+use Rattle.readings.specs.Walks.{GivesNext}
+use Rattle.readings.proofs.Walked.{AtWalk, walk-all, walk-fault, walk-more, walk-start}
 
 -- The walk over imports that began at `start` is now at `now`, and this was gathered of the imports so far.
 pub record Gathers {B : Type 0} (gather : List ImportValue → B) (start now : FileImports) (value : B) : Type 0 where
   pub items : List ImportValue
-  pub at : AtMade file_imports_left IsFileImportsCause (λ x. x) start now items
+  pub at : AtWalk file_imports_left IsFileImportsCause start now items
   pub said : value ≡ gather items
 
 pub gathers_start : {B : Type 0} (gather : List ImportValue → B) (start : FileImports) (value : B) → value ≡ gather [] → Gathers gather start start value
-gathers_start gather start value is = record { items = []; at = made-start file_imports_left IsFileImportsCause (λ x. x) start; said = is }
+gathers_start gather start value is = record { items = []; at = walk-start file_imports_left IsFileImportsCause start; said = is }
 
 module _ {B : Type 0} (gather : List ImportValue → B) (start now next : FileImports) (value : B) (h : Gathers gather start now value) where
   -- one import more
   pub gathers_more : (r : Result WalkedImport ErrorOf) (x : WalkedImport) (more : B) → GivesFileImport now (Some r) next → r ≡ Ok x → more ≡ gather (h.items ++ walked_value x ∷ []) → Gathers gather start next more
   gathers_more r x more given is said = record {
     items = h.items ++ walked_value x ∷ [];
-    at = made-more file_imports_left IsFileImportsCause (λ x. x) start now h.items h.at walked_value next r given.0 x is _ refl;
+    at = walk-more file_imports_left IsFileImportsCause start now h.items h.at walked_value next x
+        (subst (λ (q : Result WalkedImport ErrorOf). GivesNext walked_value file_imports_left IsFileImportsCause now (Some q) next) is given.0);
     said = said;
   }
 
   -- all imports have come
   pub gathers_all : GivesFileImport now None next → option_map gather (all_of (file_imports_left start)) ≡ Some value
-  gathers_all given =
-      let all = mapped-same (all_of (file_imports_left start)) (made-all file_imports_left IsFileImportsCause (λ x. x) start now h.items h.at walked_value next given.0) in
-      ap (option_map gather) all ∙ ap (λ (b : B). Some b) (sym h.said)
+  gathers_all given = ap (option_map gather) (walk-all file_imports_left IsFileImportsCause start now h.items h.at walked_value next given.0) ∙ ap (λ (b : B). Some b) (sym h.said)
 
   -- they end with a refusal
   pub gathers_fault : (r : Result WalkedImport ErrorOf) (e : ErrorOf) → GivesFileImport now (Some r) next → r ≡ Err e → (option_map gather (all_of (file_imports_left start)) ≡ None) × IsFileImportsCause start e
   gathers_fault r e given is =
-      let fault = made-fault file_imports_left IsFileImportsCause (λ x. x) start now h.items h.at walked_value next r given.0 e is in
-      (ap (option_map gather) (unmapped-same (all_of (file_imports_left start)) fault.0), fault.1)
+      let fault = walk-fault file_imports_left IsFileImportsCause start now h.items h.at walked_value next r given.0 e is in
+      (ap (option_map gather) fault.0, fault.1)
 
 one-any : {A : Type 0} (p : A → Bool) (x : A) (b : Bool) → p x ≡ b → list_any p (x ∷ []) ≡ b
 one-any p x true is = rw is refl

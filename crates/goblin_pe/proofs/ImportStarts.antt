@@ -20,7 +20,7 @@ use Rattle.goblin_pe.specs.declared.whole.Part.{Part}
 use Rattle.goblin_pe.specs.declared.whole.Part.TheVariants as part
 use Rattle.goblin_pe.specs.declared.whole.imports.FileImports.{FileImports}
 use Rattle.goblin_pe.specs.declared.whole.imports.FileImports.TheVariants.{Narrow, Wide}
-use Rattle.goblin_pe.specs.LayoutPositions.{GivesFileImport, GivesFirst, GivesFrom, IsImportWalk}
+use Rattle.goblin_pe.specs.LayoutPositions.{GivesFileImport, GivesFirst, GivesFrom}
 use Rattle.goblin_pe.specs.LayoutPositions.{PartGives, StartsAt, import_start, start_by, start_in}
 use Rattle.goblin_pe.specs.Layouts.{IsFileImportsCause, file_imports_left}
 use Rattle.goblin_pe.specs.Whole.{TablePlaces}

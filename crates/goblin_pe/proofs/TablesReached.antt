@@ -1,5 +1,5 @@
 -- What the tables of a layout reach is what those of its file reach.
-use Rattle.std.proofs.Common.{◌≡◌, Bool, List, ℕ, None, Option, Some, ◌++◌, ap, append-nil, sym, ◌∙◌}
+use Rattle.std.proofs.Common.{◌≡◌, Bool, List, ℕ, None, Option, Some, ap, append-nil, sym, ◌∙◌}
 use Rattle.std.specs.Option.{option_map}
 use Rattle.std.specs.Prelude.{map}
 use Rattle.goblin_base.specs.Footprints.{led_to}

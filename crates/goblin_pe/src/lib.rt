@@ -20,4 +20,4 @@ pub use goblin_pe_sect::{
 };
 pub use goblin_pe_symbol::symbol;
 pub use image_checksum::checksum;
-pub use whole::{Damage, FileImports, Layout, Part, Whole};
+pub use whole::{Damage, FileImports, Layout, Part, Whole, section_records_of};

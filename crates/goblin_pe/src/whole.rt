@@ -32,8 +32,8 @@ mod reached;
 
 pub use damage::Damage;
 pub use imports::FileImports;
-pub use layout::Layout;
 use layout::sections_of;
+pub use layout::{Layout, section_records_of};
 use listed::{ListedTables, export_parts};
 use places::Places;
 

@@ -3,11 +3,12 @@
 ghost use Rattle.std.specs.Prelude.{◌≡◌, length};
 ghost use Rattle.goblin_pe_sect.specs.Options.{is_strict};
 ghost use Rattle.goblin_pe_head.specs.HeaderReadings.{pe_header};
-ghost use Rattle.goblin_pe.specs.Whole.{layout};
+ghost use Rattle.goblin_pe.specs.Whole.{layout as file_layout};
 ghost use Rattle.goblin_pe_calls.specs.Batches.{ExportBatch, GivesBatch, GivesExports};
 ghost use Rattle.goblin_pe_calls.specs.Batches.{GivesImports};
 ghost use Rattle.goblin_pe_calls.specs.Batches.{ImportBatch, IsExportsFault, IsImportsFault};
-ghost use Rattle.goblin_pe_records.specs.Calls.{ReadsInto, Reported};
+ghost use Rattle.goblin_pe_records.specs.Calls.{ReadsInto, ReadsWithout, Reported};
+ghost use Rattle.goblin_pe_calls.specs.FileLayouts.{LayoutRecords, SaysLayout};
 ghost use Rattle.goblin_pe.specs.SectionRoom.{TakesIndex};
 ghost use Rattle.goblin_pe_calls.specs.Damages.{RecordsDamage};
 ghost use Rattle.goblin_pe_calls.specs.Footprints.{Lists};
@@ -20,6 +21,7 @@ use goblin_pe_calls::damage::{self, PeDamage};
 use goblin_pe_calls::export::PeExport;
 use goblin_pe_calls::footprint::{self, PeRanges};
 use goblin_pe_calls::import::PeImport;
+use goblin_pe_calls::layout::{self, PeLayout};
 use goblin_pe_calls::next::{self, PeImportPosition};
 use goblin_pe_calls::open::{self, PeTables};
 use goblin_pe_records::directory::PeDirectory;
@@ -27,6 +29,7 @@ use goblin_pe_records::fault::{PeFault, status_of};
 use goblin_pe_records::file::PeFile;
 use goblin_pe_records::kind;
 use goblin_pe_records::options::{PeOptions, options_of};
+use goblin_pe_records::section::PeSection;
 use std::alloc::Global;
 
 /// The version of this interface. It is raised where a call or a record's layout changes.
@@ -75,6 +78,37 @@ pub extern "C" fn goblin_pe_raw_open<'a>(
 {
     let opts = options_of(options);
     status_of(open::open(alloc, bytes, &opts, file, directories, tables))
+}
+
+/// Reads an image without its tables: says in `layout` what it is, and fills the records of its data
+/// directories and of its sections as far as there is room. It takes no memory, however much the
+/// tables list: these are walked over, or looked up, by other calls. After a refusal nothing is
+/// changed; it is refused where [`goblin_pe_raw_open`](crate::file::goblin_pe_raw_open) refuses the
+/// header or the sections.
+#[unsafe(no_mangle)]
+pub extern "C" fn goblin_pe_raw_read_layout<'a>(
+    bytes: &'a [u8],
+    options: &PeOptions,
+    layout: &mut PeLayout<'a>,
+    directories: &mut [PeDirectory],
+    sections: &mut [PeSection<'a>],
+) -> PeFault
+    ensures { let old : LayoutRecords = record {
+      layout = layout.old;
+      directories = directories.old;
+      sections = sections.old;
+    } in
+        let new : LayoutRecords = record {
+          layout = layout.new;
+          directories = directories.new;
+          sections = sections.new;
+        } in
+        let opts = options_of options.now in
+        Reported result
+        (ReadsWithout (file_layout opts) bytes.now (λ l. SaysLayout l old new) (new ≡ old)) }
+{
+    let opts = options_of(options);
+    status_of(layout::read(bytes, &opts, layout, directories, sections))
 }
 
 /// Fills `records` with the imports of a file from a position on, as many as there is room for,
@@ -163,7 +197,7 @@ pub extern "C" fn goblin_pe_raw_read_damage(
 ) -> PeFault
     ensures { let opts = options_of options.now in
         Reported result
-        (ReadsInto (pe_header (is_strict opts.parse_mode)) (TakesIndex opts bytes.now) (layout opts)
+        (ReadsInto (pe_header (is_strict opts.parse_mode)) (TakesIndex opts bytes.now) (file_layout opts)
         bytes.now
         (λ l. RecordsDamage opts l.0 l.1 bytes.now damage.new) (damage.new ≡ damage.old)) }
 {

@@ -1,17 +1,24 @@
 -- The sections of an image that was read have their names from its string table.
-use Rattle.std.proofs.Common.{◌≡◌, ◌+◌, ◌*◌, List, map, subst, ℕ}
-use Rattle.std.specs.Prelude.{Some}
+use Rattle.std.proofs.Common.{◌≡◌, ◌∙◌, ◌+◌, ◌*◌, Bool, List, ap, length, map, subst, sym, ℕ}
+use Rattle.std.specs.Prelude.{IsSomeAnd, Some, option_map}
+use Rattle.std.proofs.lemmas.List.{length-map}
 use Rattle.goblin_base.proofs.Steps.{mapped, step}
 use Rattle.goblin_pe_sect.specs.declared.options.ParseOptions.{ParseOptions}
 use Rattle.goblin_pe_sect.specs.Options.{is_strict}
 use Rattle.goblin_pe_sect.specs.SectionReadings.{named_section_at}
+use Rattle.goblin_pe_sect.specs.SectionTable.{Section, unnamed}
 use Rattle.goblin_pe_head.specs.HeaderReadings.{pe_header}
+use Rattle.goblin_pe_head.specs.PeHeader.{PeHeader}
 use Rattle.goblin_pe_head.specs.CoffHeader.{symbols_end}
 use Rattle.goblin_pe_head.specs.CoffReadings.{sections_at}
-use Rattle.goblin_pe.specs.Whole.{TablePlaces, WholeFile, offset_by, places_in, section_table_offset, sections_after, table_parts, whole_file}
+use Rattle.goblin_pe.specs.Whole.{TablePlaces, WholeFile, layout, offset_by, places_in, section_table_offset, sections_after, table_parts, whole_file}
 use Rattle.goblin_pe.specs.Whole.{whole_of, whole_with}
-use Rattle.goblin_pe_records.specs.Sections.{named_in}
-use Rattle.goblin_pe_records.proofs.Named.{all-kept, section-named}
+use Rattle.goblin_pe_records.specs.declared.directory.PeDirectory.{PeDirectory}
+use Rattle.goblin_pe_records.specs.Directories.{directories_of, entry_record}
+use Rattle.goblin_pe_records.specs.Filled.{Filled, without_text}
+use Rattle.goblin_pe_records.specs.Sections.{named_in, section_said}
+use Rattle.goblin_pe_records.proofs.Named.{all-kept, said-unnamed, section-named}
+use Rattle.goblin_pe_calls.specs.FileLayouts.{LayoutRecords, SaysLayout, layout_said, layout_view}
 
 -- where the sections of a file come from
 pub read-from : (opts : ParseOptions) (bytes : List ℕ) (w : WholeFile) → (whole_file opts).value bytes ≡ Some w
@@ -25,12 +32,33 @@ read-from opts bytes w h =
     let s3 = mapped ((table_parts opts (offset_by opts s2.value places) places).value bytes) (whole_of s1.value s2.value) w s2.then in
     subst (λ (x : WholeFile). (sections_after strict x.header).value bytes ≡ Some x.sections) s3.made s2.is
 
+-- the sections after a header
+pub after-named : (strict : Bool) (bytes : List ℕ) (header : PeHeader) (sections : List Section) → (sections_after strict header).value bytes ≡ Some sections → map (named_in strict bytes (symbols_end header.coff_header)) sections ≡ sections
+unfolding sections_after sections_at
+after-named strict bytes header sections read =
+    let table = symbols_end header.coff_header in
+    all-kept (named_in strict bytes table) (λ i. (named_section_at strict table (section_table_offset header + 40 * i)).value bytes) header.coff_header.number_of_sections 0 sections
+    (λ i s is. section-named strict table bytes (section_table_offset header + 40 * i) s is)
+    read
+
 -- the sections of a file
 pub sections-named : (opts : ParseOptions) (bytes : List ℕ) (w : WholeFile) → (whole_file opts).value bytes ≡ Some w → map (named_in (is_strict opts.parse_mode) bytes (symbols_end w.header.coff_header)) w.sections ≡ w.sections
-unfolding sections_after sections_at
-sections-named opts bytes w h =
+sections-named opts bytes w h = after-named (is_strict opts.parse_mode) bytes w.header w.sections (read-from opts bytes w h)
+
+-- what is filled by the records of the sections holds the image
+pub says_layout : (opts : ParseOptions) (bytes : List ℕ) (header : PeHeader) (stored : List Section) (old new : LayoutRecords)
+    → (pe_header (is_strict opts.parse_mode)).value bytes ≡ Some header → option_map (map unnamed) ((sections_after (is_strict opts.parse_mode) header).value bytes) ≡ Some stored
+    → layout_view new.layout ≡ layout_said header (length stored)
+    → Filled (λ (d : PeDirectory). d) (map entry_record (directories_of header.optional_header)) old.directories new.directories
+    → Filled section_said (map (λ s. without_text (named_in (is_strict opts.parse_mode) bytes (symbols_end header.coff_header) s)) stored) old.sections new.sections
+    → IsSomeAnd ((layout opts).value bytes) (λ l. SaysLayout l old new)
+unfolding layout
+says_layout opts bytes header stored old new there are said listed filled =
     let strict = is_strict opts.parse_mode in
-    let table = symbols_end w.header.coff_header in
-    all-kept (named_in strict bytes table) (λ i. (named_section_at strict table (section_table_offset w.header + 40 * i)).value bytes) w.header.coff_header.number_of_sections 0 w.sections
-    (λ i s is. section-named strict table bytes (section_table_offset w.header + 40 * i) s is)
-    (read-from opts bytes w h)
+    let table = symbols_end header.coff_header in
+    let x = mapped ((sections_after strict header).value bytes) (map unnamed) stored are in
+    let long : length stored ≡ length x.value = ap length (sym x.made) ∙ length-map x.value unnamed in
+    let names = ap (map (λ (s : Section). without_text (named_in strict bytes table s))) (sym x.made) ∙ said-unnamed strict bytes table x.value
+    ∙ ap (map without_text) (after-named strict bytes header x.value x.is) in
+    rw (there, x.is)
+    (said ∙ ap (layout_said header) long, listed, subst (λ (xs : List (Section × List ℕ)). Filled section_said xs old.sections new.sections) names filled)

@@ -4,6 +4,7 @@ pub mod Blocks
 pub mod Damages
 pub mod ExportDirectories
 pub mod Exports
+pub mod FileLayouts
 pub mod Files
 pub mod Footprints
 pub mod ForwardersAt

@@ -18,6 +18,7 @@ pub mod file;
 pub mod footprint;
 pub mod forwarder;
 pub mod import;
+pub mod layout;
 pub mod next;
 pub mod open;
 mod records;

@@ -72,10 +72,17 @@ fn section_table_offset(header: &Header) -> usize
     section_table_after(header.dos_header.pe_pointer, size)
 }
 
-// The records of the sections of a file with this header.
+/// The records of the sections of a file with this header, in its bytes. They take no memory, and their
+/// sections have no names from the string table.
+///
+/// Source: PE Format, "Section Table (Section Headers)".
+///
+/// # Errors
+/// As [`CoffHeader::sections_with_opts`](goblin_pe_head::CoffHeader::sections_with_opts), but for
+/// [`Error::Memory`](goblin_base::Error::Memory).
 #[inline(always)]
 #[tactic(auto, unfolding(crate::specs::Whole::sections_after))]
-pub(super) fn section_records_of<'a>(
+pub fn section_records_of<'a>(
     bytes: &'a [u8],
     header: &Header,
     opts: &ParseOptions,

@@ -1,4 +1,4 @@
-use Rattle.std.proofs.Common.{rules, ◌≡◌, Bool, List, ap, refl, ◌∙◌}
+use Rattle.std.proofs.Common.{rules, Bool, List, ap, refl, ◌∙◌}
 use Rattle.goblin_base.specs.Answers.{IsMemory}
 use Rattle.goblin_base.specs.Marks.{marked}
 use Rattle.goblin_pe_sect.specs.Addresses.{offset_of}

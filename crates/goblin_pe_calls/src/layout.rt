@@ -1,0 +1,84 @@
+//! An image without its tables: its header and its sections.
+
+ghost use Rattle.std.specs.Prelude.{◌≡◌};
+ghost use Rattle.goblin_pe_head.specs.PeHeader.{header_value};
+ghost use Rattle.goblin_pe.specs.Whole.{layout as file_layout};
+ghost use Rattle.goblin_pe_records.specs.Calls.{ReadsWithout};
+ghost use Rattle.goblin_pe_calls.specs.FileLayouts.{LayoutRecords, SaysLayout, layout_said};
+ghost use Rattle.goblin_pe_calls.specs.FileLayouts.{layout_view};
+
+use goblin_pe::header::{CoffHeader, DosHeader, Header};
+use goblin_pe::options::ParseOptions;
+use goblin_pe::{Result, section_records_of};
+use goblin_pe_records::directory::{PeDirectory, directories_of, fill_directories};
+use goblin_pe_records::headers::{PeOptionalHeader, fill_optional};
+use goblin_pe_records::section::{PeSection, fill_sections};
+
+/// An image as a whole, without its tables.
+#[repr(C)]
+#[derive(Copy, Clone)]
+pub struct PeLayout<'a> {
+    /// The optional header.
+    pub optional_header: PeOptionalHeader,
+    /// How many data directories there are, whatever the room: sixteen, or none where there is no
+    /// optional header. Records past them are not filled.
+    pub directories: usize,
+    /// How many sections there are, whatever the room.
+    pub sections: usize,
+    /// The DOS header.
+    pub dos_header: DosHeader,
+    /// The COFF header.
+    pub coff_header: CoffHeader,
+    /// The DOS stub, which is written with a header: bytes of the file, or where permissive mode
+    /// could not read them a stub of the library's own.
+    pub dos_stub: &'a [u8],
+}
+
+// Says in `layout` what an image with this header and so many sections is.
+fn fill_layout<'a>(layout: &mut PeLayout<'a>, header: &Header<'a>, sections: usize)
+    ensures { layout_view layout.new ≡ layout_said (header_value header.now) sections }
+{
+    fill_optional(&mut layout.optional_header, &header.optional_header);
+    layout.directories = directories_of(&header.optional_header).len();
+    layout.sections = sections;
+    layout.dos_header = header.dos_header;
+    layout.coff_header = header.coff_header;
+    layout.dos_stub = header.dos_stub.bytes;
+}
+
+/// Reads an image without its tables: says in `layout` what it is, and fills the records of its data
+/// directories and of its sections as far as there is room. It takes no memory: each name is where it
+/// lies in the file.
+///
+/// # Errors
+/// What these options refuse of the header and the sections; nothing is then changed.
+#[tactic(auto, unfolding(goblin_pe::specs::Whole::layout))]
+pub fn read<'a>(
+    bytes: &'a [u8],
+    opts: &ParseOptions,
+    layout: &mut PeLayout<'a>,
+    directories: &mut [PeDirectory],
+    sections: &mut [PeSection<'a>],
+) -> Result<()>
+    ensures { let old : LayoutRecords = record {
+      layout = layout.old;
+      directories = directories.old;
+      sections = sections.old;
+    } in
+        let new : LayoutRecords = record {
+          layout = layout.new;
+          directories = directories.new;
+          sections = sections.new;
+        } in
+        ReadsWithout (file_layout opts.now) bytes.now (λ l. SaysLayout l old new) (new ≡ old)
+        result }
+{
+    let mut header = Header::default();
+    header.read_with_opts(bytes, opts)?;
+    let records = section_records_of(bytes, &header, opts)?;
+    let strings = header.coff_header.symbols_end();
+    fill_directories(directories, directories_of(&header.optional_header));
+    fill_sections(sections, bytes, records, None, strings, opts);
+    fill_layout(layout, &header, records.len());
+    Ok(())
+}

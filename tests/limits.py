@@ -1,0 +1,107 @@
+"""Calls on files that are made to cost much: limits ROW makes the row's file, and tells the milliseconds of processor time that
+the call took, its status, and how many things it gave. test_limits.py runs it with little memory; the calls are the library's
+own, so that no rows are made."""
+import ctypes as c
+import struct
+import sys
+import time
+
+from goblin_pe import _laid_out, records
+from goblin_pe import CoffHeader, TeHeader
+from goblin_pe._library import LIB
+from tests import images
+
+MIB = 1 << 20
+STRICT = records.Options(False, True, 0, True)
+
+
+def sections(count, name=b"/4"):
+    """The records of so many sections of one name."""
+    return struct.pack("<8s8I", name, *[0] * 8) * count
+
+
+def object_of_one_name(size):
+    """An object, one half sections, the other half the one long name that all of them have."""
+    count = min(size // 80, 65535)
+    place = 20 + 40 * count
+    header = struct.pack("<HHIIIHH", 0x8664, count, 0, place, 0, 0, 0)
+    return header + sections(count) + struct.pack("<I", size - place) + b"n" * (size - place - 5) + b"\0"
+
+
+def image_of_one_name(size):
+    """The same of an image."""
+    count = min(size // 80, 65535)
+    headers = images.image_headers(0x148 + 40 * count, count, 0x1000, ())
+    headers[0x148:] = sections(count)
+    struct.pack_into("<II", headers, 0x40 + 12, len(headers), 0)
+    return bytes(headers) + struct.pack("<I", size - len(headers)) + b"n" * (size - len(headers) - 5) + b"\0"
+
+
+def te_of_one_name(size):
+    """A Terse Executable of 255 sections, all of one long name (its string table is the front of the file)."""
+    front = struct.pack("<HHBBHIIQ4I", 0x5A56, 0x8664, 255, 0, 40, 0, 0, 0, 0, 0, 0, 0)
+    return front + sections(255, b"/10240") + b"n" * (size - 40 - 40 * 255)
+
+
+def object_with_symbols(count):
+    """An object with so many symbols, each of a long name of its own."""
+    names = [b"a_name_that_stands_in_the_string_table_%020d\0" % i for i in range(count)]
+    symbols = b"".join(struct.pack("<IIIhHBB", 0, 4 + len(names[0]) * i, 0, 1, 0, 2, 0) for i in range(count))
+    strings = b"".join(names)
+    header = struct.pack("<HHIIIHH", 0x8664, 0, 0, 20, count, 0, 0)
+    return header + symbols + struct.pack("<I", len(strings) + 4) + strings
+
+
+def read_object(file):
+    found = records.Object()
+    room = (records.Section * 65535)()
+    fault = LIB.goblin_pe_raw_read_object(file, len(file), c.byref(STRICT), c.byref(found), room, 65535)
+    return fault.status, found.sections
+
+
+def read_te(file):
+    header, room = _laid_out.laid_out(TeHeader)(), (records.Section * 255)()
+    fault = LIB.goblin_pe_raw_read_te(file, len(file), c.byref(header), room, 255)
+    return fault.status, sum(it.real_name.length == len(file) - 10240 for it in room)
+
+
+def read_layout(file):
+    layout, directories, room = records.Layout(), (records.Directory * 16)(), (records.Section * 65535)()
+    fault = LIB.goblin_pe_raw_read_layout(file, len(file), c.byref(STRICT), c.byref(layout), directories, 16, room, 65535)
+    return fault.status, layout.sections
+
+
+def footprint(file):
+    ranges = records.Ranges()
+    fault = LIB.goblin_pe_raw_footprint(file, len(file), c.byref(STRICT), c.byref(ranges))
+    return fault.status, ranges.count("ranges")
+
+
+def next_symbols(file):
+    header = _laid_out.laid_out(CoffHeader)(*struct.unpack_from("<HHIIIHH", file))
+    table, room = records.SymbolTable(), (records.NamedSymbol * 256)()
+    position, count, found = c.c_size_t(), c.c_size_t(), 0
+    fault = LIB.goblin_pe_raw_read_symbol_table(file, len(file), c.byref(header), c.byref(table))
+    while not fault.status:
+        fault = LIB.goblin_pe_raw_next_symbols(file, len(file), c.byref(table), c.byref(position), room, 256, c.byref(count))
+        if not count.value:
+            break
+        found += count.value
+    return fault.status, found
+
+
+# A call and its file.
+ROWS = {
+    "an object of one long name": (read_object, lambda: object_of_one_name(MIB)),
+    "a Terse Executable of one long name": (read_te, lambda: te_of_one_name(16 * MIB)),
+    "a layout of one long name": (read_layout, lambda: image_of_one_name(MIB)),
+    "a footprint of one long name": (footprint, lambda: image_of_one_name(MIB)),
+    "many symbols": (next_symbols, lambda: object_with_symbols(320000)),
+}
+
+if __name__ == "__main__":
+    call, make = ROWS[sys.argv[1]]
+    made = make()
+    begin = time.process_time()
+    status, answer = call(made)
+    print(round(1000 * (time.process_time() - begin)), status, answer)

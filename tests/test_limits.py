@@ -1,0 +1,31 @@
+"""What a hostile file may cost: calls that take no memory of their own answer with little of it, and in a bounded time."""
+import os
+import sys
+import unittest
+
+from tests.programs import CALLERS, TOP, library, need, run, with_memory
+
+# Kibibytes of address space, most of it for Python and the file.
+ROOM = 400 << 10
+# The rows of limits.py: milliseconds of processor time, ten times what was measured; and how many sections or symbols there
+# are, or None where that is not the question.
+ROWS = [
+    ("an object of one long name", 4500, 13107),
+    ("a Terse Executable of one long name", 5000, 255),
+    ("a layout of one long name", 4500, 13107),
+    ("a footprint of one long name", 35000, None),
+    ("many symbols", 200, 320000),
+]
+
+
+class Limits(unittest.TestCase):
+    def test_each_call_answers_in_little_memory_and_time(self):
+        need("sh")
+        env = {**os.environ, "GOBLIN_PE_SO": str(library() / "libgoblin_pe.so"), "PYTHONPATH": "%s:%s" % (CALLERS / "python", TOP)}
+        for name, most, wanted in ROWS:
+            with self.subTest(name):
+                status, out, said = run(with_memory(ROOM, [sys.executable, "-m", "tests.limits", name]), env=env)
+                self.assertEqual(status, 0, said.decode(errors="replace"))
+                milliseconds, answer, found = map(int, out.split())
+                self.assertEqual((answer, found), (0, found if wanted is None else wanted))
+                self.assertLessEqual(milliseconds, most)
