@@ -47,7 +47,7 @@ fn text_at(bytes: &[u8], offset: Option<usize>) -> Option<&str>
 }
 
 // The forwarder at an offset, where there are both.
-#[inline(never)]
+#[inline(always)]
 fn forwarder_at(bytes: &[u8], offset: Option<usize>) -> Option<Reexport<'_>>
     ensures { option_map forwarder_value result
         ≡ option_and_then (λ p. (forwarder_at p).value bytes.now) offset }

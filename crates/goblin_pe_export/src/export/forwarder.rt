@@ -42,7 +42,6 @@ fn ordinal_of(text: &str) -> Option<u32>
 
 impl<'a> Reexport<'a> {
     // What a forwarder's text says.
-    #[inline(always)]
     fn of_text(text: &'a str) -> Result<Reexport<'a>>
         ensures { Answers forwarder_value result (forwarder_of text.now)
             (IsForwarderFault text.now) }
@@ -73,7 +72,6 @@ impl<'a> Reexport<'a> {
     /// [`Error::Read`] if there is no text; [`Error::Malformed`]: [`Cause::Forwarder`] if it has no
     /// dot with something after it, [`Cause::ForwarderOrdinal`] if no ordinal below 2^32 follows
     /// the `#`.
-    #[inline(always)]
     #[tactic(auto, using(crate::proofs::Grammar::by_grammar))]
     pub fn parse(bytes: &'a [u8], offset: usize) -> Result<Reexport<'a>>
         ensures value { Reads forwarder_value result (forwarder_at offset) bytes.now }
