@@ -40,17 +40,29 @@ fn write_import(import: &Import<'_>, to: &mut impl Write) -> io::Result<()> {
         .iter()
         .any(|it| library[at..].eq_ignore_ascii_case(it));
     let stem = if has_ending { &library[..at] } else { library };
-    to.write_all(&stem.to_ascii_lowercase())?;
+    write_lowercase(stem, to)?;
     match import.name {
         Imported::Name { name, .. } => {
             to.write_all(b".")?;
-            to.write_all(&name.0.to_ascii_lowercase())
+            write_lowercase(name.0, to)
         }
         Imported::Ordinal(ordinal) => match name_of(library, ordinal) {
             Some(name) => write!(to, ".{name}"),
             None => write!(to, ".ord{ordinal}"),
         },
     }
+}
+
+// Writes a text in lower case, a piece at a time, which takes no memory.
+fn write_lowercase(text: &[u8], to: &mut impl Write) -> io::Result<()> {
+    let mut room = [0; 256];
+    for piece in text.chunks(room.len()) {
+        let lowercase = &mut room[..piece.len()];
+        lowercase.copy_from_slice(piece);
+        lowercase.make_ascii_lowercase();
+        to.write_all(lowercase)?;
+    }
+    Ok(())
 }
 
 // The name of an ordinal, where all programs import it from this library by the ordinal.

@@ -76,12 +76,15 @@ fn refused_memory_is_an_error() {
     assert_eq!(refused(|| pe.damage()), None);
     assert_eq!(refused(|| Pe::read(&image, &options)), None);
     assert_eq!(refused(|| pe.walk_libraries().next().unwrap()), None);
+    assert!(without_memory(|| pe.write_imphash_text(&mut io::sink())).is_ok());
     assert_eq!(refused(|| pe.libraries()), memory);
     assert_eq!(refused(|| pe.symbols()), memory);
     assert_eq!(refused(|| pe.walk_imports().next().unwrap()), memory);
     assert_eq!(refused(|| pe.walk_exports().next().unwrap()), memory);
     let refused_relocations = |section: goblin_pe::Section| {
-        section.number_of_relocations == 0 || refused(|| section.relocations(&object)) == memory
+        let walked = || section.walk_relocations(&object).next().unwrap();
+        section.number_of_relocations == 0
+            || refused(|| section.relocations(&object)) == memory && refused(walked) == memory
     };
     let sections = Object::read(&object, &options).unwrap();
     assert!(sections.sections().all(refused_relocations));

@@ -225,6 +225,20 @@ fn import_record(bytes: &[u8]) -> usize {
     pe.find_offset(directory.virtual_address as usize).unwrap()
 }
 
+// The name of the only library is longer than what is written at once.
+#[test]
+fn a_long_name_is_written_whole_in_the_text_of_the_imports() {
+    let mut bytes = sample("imports_by_name_x64.dll");
+    let record = import_record(&bytes);
+    bytes[record + 12..record + 16].copy_from_slice(&0x1000u32.to_le_bytes());
+    bytes[0x400..0x400 + 300].fill(b'A');
+    bytes[0x400 + 300] = 0;
+    let mut text = Vec::new();
+    let pe = Pe::parse(&bytes).unwrap();
+    pe.write_imphash_text(&mut text).unwrap();
+    assert_eq!(text, ("a".repeat(300) + ".gettickcount").into_bytes());
+}
+
 // The name of the only library stands at an address that no section maps.
 #[test]
 fn a_walk_ends_with_the_refusal_of_a_read() {
@@ -627,6 +641,9 @@ fn more_relocations_than_a_section_counts() {
         (listed[1].virtual_address, listed[65_534].virtual_address),
         (1, 65_534)
     );
+    // (a walk passes over the record that counts them, and goes on to the last)
+    let walked = section.walk_relocations(&bytes).map(Result::unwrap);
+    assert!(walked.map(|it| it.virtual_address).eq(1..count));
 }
 
 // A walk reads some hundreds of records at once.
