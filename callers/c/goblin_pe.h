@@ -44,9 +44,10 @@
    next_symbols, symbol_at           none                                  a name for each record
    read_relocations, next_words,
      next_relocations, read_aux_*    none                                  the records
-   find_offset, find_rva, text_at,
-     section_at, memory_at,
-     forwarder_at                    none                                  the sections, and one text
+   find_offset, section_at, text_at,
+     memory_at, forwarder_at         none                                  the sections, and one text
+   find_rva                          none                                  the sections, and these once more for each
+                                                                           whose data holds the offset
    next_imports, next_exports        none, or for more than 96 sections    n once a batch, and a name for each record
                                      an index of some 300 bytes for each
    read_damage                       the same                              a name for each import and each export
@@ -345,8 +346,8 @@ static inline struct goblin_pe_fault goblin_pe_next_relocations(
 {
     struct goblin_pe_section sound = goblin_pe_sound_section(section);
     return goblin_pe_raw_next_relocations(
-        GOBLIN_PE_BYTES(bytes), length, &sound, position, GOBLIN_PE_SOME(struct goblin_pe_relocation, relocations), room,
-        count);
+        GOBLIN_PE_BYTES(bytes), length, &sound, position,
+        GOBLIN_PE_SOME(struct goblin_pe_relocation, relocations), room, count);
 }
 
 /* Goes on with the walk over the words of a block of base relocations from the index `position` on, 0 at the
@@ -465,8 +466,8 @@ static inline struct goblin_pe_fault goblin_pe_bytes_at(
 /* The data of a section: its bytes in the file, from its raw pointer, as stored or rounded down to 512 by the
    rule of the image's options, and how many zeros follow them up to the size in memory; none where the file has
    at least as many bytes, which are not cut then. Of the image only the bytes, the options and the file
-   alignment are looked at, so for an object one with its bytes and else zeros will do. Refused is a file that is too short for it, and one
-   in which it begins past the end, even where it has no bytes. No memory is taken. */
+   alignment are looked at, so for an object one with its bytes and else zeros will do. Refused is a file that is
+   too short for it, and one in which it begins past the end, even where it has no bytes. No memory is taken. */
 static inline struct goblin_pe_fault goblin_pe_read_section_data(
     const struct goblin_pe_image *image, const struct goblin_pe_section *section, struct goblin_pe_section_data *data)
 {
@@ -475,10 +476,10 @@ static inline struct goblin_pe_fault goblin_pe_read_section_data(
     return goblin_pe_raw_read_section_data(&sound, &sound_section, data);
 }
 
-/* The checksum of an image, whose field, check_sum of the optional header, stands at the file offset `field`: 88 bytes after
-   pe_pointer. It is the sum of the little-endian words of two bytes, in 16 bits and with each carry added, and the
-   length, in 32 bits; the bytes of the field count as zeros. Whoever changes an image of which Windows tests it,
-   as of drivers, writes it anew. */
+/* The checksum of an image, whose field, check_sum of the optional header, stands at the file offset `field`: 88
+   bytes after pe_pointer. It is the sum of the little-endian words of two bytes, in 16 bits and with each carry
+   added, and the length, in 32 bits; the bytes of the field count as zeros. Whoever changes an image of which
+   Windows tests it, as of drivers, writes it anew. */
 static inline uint32_t goblin_pe_checksum(const uint8_t *bytes, size_t length, size_t field)
 {
     return goblin_pe_raw_checksum(GOBLIN_PE_BYTES(bytes), length, field);
@@ -487,8 +488,8 @@ static inline uint32_t goblin_pe_checksum(const uint8_t *bytes, size_t length, s
 /* The file offset of the section table of an image, which follows the optional header. */
 static inline size_t goblin_pe_section_table(const struct goblin_pe_file *file)
 {
-    size_t signature = file->dos_header.pe_pointer;
-    return signature + 24 + file->coff_header.size_of_optional_header; /* (the signature and the COFF header have 24 bytes) */
+    /* (the signature and the COFF header have 24 bytes) */
+    return (size_t)file->dos_header.pe_pointer + 24 + file->coff_header.size_of_optional_header;
 }
 
 /* How many bytes goblin_pe_write_header writes of a header with a stub of so many bytes. */
@@ -503,10 +504,11 @@ static inline size_t goblin_pe_header_size(const struct goblin_pe_file *file, si
    header, the stub, the PE signature, the COFF header, and an optional header with sixteen data directories
    unless file->directories is 0. Where strict mode read them, these are the bytes of the file up to the last
    of its directories, and zeros for those that it lacks of sixteen. In the file the section table may stand
-   where these zeros are. So write elsewhere, and copy at most the bytes before goblin_pe_section_table into the file, as patch.c does. The signature follows the stub, whatever pe_pointer says:
-   where permissive mode replaced the stub, the headers after it do not stand at their places. The stub may not
-   lie in `out`. Refused are a magic that is neither of the two, a field that does not fit an optional header for
-   32 bits, and too little room; nothing is written then. */
+   where these zeros are. So write elsewhere, and copy at most the bytes before goblin_pe_section_table into the
+   file, as patch.c does. The signature follows the stub, whatever pe_pointer says: where permissive mode replaced
+   the stub, the headers after it do not stand at their places. The stub may not lie in `out`. Refused are a magic
+   that is neither of the two, a field that does not fit an optional header for 32 bits, and too little room;
+   nothing is written then. */
 static inline struct goblin_pe_fault goblin_pe_write_header(
     const struct goblin_pe_file *file, const struct goblin_pe_directory *directories, size_t directory_count,
     struct goblin_pe_text stub, uint8_t *out, size_t room, size_t *written)

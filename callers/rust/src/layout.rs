@@ -271,7 +271,8 @@ impl<'a> Layout<'a> {
         self.sections().nth(index)
     }
 
-    /// The address of a file offset, which [`Layout::find_offset`] maps to it; `None` where there is none.
+    /// The address of a file offset, which [`Layout::find_offset`] maps to it; `None` where there is none. It takes
+    /// one walk over the sections, and one more for each whose data holds the offset.
     ///
     /// ```no_run
     /// # let bytes = [];

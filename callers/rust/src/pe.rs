@@ -776,7 +776,8 @@ impl<'a> Pe<'a> {
     }
 
     /// The address of a file offset, which [`Pe::find_offset`] maps to it: that in the first section that has
-    /// one; `None` where there is none.
+    /// one; `None` where there is none. It takes one walk over the sections, and one more for each whose data
+    /// holds the offset.
     ///
     /// ```no_run
     /// # use goblin_pe::{Options, Pe};
