@@ -10,7 +10,8 @@ use crate::raw::{self, Options};
 
 /// The bytes of a file on which what [`Pe::read`](crate::Pe::read) lists of it depends, as ranges of file
 /// offsets: in order, none empty and none past the file, with a byte between each and the next. So
-/// footprints of the same bytes are equal.
+/// footprints of the same bytes are equal. A copy has records of its own; where memory for them is refused, the
+/// process ends as it does for a [`Vec`].
 #[derive(Clone)]
 pub struct Footprint(raw::Ranges<'static>);
 

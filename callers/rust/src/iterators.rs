@@ -107,7 +107,8 @@ fn word(bytes: &[u8]) -> (u8, u16) {
     ((word >> 12) as u8, word & 0xFFF)
 }
 
-/// The imports of an image, which the image was given up for.
+/// The imports of an image, which the image was given up for. A copy has records of its own; where memory for them
+/// is refused, the process ends as it does for a [`Vec`].
 #[derive(Clone)]
 pub struct IntoImports<'a> {
     list: raw::List<'a, raw::Import<'a>>,
@@ -190,6 +191,11 @@ impl FusedIterator for DataDirectories<'_> {}
 const BATCH: usize = 256;
 const FIRST: usize = 16;
 
+// How many it reads at once of a file with more sections than are walked over for each address: each read makes an
+// index of them.
+const INDEXED_BATCH: usize = 4096;
+const MOST_UNINDEXED: usize = 96;
+
 // Where a walk goes on.
 trait Position: Default {
     // Whether nothing follows the batch of so many records that ended here; it had room for these.
@@ -214,52 +220,65 @@ impl Position for usize {
 struct Batches<T, P> {
     // (none before the first are read)
     records: Vec<T>,
+    // How many are read at once after the first.
+    most: usize,
     position: P,
     next: usize,
     count: usize,
+    was_refused: bool,
 }
 
-impl<T: Copy, P: Position> Batches<T, P> {
+impl<T: Copy + Default, P: Position> Batches<T, P> {
     // From the beginning.
-    fn new() -> Self {
+    fn new(most: usize) -> Self {
         Batches {
             records: Vec::new(),
+            most,
             position: P::default(),
             next: 0,
             count: 0,
+            was_refused: false,
         }
     }
 
-    // Whether the records that were read are taken, and others may follow.
-    fn is_taken(&self) -> bool {
-        let room = self.records.len();
-        room == 0 || self.next == self.count && !self.position.is_end(self.count, room)
+    // From the beginning, in a file with so many sections.
+    fn by_sections(sections: usize) -> Self {
+        let is_indexed = sections > MOST_UNINDEXED;
+        Self::new(if is_indexed { INDEXED_BATCH } else { BATCH })
     }
 
-    // Reads the next records, at first so many of them, and answers whether that was refused. Where only memory
-    // for more of them is refused, it reads as many as before.
-    fn fill(
+    // The next record, or the refusal that ends the walk. Where those that were read are taken, and others may
+    // follow, the call reads these.
+    fn next(
         &mut self,
-        first: usize,
-        empty: T,
         call: impl FnOnce(&mut P, &mut [T], &mut usize) -> Fault,
-    ) -> Result<(), Error> {
-        let room = if self.records.is_empty() {
-            first
-        } else {
-            BATCH
-        };
-        grown(&mut self.records, empty, room)?;
-        (self.next, self.count) = (0, 0);
-        let fault = call(&mut self.position, &mut self.records, &mut self.count);
-        Error::test(fault)
-    }
-
-    // The next of the records that were read.
-    fn pop(&mut self) -> Option<&T> {
+    ) -> Option<Result<&T, Error>> {
+        let room = self.records.len();
+        let is_taken = self.next == self.count && !self.was_refused;
+        if is_taken && (room == 0 || !self.position.is_end(self.count, room)) {
+            if let Err(error) = self.fill(call) {
+                return Some(Err(error));
+            }
+        }
         let record = self.records[..self.count].get(self.next)?;
         self.next += 1;
-        Some(record)
+        Some(Ok(record))
+    }
+
+    // Reads the next records, and answers whether that was refused. Where only memory for more of them is refused, it
+    // reads as many as before.
+    fn fill(
+        &mut self,
+        call: impl FnOnce(&mut P, &mut [T], &mut usize) -> Fault,
+    ) -> Result<(), Error> {
+        let is_first = self.records.is_empty();
+        let room = if is_first { FIRST } else { self.most };
+        (self.next, self.count, self.was_refused) = (0, 0, true);
+        grown(&mut self.records, T::default(), room)?;
+        let fault = call(&mut self.position, &mut self.records, &mut self.count);
+        Error::test(fault)?;
+        self.was_refused = false;
+        Ok(())
     }
 }
 
@@ -271,13 +290,13 @@ macro_rules! walks {
         pub struct $name<'a> {
             bytes: &'a [u8],
             options: Options,
-            batches: Option<Batches<raw::$record<'a>, $position>>,
+            batches: Batches<raw::$record<'a>, $position>,
         }
 
         impl<'a> $name<'a> {
-            // From the beginning.
-            pub(crate) fn of(bytes: &'a [u8], options: Options) -> Self {
-                let batches = Some(Batches::new());
+            // From the beginning, in a file with so many sections.
+            pub(crate) fn of(bytes: &'a [u8], options: Options, sections: usize) -> Self {
+                let batches = Batches::by_sections(sections);
                 $name { bytes, options, batches }
             }
         }
@@ -286,18 +305,10 @@ macro_rules! walks {
             type Item = Result<$item, Error>;
 
             fn next(&mut self) -> Option<Result<$item, Error>> {
-                let (bytes, options) = (self.bytes, &self.options);
-                let batches = self.batches.as_mut()?;
-                if batches.is_taken() {
-                    let filled = batches.fill(FIRST, raw::$record::default(), |position, records, count| {
-                        $call(bytes, options, position, records, count)
-                    });
-                    if let Err(error) = filled {
-                        self.batches = None;
-                        return Some(Err(error));
-                    }
-                }
-                batches.pop().map(|it| Ok(<$item>::from(it)))
+                let found = self.batches.next(|position, records, count| {
+                    $call(self.bytes, &self.options, position, records, count)
+                })?;
+                Some(found.map(<$item>::from))
             }
         }
 
@@ -320,7 +331,8 @@ walks! {
     WalkExports by raw::next_exports, Export from usize => Export<'a>;
 }
 
-/// A walk over the libraries of which an image imports something, in constant memory.
+/// A walk over the libraries of which an image imports something, without memory but for an index of more than 96
+/// sections.
 #[derive(Clone)]
 pub struct WalkLibraries<'a> {
     bytes: &'a [u8],
@@ -401,12 +413,12 @@ impl fmt::Debug for WalkLibraries<'_> {
     }
 }
 
-/// A walk over all relocations of a section of an object, in constant memory.
+/// A walk over all relocations of a section of an object, in constant memory. A copy is as that of [`WalkImports`].
 #[derive(Clone)]
 pub struct WalkRelocations<'a> {
     bytes: &'a [u8],
     section: raw::Section<'static>,
-    batches: Option<Batches<Relocation, usize>>,
+    batches: Batches<Relocation, usize>,
 }
 
 impl<'a> WalkRelocations<'a> {
@@ -415,7 +427,7 @@ impl<'a> WalkRelocations<'a> {
         WalkRelocations {
             bytes,
             section,
-            batches: Some(Batches::new()),
+            batches: Batches::new(BATCH),
         }
     }
 }
@@ -424,18 +436,10 @@ impl Iterator for WalkRelocations<'_> {
     type Item = Result<Relocation, Error>;
 
     fn next(&mut self) -> Option<Result<Relocation, Error>> {
-        let (bytes, section) = (self.bytes, &self.section);
-        let batches = self.batches.as_mut()?;
-        if batches.is_taken() {
-            let filled = batches.fill(FIRST, Relocation::default(), |position, records, count| {
-                raw::next_relocations(bytes, section, position, records, count)
-            });
-            if let Err(error) = filled {
-                self.batches = None;
-                return Some(Err(error));
-            }
-        }
-        batches.pop().map(|it| Ok(*it))
+        let found = self.batches.next(|position, records, count| {
+            raw::next_relocations(self.bytes, &self.section, position, records, count)
+        })?;
+        Some(found.copied())
     }
 }
 
@@ -460,22 +464,15 @@ impl<'a> Symbols<'a> {
     pub(crate) fn of(bytes: &'a [u8], header: &CoffHeader) -> Result<Self, Error> {
         let mut table = raw::SymbolTable::default();
         Error::test(raw::read_symbol_table(bytes, header, &mut table))?;
-        let mut symbols = Symbols {
+        let mut batches = Batches::new(BATCH);
+        batches.fill(|position, records, count| {
+            raw::next_symbols(bytes, &table, position, records, count)
+        })?;
+        Ok(Symbols {
             bytes,
             table,
-            batches: Batches::new(),
-        };
-        symbols.fill()?;
-        Ok(symbols)
-    }
-
-    fn fill(&mut self) -> Result<(), Error> {
-        let (bytes, table) = (self.bytes, &self.table);
-        self.batches.fill(
-            FIRST,
-            raw::NamedSymbol::default(),
-            |position, records, count| raw::next_symbols(bytes, table, position, records, count),
-        )
+            batches,
+        })
     }
 
     /// The symbol whose record has this index in the symbol table, wherever the walk is: relocations and weak
@@ -488,14 +485,14 @@ impl<'a> Symbols<'a> {
     /// let symbols = object.symbols()?;
     /// for section in object.sections() {
     ///     for relocation in section.relocations(&bytes)? {
-    ///         let symbol = symbols.at_index(relocation.symbol_table_index as usize);
+    ///         let symbol = symbols.symbol_at(relocation.symbol_table_index as usize);
     ///         println!("{}", symbol.and_then(|s| s.name).unwrap_or_default());
     ///     }
     /// }
     /// # Ok::<(), goblin_pe::Error>(())
     /// ```
     #[must_use]
-    pub fn at_index(&self, index: usize) -> Option<Symbol<'a>> {
+    pub fn symbol_at(&self, index: usize) -> Option<Symbol<'a>> {
         raw::symbol_at(self.bytes, &self.table, index).map(|it| Symbol::from(&it))
     }
 }
@@ -504,11 +501,11 @@ impl<'a> Iterator for Symbols<'a> {
     type Item = Symbol<'a>;
 
     fn next(&mut self) -> Option<Symbol<'a>> {
-        if self.batches.is_taken() && self.fill().is_err() {
-            // (what is refused is so at the first call)
-            return None;
-        }
-        self.batches.pop().map(Symbol::from)
+        let found = self.batches.next(|position, records, count| {
+            raw::next_symbols(self.bytes, &self.table, position, records, count)
+        })?;
+        // (what is refused is so at the first call)
+        found.ok().map(Symbol::from)
     }
 }
 

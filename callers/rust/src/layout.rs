@@ -11,7 +11,8 @@ use crate::rows::{Damage, Section, section_table};
 use crate::text::Text;
 
 /// An image by its header and its sections. Nothing of it is listed, so it takes memory for its sections alone,
-/// however much its tables list; these are walked over, or looked up.
+/// however much its tables list; these are walked over, or looked up. A copy has records of its own; where memory
+/// for them is refused, the process ends as it does for a [`Vec`].
 ///
 /// ```no_run
 /// use goblin_pe::{Layout, Options};
@@ -161,7 +162,11 @@ impl<'a> Layout<'a> {
     /// ```
     #[must_use]
     pub fn walk_imports(&self) -> WalkImports<'a> {
-        WalkImports::of(self.bytes, self.options.with_parse_imports(true))
+        WalkImports::of(
+            self.bytes,
+            self.options.with_parse_imports(true),
+            self.sections().len(),
+        )
     }
 
     /// A walk over the exports, in constant memory.
@@ -174,7 +179,7 @@ impl<'a> Layout<'a> {
     /// ```
     #[must_use]
     pub fn walk_exports(&self) -> WalkExports<'a> {
-        WalkExports::of(self.bytes, self.options)
+        WalkExports::of(self.bytes, self.options, self.sections().len())
     }
 
     /// The symbols, which few images have; they are read as the walk goes on.

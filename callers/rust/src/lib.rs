@@ -7,7 +7,7 @@
 //!
 //! What was read can be kept and handed to other threads as long as the bytes live. A file may ask for
 //! much memory: where it is refused, so is the read, by [`ErrorKind::Memory`]. Where it should not even be
-//! asked for, read without imports and use [`Pe::walk_imports`].
+//! asked for, read a [`Layout`], and walk over its tables.
 //!
 //! `callers/build` makes the library that this crate links, in `callers/lib`, or `callers/install` puts
 //! it where pkg-config finds it; the variable `GOBLIN_PE_LIB` names another folder with it. A crate names
@@ -24,9 +24,10 @@
 //! | Call | Time | Memory |
 //! |---|---|---|
 //! | [`Pe::read`] | as long as what it lists, some microseconds for a small file | a record for each row, of 8 to 96 bytes |
-//! | [`Pe::walk_imports`], [`Pe::walk_exports`], [`Pe::symbols`] | as they go on | room for 256 rows; an index of more than 96 sections |
+//! | [`Layout::read`] | as long as the file, and the names of the sections | a record for each section |
+//! | [`Pe::walk_imports`], [`Pe::walk_exports`], [`Pe::symbols`] | as they go on | room for 256 rows; where there are more than 96 sections, for 4,096, and an index of these |
 //! | [`Pe::damage`] | as a read | an index of more than 96 sections |
-//! | [`Pe::footprint`], [`Pe::write_fingerprint_text`] | as two reads | a bit for each byte of the file, and the ranges |
+//! | [`Pe::footprint`], [`Pe::write_fingerprint_text`] | as two reads | a bit for each byte of the file, and the ranges; an index of more than 96 sections |
 //! | [`Pe::find_offset`] and what is at an address | a walk over the sections | none |
 //! | [`Object::read`], [`Te::read`] | as many sections as there are | a record for each section |
 //! | rows, names and texts | none: they are places in the bytes | none |

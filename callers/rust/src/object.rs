@@ -11,7 +11,8 @@ use crate::rows::Section;
 // The size of the COFF header, in bytes.
 const COFF_HEADER: usize = 20;
 
-/// An object that was read.
+/// An object that was read. A copy has records of its own; where memory for them is refused, the process ends as
+/// it does for a [`Vec`].
 ///
 /// ```no_run
 /// use goblin_pe::{Object, Options};
@@ -91,6 +92,7 @@ impl<'a> Object<'a> {
     /// let has_directives = object.section_by_name(".drectve").is_some();
     /// # Ok::<(), goblin_pe::Error>(())
     /// ```
+    #[must_use]
     pub fn section_by_name(&self, name: impl AsRef<[u8]>) -> Option<Section<'a>> {
         self.sections().find(|s| s.name == *name.as_ref())
     }

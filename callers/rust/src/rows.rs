@@ -747,6 +747,7 @@ impl<'a> Symbol<'a> {
     /// let source = symbols.find_map(|it| it.aux_file().filter(|_| it.storage_class == 103));
     /// # Ok::<(), goblin_pe::Error>(())
     /// ```
+    #[must_use]
     pub fn aux_file(&self) -> Option<Text<'a>> {
         raw::aux_file(self.auxiliary).map(Text)
     }

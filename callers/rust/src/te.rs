@@ -11,7 +11,8 @@ use crate::rows::Section;
 // The size of the header, in bytes.
 const HEADER: usize = 40;
 
-/// A Terse Executable that was read.
+/// A Terse Executable that was read. A copy has records of its own; where memory for them is refused, the process
+/// ends as it does for a [`Vec`].
 ///
 /// ```no_run
 /// let bytes = std::fs::read("firmware.te")?;
@@ -84,6 +85,7 @@ impl<'a> Te<'a> {
     /// let code = te.section_by_name(".text").map(|s| s.data(&bytes));
     /// # Ok::<(), goblin_pe::Error>(())
     /// ```
+    #[must_use]
     pub fn section_by_name(&self, name: impl AsRef<[u8]>) -> Option<Section<'a>> {
         self.sections().find(|s| s.name == *name.as_ref())
     }

@@ -590,11 +590,11 @@ fn objects_and_terse_executables() {
     }
     let symbols = object.symbols().unwrap();
     for symbol in symbols.clone() {
-        let found = symbols.at_index(symbol.index).unwrap();
+        let found = symbols.symbol_at(symbol.index).unwrap();
         assert_eq!((found.index, found.name), (symbol.index, symbol.name));
     }
     let count = object.coff_header().number_of_symbol_table as usize;
-    assert!(symbols.at_index(count).is_none() && symbols.at_index(usize::MAX).is_none());
+    assert!(symbols.symbol_at(count).is_none() && symbols.symbol_at(usize::MAX).is_none());
     let sections = object.sections().len();
     let definitions = object.symbols().unwrap().filter(|s| s.storage_class == 3);
     for symbol in definitions.filter(|s| s.number_of_aux_symbols == 1) {
