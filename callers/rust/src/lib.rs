@@ -59,6 +59,7 @@
 pub mod constants;
 mod error;
 mod footprint;
+mod image;
 mod imphash;
 mod iterators;
 mod layout;

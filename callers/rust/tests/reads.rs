@@ -553,6 +553,10 @@ fn a_layout_has_what_an_open_has_but_its_lists() {
         assert!(imports.eq(pe.imports().map(|import| import.slot_rva)));
         let exports = layout.walk_exports().map(|export| export.unwrap().ordinal);
         assert!(exports.eq(pe.exports().map(|export| export.ordinal)));
+        let (mut listed, mut walked) = (Vec::new(), Vec::new());
+        pe.write_imphash_text(&mut listed).unwrap();
+        layout.write_imphash_text(&mut walked).unwrap();
+        assert_eq!(listed, walked);
         assert_eq!(layout.symbols().unwrap().count(), 0);
         assert_eq!(
             format!("{:?}", layout.damage()),
