@@ -836,7 +836,7 @@ struct goblin_pe_damage {
     size_t left_out_entries;
     /* How many name pointers of the export directory give no export, in either mode: there is no
        ordinal, the ordinal lies past the address table, or it leads to a forwarder whose text
-       cannot be read. 0 where the exports are refused. */
+       cannot be read. 0 where there is no export directory, or it is refused. */
     size_t left_out_exports;
 };
 
@@ -900,8 +900,8 @@ struct goblin_pe_object {
     struct goblin_pe_coff_header coff_header;
 };
 
-/* Where the symbol table and the string table of an image or an object lie. Zeros say that there
-   are none. */
+/* Where the symbol table and the string table of an image or an object lie. An offset of 0 says
+   that there are none. */
 struct goblin_pe_symbol_table {
     /* The file offset of the first record of the symbol table, in bytes; 0 where there is none. */
     uint32_t offset;

@@ -728,7 +728,7 @@ class Damage(Record):
     left_out_entries: How many entries of the other libraries it leaves out.
     left_out_exports: How many name pointers of the export directory give no export, in either mode:
         there is no ordinal, the ordinal lies past the address table, or it leads to a forwarder
-        whose text cannot be read. 0 where the exports are refused.
+        whose text cannot be read. 0 where there is no export directory, or it is refused.
     """
 
     dos_stub: Fault
@@ -827,8 +827,8 @@ class Object(Record):
 
 @record
 class SymbolTable(Record):
-    """Where the symbol table and the string table of an image or an object lie. Zeros say that
-    there are none.
+    """Where the symbol table and the string table of an image or an object lie. An offset of 0 says
+    that there are none.
 
     offset: The file offset of the first record of the symbol table, in bytes; 0 where there is
         none.

@@ -657,7 +657,7 @@ pub struct Damage {
     pub left_out_entries: usize,
     /// How many name pointers of the export directory give no export, in either mode: there is no
     /// ordinal, the ordinal lies past the address table, or it leads to a forwarder whose text
-    /// cannot be read. 0 where the exports are refused.
+    /// cannot be read. 0 where there is no export directory, or it is refused.
     pub left_out_exports: usize,
 }
 
@@ -731,8 +731,8 @@ pub struct Object {
     pub coff_header: CoffHeader,
 }
 
-/// Where the symbol table and the string table of an image or an object lie. Zeros say that there
-/// are none.
+/// Where the symbol table and the string table of an image or an object lie. An offset of 0 says
+/// that there are none.
 #[repr(C)]
 #[derive(Clone, Copy, Default, Debug, PartialEq, Eq, PartialOrd, Ord, Hash)]
 pub struct SymbolTable {

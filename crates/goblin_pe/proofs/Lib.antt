@@ -1,8 +1,7 @@
--- Lemmas that callers may cite: loops over walks, ranges of a footprint, and of the crates below the
--- parts of a header, what reads back, and steps of readings and walks.
+-- Lemmas that callers may cite: loops over walks, ranges of a footprint, that all true causes have one
+-- text, and of the crates below the parts of a header, what reads back, and steps of readings and walks.
 pub mod Covered
 pub mod Folds
-pub mod ImportStarts
 pub mod OneCause
 pub mod OneCauseOfParts
 pub mod Walked
@@ -17,6 +16,7 @@ pub use Rattle.goblin_pe_head.proofs.PeHeaderRoundTrip
 -- The others are the library's own: they change with it.
 pub mod Collected
 pub mod ImportParts
+pub mod ImportStarts
 pub mod KeptImports
 pub mod Layouts
 pub mod ListedImports

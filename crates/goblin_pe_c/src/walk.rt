@@ -18,8 +18,8 @@ use goblin_pe_sect::relocation::Relocation;
 /// Fills `records` with all relocations of a section of an object from the index `position` on, as
 /// many as there is room for, says in `count` how many these are, and moves `position` past them. Where
 /// there is room, a `count` of 0 is the end. A section that has more than its counter can say, by the
-/// bit `IMAGE_SCN_LNK_NRELOC_OVFL` and a counter of 65,535, has their number in its first record, which
-/// is none of them.
+/// bit `IMAGE_SCN_LNK_NRELOC_OVFL` and a counter of 65,535, begins with a record that is none of them:
+/// its `virtual_address` is the number of all records, itself among them.
 ///
 /// A read is refused (the status 4) where they run past the end of the file, or begin at or past it,
 /// even where there are none. Nothing is then changed.

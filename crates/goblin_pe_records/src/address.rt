@@ -78,8 +78,8 @@ fn first_back<'s, 'a>(image: &'s PeImage<'a>, offset: usize) -> Option<&'s PeSec
 }
 
 impl PeImage<'_> {
-    /// The index of the section that an address lies in: the first whose window holds it, by which
-    /// the address is mapped.
+    /// The index of the section that an address lies in: the first whose window holds it. `None` if
+    /// none holds it, or the file alignment is not a power of two.
     #[tactic(auto, using(crate::proofs::Viewed::position_viewed))]
     pub fn section_of(&self, rva: usize) -> Option<usize>
         ensures { result ≡ image_section self.now rva }
@@ -92,7 +92,8 @@ impl PeImage<'_> {
     }
 
     /// The address of a file offset: that in the first section whose window has an address there that
-    /// the image maps back to the offset.
+    /// the image maps back to the offset. Where addresses are offsets, the offset itself; `None` if no
+    /// address is mapped to it.
     #[tactic(auto, using(crate::proofs::Viewed::find_viewed), unfolding(goblin_pe_sect::specs::Mapping::file_address))]
     pub fn rva_of(&self, offset: usize) -> Option<usize>
         ensures { result ≡ image_address self.now offset }

@@ -109,8 +109,8 @@ fn seen_by_sections<'a>(image: &PeImage<'a>, rva: usize, size: usize) -> Result<
     }
 }
 
-/// Reads so many bytes that a loader sees at an address: those that the file has of them, and how
-/// many zeros follow them.
+/// Reads the `size` bytes that a loader sees at the address `rva`: those that the file has of them,
+/// and how many zeros follow them.
 ///
 /// # Errors
 /// [`Error::Malformed`] with [`Cause::Unmapped`] if no section's memory holds the address, or the

@@ -96,8 +96,8 @@ fn relocation_at(table: &[u8], index: usize) -> Option<Relocation>
 
 /// Fills records of all relocations of a section of an object from the one at the index `position` on,
 /// as far as there is room, moves `position` past them, and says in `count` how many these are. Where
-/// the section has more than its counter can say, the first record has their number, and is none of
-/// them.
+/// the section has more than its counter can say, the first record is none of them: its
+/// `virtual_address` is the number of all records, itself among them.
 ///
 /// # Errors
 /// Relocations that do not lie in the file; nothing is then changed.

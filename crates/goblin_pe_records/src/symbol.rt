@@ -24,8 +24,8 @@ use std::str;
 // The size of the length at the front of a string table, in bytes.
 const LENGTH_FIELD_SIZE: usize = 4;
 
-/// Where the symbol table and the string table of an image or an object lie. Zeros say that there
-/// are none.
+/// Where the symbol table and the string table of an image or an object lie. An offset of 0
+/// says that there are none.
 #[repr(C)]
 #[derive(Copy, Clone)]
 pub struct PeSymbolTable {

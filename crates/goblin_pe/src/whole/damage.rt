@@ -42,7 +42,7 @@ pub struct Damage {
     pub left_out: LeftOut,
     /// How many name pointers of the export directory give no export, in either mode: there is no
     /// ordinal, the ordinal lies past the address table, or it leads to a forwarder whose text cannot
-    /// be read. 0 where the exports are refused.
+    /// be read. 0 where there is no export directory, or it is refused.
     pub left_out_exports: usize,
 }
 

@@ -350,8 +350,7 @@ impl<'a, 'h> Layout<'a, 'h> {
 
     /// How many name pointers of the export directory give no export, in either mode: there is no
     /// ordinal, the ordinal lies past the address table, or it leads to a forwarder whose text
-    /// cannot be read. None where the file has no export directory, or one that strict mode
-    /// refuses.
+    /// cannot be read. 0 where the file has no export directory, or a refused one.
     #[tactic(auto, unfolding(crate::specs::Damages::exports_left_out))]
     pub fn left_out_exports(&self) -> usize
         ensures { let m = layout_map self.now in
