@@ -1,6 +1,6 @@
 //! Writes the text whose SHA-256 is the fingerprint of an image, or whose MD5 is the hash of its imports:
 //! fingerprint [--imports] FILE. Files with the same fingerprint are read alike.
-use goblin_pe::{Options, Pe};
+use goblin_pe::{Layout, Options};
 use std::io::{self, Write};
 
 fn main() -> io::Result<()> {
@@ -11,13 +11,12 @@ fn main() -> io::Result<()> {
         _ => return Err(io::Error::other("usage: fingerprint [--imports] FILE")),
     };
     let bytes = std::fs::read(path)?;
+    let layout = Layout::read(&bytes, &Options::default())?;
     let mut out = io::stdout().lock();
     if of_imports {
-        // (in constant memory)
-        let unlisted = Options::default().with_parse_imports(false);
-        Pe::read(&bytes, &unlisted)?.write_imphash_text(&mut out)?;
+        layout.write_imphash_text(&mut out)?; // (in constant memory)
     } else {
-        Pe::parse(&bytes)?.write_fingerprint_text(&mut out)?;
+        layout.write_fingerprint_text(&mut out)?;
     }
     out.flush()
 }

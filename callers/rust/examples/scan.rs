@@ -1,23 +1,30 @@
-//! Scans files by four threads: scan FILE.. tells of each image, in the order of the words, how many imports and exports
-//! it has and what is damaged, or why it was refused. Of an image that lists more imports than a
-//! limit says, only so many are looked at: it takes no memory for them.
-use goblin_pe::{Error, Options, Pe};
+//! Scans files by four threads: scan FILE.. tells of each image, in the order of the words, how many imports and
+//! exports it has and what is damaged, or why it was refused. Of an image that lists more of them than a limit says,
+//! only so many are looked at. It takes no memory for them.
+use goblin_pe::{Error, Layout, Options};
 use std::thread;
 
 const THREADS: usize = 4;
-const MOST_IMPORTS: usize = 100_000;
+const MOST: usize = 100_000;
+
+// How many rows a walk has, as far as one more than are looked at.
+fn counted<T>(walk: impl Iterator<Item = Result<T, Error>>) -> Result<usize, Error> {
+    walk.take(MOST + 1)
+        .try_fold(0, |count, row| row.map(|_| count + 1))
+}
 
 fn found(bytes: &[u8]) -> Result<String, Error> {
-    let options = Options::permissive();
-    let unlisted = Pe::read(bytes, &options.with_parse_imports(false))?;
-    let walked = unlisted.walk_imports().take(MOST_IMPORTS + 1).count();
-    if walked > MOST_IMPORTS {
-        return Ok(format!("more than {MOST_IMPORTS} imports"));
+    let layout = Layout::read(bytes, &Options::permissive())?;
+    let imports = counted(layout.walk_imports())?;
+    if imports > MOST {
+        return Ok(format!("more than {MOST} imports"));
     }
-    let pe = Pe::read(bytes, &options)?;
-    let (imports, exports) = (pe.imports().len(), pe.exports().len());
+    let exports = counted(layout.walk_exports())?;
+    if exports > MOST {
+        return Ok(format!("more than {MOST} exports"));
+    }
     let mut text = format!("{imports} imports, {exports} exports");
-    for (part, error) in pe.damage()?.parts() {
+    for (part, error) in layout.damage()?.parts() {
         text += &format!(", {part}: {error}");
     }
     Ok(text)
