@@ -49,9 +49,9 @@ static const struct goblin_pe_windows_fields *fields_of(const struct module *m)
 }
 
 /* Whether each section is mapped by itself; where not, the file is one flat view. */
-static bool is_in_pages(const struct module *m)
+static bool is_in_pages(const struct goblin_pe_windows_fields *fields)
 {
-    return fields_of(m)->section_alignment >= PAGE;
+    return fields->section_alignment >= PAGE;
 }
 
 static bool is_wide(const struct module *m)
@@ -133,14 +133,14 @@ static struct goblin_pe_fault map_section(struct module *m, const struct goblin_
 /* Maps the headers and each section, or the file as one view. */
 static int map(struct module *m)
 {
-    size_t front = is_in_pages(m) ? fields_of(m)->size_of_headers : m->length;
+    size_t front = is_in_pages(fields_of(m)) ? fields_of(m)->size_of_headers : m->length;
     m->size = fields_of(m)->size_of_image;
     m->mapped = m->size > MOST_BYTES ? NULL : calloc(m->size + 1, 1);
     if (!m->mapped)
         return fprintf(stderr, "%s: it can't be mapped\n", m->name), 1;
     front = least(least(front, m->length), m->size);
     memcpy(m->mapped, m->bytes, front);
-    if (!is_in_pages(m))
+    if (!is_in_pages(fields_of(m)))
         return printf("one flat view of %zu bytes\n", front), 0;
     for (size_t i = 0; i < m->tables.section_count; i++) {
         struct goblin_pe_fault fault = map_section(m, &m->tables.sections[i]);
@@ -153,13 +153,13 @@ static int map(struct module *m)
 /* Opens an image with raw pointers rounded where its sections are aligned to pages, which a first look tells. */
 static struct goblin_pe_fault open_image(struct module *m)
 {
-    static const struct goblin_pe_options look = { .is_permissive = true };
     struct goblin_pe_options options = GOBLIN_PE_DEFAULT_OPTIONS;
-    struct goblin_pe_fault fault = goblin_pe_open(m->bytes, m->length, &look, &m->file, NULL, 0, &m->tables);
+    struct goblin_pe_layout look;
+    struct goblin_pe_fault fault = goblin_pe_read_layout(m->bytes, m->length, NULL, &look, NULL, 0, NULL, 0);
     if (fault.status != GOBLIN_PE_STATUS_OK)
         return fault;
-    goblin_pe_free(&m->tables);
-    options.raw_pointer_rule = is_in_pages(m) ? GOBLIN_PE_RAW_POINTER_RULE_ROUNDED_TO512 : GOBLIN_PE_RAW_POINTER_RULE_AS_STORED;
+    if (is_in_pages(&look.optional_header.windows_fields))
+        options.raw_pointer_rule = GOBLIN_PE_RAW_POINTER_RULE_ROUNDED_TO512;
     fault = goblin_pe_open(m->bytes, m->length, &options, &m->file, NULL, 0, &m->tables);
     if (fault.status == GOBLIN_PE_STATUS_OK)
         m->image = goblin_pe_image_of(m->bytes, m->length, &options, &m->file, &m->tables);
@@ -174,7 +174,8 @@ static int open_module(struct module *m, const char *path)
     fault = open_image(m);
     if (fault.status != GOBLIN_PE_STATUS_OK)
         return refused(m, fault);
-    m->base = fields_of(m)->image_base + (m->file.coff_header.characteristics & GOBLIN_PE_IMAGE_FILE_RELOCS_STRIPPED ? 0 : 0x10000);
+    bool is_stripped = m->file.coff_header.characteristics & GOBLIN_PE_IMAGE_FILE_RELOCS_STRIPPED;
+    m->base = fields_of(m)->image_base + (is_stripped ? 0 : 0x10000);
     printf("%s for machine 0x%x at 0x%" PRIx64 "\n", m->name, m->file.coff_header.machine, m->base);
     return map(m);
 }
@@ -186,18 +187,17 @@ static int relocate(struct module *m)
     uint64_t moved = m->base - fields_of(m)->image_base;
     size_t count = 0;
     for (size_t i = 0; moved && i < m->tables.block_count; i++) {
-        const struct goblin_pe_block *block = &m->tables.blocks[i];
-        for (size_t j = 0; j + 1 < block->words.length; j += 2) {
-            unsigned word = (unsigned)number_at(block->words.bytes + j, 2), type = word >> 12;
-            size_t size = type == GOBLIN_PE_IMAGE_REL_BASED_DIR64 ? 8 : 4;
-            size_t rva = block->rva + (size_t)(word & 0xfff);
-            uint8_t *place = place_of(m, rva, size);
-            if (type == GOBLIN_PE_IMAGE_REL_BASED_ABSOLUTE)
+        struct goblin_pe_word word;
+        size_t position = 0;
+        while (goblin_pe_next_words(&m->tables.blocks[i], &position, &word, 1)) {
+            size_t size = word.typ == GOBLIN_PE_IMAGE_REL_BASED_DIR64 ? 8 : 4;
+            uint8_t *place = place_of(m, word.rva, size);
+            if (word.typ == GOBLIN_PE_IMAGE_REL_BASED_ABSOLUTE)
                 continue;
-            if (!place || (size == 4 && type != GOBLIN_PE_IMAGE_REL_BASED_HIGHLOW))
-                return fprintf(stderr, "%s: base relocation of type %u at 0x%x\n", m->name, type, block->rva), 1;
+            if (!place || (size == 4 && word.typ != GOBLIN_PE_IMAGE_REL_BASED_HIGHLOW))
+                return fprintf(stderr, "%s: base relocation of type %u at 0x%zx\n", m->name, word.typ, word.rva), 1;
             put_number(place, size, number_at(place, size) + moved);
-            printf("relocation at 0x%zx: 0x%" PRIx64 "\n", rva, number_at(place, size));
+            printf("relocation at 0x%zx: 0x%" PRIx64 "\n", word.rva, number_at(place, size));
             count++;
         }
     }
@@ -224,7 +224,8 @@ static bool is_named(const struct goblin_pe_export *x, struct goblin_pe_text nam
 }
 
 /* The export of a library with this name: the hint says where to look first. */
-static const struct goblin_pe_export *export_named(const struct module *library, struct goblin_pe_text name, size_t hint)
+static const struct goblin_pe_export *export_named(
+    const struct module *library, struct goblin_pe_text name, size_t hint)
 {
     const struct goblin_pe_tables *tables = &library->tables;
     if (hint < tables->export_count && is_named(&tables->exports[hint], name))
@@ -250,24 +251,16 @@ static const struct goblin_pe_export_address *found_in(const struct module *libr
     return index < tables->export_address_count ? &tables->export_addresses[index] : NULL;
 }
 
-/* What the text of a forwarder asks for: LIBRARY.NAME or LIBRARY.#ORDINAL. False where it is neither. */
-static bool forwarded_to(struct goblin_pe_text text, struct wanted *wanted)
+/* What the forwarder of an entry of the address table asks for; false where there is none. */
+static bool forwarded_to(
+    const struct module *library, const struct goblin_pe_export_address *from, struct wanted *wanted)
 {
-    const uint8_t *dot = text.length ? memchr(text.bytes, '.', text.length) : NULL;
-    if (!dot)
+    struct goblin_pe_forwarder it;
+    if (goblin_pe_forwarder_at(&library->image, from->rva, &it).status != GOBLIN_PE_STATUS_OK)
         return false;
-    size_t length = (size_t)(dot - text.bytes);
-    struct goblin_pe_text rest = { dot + 1, text.length - length - 1 };
-    *wanted = (struct wanted) { .library = { text.bytes, length }, .name = rest, .is_by_name = true };
-    if (!rest.length || rest.bytes[0] != '#')
-        return rest.length;
-    wanted->is_by_name = false;
-    for (size_t i = 1; i < rest.length; i++) {
-        if (!isdigit(rest.bytes[i]) || wanted->ordinal > UINT16_MAX)
-            return false;
-        wanted->ordinal = 10 * wanted->ordinal + (size_t)(rest.bytes[i] - '0');
-    }
-    return rest.length > 1;
+    bool is_by_name = it.forwards == GOBLIN_PE_FORWARDS_NAME;
+    *wanted = (struct wanted) { it.lib, it.name, it.ordinal, 0, is_by_name };
+    return !is_by_name || it.name.length;
 }
 
 /* Finds the address of what is wanted, be it through forwarders, and tells the way there, or why there is none. */
@@ -275,7 +268,6 @@ static bool find(struct wanted wanted, const struct module *libraries, size_t co
 {
     for (size_t forwarders = 0;; forwarders++) {
         const struct module *library = NULL;
-        struct goblin_pe_text text;
         for (size_t i = 0; i < count && !library; i++)
             if (is_library(libraries[i].name, wanted.library))
                 library = &libraries[i];
@@ -294,8 +286,7 @@ static bool find(struct wanted wanted, const struct module *libraries, size_t co
             *address = library->base + found->rva;
             return true;
         }
-        if (goblin_pe_text_at(&library->image, found->rva, &text).status != GOBLIN_PE_STATUS_OK ||
-            !forwarded_to(text, &wanted))
+        if (!forwarded_to(library, found, &wanted))
             return puts(": its forwarder can't be read"), false;
         if (forwarders == MOST_FORWARDERS)
             return puts(": too many forwarders"), false;
