@@ -73,7 +73,8 @@ class Programs(Case):
         succeed([built("threads", "-std=c11", "-pthread", "-fsanitize=thread"), "256", *THREADED])
 
     def test_each_growth_is_refused(self):
-        for call, samples, takes_memory in (("open", IMAGES, True), ("footprint", IMAGES, True), ("object", OBJECTS, False), ("te", TERSE, False)):
+        for call, samples, takes_memory in (("open", IMAGES, True), ("footprint", IMAGES, True), ("layout", IMAGES, False),
+                                            ("object", OBJECTS, False), ("symbols", OBJECTS, False), ("te", TERSE, False)):
             for sample in samples:
                 with self.subTest(call=call, sample=sample.name):
                     self.assertEqual(refused(call, sample) > 0, takes_memory)
@@ -84,6 +85,7 @@ class Programs(Case):
             for call in IN_PLACE:
                 with self.subTest(call=call, sections=count):
                     self.assertEqual(refused(call, file) > 0, count > 96)
+            self.assertEqual(refused("layout", file), 0)
 
     def test_a_file_without_a_table_leaves_no_block_behind(self):
         for index, table in ((0, "exports"), (1, "imports"), (5, "base relocations")):

@@ -488,8 +488,9 @@ static inline uint32_t goblin_pe_checksum(const uint8_t *bytes, size_t length, s
 /* The file offset of the section table of an image, which follows the optional header. */
 static inline size_t goblin_pe_section_table(const struct goblin_pe_file *file)
 {
+    size_t signature = file->dos_header.pe_pointer;
     /* (the signature and the COFF header have 24 bytes) */
-    return (size_t)file->dos_header.pe_pointer + 24 + file->coff_header.size_of_optional_header;
+    return signature + 24 + file->coff_header.size_of_optional_header;
 }
 
 /* How many bytes goblin_pe_write_header writes of a header with a stub of so many bytes. */

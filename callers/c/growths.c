@@ -1,8 +1,8 @@
 /* Makes a call with its first growth of memory refused, then its second, and so on, until one meets no refusal:
-   growths CALL FILE, where CALL is open, damage, footprint, imports, exports, object or te. The status is 0 where
-   each refused growth is answered as such, changes no record and leaves no block behind, and where all blocks of
-   the last call are freed with what it filled. Then it prints how many growths it refused. It stands before malloc,
-   realloc and free of glibc. */
+   growths CALL FILE, where CALL is open, layout, damage, footprint, imports, exports, object, symbols or te. The
+   status is 0 where each refused growth is answered as such, changes no record and leaves no block behind, and where
+   all blocks of the last call are freed with what it filled. Then it prints how many growths it refused. It stands
+   before malloc, realloc and free of glibc. */
 #include "goblin_pe.h"
 
 #include <stdio.h>
@@ -53,6 +53,7 @@ struct records {
     struct goblin_pe_file file;
     struct goblin_pe_directory directories[16];
     struct goblin_pe_tables tables;
+    struct goblin_pe_layout layout;
     struct goblin_pe_damage damage;
     struct goblin_pe_ranges ranges;
     struct goblin_pe_import_position place;
@@ -60,14 +61,29 @@ struct records {
     struct goblin_pe_export exports[4];
     size_t position, count;
     struct goblin_pe_object object;
+    struct goblin_pe_symbol_table symbol_table;
+    struct goblin_pe_named_symbol symbols[4];
     struct goblin_pe_te_header te_header;
     struct goblin_pe_section sections[4];
 };
+
+/* Reads the first symbols of an object. */
+static struct goblin_pe_fault read_symbols(struct records *r)
+{
+    struct goblin_pe_fault fault = goblin_pe_read_object(bytes, length, NULL, &r->object, r->sections, 4);
+    if (fault.status == GOBLIN_PE_STATUS_OK)
+        fault = goblin_pe_read_symbol_table(bytes, length, &r->object.coff_header, &r->symbol_table);
+    if (fault.status == GOBLIN_PE_STATUS_OK)
+        fault = goblin_pe_next_symbols(bytes, length, &r->symbol_table, &r->position, r->symbols, 4, &r->count);
+    return fault;
+}
 
 static struct goblin_pe_fault called(const char *name, struct records *r)
 {
     if (!strcmp(name, "open"))
         return goblin_pe_open(bytes, length, NULL, &r->file, r->directories, 16, &r->tables);
+    if (!strcmp(name, "layout"))
+        return goblin_pe_read_layout(bytes, length, NULL, &r->layout, r->directories, 16, r->sections, 4);
     if (!strcmp(name, "damage"))
         return goblin_pe_read_damage(bytes, length, NULL, &r->damage);
     if (!strcmp(name, "footprint"))
@@ -76,6 +92,8 @@ static struct goblin_pe_fault called(const char *name, struct records *r)
         return goblin_pe_next_imports(bytes, length, NULL, &r->place, r->imports, 4, &r->count);
     if (!strcmp(name, "exports"))
         return goblin_pe_next_exports(bytes, length, NULL, &r->position, r->exports, 4, &r->count);
+    if (!strcmp(name, "symbols"))
+        return read_symbols(r);
     if (!strcmp(name, "object"))
         return goblin_pe_read_object(bytes, length, NULL, &r->object, r->sections, 4);
     return goblin_pe_read_te(bytes, length, &r->te_header, r->sections, 4);
