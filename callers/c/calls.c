@@ -21,6 +21,11 @@ static bool is_fault(struct goblin_pe_fault fault, uint32_t status, uint32_t cau
     return fault.status == status && fault.cause == cause;
 }
 
+static bool is_ok(struct goblin_pe_fault fault)
+{
+    return fault.status == GOBLIN_PE_STATUS_OK;
+}
+
 /* Whether bytes at an address are those at its offset, and end with the file. */
 static bool are_mapped(const struct goblin_pe_image *image, size_t rva)
 {
@@ -28,14 +33,16 @@ static bool are_mapped(const struct goblin_pe_image *image, size_t rva)
     size_t offset = 7;
     if (!goblin_pe_find_offset(image, rva, &offset))
         return offset == 7 &&
-               is_fault(goblin_pe_bytes_at(image, rva, 0, &found), GOBLIN_PE_STATUS_MALFORMED, GOBLIN_PE_CAUSE_UNMAPPED) &&
+               is_fault(goblin_pe_bytes_at(image, rva, 0, &found), GOBLIN_PE_STATUS_MALFORMED,
+                        GOBLIN_PE_CAUSE_UNMAPPED) &&
                found.length == 77;
     if (offset >= length)
-        return is_fault(goblin_pe_bytes_at(image, rva, 1, &found), GOBLIN_PE_STATUS_READ, GOBLIN_PE_READ_FAULT_BAD_OFFSET) &&
+        return is_fault(goblin_pe_bytes_at(image, rva, 1, &found), GOBLIN_PE_STATUS_READ,
+                        GOBLIN_PE_READ_FAULT_BAD_OFFSET) &&
                found.length == 77;
     return is_fault(goblin_pe_bytes_at(image, rva, length - offset + 1, &found), GOBLIN_PE_STATUS_READ,
                     GOBLIN_PE_READ_FAULT_TOO_BIG) &&
-           found.length == 77 && goblin_pe_bytes_at(image, rva, length - offset, &found).status == GOBLIN_PE_STATUS_OK &&
+           found.length == 77 && is_ok(goblin_pe_bytes_at(image, rva, length - offset, &found)) &&
            found.bytes == bytes + offset && found.length == length - offset;
 }
 
@@ -72,16 +79,17 @@ static bool has_symbols(const struct goblin_pe_coff_header *header)
     struct goblin_pe_symbol_table table;
     struct goblin_pe_named_symbol symbol;
     size_t position = 0, count = 0, next = 0;
-    if (goblin_pe_read_symbol_table(bytes, length, header, &table).status != GOBLIN_PE_STATUS_OK)
+    if (!is_ok(goblin_pe_read_symbol_table(bytes, length, header, &table)))
         return false;
     for (;;) {
-        if (goblin_pe_next_symbols(bytes, length, &table, &position, &symbol, 1, &count).status != GOBLIN_PE_STATUS_OK)
+        if (!is_ok(goblin_pe_next_symbols(bytes, length, &table, &position, &symbol, 1, &count)))
             return false;
         if (!count)
             return next == table.record_count && !goblin_pe_symbol_at(bytes, length, &table, next, &symbol);
         if (!is_found(&table, &symbol))
             return false;
-        if (symbol.index != next || position != next + 1 + symbol.symbol.number_of_aux_symbols || !has_auxiliary(&symbol))
+        if (symbol.index != next || position != next + 1 + symbol.symbol.number_of_aux_symbols ||
+            !has_auxiliary(&symbol))
             return false;
         if (!is_in_file(symbol.name) || !is_in_file(symbol.auxiliary))
             return false;
@@ -93,10 +101,10 @@ static bool has_relocations(const struct goblin_pe_section *section)
 {
     struct goblin_pe_relocation relocations[4];
     size_t count = 7;
-    if (goblin_pe_read_relocations(bytes, length, section, NULL, 0, &count).status != GOBLIN_PE_STATUS_OK)
+    if (!is_ok(goblin_pe_read_relocations(bytes, length, section, NULL, 0, &count)))
         return false;
     return count == section->number_of_relocations &&
-           goblin_pe_read_relocations(bytes, length, section, relocations, 4, &count).status == GOBLIN_PE_STATUS_OK;
+           is_ok(goblin_pe_read_relocations(bytes, length, section, relocations, 4, &count));
 }
 
 static bool is_object(void)
@@ -105,11 +113,11 @@ static bool is_object(void)
     const struct goblin_pe_image whole = { .bytes = { bytes, length } };
     struct goblin_pe_object object;
     struct goblin_pe_section_data data;
-    if (goblin_pe_read_object(bytes, length, NULL, &object, sections, 100).status != GOBLIN_PE_STATUS_OK)
+    if (!is_ok(goblin_pe_read_object(bytes, length, NULL, &object, sections, 100)))
         return false;
     for (size_t i = 0; i < object.sections && i < 100; i++)
         if (!has_relocations(&sections[i]) ||
-            goblin_pe_read_section_data(&whole, &sections[i], &data).status != GOBLIN_PE_STATUS_OK ||
+            !is_ok(goblin_pe_read_section_data(&whole, &sections[i], &data)) ||
             !is_in_file(data.bytes) || !is_in_file(sections[i].real_name))
             return false;
     return object.sections == object.coff_header.number_of_sections && has_symbols(&object.coff_header);
@@ -130,13 +138,13 @@ static bool is_written(const struct goblin_pe_file *file, const struct goblin_pe
                        const struct goblin_pe_tables *tables)
 {
     static uint8_t out[1 << 16];
-    size_t size = goblin_pe_header_size(file, tables->dos_stub.length), table = goblin_pe_section_table(file), written = 7;
+    size_t size = goblin_pe_header_size(file, tables->dos_stub.length), written = 7;
+    size_t table = goblin_pe_section_table(file);
     return size <= sizeof out && table <= length - 40 * tables->section_count &&
-           goblin_pe_write_header(file, directories, file->directories, tables->dos_stub, out, size - 1, &written).status !=
-               GOBLIN_PE_STATUS_OK &&
+           !is_ok(goblin_pe_write_header(file, directories, file->directories, tables->dos_stub, out, size - 1,
+                                         &written)) &&
            written == 7 &&
-           goblin_pe_write_header(file, directories, file->directories, tables->dos_stub, out, size, &written).status ==
-               GOBLIN_PE_STATUS_OK &&
+           is_ok(goblin_pe_write_header(file, directories, file->directories, tables->dos_stub, out, size, &written)) &&
            written == size && !memcmp(out, bytes, size < table ? size : table) &&
            (!tables->section_count || !memcmp(tables->sections[0].name, bytes + table, 8));
 }
@@ -168,7 +176,8 @@ static bool is_told(void)
     for (; longest.cause < 100; longest.cause++) {
         uint8_t bare[160];
         size_t size = goblin_pe_fault_text(&longest, bare, sizeof bare);
-        is_right &= size <= sizeof bare && strlen(goblin_pe_fault_string(&longest, text)) == size && !memcmp(text, bare, size);
+        is_right &=
+            size <= sizeof bare && strlen(goblin_pe_fault_string(&longest, text)) == size && !memcmp(text, bare, size);
     }
     return is_right;
 }
@@ -179,8 +188,8 @@ static bool is_laid_out(const struct goblin_pe_file *file, const struct goblin_p
     static struct goblin_pe_section sections[100];
     struct goblin_pe_directory directories[16];
     struct goblin_pe_layout layout;
-    if (goblin_pe_read_layout(bytes, length, NULL, &layout, NULL, 0, NULL, 0).status != GOBLIN_PE_STATUS_OK ||
-        goblin_pe_read_layout(bytes, length, NULL, &layout, directories, 16, sections, 100).status != GOBLIN_PE_STATUS_OK)
+    if (!is_ok(goblin_pe_read_layout(bytes, length, NULL, &layout, NULL, 0, NULL, 0)) ||
+        !is_ok(goblin_pe_read_layout(bytes, length, NULL, &layout, directories, 16, sections, 100)))
         return false;
     for (size_t i = 0; i < layout.sections && i < 100; i++)
         if (sections[i].virtual_address != tables->sections[i].virtual_address ||
@@ -197,7 +206,7 @@ static bool is_image(void)
     struct goblin_pe_file file;
     struct goblin_pe_directory directories[16];
     struct goblin_pe_tables tables;
-    if (!is_sound() || goblin_pe_open(bytes, length, NULL, &file, directories, 16, &tables).status != GOBLIN_PE_STATUS_OK)
+    if (!is_sound() || !is_ok(goblin_pe_open(bytes, length, NULL, &file, directories, 16, &tables)))
         return false;
     struct goblin_pe_image image = goblin_pe_image_of(bytes, length, NULL, &file, &tables);
     bool is_right = is_laid_out(&file, &tables) && has_symbols(&file.coff_header) && are_mapped(&image, 0) &&
@@ -208,7 +217,7 @@ static bool is_image(void)
     for (size_t i = 0; i < tables.import_count; i++) {
         const struct goblin_pe_import *x = &tables.imports[i];
         struct goblin_pe_text name;
-        is_right &= !x->is_by_name || (goblin_pe_text_at(&image, x->rva + 2, &name).status == GOBLIN_PE_STATUS_OK &&
+        is_right &= !x->is_by_name || (is_ok(goblin_pe_text_at(&image, x->rva + 2, &name)) &&
                                        name.bytes == x->name.bytes && name.length == x->name.length);
     }
     is_right &= is_written(&file, directories, &tables) && is_sorted(&tables);
@@ -221,7 +230,7 @@ static bool is_te(void)
     struct goblin_pe_te_header header;
     struct goblin_pe_section section;
     section.number_of_relocations = 7;
-    return goblin_pe_read_te(bytes, length, &header, &section, 1).status == GOBLIN_PE_STATUS_OK &&
+    return is_ok(goblin_pe_read_te(bytes, length, &header, &section, 1)) &&
            header.number_of_sections && !section.number_of_relocations;
 }
 
@@ -230,18 +239,18 @@ static bool sets_names(void)
     struct goblin_pe_section section;
     memset(&section, 0, sizeof section);
     bool is_long = goblin_pe_set_name(&section, "ninebytes", 9);
-    bool is_zero = goblin_pe_set_name_offset(&section, 0).status == GOBLIN_PE_STATUS_OK && !section.real_name.length;
+    bool is_zero = is_ok(goblin_pe_set_name_offset(&section, 0)) && !section.real_name.length;
     bool is_set = goblin_pe_set_name(&section, ".text", 5) && !memcmp(section.name, ".text\0\0\0", 8);
-    bool is_offset = goblin_pe_set_name_offset(&section, 1234).status == GOBLIN_PE_STATUS_OK;
+    bool is_offset = is_ok(goblin_pe_set_name_offset(&section, 1234));
     const struct goblin_pe_text old = { bytes, 4 };
     section.real_name = old;
     section.has_real_name = true;
-    bool is_kept = goblin_pe_set_name_offset(&section, SIZE_MAX).cause == GOBLIN_PE_CAUSE_NAME_OFFSET && section.has_real_name &&
-                   section.real_name.length == 4;
-    bool is_cleared = goblin_pe_set_name_offset(&section, 1234).status == GOBLIN_PE_STATUS_OK && !section.has_real_name &&
+    bool is_kept = goblin_pe_set_name_offset(&section, SIZE_MAX).cause == GOBLIN_PE_CAUSE_NAME_OFFSET &&
+                   section.has_real_name && section.real_name.length == 4;
+    bool is_cleared = is_ok(goblin_pe_set_name_offset(&section, 1234)) && !section.has_real_name &&
                       !section.real_name.length;
-    return is_kept && is_cleared && !is_long && is_zero && is_set && is_offset && !memcmp(section.name, "/1234\0\0\0", 8) &&
-           section.name[1] == '1';
+    return is_kept && is_cleared && !is_long && is_zero && is_set && is_offset &&
+           !memcmp(section.name, "/1234\0\0\0", 8) && section.name[1] == '1';
 }
 
 /* Whether an address is mapped by sections whose records a caller made, zeros but for what maps them, and the data of
@@ -263,20 +272,21 @@ static bool maps_by_records_of_zeros(void)
     }
     memcpy(file + 0x634, "Apple", 5);
     fault = goblin_pe_text_at(&image, 0x4000, &text);
-    if (!is_fault(fault, GOBLIN_PE_STATUS_MALFORMED, GOBLIN_PE_CAUSE_UNMAPPED) || fault.first != 0x4000 || text.length != 77)
+    if (!is_fault(fault, GOBLIN_PE_STATUS_MALFORMED, GOBLIN_PE_CAUSE_UNMAPPED) || fault.first != 0x4000 ||
+        text.length != 77)
         return false;
-    if (goblin_pe_text_at(&image, 0x2034, &text).status != GOBLIN_PE_STATUS_OK || text.bytes != file + 0x634 || text.length != 5)
+    if (!is_ok(goblin_pe_text_at(&image, 0x2034, &text)) || text.bytes != file + 0x634 || text.length != 5)
         return false;
     sections[1].pointer_to_raw_data += 0x34;
     image.options.raw_pointer_rule = GOBLIN_PE_RAW_POINTER_RULE_ROUNDED_TO512;
     return goblin_pe_find_offset(&image, 0x2034, &offset) && offset == 0x634 &&
-           goblin_pe_bytes_at(&image, 0x2034, 5, &found).status == GOBLIN_PE_STATUS_OK && found.bytes == file + 0x634 &&
-           found.length == 5 && goblin_pe_read_section_data(&image, &sections[1], &data).status == GOBLIN_PE_STATUS_OK &&
+           is_ok(goblin_pe_bytes_at(&image, 0x2034, 5, &found)) && found.bytes == file + 0x634 &&
+           found.length == 5 && is_ok(goblin_pe_read_section_data(&image, &sections[1], &data)) &&
            data.bytes.bytes == file + 0x600 && data.bytes.length == 0x200 && !data.zeros;
 }
 
-/* Whether an offset has the address that is mapped to it, an address its section, and what a loader sees at it is told, of
-   sections whose records a caller made. */
+/* Whether an offset has the address that is mapped to it, an address its section, and what a loader sees at it is told,
+   of sections whose records a caller made. */
 static bool looks_up(void)
 {
     static uint8_t file[0x800];
@@ -291,21 +301,28 @@ static bool looks_up(void)
     section.size_of_raw_data = 0x200;
     section.pointer_to_raw_data = 0x400;
     memcpy(file + 0x410, "NTDLL.#12", 9);
-    if (goblin_pe_find_rva(&image, 0x3FF, &rva) || goblin_pe_section_at(&image, 0x1200, &index) || rva != 7 || index != 7)
+    if (goblin_pe_find_rva(&image, 0x3FF, &rva) || goblin_pe_section_at(&image, 0x1200, &index) || rva != 7 ||
+        index != 7)
         return false;
-    if (!goblin_pe_find_rva(&image, 0x410, &rva) || !goblin_pe_section_at(&image, rva, &index) || rva != 0x1010 || index != 0)
+    if (!goblin_pe_find_rva(&image, 0x410, &rva) || !goblin_pe_section_at(&image, rva, &index) || rva != 0x1010 ||
+        index != 0)
         return false;
-    if (!is_fault(goblin_pe_memory_at(&image, 0x12FF, 2, &seen), GOBLIN_PE_STATUS_MALFORMED, GOBLIN_PE_CAUSE_UNMAPPED) || seen.zeros != 77)
+    if (!is_fault(goblin_pe_memory_at(&image, 0x12FF, 2, &seen), GOBLIN_PE_STATUS_MALFORMED,
+                  GOBLIN_PE_CAUSE_UNMAPPED) ||
+        seen.zeros != 77)
         return false;
-    if (!is_fault(goblin_pe_forwarder_at(&image, 0x1016, &forwarder), GOBLIN_PE_STATUS_MALFORMED, GOBLIN_PE_CAUSE_FORWARDER))
+    if (!is_fault(goblin_pe_forwarder_at(&image, 0x1016, &forwarder), GOBLIN_PE_STATUS_MALFORMED,
+                  GOBLIN_PE_CAUSE_FORWARDER))
         return false;
-    return goblin_pe_memory_at(&image, 0x11F0, 0x20, &seen).status == GOBLIN_PE_STATUS_OK && seen.bytes.bytes == file + 0x5F0 &&
+    return is_ok(goblin_pe_memory_at(&image, 0x11F0, 0x20, &seen)) && seen.bytes.bytes == file + 0x5F0 &&
            seen.bytes.length == 0x10 && seen.zeros == 0x10 &&
-           goblin_pe_forwarder_at(&image, 0x1010, &forwarder).status == GOBLIN_PE_STATUS_OK && forwarder.ordinal == 12 &&
-           forwarder.forwards == GOBLIN_PE_FORWARDS_ORDINAL && forwarder.lib.bytes == file + 0x410 && forwarder.lib.length == 5;
+           is_ok(goblin_pe_forwarder_at(&image, 0x1010, &forwarder)) && forwarder.ordinal == 12 &&
+           forwarder.forwards == GOBLIN_PE_FORWARDS_ORDINAL && forwarder.lib.bytes == file + 0x410 &&
+           forwarder.lib.length == 5;
 }
 
-/* Whether the words of a block and the relocations of a section are walked over in batches, and a checksum is added up. */
+/* Whether the words of a block and the relocations of a section are walked over in batches, and a checksum is added
+   up. */
 static bool walks_and_adds(void)
 {
     static const uint8_t words[] = { 0x04, 0x30, 0xFF, 0xAF, 0x00, 0x00, 0x07 }, relocation[20] = { 2, 0, 0, 0, 1 };
@@ -314,26 +331,29 @@ static bool walks_and_adds(void)
     struct goblin_pe_relocation found[2];
     struct goblin_pe_word word[2];
     size_t position = 0, count;
-    if (goblin_pe_next_words(&block, &position, word, 2) != 2 || position != 2 || word[0].rva != 0xFFFFF004 || word[0].typ != 3 ||
-        word[1].rva != 0xFFFFFFFF || word[1].typ != 10)
+    if (goblin_pe_next_words(&block, &position, word, 2) != 2 || position != 2 || word[0].rva != 0xFFFFF004 ||
+        word[0].typ != 3 || word[1].rva != 0xFFFFFFFF || word[1].typ != 10)
         return false;
-    if (goblin_pe_next_words(&block, &position, word, 2) != 1 || word[0].rva != 0xFFFFF000 || word[0].typ != 0 || position != 3 ||
-        goblin_pe_next_words(&block, &position, NULL, 0) || goblin_pe_next_words(&block, &position, word, 2))
+    if (goblin_pe_next_words(&block, &position, word, 2) != 1 || word[0].rva != 0xFFFFF000 || word[0].typ != 0 ||
+        position != 3 || goblin_pe_next_words(&block, &position, NULL, 0) ||
+        goblin_pe_next_words(&block, &position, word, 2))
         return false;
     memset(&section, 0, sizeof section);
     section.number_of_relocations = 2;
     position = 1;
-    if (goblin_pe_next_relocations(relocation, 20, &section, &position, found, 2, &count).status || count != 1 || position != 2)
+    if (goblin_pe_next_relocations(relocation, 20, &section, &position, found, 2, &count).status || count != 1 ||
+        position != 2)
         return false;
-    if (!is_fault(goblin_pe_next_relocations(relocation, 19, &section, &position, found, 2, &count), GOBLIN_PE_STATUS_READ,
-                  GOBLIN_PE_READ_FAULT_TOO_BIG))
+    if (!is_fault(goblin_pe_next_relocations(relocation, 19, &section, &position, found, 2, &count),
+                  GOBLIN_PE_STATUS_READ, GOBLIN_PE_READ_FAULT_TOO_BIG))
         return false;
     return goblin_pe_checksum(words, sizeof words, 2) == 0x300B + 7 && goblin_pe_checksum(NULL, 0, 0) == 0;
 }
 
 int main(int argc, char **argv)
 {
-    if (!sets_names() || !is_told() || !maps_by_records_of_zeros() || !looks_up() || !walks_and_adds() || goblin_pe_kind_of(NULL, 0) != GOBLIN_PE_KIND_UNKNOWN)
+    if (!sets_names() || !is_told() || !maps_by_records_of_zeros() || !looks_up() || !walks_and_adds() ||
+        goblin_pe_kind_of(NULL, 0) != GOBLIN_PE_KIND_UNKNOWN)
         return 4;
     for (int i = 1; i < argc; i++) {
         FILE *from = fopen(argv[i], "rb");
@@ -342,7 +362,8 @@ int main(int argc, char **argv)
         length = fread(bytes, 1, sizeof bytes, from);
         fclose(from);
         uint32_t kind = goblin_pe_kind_of(bytes, length);
-        bool is_right = kind == GOBLIN_PE_KIND_IMAGE ? is_image() : kind == GOBLIN_PE_KIND_OBJECT ? is_object() : is_te();
+        bool is_right = kind == GOBLIN_PE_KIND_IMAGE ? is_image() :
+                        kind == GOBLIN_PE_KIND_OBJECT ? is_object() : is_te();
         if (!is_right)
             return fprintf(stderr, "%s\n", argv[i]), 1;
     }

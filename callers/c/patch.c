@@ -1,6 +1,6 @@
 /* Gives an image another time stamp and a section another name: patch FROM STAMP SECTION NAME TO. It reads the header
-   and the section, changes their fields, writes them back at their places, with the checksum where the image has one, and
-   reads again what it wrote. */
+   and the section, changes their fields, writes them back at their places, with the checksum where the image has one,
+   and reads again what it wrote. */
 #include "goblin_pe.h"
 
 #include <stdio.h>
@@ -25,14 +25,15 @@ static size_t section_named(const struct goblin_pe_tables *tables, const char *n
     return i;
 }
 
-/* Writes the header into the file. The stub lies there, so it is written elsewhere first; and where the file has fewer than
-   sixteen directories, the zeros for the others would pass the section table. */
-static struct goblin_pe_fault write_header(const struct goblin_pe_file *file, const struct goblin_pe_directory *directories,
-                                           const struct goblin_pe_tables *tables)
+/* Writes the header into the file. The stub lies there, so it is written elsewhere first; and where the file has fewer
+   than sixteen directories, the zeros for the others would pass the section table. */
+static struct goblin_pe_fault write_header(
+    const struct goblin_pe_file *file, const struct goblin_pe_directory *directories,
+    const struct goblin_pe_tables *tables)
 {
     size_t table = goblin_pe_section_table(file), written;
-    struct goblin_pe_fault fault = goblin_pe_write_header(file, directories, file->directories, tables->dos_stub, header,
-                                                          sizeof header, &written);
+    struct goblin_pe_fault fault = goblin_pe_write_header(
+        file, directories, file->directories, tables->dos_stub, header, sizeof header, &written);
     if (fault.status == GOBLIN_PE_STATUS_OK)
         memcpy(bytes, header, written < table ? written : table);
     return fault;

@@ -73,7 +73,8 @@ static bool has_footprint(void)
     size_t next = 0;
     for (size_t i = 0; i < ranges.range_count; i++) {
         struct goblin_pe_range range = ranges.ranges[i];
-        is_right &= next <= range.offset && range.length && range.offset < length && range.length <= length - range.offset;
+        is_right &=
+            next <= range.offset && range.length && range.offset < length && range.length <= length - range.offset;
         next = range.offset + range.length + 1;
     }
     goblin_pe_free_ranges(&ranges);

@@ -32,7 +32,8 @@ static bool makes_the_other_calls(void)
                   GOBLIN_PE_STATUS_OK;
     is_granted &= goblin_pe_next_exports(image.bytes, image.length, NULL, &place, &export, 1, &count).status ==
                   GOBLIN_PE_STATUS_OK;
-    is_granted &= goblin_pe_read_object(object.bytes, object.length, NULL, &parts, &section, 1).status == GOBLIN_PE_STATUS_OK;
+    is_granted &=
+        goblin_pe_read_object(object.bytes, object.length, NULL, &parts, &section, 1).status == GOBLIN_PE_STATUS_OK;
     is_granted &= goblin_pe_read_te(te.bytes, te.length, &header, &section, 1).status == GOBLIN_PE_STATUS_OK;
     return is_granted;
 }

@@ -1,6 +1,6 @@
-/* Counts the imports and the exports of an image, in constant memory, and stops where there are too many: walk MOST FILE. It
-   says how many of each there are, and whether there are more; the status is 1 where a refusal ends a walk, as that of a
-   read would. */
+/* Counts the imports and the exports of an image, in constant memory, and stops where there are too many: walk MOST
+   FILE. It says how many of each there are, and whether there are more; the status is 1 where a refusal ends a walk, as
+   that of a read would. */
 #include "goblin_pe.h"
 
 #include <stdio.h>
