@@ -137,6 +137,18 @@ fn a_walk_that_has_begun_needs_no_more_memory() {
     assert!(rest && walk.next().is_none());
 }
 
+// Where each read makes an index of the sections, thousands of rows are read at once.
+#[test]
+fn a_walk_over_a_file_of_many_sections_gives_what_is_listed() {
+    let mut image = with_exports(sample("forwarders_x64.dll"), 5000);
+    let signature = usize::from(image[0x3C]);
+    image[signature + 6] = 97;
+    let options = Options::permissive().with_resolve_rva(false);
+    let pe = Pe::read(&image, &options).unwrap();
+    assert_eq!((pe.sections().len(), pe.exports().len()), (97, 5000));
+    assert!(pe.walk_exports().map(Result::unwrap).eq(pe.exports()));
+}
+
 // An object of six hundred symbols, which are not read at once.
 #[test]
 fn a_walk_over_symbols_needs_no_more_memory() {
