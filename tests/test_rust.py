@@ -52,7 +52,9 @@ class Crate(Case):
         damaged, lost = self.written("damaged.dll", images.with_directory(data, 0, 0x9000, 40)), self.folder / "lost.dll"
         hostile = [self.written(f"{name}.dll", image) for name, image in (
             ("own", images.own_tables(1609)), ("shared", images.shared_image(libraries=20000, functions=50000)),
-            ("nowhere", images.pointers_to_nowhere(1000000)), ("sections", images.one_long_name(60000, 1 << 16)))]
+            ("nowhere", images.pointers_to_nowhere(1000000)), ("sections", images.one_long_name(60000, 1 << 16)),
+            ("exports", images.with_parts(images.pointers_to_nowhere(150000),  # (which lead to one name now, and one address)
+                                          (0x240, b"\x28\x10\0\0" * 149984), (0x200 + 600000, bytes(300000)))))]
         files = [*IMAGES, *IMAGES, *hostile, damaged, CALLERS / "build", lost]
         lines = succeed(with_memory(200000, [example("scan"), *files])).splitlines()
         for sample, line in zip(IMAGES * 2, lines):
@@ -60,11 +62,12 @@ class Crate(Case):
             imports, exports = (sum(it.startswith(kind) for it in listed) for kind in (b"import ", b"export "))
             self.assertEqual(line, f"{sample}: {imports} imports, {exports} exports")
         self.assertEqual(len(lines), len(files))
-        told = ("more than 100000 imports$", "more than 100000 imports$", "0 imports, 1 exports$", "0 imports, 0 exports$")
+        told = ("more than 100000 imports$", "more than 100000 imports$", "0 imports, 1 exports$", "0 imports, 0 exports$",
+                "more than 100000 exports$")
         wanted = (*(f"{it}: {line}" for it, line in zip(hostile, told)),
                   f"{damaged}: 1 imports, 0 exports, exports: .",
                   f"{CALLERS}/build: refused: .", f"{lost}: read failed: .")
-        for line, it in zip(lines[-7:], wanted, strict=True):
+        for line, it in zip(lines[-8:], wanted, strict=True):
             self.assertRegex(line, f"^{it}")
 
     def test_its_texts_have_the_hashes_that_others_tell(self):
