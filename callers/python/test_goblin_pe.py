@@ -238,6 +238,19 @@ def with_names(count, length):
     return bytes(data)
 
 
+def with_section_names(count, length):
+    """An image of so many sections, whose names begin at each second byte of one long text; the last has an address."""
+    data = bytearray(sample("imports_by_name_x64.dll"))
+    signature = int.from_bytes(data[0x3C:0x40], "little")
+    del data[signature + 24 + int.from_bytes(data[signature + 20: signature + 22], "little"):]
+    for i in range(count):
+        place = (0x1000, 0x1000, 0x200, 0x200) if i == count - 1 else (0, 0, 0, 0)
+        data += struct.pack("<8s8I", b"/%d" % (4 + 2 * i), *place, 0, 0, 0, 0)
+    struct.pack_into("<H", data, signature + 6, count)
+    struct.pack_into("<II", data, signature + 12, len(data), 0)
+    return bytes(data + struct.pack("<I", length + 5) + b"n" * length + bytes(1))
+
+
 class Memory(unittest.TestCase):
     """Of files that list much: 256 KiB whose names have 1.6 GB."""
 
@@ -259,6 +272,25 @@ class Memory(unittest.TestCase):
         self.assertEqual(sum(len(it.name) for it in itertools.islice(pe.walk_exports(), 100)), sum(range(150000, 150000 - 100, -1)))
         self.assertLess(self.most(lambda: [None for _ in itertools.islice(pe.walk_exports(), 2000)]), 10)
         self.assertLess(self.most(lambda: (repr(pe), pe.find_offset(0), pe.imphash(), pe.export_addresses, pe.damage)), 1)
+
+    def test_rows_of_sections_are_made_when_they_are_asked_for(self):
+        """Of an image of 320 KB whose names have 400 MB."""
+        count, length = 4000, 110000
+        data = with_section_names(count, length)
+        for read in Layout, Pe:
+            with self.subTest(read):
+                self.assertLess(self.most(lambda: repr(read(data, self.HOW))), 2)
+                file = read(data, Options(is_permissive=True, parse_imports=False))
+                self.assertLess(self.most(lambda: (file.section_at(0x1010), file.find_offset(0x1010), file.find_rva(0x210))), 2)
+                self.assertEqual((len(file.section_at(0x1010).name), file.section_at(0x5000)), (length - 2 * (count - 1), None))
+        with Layout(with_section_names(3, 10), self.HOW) as layout:
+            again = pickle.loads(pickle.dumps(layout))
+        self.assertEqual([s.name for s in again.sections], [b"n" * it for it in (10, 8, 6)])
+        self.assertEqual((again.find_offset(7), repr(again)), (7, repr(layout)))
+        with Layout(data, self.HOW) as layout:
+            pass
+        for closed in lambda: layout.sections, lambda: pickle.loads(pickle.dumps(layout)).sections:
+            self.assertRaises(ValueError, closed)
 
     def test_a_text_of_one_place_is_one_object(self):
         data = with_names(count=2, length=10)

@@ -90,6 +90,11 @@ def _mapping_of(stored: _t.Any, count: int) -> _t.Any:
     return mapping
 
 
+def _section_rows(data: _Kept, address: int, stored: _t.Any, count: int, most_kept: _t.Optional[int] = None) -> _t.Iterator[Section]:
+    # the rows of so many records of sections, each made when it is asked for
+    return map(_Rows(data, address, most_kept).section, _itertools.islice(stored, count))
+
+
 def _size(number: int) -> int:
     # an address or a size, which the library takes without a look at what is past 64 bits
     number = _operator.index(number)
@@ -215,9 +220,9 @@ class Layout:
     Options. A file whose header or sections are refused raises Refused. Nothing of it is listed, so it takes memory for its
     sections alone, however much its tables list: these are walked over, or looked up.
 
-    It keeps `data`, or the copy of a buffer that could be written, until close() or the end of a `with`. Symbols, damage and the
-    methods raise ValueError then, but find_offset needs the bytes no longer. A copy, as it is sent to another process, has all
-    but `data`.
+    It keeps `data`, or the copy of a buffer that could be written, until close() or the end of a `with`. Sections that were not
+    asked for before, symbols, damage and the methods raise ValueError then, but find_offset needs the bytes no longer. A copy, as
+    it is sent to another process, has all but `data`.
     """
 
     def __init__(self, data: Data, options: _t.Optional[Options] = None):
@@ -229,12 +234,13 @@ class Layout:
                 _test(_LIB.goblin_pe_raw_read_layout(
                     address, length, _c.byref(self._options), _c.byref(layout), directories, 16, sections, count))
         self._take_headers(layout, directories[: layout.directories])
-        self._sections = list(map(_Rows(self._bytes(), address).section, sections[:count]))
-        self._mapping = _mapping_of(sections, count)
+        self._counts = {"sections": count}
+        self._take_sections(sections, address)
 
     def _hold(self, data: Data, options: _t.Optional[Options]) -> None:
         self._data: _t.Optional[_Kept] = _kept(data)
         self._options = _record_of(options)
+        self._made: _t.Dict[str, _t.List[_t.Any]] = {}  # (the rows that were asked for)
         self._symbol_table: _t.Optional[records.SymbolTable] = None  # (until a symbol is asked for)
 
     def _take_headers(self, file: _t.Union[records.File, records.Layout], directories: _t.List[records.Directory]) -> None:
@@ -242,24 +248,43 @@ class Layout:
         self._directories = {_named(DirectoryType, index): d.directory for index, d in enumerate(directories) if d.is_present}
         self._has_directories = bool(directories)
 
+    def _take_sections(self, stored: _t.Any, address: int) -> None:
+        # their records, whose texts lie in the file's bytes, which begin at the address
+        self._sections, self._address = stored, address
+        self._mapping = _mapping_of(stored, self._counts["sections"])
+
+    def _each(self, table: str, most_kept: _t.Optional[int] = _MOST_KEPT) -> _t.Iterator[_t.Any]:
+        # the rows of a table, one by one (the records stay while they are gone through)
+        stored, data = self._sections, self._bytes()
+        return _section_rows(data, self._address, stored, self._counts[table], most_kept)
+
+    def _rows(self, table: str) -> _t.List[_t.Any]:
+        # the rows of a table, made when they are first asked for
+        if table not in self._made:
+            self._made[table] = list(self._each(table, None)) if self._counts[table] else []
+        return self._made[table]
+
     @property
     def sections(self) -> _t.List[Section]:
         """The sections."""
-        return self._sections
+        return self._rows("sections")
 
     def __repr__(self) -> str:
-        return "<Layout machine=%#x sections=%d>" % (self.coff_header.machine, len(self.sections))
+        return "<Layout machine=%#x sections=%d>" % (self.coff_header.machine, self._counts["sections"])
 
     def __getstate__(self) -> _t.Dict[str, _t.Any]:
-        return {**self.__dict__, "_data": None, "_mapping": bytes(self._mapping)}
+        # (of a closed one, the rows that were asked for)
+        rows = self._made if self._data is None else {name: getattr(self, name) for name in self._counts}
+        return {**self.__dict__, "_made": rows, "_data": None, "_sections": None, "_mapping": bytes(self._mapping)}
 
     def __setstate__(self, state: _t.Dict[str, _t.Any]) -> None:
         self.__dict__.update(state)
-        self._mapping = _mapping_of(state["_mapping"], len(self._sections))
+        self._mapping = _mapping_of(state["_mapping"], self._counts["sections"])
 
     def close(self) -> None:
-        """Lets go of the file's bytes."""
+        """Lets go of the file's bytes, and of the records whose rows were not asked for."""
         self._data = None
+        self._sections = None
 
     def imphash(self) -> str:
         """The hash of the imports that analysts compare: the MD5 in hexadecimal, or an empty text where there are no
@@ -378,7 +403,15 @@ class Layout:
         """The section of an address: the first by which it is mapped; None where there is none."""
         index = _c.c_size_t()
         is_found = _LIB.goblin_pe_raw_section_at(_c.byref(self._image(_laid_out.NOWHERE, 0)), _size(rva), _c.byref(index))
-        return self.sections[index.value] if is_found else None
+        return self._section(index.value) if is_found else None
+
+    def _section(self, index: int) -> Section:
+        # the row of one section: that of the list, where this was made
+        if "sections" in self._made:
+            found: Section = self._made["sections"][index]
+            return found
+        stored, data = self._sections, self._bytes()
+        return _Rows(data, self._address).section(stored[index])
 
     def find_rva(self, offset: int) -> _t.Optional[int]:
         """The address of a file offset, which find_offset maps to it: that in the first section that has one; None where
@@ -506,12 +539,9 @@ class Pe(Layout):
         file, directories, tables = records.File(), (records.Directory * 16)(), records.Tables()
         with _held(self._bytes()) as (address, length):
             _test(_LIB.goblin_pe_raw_open(address, length, _c.byref(self._options), _c.byref(file), directories, 16, _c.byref(tables)))
-        # (the library's own, which lie where the file's bytes did; and the rows that were made of them)
-        self._tables: _t.Optional[records.Tables] = tables
-        self._address = address
-        self._made: _t.Dict[str, _t.List[_t.Any]] = {}
+        self._tables: _t.Optional[records.Tables] = tables  # (the library's own)
         self._counts = {name: tables.count(name) for name in tables.KINDS}
-        self._mapping = _mapping_of(tables.sections, tables.count("sections"))
+        self._take_sections(tables.sections, address)
         self._take_headers(file, directories[: file.directories])
         self._take_tables(file)
         self._stub = _c.string_at(tables.dos_stub.bytes, tables.dos_stub.length)  # (it need not lie in the file)
@@ -547,11 +577,6 @@ class Pe(Layout):
     def rich_rest(self) -> _t.Optional[Refused]:
         """Why the rest that follows these entries is no entry; None where there is no rest."""
         return self._rests[0]
-
-    @property
-    def sections(self) -> _t.List[Section]:
-        """The sections."""
-        return self._rows("sections")
 
     @property
     def import_table(self) -> State:
@@ -609,24 +634,12 @@ class Pe(Layout):
             "blocks": rows.block}
         return map(rows_of[table], tables.records(table)) if tables else iter(())
 
-    def _rows(self, table: str) -> _t.List[_t.Any]:
-        # the rows of a table, made when they are first asked for
-        if table not in self._made:
-            self._made[table] = list(self._each(table, None)) if self._counts[table] else []
-        return self._made[table]
-
     def __repr__(self) -> str:
         return "<Pe machine=%#x sections=%d imports=%d exports=%d blocks=%d>" % (
             self.coff_header.machine, *(self._counts[it] for it in ("sections", "imports", "exports", "blocks")))
 
     def __getstate__(self) -> _t.Dict[str, _t.Any]:
-        # (of a closed one, the rows that were asked for)
-        rows = self._made if self._data is None else {name: getattr(self, name) for name in self._counts}
-        return {**self.__dict__, "_made": rows, "_data": None, "_tables": None, "_mapping": bytes(self._mapping)}
-
-    def __setstate__(self, state: _t.Dict[str, _t.Any]) -> None:
-        self.__dict__.update(state)
-        self._mapping = _mapping_of(state["_mapping"], self._counts["sections"])
+        return {**super().__getstate__(), "_tables": None}
 
     def close(self) -> None:
         """Lets go of the file's bytes, and of the tables whose rows were not asked for."""
@@ -719,7 +732,7 @@ class ObjectFile:
     def sections(self) -> _t.List[Section]:
         """The sections."""
         if "sections" not in self._made:
-            self._made["sections"] = list(map(_Rows(self._data, self._address).section, self._sections[: self._count]))
+            self._made["sections"] = list(_section_rows(self._data, self._address, self._sections, self._count))
         return self._made["sections"]
 
     @property
