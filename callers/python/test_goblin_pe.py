@@ -292,6 +292,18 @@ class Memory(unittest.TestCase):
         for closed in lambda: layout.sections, lambda: pickle.loads(pickle.dumps(layout)).sections:
             self.assertRaises(ValueError, closed)
 
+    def test_a_terse_executable_makes_rows_when_they_are_asked_for(self):
+        """Its string table is the front of the file."""
+        names = 40 + 255 * 40
+        data = struct.pack("<HHBBHIIQ4I", 0x5A56, 0x8664, 255, 0, 40, 0, 0, 0, 0, 0, 0, 0)
+        data += b"".join(struct.pack("<8s8I", b"/%d" % (names + i), *[0] * 8) for i in range(255)) + b"n" * 100000
+        self.assertLess(self.most(lambda: repr(Te(data))), 1)
+        found = Te(data)
+        again = pickle.loads(pickle.dumps(found))
+        self.assertEqual([len(s.name) for s in again.sections], [100000 - i for i in range(255)])
+        self.assertEqual((again.header, again.sections, repr(again)), (found.header, found.sections, repr(found)))
+        self.assertIs(found.sections, found.sections)
+
     def test_a_text_of_one_place_is_one_object(self):
         data = with_names(count=2, length=10)
         address = data.index(b"x" * 10)

@@ -758,22 +758,36 @@ class ObjectFile:
 
 
 class Te:
-    """A Terse Executable that was read: Te(data). Its signature is not looked at. A file that is refused raises Refused.
+    """A Terse Executable that was read: Te(data). Its signature is not looked at. A file that is refused raises Refused. It keeps
+    `data`, or the copy of a buffer that could be written, for the names of its sections.
 
     header: the header.
-    sections: a list of Section.
     """
 
     def __init__(self, data: Data):
-        header, sections = _laid_out.laid_out(TeHeader)(), _room(records.Section, 255)
-        read = _kept(data)
-        with _held(read) as (address, length):
-            _test(_LIB.goblin_pe_raw_read_te(address, length, _c.byref(header), sections, 255))
-            self.header: TeHeader = _laid_out.read(TeHeader, header)
-            self.sections: _t.List[Section] = list(map(_Rows(read, address).section, sections[: self.header.number_of_sections]))
+        header, self._stored = _laid_out.laid_out(TeHeader)(), _room(records.Section, 255)
+        self._data = _kept(data)
+        with _held(self._data) as (address, length):
+            _test(_LIB.goblin_pe_raw_read_te(address, length, _c.byref(header), self._stored, 255))
+        self.header: TeHeader = _laid_out.read(TeHeader, header)
+        self._address, self._count = address, self.header.number_of_sections
+        self._made: _t.Optional[_t.List[Section]] = None  # (the sections, once they were asked for)
+
+    def _each(self, most_kept: _t.Optional[int] = _MOST_KEPT) -> _t.Iterator[Section]:
+        return _section_rows(self._data, self._address, self._stored, self._count, most_kept)
+
+    @property
+    def sections(self) -> _t.List[Section]:
+        """The sections."""
+        if self._made is None:
+            self._made = list(self._each(None))
+        return self._made
+
+    def __getstate__(self) -> _t.Dict[str, _t.Any]:
+        return {**self.__dict__, "_made": self.sections, "_data": b"", "_stored": ()}
 
     def __repr__(self) -> str:
-        return "<Te machine=%#x sections=%d>" % (self.header.machine, len(self.sections))
+        return "<Te machine=%#x sections=%d>" % (self.header.machine, self._count)
 
 
 from ._described import to_json as to_json  # noqa: E402  # (it tells of what is above)

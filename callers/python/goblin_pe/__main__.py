@@ -83,7 +83,7 @@ def te(found: Te) -> Iterator[str]:
         yield "%s %#x" % (field, getattr(h, field))
     for field in ("reloc_dir", "debug_dir"):
         yield "%s %#x %d" % (field, getattr(h, field).virtual_address, getattr(h, field).size)
-    for s in found.sections:
+    for s in found._each():
         yield "section %s va=%#x vsize=%#x raw=%#x ptr=%#x characteristics=%#x" % (
             shown(s.name), s.virtual_address, s.virtual_size, s.size_of_raw_data, s.pointer_to_raw_data, s.characteristics)
 
