@@ -579,6 +579,10 @@ class Files(unittest.TestCase):
             for s in found.sections:
                 wanted = [struct.unpack_from("<IIH", data, s.pointer_to_relocations + 10 * i) for i in range(s.number_of_relocations)]
                 self.assertEqual([tuple(it) for it in s.relocations(data)], wanted)
+                changed = bytearray(data)
+                walk = s.walk_relocations(changed)  # (of the bytes as they are now)
+                changed[:] = bytes(len(data))
+                self.assertEqual([tuple(it) for it in walk], wanted)
             for s in found.symbols:
                 self.assertEqual(len(s.auxiliary), 18 * s.number_of_aux_symbols)
                 if s.storage_class == 3 and s.number_of_aux_symbols == 1:

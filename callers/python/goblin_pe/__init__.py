@@ -69,8 +69,8 @@ from .records import (
 from .rows import (
     NO_TEXT as _NO_TEXT, Block as Block, Export as Export, ExportAddress as ExportAddress,
     ExportDirectory as ExportDirectory, Import as Import, Library as Library, Range as Range, RichHeader as RichHeader, Rows as _Rows,
-    Section as Section, SectionData as SectionData, Symbol as Symbol, data_of as _data_of, record_of as _section_record,
-    room as _room)
+    Section as Section, SectionData as SectionData, Symbol as Symbol, batches as _batches, data_of as _data_of,
+    record_of as _section_record, room as _room)
 
 __version__ = "0.3.0"
 
@@ -102,8 +102,8 @@ def _size(number: int) -> int:
     return number
 
 
-# How many rows of a walk are read at once.
-_BATCH = 256
+# How many rows of a walk are read at once, and how many where a call takes long, or no row is made.
+_BATCH, _LARGE_BATCH = 256, 4096
 
 
 # How many bytes of texts a walk keeps, of those that may come again.
@@ -111,15 +111,10 @@ _MOST_KEPT = 1 << 20
 
 
 def _walk(data: _Kept, kind: _t.Any, row: str, call: _t.Callable[..., records.Fault], position: _t.Any) -> _t.Iterator[_t.Any]:
-    # the rows of a walk, each made when it is asked for: `call` takes the address, the length, the position, the room and
-    # the count
-    room, count = _room(kind, _BATCH), _c.c_size_t()
-    while True:
-        with _held(data) as (address, length):
-            _test(call(address, length, _c.byref(position), room, _BATCH, _c.byref(count)))
-        if not count.value:
-            return
-        yield from map(getattr(_Rows(data, address, _MOST_KEPT), row), room[: count.value])
+    # the rows of a walk, each made when it is asked for
+    found = _room(kind, _BATCH)
+    return _itertools.chain.from_iterable(
+        map(getattr(_Rows(data, address, _MOST_KEPT), row), found[:count]) for address, count in _batches(data, found, call, position))
 
 
 def _symbol_table(data: _Kept, header: CoffHeader) -> records.SymbolTable:
@@ -435,15 +430,8 @@ class Layout:
         # how many the walk over imports gives, of which none becomes a row; None where the file has no table of them
         if DirectoryType.IMPORT_TABLE not in self._directories:
             return None
-        most, found = 4096, 0
-        position, room, count = records.ImportPosition(), _room(records.Import, most), _c.c_size_t()
-        call, data = self._next_imports(), self._bytes()
-        while True:
-            with _held(data) as (address, length):
-                _test(call(address, length, _c.byref(position), room, most, _c.byref(count)))
-            if not count.value:
-                return found
-            found += count.value
+        found = _room(records.Import, _LARGE_BATCH)
+        return sum(count for _, count in _batches(self._bytes(), found, self._next_imports(), records.ImportPosition()))
 
     def walk_imports(self) -> _t.Iterator[Import]:
         """The imports one by one, of which none is kept: also where the options left them out. In strict mode Refused is
@@ -457,15 +445,11 @@ class Layout:
 
     def _libraries(self, data: _Kept, call: _t.Callable[..., records.Fault]) -> _t.Iterator[Library]:
         # of each library the first import is read, and then the next record
-        position, first, count = records.ImportPosition(), _room(records.Import, 1), _c.c_size_t()
-        while True:
-            with _held(data) as (address, length):
-                _test(call(address, length, _c.byref(position), first, 1, _c.byref(count)))
-            if not count.value:
-                return
+        position, first = records.ImportPosition(), _room(records.Import, 1)
+        for address, _ in _batches(data, first, call, position):
             stamp, chain = _struct.unpack_from("<II", data, position.record_offset + 4)
             yield Library(_Rows(data, address).text(first[0].dll), position.record_offset, stamp, chain)
-            position = records.ImportPosition(position.record_offset + 20, 0)
+            position.record_offset, position.slot_offset = position.record_offset + 20, 0
 
     def walk_exports(self) -> _t.Iterator[Export]:
         """The exports one by one, of which none is kept."""
