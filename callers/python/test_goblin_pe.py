@@ -304,6 +304,16 @@ class Memory(unittest.TestCase):
         self.assertEqual((again.header, again.sections, repr(again)), (found.header, found.sections, repr(found)))
         self.assertIs(found.sections, found.sections)
 
+    def test_symbols_are_walked_and_looked_up_alone(self):
+        """Those of an object of 140 KB, whose names have 180 MB."""
+        count, length = 2000, 100000
+        header = struct.pack("<HHIIIHH", 0x8664, 0, 0, 20, count, 0, 0)
+        data = header + b"".join(struct.pack("<IIIhHBB", 0, 4 + i, i, 1, 0, 2, 0) for i in range(count))
+        found = ObjectFile(data + struct.pack("<I", length + 5) + b"n" * length + bytes(1))
+        self.assertLess(self.most(lambda: (found.symbol_at(1), repr(found), [None for _ in found.walk_symbols()])), 3)
+        self.assertEqual([len(s.name) for s in found.walk_symbols()], [length - i for i in range(count)])
+        self.assertEqual((len(found.symbol_at(7).name), found.symbol_at(7).value), (length - 7, 7))
+
     def test_a_text_of_one_place_is_one_object(self):
         data = with_names(count=2, length=10)
         address = data.index(b"x" * 10)
@@ -591,10 +601,20 @@ class Files(unittest.TestCase):
                     self.assertTrue(s.is_section_definition)
                 elif not s.auxiliary:
                     self.assertEqual((s.aux(AuxSectionDefinition), s.aux_file()), (None, None))
-            self.assertTrue(all(found.symbol_at(s.index) is s for s in found.symbols))
-            self.assertIsNone(found.symbol_at(found.coff_header.number_of_symbol_table))
+            self.assertEqual([found.symbol_at(s.index) for s in found.symbols], found.symbols)
+            self.assertEqual(list(found.walk_symbols()), found.symbols)
+            count = found.coff_header.number_of_symbol_table
+            for index in range(count):  # (auxiliary records, too)
+                stored = struct.unpack_from("<IhHBB", data, found.coff_header.pointer_to_symbol_table + 18 * index + 8)
+                self.assertEqual((found.symbol_at(index).index, found.symbol_at(index)[2:-1]), (index, stored))
+            self.assertIsNone(found.symbol_at(count))
+            self.assertRaises(OverflowError, found.symbol_at, -1)
+            again = pickle.loads(pickle.dumps(found))
+            self.assertEqual((again.symbols, again.sections, repr(again)), (found.symbols, found.sections, repr(found)))
+            for call in again.walk_symbols, lambda: again.symbol_at(0):
+                self.assertRaises(ValueError, call)
         pe = Pe(sample("imports_by_name_x64.dll"))
-        self.assertEqual((pe.symbols, pe.symbol_at(0)), ([], None))
+        self.assertEqual((pe.symbols, list(pe.walk_symbols()), pe.symbol_at(0)), ([], [], None))
 
     def test_a_symbol_has_auxiliary_records_of_its_kind_alone(self):
         record = struct.pack("<IIIIH", 1, 2, 3, 4, 0)
@@ -680,7 +700,7 @@ class Files(unittest.TestCase):
 
     def test_help_names_what_is_for_users(self):
         text = pydoc.plain(pydoc.render_doc(goblin_pe))
-        for name in ("class Pe", "class ObjectFile", "class Te", "class Refused", "class Options", "footprint(", "walk_imports(", "write(", "names_of(", "to_json("):
+        for name in ("class Pe", "class ObjectFile", "class Te", "class Refused", "class Options", "footprint(", "walk_imports(", "walk_symbols(", "write(", "names_of(", "to_json("):
             self.assertIn(name, text)
         self.assertNotIn("ctypes", text)
         self.assertLess(len(text.splitlines()), 1000)

@@ -39,7 +39,6 @@ goblin_pe.constants has the numbers of the formats, such as IMAGE_FILE_DLL.
 The reader is the proved library goblin_pe. Its shared library stands beside an installed module; in the repository
 callers/build puts it into callers/lib. The variable GOBLIN_PE_SO names another when the module is imported.
 """
-import bisect as _bisect
 import ctypes as _c
 import dataclasses as _dataclasses
 import hashlib as _hashlib
@@ -125,9 +124,23 @@ def _symbol_table(data: _Kept, header: CoffHeader) -> records.SymbolTable:
     return table
 
 
-def _symbols(data: _Kept, table: records.SymbolTable) -> _t.List[Symbol]:
-    return list(_walk(data, records.NamedSymbol, "symbol", lambda address, length, *to: _LIB.goblin_pe_raw_next_symbols(
-        address, length, _c.byref(table), *to), _c.c_size_t()))
+def _walk_symbols(data: _Kept, table: records.SymbolTable) -> _t.Iterator[Symbol]:
+    return _walk(data, records.NamedSymbol, "symbol", lambda address, length, *to: _LIB.goblin_pe_raw_next_symbols(
+        address, length, _c.byref(table), *to), _c.c_size_t())
+
+
+def _symbol_at(data: _Kept, table: records.SymbolTable, index: int) -> _t.Optional[Symbol]:
+    symbol = records.NamedSymbol()
+    with _held(data) as (address, length):
+        is_there = _LIB.goblin_pe_raw_symbol_at(address, length, _c.byref(table), _size(index), _c.byref(symbol))
+        return _Rows(data, address).symbol(symbol) if is_there else None
+
+
+def _here(data: _t.Optional[_Kept]) -> _Kept:
+    # the bytes of a file, as long as they are kept
+    if data is None:
+        raise ValueError("the file's bytes are no longer here: what was not asked for before is not there")
+    return data
 
 
 def kind(data: Data) -> Kind:
@@ -339,9 +352,7 @@ class Layout:
         self.close()
 
     def _bytes(self) -> _Kept:
-        if self._data is None:
-            raise ValueError("the file's bytes are no longer here: what is not asked for before close() is not there after it")
-        return self._data
+        return _here(self._data)
 
     def _image(self, address: int, length: int) -> records.Image:
         # what maps addresses
@@ -460,21 +471,24 @@ class Layout:
     def symbols(self) -> _t.List[Symbol]:
         """The symbols, which few images have. Refused is raised where the file is too short for their table or its string
         table, and where the string table is not UTF-8, or says a length below 4."""
-        return _symbols(self._bytes(), self._found_symbols())
+        return list(self.walk_symbols())
+
+    def walk_symbols(self) -> _t.Iterator[Symbol]:
+        """The symbols one by one, of which none is kept. Refused is raised as by `symbols`."""
+        data = self._bytes()
+        return _walk_symbols(data, self._found_symbols(data))
 
     def symbol_at(self, index: int) -> _t.Optional[Symbol]:
         """The symbol whose record has this index: relocations and weak externals name symbols so. None where the table ends
         before it; an auxiliary record is read as a symbol, too. Refused is raised as by `symbols`. The string table is read
         whole the first time, and then never again."""
-        table, symbol = self._found_symbols(), records.NamedSymbol()
-        with _held(self._bytes()) as (address, length):
-            is_there = _LIB.goblin_pe_raw_symbol_at(address, length, _c.byref(table), _size(index), _c.byref(symbol))
-        return _Rows(self._bytes(), address).symbol(symbol) if is_there else None
+        data = self._bytes()
+        return _symbol_at(data, self._found_symbols(data), index)
 
-    def _found_symbols(self) -> records.SymbolTable:
+    def _found_symbols(self, data: _Kept) -> records.SymbolTable:
         # where the symbols lie, tested once
         if self._symbol_table is None:
-            self._symbol_table = _symbol_table(self._bytes(), self.coff_header)
+            self._symbol_table = _symbol_table(data, self.coff_header)
         return self._symbol_table
 
     @property
@@ -693,17 +707,21 @@ class ObjectFile:
     """An object that was read: ObjectFile(data, options); of the Options only is_permissive counts. A file that is refused
     raises Refused. No machine is tested, so a file that is no object may be read as one with sections that make no sense:
     ask `kind` before.
+
+    It keeps `data`, or the copy of a buffer that could be written. A copy, as it is sent to another process, has all but `data`:
+    its methods raise ValueError.
     """
 
     def __init__(self, data: Data, options: _t.Optional[Options] = None):
         asked, found = _record_of(options), records.Object()
-        self._data = _kept(data)
-        with _held(self._data) as (address, length):
+        read = _kept(data)
+        with _held(read) as (address, length):
             for _ in range(2):
                 sections, count = _room(records.Section, found.sections), found.sections
                 _test(_LIB.goblin_pe_raw_read_object(address, length, _c.byref(asked), _c.byref(found), sections, count))
         self._coff_header: CoffHeader = found.coff_header
-        self._symbol_table = _symbol_table(self._data, found.coff_header)
+        self._symbol_table = _symbol_table(read, found.coff_header)
+        self._data: _t.Optional[_Kept] = read
         self._sections, self._count, self._address = sections, found.sections, address
         self._made: _t.Dict[str, _t.List[_t.Any]] = {}
 
@@ -712,33 +730,39 @@ class ObjectFile:
         """The COFF header."""
         return self._coff_header
 
+    def _each(self, most_kept: _t.Optional[int] = _MOST_KEPT) -> _t.Iterator[Section]:
+        return _section_rows(_here(self._data), self._address, self._sections, self._count, most_kept)
+
     @property
     def sections(self) -> _t.List[Section]:
         """The sections."""
         if "sections" not in self._made:
-            self._made["sections"] = list(_section_rows(self._data, self._address, self._sections, self._count))
+            self._made["sections"] = list(self._each(None))
         return self._made["sections"]
 
     @property
     def symbols(self) -> _t.List[Symbol]:
         """The symbols."""
         if "symbols" not in self._made:
-            self._made["symbols"] = _symbols(self._data, self._symbol_table)
+            self._made["symbols"] = list(self.walk_symbols())
         return self._made["symbols"]
+
+    def walk_symbols(self) -> _t.Iterator[Symbol]:
+        """The symbols one by one, of which none is kept."""
+        return _walk_symbols(_here(self._data), self._symbol_table)
 
     def __getstate__(self) -> _t.Dict[str, _t.Any]:
         rows = {"sections": self.sections, "symbols": self.symbols}
-        return {**self.__dict__, "_made": rows, "_data": b"", "_sections": ()}
+        return {**self.__dict__, "_made": rows, "_data": None, "_sections": ()}
 
     def symbol_at(self, index: int) -> _t.Optional[Symbol]:
-        """The symbol whose record has this index: relocations and weak externals name symbols so. None where there is none,
-        also where the record is an auxiliary one."""
-        place = _bisect.bisect_left(self.symbols, (index,))
-        return next((s for s in self.symbols[place: place + 1] if s.index == index), None)
+        """The symbol whose record has this index: relocations and weak externals name symbols so. None where the table ends
+        before it; an auxiliary record is read as a symbol, too."""
+        return _symbol_at(_here(self._data), self._symbol_table, index)
 
     def __repr__(self) -> str:
-        return "<ObjectFile machine=%#x sections=%d symbols=%d>" % (
-            self.coff_header.machine, self._count, len(self.symbols))
+        symbols = self._made["symbols"] if "symbols" in self._made else self.walk_symbols()
+        return "<ObjectFile machine=%#x sections=%d symbols=%d>" % (self.coff_header.machine, self._count, sum(1 for _ in symbols))
 
 
 class Te:

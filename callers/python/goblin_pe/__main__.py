@@ -68,10 +68,10 @@ def lines_of(pe: Pe, imports: Optional[int]) -> Iterator[str]:
 
 def symbols(found: ObjectFile) -> Iterator[str]:
     """The lines of an object."""
-    for it in found.symbols:
+    for it in found.walk_symbols():
         yield "symbol %d value=%d section=%d class=%d aux=%d name=%s" % (
             it.index, it.value, it.section_number, it.storage_class, it.number_of_aux_symbols, shown(it.name or b""))
-    for s in found.sections:
+    for s in found._each():
         if s.number_of_relocations:
             yield "relocations %s %d" % (shown(s.name), s.number_of_relocations)
 
