@@ -445,6 +445,20 @@ class Files(unittest.TestCase):
         self.assertEqual(list(Pe(data, Options(parse_imports=False)).walk_libraries()), [(b"KERNEL32.dll", record, 1, 2)])
         self.assertEqual(list(Pe(sample("forwarders_x64.dll")).walk_libraries()), [])
 
+    def test_libraries_without_imports_are_left_out(self):
+        """The second of three, in a file whose addresses are offsets."""
+        data = bytearray(sample("forwarders_x64.dll"))
+        begin = len(data)
+        names = begin + 4 * 20
+        ordinal, none = names + 24, names + 32
+        struct.pack_into("<II", data, int.from_bytes(data[0x3C:0x40], "little") + 24 + 112 + 8, begin, 80)
+        for i, table in enumerate((ordinal, none, ordinal)):
+            data += struct.pack("<5I", table, i, 0, names + 8 * i, table)
+        data += bytes(20) + b"a.dll".ljust(8, b"\0") + b"b.dll".ljust(8, b"\0") + b"c.dll".ljust(8, b"\0") + struct.pack("<QQ", 1 << 63 | 7, 0)
+        layout = Layout(data, Options(resolve_rva=False))
+        self.assertEqual(list(layout.walk_libraries()), [(b"a.dll", begin, 0, 0), (b"c.dll", begin + 40, 2, 0)])
+        self.assertEqual([(x.dll, x.name, x.ordinal) for x in layout.walk_imports()], [(b"a.dll", None, 7), (b"c.dll", None, 7)])
+
     def test_a_walk_ends_with_the_refusal_of_a_read(self):
         data = bytearray(sample("imports_by_name_x64.dll"))
         pe = Pe(data)

@@ -104,14 +104,18 @@ def _size(number: int) -> int:
 # How many rows of a walk are read at once, and how many where a call takes long, or no row is made.
 _BATCH, _LARGE_BATCH = 256, 4096
 
+# How many sections the library walks over; of more it makes an index in each call.
+_MOST_WITHOUT_INDEX = 96
+
 
 # How many bytes of texts a walk keeps, of those that may come again.
 _MOST_KEPT = 1 << 20
 
 
-def _walk(data: _Kept, kind: _t.Any, row: str, call: _t.Callable[..., records.Fault], position: _t.Any) -> _t.Iterator[_t.Any]:
+def _walk(data: _Kept, kind: _t.Any, row: str, call: _t.Callable[..., records.Fault], position: _t.Any,
+          most: int = _BATCH) -> _t.Iterator[_t.Any]:
     # the rows of a walk, each made when it is asked for
-    found = _room(kind, _BATCH)
+    found = _room(kind, most)
     return _itertools.chain.from_iterable(
         map(getattr(_Rows(data, address, _MOST_KEPT), row), found[:count]) for address, count in _batches(data, found, call, position))
 
@@ -421,7 +425,7 @@ class Layout:
 
     def find_rva(self, offset: int) -> _t.Optional[int]:
         """The address of a file offset, which find_offset maps to it: that in the first section that has one; None where
-        there is none."""
+        there is none. It takes one walk over the sections, and one more for each whose data holds the offset."""
         rva = _c.c_size_t()
         is_found = _LIB.goblin_pe_raw_find_rva(_c.byref(self._image(_laid_out.NOWHERE, 0)), _size(offset), _c.byref(rva))
         return rva.value if is_found else None
@@ -430,6 +434,10 @@ class Layout:
         """The data of one of its sections, and how many zeros follow it in memory. It begins at the raw pointer, which the
         options may round down to 512, as they do for find_offset."""
         return _data_of(section, self._bytes(), self._options, self._header.windows_fields.file_alignment)
+
+    def _batch(self) -> int:
+        # how many rows of a walk over imports or exports are read at once
+        return _LARGE_BATCH if self._counts["sections"] > _MOST_WITHOUT_INDEX else _BATCH
 
     def _next_imports(self) -> _t.Callable[..., records.Fault]:
         # the call of walks over imports, by the options, but with imports
@@ -447,11 +455,12 @@ class Layout:
     def walk_imports(self) -> _t.Iterator[Import]:
         """The imports one by one, of which none is kept: also where the options left them out. In strict mode Refused is
         raised where it would be of the list, after what comes before; no law says on which bytes that depends."""
-        return _walk(self._bytes(), records.Import, "imported", self._next_imports(), records.ImportPosition())
+        return _walk(self._bytes(), records.Import, "imported", self._next_imports(), records.ImportPosition(), self._batch())
 
     def walk_libraries(self) -> _t.Iterator[Library]:
         """The libraries of which something is imported one by one, in the order of their records, as walk_imports gives imports.
-        One library may have several records."""
+        One library may have several records, and one without imports is left out. Each library is a call of its own; of more
+        than 96 sections each makes an index, in some 25 milliseconds for the 65,535 that there can be."""
         return self._libraries(self._bytes(), self._next_imports())
 
     def _libraries(self, data: _Kept, call: _t.Callable[..., records.Fault]) -> _t.Iterator[Library]:
@@ -465,7 +474,7 @@ class Layout:
     def walk_exports(self) -> _t.Iterator[Export]:
         """The exports one by one, of which none is kept."""
         return _walk(self._bytes(), records.Export, "exported", lambda address, length, *to: _LIB.goblin_pe_raw_next_exports(
-            address, length, _c.byref(self._options), *to), _c.c_size_t())
+            address, length, _c.byref(self._options), *to), _c.c_size_t(), self._batch())
 
     @property
     def symbols(self) -> _t.List[Symbol]:
