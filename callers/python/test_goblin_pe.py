@@ -5,6 +5,7 @@ import copy
 import ctypes
 import dataclasses
 import itertools
+import json
 import mmap
 import multiprocessing
 import os
@@ -592,6 +593,9 @@ class Files(unittest.TestCase):
                 for s in pe.sections:
                     found = [(it.find_offset(s.virtual_address), it.bytes_at(s.virtual_address, 4)) for it in (layout, pe)]
                     self.assertEqual(found[0], found[1])
+                told, all_told = (json.loads(goblin_pe.to_json(it)) for it in (layout, pe))
+                self.assertEqual(told, {name: all_told[name] for name in told})
+                self.assertLessEqual({"coff_header", "data_directories", "sections", "damage"}, told.keys())
                 self.assertEqual((layout.imphash(), repr(pickle.loads(pickle.dumps(layout)))), (pe.imphash(), repr(layout)))
             self.assertRaises(ValueError, layout.walk_exports)
         self.assertRaises(Refused, Layout, b"")
