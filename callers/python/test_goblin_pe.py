@@ -252,6 +252,19 @@ def with_section_names(count, length):
     return bytes(data + struct.pack("<I", length + 5) + b"n" * length + bytes(1))
 
 
+def with_libraries(data, names, counts):
+    """An image, whose addresses are offsets, with such libraries at its end: of each so many imports by the ordinal 7."""
+    data, begin = bytearray(data), len(data)
+    struct.pack_into("<II", data, int.from_bytes(data[0x3C:0x40], "little") + 24 + 112 + 8, begin, 20 * (len(names) + 1))
+    name = begin + 20 * (len(names) + 1)
+    table = name + sum(len(it) + 1 for it in names)
+    for i, (it, count) in enumerate(zip(names, counts)):
+        data += struct.pack("<5I", table, i, 0, name, table)
+        name, table = name + len(it) + 1, table + 8 * (count + 1)
+    data += bytes(20) + b"".join(it + b"\0" for it in names)
+    return bytes(data + b"".join(struct.pack("<Q", 1 << 63 | 7) * it + bytes(8) for it in counts))
+
+
 class Memory(unittest.TestCase):
     """Of files that list much: 256 KiB whose names have 1.6 GB."""
 
@@ -447,18 +460,19 @@ class Files(unittest.TestCase):
         self.assertEqual(list(Pe(sample("forwarders_x64.dll")).walk_libraries()), [])
 
     def test_libraries_without_imports_are_left_out(self):
-        """The second of three, in a file whose addresses are offsets."""
-        data = bytearray(sample("forwarders_x64.dll"))
+        """The second of three."""
+        data = sample("forwarders_x64.dll")
+        layout = Layout(with_libraries(data, [b"a.dll", b"b.dll", b"c.dll"], [1, 0, 1]), Options(resolve_rva=False))
         begin = len(data)
-        names = begin + 4 * 20
-        ordinal, none = names + 24, names + 32
-        struct.pack_into("<II", data, int.from_bytes(data[0x3C:0x40], "little") + 24 + 112 + 8, begin, 80)
-        for i, table in enumerate((ordinal, none, ordinal)):
-            data += struct.pack("<5I", table, i, 0, names + 8 * i, table)
-        data += bytes(20) + b"a.dll".ljust(8, b"\0") + b"b.dll".ljust(8, b"\0") + b"c.dll".ljust(8, b"\0") + struct.pack("<QQ", 1 << 63 | 7, 0)
-        layout = Layout(data, Options(resolve_rva=False))
         self.assertEqual(list(layout.walk_libraries()), [(b"a.dll", begin, 0, 0), (b"c.dll", begin + 40, 2, 0)])
         self.assertEqual([(x.dll, x.name, x.ordinal) for x in layout.walk_imports()], [(b"a.dll", None, 7), (b"c.dll", None, 7)])
+
+    def test_a_call_gives_more_where_it_makes_an_index(self):
+        for sections, calls in (96, 3), (97, 2):
+            layout = Layout(with_libraries(with_section_names(sections, 200), [b"a.dll"], [300]), Options(resolve_rva=False))
+            call = goblin_pe._LIB.goblin_pe_raw_next_imports
+            with unittest.mock.patch.object(goblin_pe._LIB, "goblin_pe_raw_next_imports", wraps=call) as counted:
+                self.assertEqual((sum(1 for _ in layout.walk_imports()), counted.call_count), (300, calls))
 
     def test_a_walk_ends_with_the_refusal_of_a_read(self):
         data = bytearray(sample("imports_by_name_x64.dll"))

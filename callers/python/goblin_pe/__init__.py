@@ -24,9 +24,9 @@ them, none of it is copied, and other threads run on meanwhile. Any other buffer
 view of one, is copied first. A mapped file must not be written or cut by whatever other way.
 
 The rows of a table are made when they are first asked for, of the file's bytes, and are Python's own then: they stay when
-the bytes are gone. A file of 256 KiB can have more than 800 million imports, and exports whose names have 2 GB. Where
-memory can't be limited, read a Layout, which lists nothing, and use its walk_imports and walk_exports, which keep no row. A
-Pe is a Layout with its lists.
+the bytes are gone. A file of 256 KiB can have more than 800 million imports, and exports whose names have 2 GB; those of
+sections can have hundreds of megabytes. Where memory can't be limited, read a Layout, which lists nothing, and use its
+walk_imports, walk_exports and walk_symbols, which keep no row. A Pe is a Layout with its lists.
 
 A refusal raises Refused, also where the library is refused memory: its status is then Status.MEMORY. MemoryError
 comes from Python alone, where there is no memory for what was read.
@@ -107,7 +107,6 @@ _BATCH, _LARGE_BATCH = 256, 4096
 # How many sections the library walks over; of more it makes an index in each call.
 _MOST_WITHOUT_INDEX = 96
 
-
 # How many bytes of texts a walk keeps, of those that may come again.
 _MOST_KEPT = 1 << 20
 
@@ -116,8 +115,9 @@ def _walk(data: _Kept, kind: _t.Any, row: str, call: _t.Callable[..., records.Fa
           most: int = _BATCH) -> _t.Iterator[_t.Any]:
     # the rows of a walk, each made when it is asked for
     found = _room(kind, most)
+    batches = _batches(data, found, call, position)
     return _itertools.chain.from_iterable(
-        map(getattr(_Rows(data, address, _MOST_KEPT), row), found[:count]) for address, count in _batches(data, found, call, position))
+        map(getattr(_Rows(data, address, _MOST_KEPT), row), found[:count]) for address, count in batches)
 
 
 def _symbol_table(data: _Kept, header: CoffHeader) -> records.SymbolTable:
@@ -229,8 +229,9 @@ _L = _t.TypeVar("_L", bound="Layout")
 
 class Layout:
     """An image by its header and its sections: Layout(data, options), where `data` are the file's bytes and `options` are
-    Options. A file whose header or sections are refused raises Refused. Nothing of it is listed, so it takes memory for its
-    sections alone, however much its tables list: these are walked over, or looked up.
+    Options. A file whose header or sections are refused raises Refused. Nothing of it is listed, so it takes memory for the
+    records of its sections alone, however much its tables list: these are walked over, or looked up. Of the sections rows are
+    made where `sections` is asked for.
 
     It keeps `data`, or the copy of a buffer that could be written, until close() or the end of a `with`. Sections that were not
     asked for before, symbols, damage and the methods raise ValueError then, but find_offset needs the bytes no longer. A copy, as
