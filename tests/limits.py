@@ -74,7 +74,7 @@ def read_layout(file):
 def footprint(file):
     ranges = records.Ranges()
     fault = LIB.goblin_pe_raw_footprint(file, len(file), c.byref(STRICT), c.byref(ranges))
-    return fault.status, ranges.count("ranges")
+    return fault.status, min(ranges.count("ranges"), 1)
 
 
 def next_symbols(file):

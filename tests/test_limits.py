@@ -8,12 +8,12 @@ from tests.programs import CALLERS, TOP, library, need, run, with_memory
 # Kibibytes of address space, most of it for Python and the file.
 ROOM = 400 << 10
 # The rows of limits.py: milliseconds of processor time, ten times what was measured; and how many sections or symbols there
-# are, or None where that is not the question.
+# are, or 1 where there are ranges.
 ROWS = [
     ("an object of one long name", 4500, 13107),
     ("a Terse Executable of one long name", 5000, 255),
     ("a layout of one long name", 4500, 13107),
-    ("a footprint of one long name", 35000, None),
+    ("a footprint of one long name", 35000, 1),
     ("many symbols", 200, 320000),
 ]
 
@@ -27,5 +27,5 @@ class Limits(unittest.TestCase):
                 status, out, said = run(with_memory(ROOM, [sys.executable, "-m", "tests.limits", name]), env=env)
                 self.assertEqual(status, 0, said.decode(errors="replace"))
                 milliseconds, answer, found = map(int, out.split())
-                self.assertEqual((answer, found), (0, found if wanted is None else wanted))
+                self.assertEqual((answer, found), (0, wanted))
                 self.assertLessEqual(milliseconds, most)

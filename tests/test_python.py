@@ -35,7 +35,7 @@ struct goblin_pe_fault goblin_pe_raw_read_te(
 """
 # Walks over each file, with 100 MB more than Python and the file have.
 WALKS = """import itertools, resource, sys
-from goblin_pe import Options, Pe
+from goblin_pe import Layout, Options
 
 for path in sys.argv[1:]:
     with open(path, "rb") as file:
@@ -44,10 +44,10 @@ for path in sys.argv[1:]:
         size = int(numbers.read().split()[0]) * resource.getpagesize()
     resource.setrlimit(resource.RLIMIT_AS, (size + (100 << 20), resource.RLIM_INFINITY))
     maps = path.rpartition("/")[2] != "names"
-    pe = Pe(data, Options(is_permissive=True, parse_imports=False, resolve_rva=maps))
-    walks = itertools.islice(pe.walk_imports(), 200000), pe.walk_exports()
+    layout = Layout(data, Options(is_permissive=True, resolve_rva=maps))
+    walks = itertools.islice(layout.walk_imports(), 200000), layout.walk_exports()
     print(path, *(sum(1 for _ in it) for it in walks))
-    del pe
+    del layout
     resource.setrlimit(resource.RLIMIT_AS, (resource.RLIM_INFINITY,) * 2)
 """
 # A program whose types are right.

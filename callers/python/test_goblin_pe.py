@@ -5,6 +5,7 @@ import copy
 import ctypes
 import dataclasses
 import itertools
+import json
 import mmap
 import multiprocessing
 import os
@@ -238,6 +239,32 @@ def with_names(count, length):
     return bytes(data)
 
 
+def with_section_names(count, length):
+    """An image of so many sections, whose names begin at each second byte of one long text; the last has an address."""
+    data = bytearray(sample("imports_by_name_x64.dll"))
+    signature = int.from_bytes(data[0x3C:0x40], "little")
+    del data[signature + 24 + int.from_bytes(data[signature + 20: signature + 22], "little"):]
+    for i in range(count):
+        place = (0x1000, 0x1000, 0x200, 0x200) if i == count - 1 else (0, 0, 0, 0)
+        data += struct.pack("<8s8I", b"/%d" % (4 + 2 * i), *place, 0, 0, 0, 0)
+    struct.pack_into("<H", data, signature + 6, count)
+    struct.pack_into("<II", data, signature + 12, len(data), 0)
+    return bytes(data + struct.pack("<I", length + 5) + b"n" * length + bytes(1))
+
+
+def with_libraries(data, names, counts):
+    """An image, whose addresses are offsets, with such libraries at its end: of each so many imports by the ordinal 7."""
+    data, begin = bytearray(data), len(data)
+    struct.pack_into("<II", data, int.from_bytes(data[0x3C:0x40], "little") + 24 + 112 + 8, begin, 20 * (len(names) + 1))
+    name = begin + 20 * (len(names) + 1)
+    table = name + sum(len(it) + 1 for it in names)
+    for i, (it, count) in enumerate(zip(names, counts)):
+        data += struct.pack("<5I", table, i, 0, name, table)
+        name, table = name + len(it) + 1, table + 8 * (count + 1)
+    data += bytes(20) + b"".join(it + b"\0" for it in names)
+    return bytes(data + b"".join(struct.pack("<Q", 1 << 63 | 7) * it + bytes(8) for it in counts))
+
+
 class Memory(unittest.TestCase):
     """Of files that list much: 256 KiB whose names have 1.6 GB."""
 
@@ -259,6 +286,47 @@ class Memory(unittest.TestCase):
         self.assertEqual(sum(len(it.name) for it in itertools.islice(pe.walk_exports(), 100)), sum(range(150000, 150000 - 100, -1)))
         self.assertLess(self.most(lambda: [None for _ in itertools.islice(pe.walk_exports(), 2000)]), 10)
         self.assertLess(self.most(lambda: (repr(pe), pe.find_offset(0), pe.imphash(), pe.export_addresses, pe.damage)), 1)
+
+    def test_rows_of_sections_are_made_when_they_are_asked_for(self):
+        """Of an image of 320 KB whose names have 400 MB."""
+        count, length = 4000, 110000
+        data = with_section_names(count, length)
+        for read in Layout, Pe:
+            with self.subTest(read):
+                self.assertLess(self.most(lambda: repr(read(data, self.HOW))), 2)
+                file = read(data, Options(is_permissive=True, parse_imports=False))
+                self.assertLess(self.most(lambda: (file.section_at(0x1010), file.find_offset(0x1010), file.find_rva(0x210))), 2)
+                self.assertEqual((len(file.section_at(0x1010).name), file.section_at(0x5000)), (length - 2 * (count - 1), None))
+        with Layout(with_section_names(3, 10), self.HOW) as layout:
+            again = pickle.loads(pickle.dumps(layout))
+        self.assertEqual([s.name for s in again.sections], [b"n" * it for it in (10, 8, 6)])
+        self.assertEqual((again.find_offset(7), repr(again)), (7, repr(layout)))
+        with Layout(data, self.HOW) as layout:
+            pass
+        for closed in lambda: layout.sections, lambda: pickle.loads(pickle.dumps(layout)).sections:
+            self.assertRaises(ValueError, closed)
+
+    def test_a_terse_executable_makes_rows_when_they_are_asked_for(self):
+        """Its string table is the front of the file."""
+        names = 40 + 255 * 40
+        data = struct.pack("<HHBBHIIQ4I", 0x5A56, 0x8664, 255, 0, 40, 0, 0, 0, 0, 0, 0, 0)
+        data += b"".join(struct.pack("<8s8I", b"/%d" % (names + i), *[0] * 8) for i in range(255)) + b"n" * 100000
+        self.assertLess(self.most(lambda: repr(Te(data))), 1)
+        found = Te(data)
+        again = pickle.loads(pickle.dumps(found))
+        self.assertEqual([len(s.name) for s in again.sections], [100000 - i for i in range(255)])
+        self.assertEqual((again.header, again.sections, repr(again)), (found.header, found.sections, repr(found)))
+        self.assertIs(found.sections, found.sections)
+
+    def test_symbols_are_walked_and_looked_up_alone(self):
+        """Those of an object of 140 KB, whose names have 180 MB."""
+        count, length = 2000, 100000
+        header = struct.pack("<HHIIIHH", 0x8664, 0, 0, 20, count, 0, 0)
+        data = header + b"".join(struct.pack("<IIIhHBB", 0, 4 + i, i, 1, 0, 2, 0) for i in range(count))
+        found = ObjectFile(data + struct.pack("<I", length + 5) + b"n" * length + bytes(1))
+        self.assertLess(self.most(lambda: (found.symbol_at(1), repr(found), [None for _ in found.walk_symbols()])), 3)
+        self.assertEqual([len(s.name) for s in found.walk_symbols()], [length - i for i in range(count)])
+        self.assertEqual((len(found.symbol_at(7).name), found.symbol_at(7).value), (length - 7, 7))
 
     def test_a_text_of_one_place_is_one_object(self):
         data = with_names(count=2, length=10)
@@ -390,6 +458,21 @@ class Files(unittest.TestCase):
         struct.pack_into("<II", data, record + 4, 1, 2)
         self.assertEqual(list(Pe(data, Options(parse_imports=False)).walk_libraries()), [(b"KERNEL32.dll", record, 1, 2)])
         self.assertEqual(list(Pe(sample("forwarders_x64.dll")).walk_libraries()), [])
+
+    def test_libraries_without_imports_are_left_out(self):
+        """The second of three."""
+        data = sample("forwarders_x64.dll")
+        layout = Layout(with_libraries(data, [b"a.dll", b"b.dll", b"c.dll"], [1, 0, 1]), Options(resolve_rva=False))
+        begin = len(data)
+        self.assertEqual(list(layout.walk_libraries()), [(b"a.dll", begin, 0, 0), (b"c.dll", begin + 40, 2, 0)])
+        self.assertEqual([(x.dll, x.name, x.ordinal) for x in layout.walk_imports()], [(b"a.dll", None, 7), (b"c.dll", None, 7)])
+
+    def test_a_call_gives_more_where_it_makes_an_index(self):
+        for sections, calls in (96, 3), (97, 2):
+            layout = Layout(with_libraries(with_section_names(sections, 200), [b"a.dll"], [300]), Options(resolve_rva=False))
+            call = goblin_pe._LIB.goblin_pe_raw_next_imports
+            with unittest.mock.patch.object(goblin_pe._LIB, "goblin_pe_raw_next_imports", wraps=call) as counted:
+                self.assertEqual((sum(1 for _ in layout.walk_imports()), counted.call_count), (300, calls))
 
     def test_a_walk_ends_with_the_refusal_of_a_read(self):
         data = bytearray(sample("imports_by_name_x64.dll"))
@@ -524,6 +607,9 @@ class Files(unittest.TestCase):
                 for s in pe.sections:
                     found = [(it.find_offset(s.virtual_address), it.bytes_at(s.virtual_address, 4)) for it in (layout, pe)]
                     self.assertEqual(found[0], found[1])
+                told, all_told = (json.loads(goblin_pe.to_json(it)) for it in (layout, pe))
+                self.assertEqual(told, {name: all_told[name] for name in told})
+                self.assertLessEqual({"coff_header", "data_directories", "sections", "damage"}, told.keys())
                 self.assertEqual((layout.imphash(), repr(pickle.loads(pickle.dumps(layout)))), (pe.imphash(), repr(layout)))
             self.assertRaises(ValueError, layout.walk_exports)
         self.assertRaises(Refused, Layout, b"")
@@ -535,6 +621,10 @@ class Files(unittest.TestCase):
             for s in found.sections:
                 wanted = [struct.unpack_from("<IIH", data, s.pointer_to_relocations + 10 * i) for i in range(s.number_of_relocations)]
                 self.assertEqual([tuple(it) for it in s.relocations(data)], wanted)
+                changed = bytearray(data)
+                walk = s.walk_relocations(changed)  # (of the bytes as they are now)
+                changed[:] = bytes(len(data))
+                self.assertEqual([tuple(it) for it in walk], wanted)
             for s in found.symbols:
                 self.assertEqual(len(s.auxiliary), 18 * s.number_of_aux_symbols)
                 if s.storage_class == 3 and s.number_of_aux_symbols == 1:
@@ -543,10 +633,20 @@ class Files(unittest.TestCase):
                     self.assertTrue(s.is_section_definition)
                 elif not s.auxiliary:
                     self.assertEqual((s.aux(AuxSectionDefinition), s.aux_file()), (None, None))
-            self.assertTrue(all(found.symbol_at(s.index) is s for s in found.symbols))
-            self.assertIsNone(found.symbol_at(found.coff_header.number_of_symbol_table))
+            self.assertEqual([found.symbol_at(s.index) for s in found.symbols], found.symbols)
+            self.assertEqual(list(found.walk_symbols()), found.symbols)
+            count = found.coff_header.number_of_symbol_table
+            for index in range(count):  # (auxiliary records, too)
+                stored = struct.unpack_from("<IhHBB", data, found.coff_header.pointer_to_symbol_table + 18 * index + 8)
+                self.assertEqual((found.symbol_at(index).index, found.symbol_at(index)[2:-1]), (index, stored))
+            self.assertIsNone(found.symbol_at(count))
+            self.assertRaises(OverflowError, found.symbol_at, -1)
+            again = pickle.loads(pickle.dumps(found))
+            self.assertEqual((again.symbols, again.sections, repr(again)), (found.symbols, found.sections, repr(found)))
+            for call in again.walk_symbols, lambda: again.symbol_at(0):
+                self.assertRaises(ValueError, call)
         pe = Pe(sample("imports_by_name_x64.dll"))
-        self.assertEqual((pe.symbols, pe.symbol_at(0)), ([], None))
+        self.assertEqual((pe.symbols, list(pe.walk_symbols()), pe.symbol_at(0)), ([], [], None))
 
     def test_a_symbol_has_auxiliary_records_of_its_kind_alone(self):
         record = struct.pack("<IIIIH", 1, 2, 3, 4, 0)
@@ -632,7 +732,7 @@ class Files(unittest.TestCase):
 
     def test_help_names_what_is_for_users(self):
         text = pydoc.plain(pydoc.render_doc(goblin_pe))
-        for name in ("class Pe", "class ObjectFile", "class Te", "class Refused", "class Options", "footprint(", "walk_imports(", "write(", "names_of(", "to_json("):
+        for name in ("class Pe", "class ObjectFile", "class Te", "class Refused", "class Options", "footprint(", "walk_imports(", "walk_symbols(", "write(", "names_of(", "to_json("):
             self.assertIn(name, text)
         self.assertNotIn("ctypes", text)
         self.assertLess(len(text.splitlines()), 1000)

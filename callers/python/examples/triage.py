@@ -11,7 +11,7 @@ import sys
 from collections import Counter
 from typing import Any, Dict, Iterator, Optional
 
-from goblin_pe import Kind, Options, Pe, Refused, kind, names_of
+from goblin_pe import Kind, Layout, Options, Pe, Refused, kind, names_of
 
 # Of no file are more imports read.
 MOST_IMPORTS = 100_000
@@ -32,19 +32,19 @@ def rich_hash(pe: Pe, data: Any) -> Optional[str]:
     return hashlib.md5(bytes(it ^ key[i % 4] for i, it in enumerate(stored)), usedforsecurity=False).hexdigest()
 
 
-def overlay(pe: Pe, data: Any) -> Optional[int]:
+def overlay(layout: Layout, data: Any) -> Optional[int]:
     """Where the bytes begin that follow the data of all sections in the file; None where there are none."""
-    ends = (s.pointer_to_raw_data + s.size_of_raw_data for s in pe.sections if s.size_of_raw_data)
+    ends = (s.pointer_to_raw_data + s.size_of_raw_data for s in layout.sections if s.size_of_raw_data)
     end = max((it for it in ends if it <= len(data)), default=0)
     return end if 0 < end < len(data) else None
 
 
-def sections(pe: Pe) -> Iterator[Dict[str, Any]]:
+def sections(layout: Layout) -> Iterator[Dict[str, Any]]:
     """What each section is like; of one that passes the file nothing of its data."""
-    for s in pe.sections:
+    for s in layout.sections:
         told: Dict[str, Any] = {"name": s.name.decode("utf-8", "backslashreplace"), "flags": names_of(s.characteristics)}
         try:
-            content, _ = pe.section_data(s)
+            content, _ = layout.section_data(s)
             told.update(entropy=round(entropy(content), 3), md5=hashlib.md5(content, usedforsecurity=False).hexdigest())
         except Refused as refused:
             told["refused"] = str(refused)

@@ -24,9 +24,9 @@ them, none of it is copied, and other threads run on meanwhile. Any other buffer
 view of one, is copied first. A mapped file must not be written or cut by whatever other way.
 
 The rows of a table are made when they are first asked for, of the file's bytes, and are Python's own then: they stay when
-the bytes are gone. A file of 256 KiB can have more than 800 million imports, and exports whose names have 2 GB. Where
-memory can't be limited, read a Layout, which lists nothing, and use its walk_imports and walk_exports, which keep no row. A
-Pe is a Layout with its lists.
+the bytes are gone. A file of 256 KiB can have more than 800 million imports, and exports whose names have 2 GB; those of
+sections can have hundreds of megabytes. Where memory can't be limited, read a Layout, which lists nothing, and use its
+walk_imports, walk_exports and walk_symbols, which keep no row. A Pe is a Layout with its lists.
 
 A refusal raises Refused, also where the library is refused memory: its status is then Status.MEMORY. MemoryError
 comes from Python alone, where there is no memory for what was read.
@@ -39,7 +39,6 @@ goblin_pe.constants has the numbers of the formats, such as IMAGE_FILE_DLL.
 The reader is the proved library goblin_pe. Its shared library stands beside an installed module; in the repository
 callers/build puts it into callers/lib. The variable GOBLIN_PE_SO names another when the module is imported.
 """
-import bisect as _bisect
 import ctypes as _c
 import dataclasses as _dataclasses
 import hashlib as _hashlib
@@ -69,8 +68,8 @@ from .records import (
 from .rows import (
     NO_TEXT as _NO_TEXT, Block as Block, Export as Export, ExportAddress as ExportAddress,
     ExportDirectory as ExportDirectory, Import as Import, Library as Library, Range as Range, RichHeader as RichHeader, Rows as _Rows,
-    Section as Section, SectionData as SectionData, Symbol as Symbol, data_of as _data_of, record_of as _section_record,
-    room as _room)
+    Section as Section, SectionData as SectionData, Symbol as Symbol, batches as _batches, data_of as _data_of,
+    record_of as _section_record, room as _room)
 
 __version__ = "0.3.0"
 
@@ -90,6 +89,11 @@ def _mapping_of(stored: _t.Any, count: int) -> _t.Any:
     return mapping
 
 
+def _section_rows(data: _Kept, address: int, stored: _t.Any, count: int, most_kept: _t.Optional[int] = None) -> _t.Iterator[Section]:
+    # the rows of so many records of sections, each made when it is asked for
+    return map(_Rows(data, address, most_kept).section, _itertools.islice(stored, count))
+
+
 def _size(number: int) -> int:
     # an address or a size, which the library takes without a look at what is past 64 bits
     number = _operator.index(number)
@@ -97,24 +101,23 @@ def _size(number: int) -> int:
     return number
 
 
-# How many rows of a walk are read at once.
-_BATCH = 256
+# How many rows of a walk are read at once, and how many where a call takes long, or no row is made.
+_BATCH, _LARGE_BATCH = 256, 4096
 
+# How many sections the library walks over; of more it makes an index in each call.
+_MOST_WITHOUT_INDEX = 96
 
 # How many bytes of texts a walk keeps, of those that may come again.
 _MOST_KEPT = 1 << 20
 
 
-def _walk(data: _Kept, kind: _t.Any, row: str, call: _t.Callable[..., records.Fault], position: _t.Any) -> _t.Iterator[_t.Any]:
-    # the rows of a walk, each made when it is asked for: `call` takes the address, the length, the position, the room and
-    # the count
-    room, count = _room(kind, _BATCH), _c.c_size_t()
-    while True:
-        with _held(data) as (address, length):
-            _test(call(address, length, _c.byref(position), room, _BATCH, _c.byref(count)))
-        if not count.value:
-            return
-        yield from map(getattr(_Rows(data, address, _MOST_KEPT), row), room[: count.value])
+def _walk(data: _Kept, kind: _t.Any, row: str, call: _t.Callable[..., records.Fault], position: _t.Any,
+          most: int = _BATCH) -> _t.Iterator[_t.Any]:
+    # the rows of a walk, each made when it is asked for
+    found = _room(kind, most)
+    batches = _batches(data, found, call, position)
+    return _itertools.chain.from_iterable(
+        map(getattr(_Rows(data, address, _MOST_KEPT), row), found[:count]) for address, count in batches)
 
 
 def _symbol_table(data: _Kept, header: CoffHeader) -> records.SymbolTable:
@@ -125,9 +128,23 @@ def _symbol_table(data: _Kept, header: CoffHeader) -> records.SymbolTable:
     return table
 
 
-def _symbols(data: _Kept, table: records.SymbolTable) -> _t.List[Symbol]:
-    return list(_walk(data, records.NamedSymbol, "symbol", lambda address, length, *to: _LIB.goblin_pe_raw_next_symbols(
-        address, length, _c.byref(table), *to), _c.c_size_t()))
+def _walk_symbols(data: _Kept, table: records.SymbolTable) -> _t.Iterator[Symbol]:
+    return _walk(data, records.NamedSymbol, "symbol", lambda address, length, *to: _LIB.goblin_pe_raw_next_symbols(
+        address, length, _c.byref(table), *to), _c.c_size_t())
+
+
+def _symbol_at(data: _Kept, table: records.SymbolTable, index: int) -> _t.Optional[Symbol]:
+    symbol = records.NamedSymbol()
+    with _held(data) as (address, length):
+        is_there = _LIB.goblin_pe_raw_symbol_at(address, length, _c.byref(table), _size(index), _c.byref(symbol))
+        return _Rows(data, address).symbol(symbol) if is_there else None
+
+
+def _here(data: _t.Optional[_Kept]) -> _Kept:
+    # the bytes of a file, as long as they are kept
+    if data is None:
+        raise ValueError("the file's bytes are no longer here: what was not asked for before is not there")
+    return data
 
 
 def kind(data: Data) -> Kind:
@@ -212,12 +229,13 @@ _L = _t.TypeVar("_L", bound="Layout")
 
 class Layout:
     """An image by its header and its sections: Layout(data, options), where `data` are the file's bytes and `options` are
-    Options. A file whose header or sections are refused raises Refused. Nothing of it is listed, so it takes memory for its
-    sections alone, however much its tables list: these are walked over, or looked up.
+    Options. A file whose header or sections are refused raises Refused. Nothing of it is listed, so it takes memory for the
+    records of its sections alone, however much its tables list: these are walked over, or looked up. Of the sections rows are
+    made where `sections` is asked for.
 
-    It keeps `data`, or the copy of a buffer that could be written, until close() or the end of a `with`. Symbols, damage and the
-    methods raise ValueError then, but find_offset needs the bytes no longer. A copy, as it is sent to another process, has all
-    but `data`.
+    It keeps `data`, or the copy of a buffer that could be written, until close() or the end of a `with`. Sections that were not
+    asked for before, symbols, damage and the methods raise ValueError then, but find_offset needs the bytes no longer. A copy, as
+    it is sent to another process, has all but `data`.
     """
 
     def __init__(self, data: Data, options: _t.Optional[Options] = None):
@@ -229,12 +247,13 @@ class Layout:
                 _test(_LIB.goblin_pe_raw_read_layout(
                     address, length, _c.byref(self._options), _c.byref(layout), directories, 16, sections, count))
         self._take_headers(layout, directories[: layout.directories])
-        self._sections = list(map(_Rows(self._bytes(), address).section, sections[:count]))
-        self._mapping = _mapping_of(sections, count)
+        self._counts = {"sections": count}
+        self._take_sections(sections, address)
 
     def _hold(self, data: Data, options: _t.Optional[Options]) -> None:
         self._data: _t.Optional[_Kept] = _kept(data)
         self._options = _record_of(options)
+        self._made: _t.Dict[str, _t.List[_t.Any]] = {}  # (the rows that were asked for)
         self._symbol_table: _t.Optional[records.SymbolTable] = None  # (until a symbol is asked for)
 
     def _take_headers(self, file: _t.Union[records.File, records.Layout], directories: _t.List[records.Directory]) -> None:
@@ -242,24 +261,43 @@ class Layout:
         self._directories = {_named(DirectoryType, index): d.directory for index, d in enumerate(directories) if d.is_present}
         self._has_directories = bool(directories)
 
+    def _take_sections(self, stored: _t.Any, address: int) -> None:
+        # their records, whose texts lie in the file's bytes, which begin at the address
+        self._sections, self._address = stored, address
+        self._mapping = _mapping_of(stored, self._counts["sections"])
+
+    def _each(self, table: str, most_kept: _t.Optional[int] = _MOST_KEPT) -> _t.Iterator[_t.Any]:
+        # the rows of a table, one by one (the records stay while they are gone through)
+        stored, data = self._sections, self._bytes()
+        return _section_rows(data, self._address, stored, self._counts[table], most_kept)
+
+    def _rows(self, table: str) -> _t.List[_t.Any]:
+        # the rows of a table, made when they are first asked for
+        if table not in self._made:
+            self._made[table] = list(self._each(table, None)) if self._counts[table] else []
+        return self._made[table]
+
     @property
     def sections(self) -> _t.List[Section]:
         """The sections."""
-        return self._sections
+        return self._rows("sections")
 
     def __repr__(self) -> str:
-        return "<Layout machine=%#x sections=%d>" % (self.coff_header.machine, len(self.sections))
+        return "<Layout machine=%#x sections=%d>" % (self.coff_header.machine, self._counts["sections"])
 
     def __getstate__(self) -> _t.Dict[str, _t.Any]:
-        return {**self.__dict__, "_data": None, "_mapping": bytes(self._mapping)}
+        # (of a closed one, the rows that were asked for)
+        rows = self._made if self._data is None else {name: getattr(self, name) for name in self._counts}
+        return {**self.__dict__, "_made": rows, "_data": None, "_sections": None, "_mapping": bytes(self._mapping)}
 
     def __setstate__(self, state: _t.Dict[str, _t.Any]) -> None:
         self.__dict__.update(state)
-        self._mapping = _mapping_of(state["_mapping"], len(self._sections))
+        self._mapping = _mapping_of(state["_mapping"], self._counts["sections"])
 
     def close(self) -> None:
-        """Lets go of the file's bytes."""
+        """Lets go of the file's bytes, and of the records whose rows were not asked for."""
         self._data = None
+        self._sections = None
 
     def imphash(self) -> str:
         """The hash of the imports that analysts compare: the MD5 in hexadecimal, or an empty text where there are no
@@ -319,9 +357,7 @@ class Layout:
         self.close()
 
     def _bytes(self) -> _Kept:
-        if self._data is None:
-            raise ValueError("the file's bytes are no longer here: what is not asked for before close() is not there after it")
-        return self._data
+        return _here(self._data)
 
     def _image(self, address: int, length: int) -> records.Image:
         # what maps addresses
@@ -378,11 +414,19 @@ class Layout:
         """The section of an address: the first by which it is mapped; None where there is none."""
         index = _c.c_size_t()
         is_found = _LIB.goblin_pe_raw_section_at(_c.byref(self._image(_laid_out.NOWHERE, 0)), _size(rva), _c.byref(index))
-        return self.sections[index.value] if is_found else None
+        return self._section(index.value) if is_found else None
+
+    def _section(self, index: int) -> Section:
+        # the row of one section: that of the list, where this was made
+        if "sections" in self._made:
+            found: Section = self._made["sections"][index]
+            return found
+        stored, data = self._sections, self._bytes()
+        return _Rows(data, self._address).section(stored[index])
 
     def find_rva(self, offset: int) -> _t.Optional[int]:
         """The address of a file offset, which find_offset maps to it: that in the first section that has one; None where
-        there is none."""
+        there is none. It takes one walk over the sections, and one more for each whose data holds the offset."""
         rva = _c.c_size_t()
         is_found = _LIB.goblin_pe_raw_find_rva(_c.byref(self._image(_laid_out.NOWHERE, 0)), _size(offset), _c.byref(rva))
         return rva.value if is_found else None
@@ -391,6 +435,10 @@ class Layout:
         """The data of one of its sections, and how many zeros follow it in memory. It begins at the raw pointer, which the
         options may round down to 512, as they do for find_offset."""
         return _data_of(section, self._bytes(), self._options, self._header.windows_fields.file_alignment)
+
+    def _batch(self) -> int:
+        # how many rows of a walk over imports or exports are read at once
+        return _LARGE_BATCH if self._counts["sections"] > _MOST_WITHOUT_INDEX else _BATCH
 
     def _next_imports(self) -> _t.Callable[..., records.Fault]:
         # the call of walks over imports, by the options, but with imports
@@ -402,62 +450,55 @@ class Layout:
         # how many the walk over imports gives, of which none becomes a row; None where the file has no table of them
         if DirectoryType.IMPORT_TABLE not in self._directories:
             return None
-        most, found = 4096, 0
-        position, room, count = records.ImportPosition(), _room(records.Import, most), _c.c_size_t()
-        call, data = self._next_imports(), self._bytes()
-        while True:
-            with _held(data) as (address, length):
-                _test(call(address, length, _c.byref(position), room, most, _c.byref(count)))
-            if not count.value:
-                return found
-            found += count.value
+        found = _room(records.Import, _LARGE_BATCH)
+        return sum(count for _, count in _batches(self._bytes(), found, self._next_imports(), records.ImportPosition()))
 
     def walk_imports(self) -> _t.Iterator[Import]:
         """The imports one by one, of which none is kept: also where the options left them out. In strict mode Refused is
         raised where it would be of the list, after what comes before; no law says on which bytes that depends."""
-        return _walk(self._bytes(), records.Import, "imported", self._next_imports(), records.ImportPosition())
+        return _walk(self._bytes(), records.Import, "imported", self._next_imports(), records.ImportPosition(), self._batch())
 
     def walk_libraries(self) -> _t.Iterator[Library]:
         """The libraries of which something is imported one by one, in the order of their records, as walk_imports gives imports.
-        One library may have several records."""
+        One library may have several records, and one without imports is left out. Each library is a call of its own; of more
+        than 96 sections each makes an index, in some 25 milliseconds for the 65,535 that there can be."""
         return self._libraries(self._bytes(), self._next_imports())
 
     def _libraries(self, data: _Kept, call: _t.Callable[..., records.Fault]) -> _t.Iterator[Library]:
         # of each library the first import is read, and then the next record
-        position, first, count = records.ImportPosition(), _room(records.Import, 1), _c.c_size_t()
-        while True:
-            with _held(data) as (address, length):
-                _test(call(address, length, _c.byref(position), first, 1, _c.byref(count)))
-            if not count.value:
-                return
+        position, first = records.ImportPosition(), _room(records.Import, 1)
+        for address, _ in _batches(data, first, call, position):
             stamp, chain = _struct.unpack_from("<II", data, position.record_offset + 4)
             yield Library(_Rows(data, address).text(first[0].dll), position.record_offset, stamp, chain)
-            position = records.ImportPosition(position.record_offset + 20, 0)
+            position.record_offset, position.slot_offset = position.record_offset + 20, 0
 
     def walk_exports(self) -> _t.Iterator[Export]:
         """The exports one by one, of which none is kept."""
         return _walk(self._bytes(), records.Export, "exported", lambda address, length, *to: _LIB.goblin_pe_raw_next_exports(
-            address, length, _c.byref(self._options), *to), _c.c_size_t())
+            address, length, _c.byref(self._options), *to), _c.c_size_t(), self._batch())
 
     @property
     def symbols(self) -> _t.List[Symbol]:
         """The symbols, which few images have. Refused is raised where the file is too short for their table or its string
         table, and where the string table is not UTF-8, or says a length below 4."""
-        return _symbols(self._bytes(), self._found_symbols())
+        return list(self.walk_symbols())
+
+    def walk_symbols(self) -> _t.Iterator[Symbol]:
+        """The symbols one by one, of which none is kept. Refused is raised as by `symbols`."""
+        data = self._bytes()
+        return _walk_symbols(data, self._found_symbols(data))
 
     def symbol_at(self, index: int) -> _t.Optional[Symbol]:
         """The symbol whose record has this index: relocations and weak externals name symbols so. None where the table ends
         before it; an auxiliary record is read as a symbol, too. Refused is raised as by `symbols`. The string table is read
         whole the first time, and then never again."""
-        table, symbol = self._found_symbols(), records.NamedSymbol()
-        with _held(self._bytes()) as (address, length):
-            is_there = _LIB.goblin_pe_raw_symbol_at(address, length, _c.byref(table), _size(index), _c.byref(symbol))
-        return _Rows(self._bytes(), address).symbol(symbol) if is_there else None
+        data = self._bytes()
+        return _symbol_at(data, self._found_symbols(data), index)
 
-    def _found_symbols(self) -> records.SymbolTable:
+    def _found_symbols(self, data: _Kept) -> records.SymbolTable:
         # where the symbols lie, tested once
         if self._symbol_table is None:
-            self._symbol_table = _symbol_table(self._bytes(), self.coff_header)
+            self._symbol_table = _symbol_table(data, self.coff_header)
         return self._symbol_table
 
     @property
@@ -506,12 +547,9 @@ class Pe(Layout):
         file, directories, tables = records.File(), (records.Directory * 16)(), records.Tables()
         with _held(self._bytes()) as (address, length):
             _test(_LIB.goblin_pe_raw_open(address, length, _c.byref(self._options), _c.byref(file), directories, 16, _c.byref(tables)))
-        # (the library's own, which lie where the file's bytes did; and the rows that were made of them)
-        self._tables: _t.Optional[records.Tables] = tables
-        self._address = address
-        self._made: _t.Dict[str, _t.List[_t.Any]] = {}
+        self._tables: _t.Optional[records.Tables] = tables  # (the library's own)
         self._counts = {name: tables.count(name) for name in tables.KINDS}
-        self._mapping = _mapping_of(tables.sections, tables.count("sections"))
+        self._take_sections(tables.sections, address)
         self._take_headers(file, directories[: file.directories])
         self._take_tables(file)
         self._stub = _c.string_at(tables.dos_stub.bytes, tables.dos_stub.length)  # (it need not lie in the file)
@@ -547,11 +585,6 @@ class Pe(Layout):
     def rich_rest(self) -> _t.Optional[Refused]:
         """Why the rest that follows these entries is no entry; None where there is no rest."""
         return self._rests[0]
-
-    @property
-    def sections(self) -> _t.List[Section]:
-        """The sections."""
-        return self._rows("sections")
 
     @property
     def import_table(self) -> State:
@@ -609,24 +642,12 @@ class Pe(Layout):
             "blocks": rows.block}
         return map(rows_of[table], tables.records(table)) if tables else iter(())
 
-    def _rows(self, table: str) -> _t.List[_t.Any]:
-        # the rows of a table, made when they are first asked for
-        if table not in self._made:
-            self._made[table] = list(self._each(table, None)) if self._counts[table] else []
-        return self._made[table]
-
     def __repr__(self) -> str:
         return "<Pe machine=%#x sections=%d imports=%d exports=%d blocks=%d>" % (
             self.coff_header.machine, *(self._counts[it] for it in ("sections", "imports", "exports", "blocks")))
 
     def __getstate__(self) -> _t.Dict[str, _t.Any]:
-        # (of a closed one, the rows that were asked for)
-        rows = self._made if self._data is None else {name: getattr(self, name) for name in self._counts}
-        return {**self.__dict__, "_made": rows, "_data": None, "_tables": None, "_mapping": bytes(self._mapping)}
-
-    def __setstate__(self, state: _t.Dict[str, _t.Any]) -> None:
-        self.__dict__.update(state)
-        self._mapping = _mapping_of(state["_mapping"], self._counts["sections"])
+        return {**super().__getstate__(), "_tables": None}
 
     def close(self) -> None:
         """Lets go of the file's bytes, and of the tables whose rows were not asked for."""
@@ -696,17 +717,21 @@ class ObjectFile:
     """An object that was read: ObjectFile(data, options); of the Options only is_permissive counts. A file that is refused
     raises Refused. No machine is tested, so a file that is no object may be read as one with sections that make no sense:
     ask `kind` before.
+
+    It keeps `data`, or the copy of a buffer that could be written. A copy, as it is sent to another process, has all but `data`:
+    its methods raise ValueError.
     """
 
     def __init__(self, data: Data, options: _t.Optional[Options] = None):
         asked, found = _record_of(options), records.Object()
-        self._data = _kept(data)
-        with _held(self._data) as (address, length):
+        read = _kept(data)
+        with _held(read) as (address, length):
             for _ in range(2):
                 sections, count = _room(records.Section, found.sections), found.sections
                 _test(_LIB.goblin_pe_raw_read_object(address, length, _c.byref(asked), _c.byref(found), sections, count))
         self._coff_header: CoffHeader = found.coff_header
-        self._symbol_table = _symbol_table(self._data, found.coff_header)
+        self._symbol_table = _symbol_table(read, found.coff_header)
+        self._data: _t.Optional[_Kept] = read
         self._sections, self._count, self._address = sections, found.sections, address
         self._made: _t.Dict[str, _t.List[_t.Any]] = {}
 
@@ -715,52 +740,72 @@ class ObjectFile:
         """The COFF header."""
         return self._coff_header
 
+    def _each(self, most_kept: _t.Optional[int] = _MOST_KEPT) -> _t.Iterator[Section]:
+        return _section_rows(_here(self._data), self._address, self._sections, self._count, most_kept)
+
     @property
     def sections(self) -> _t.List[Section]:
         """The sections."""
         if "sections" not in self._made:
-            self._made["sections"] = list(map(_Rows(self._data, self._address).section, self._sections[: self._count]))
+            self._made["sections"] = list(self._each(None))
         return self._made["sections"]
 
     @property
     def symbols(self) -> _t.List[Symbol]:
         """The symbols."""
         if "symbols" not in self._made:
-            self._made["symbols"] = _symbols(self._data, self._symbol_table)
+            self._made["symbols"] = list(self.walk_symbols())
         return self._made["symbols"]
+
+    def walk_symbols(self) -> _t.Iterator[Symbol]:
+        """The symbols one by one, of which none is kept."""
+        return _walk_symbols(_here(self._data), self._symbol_table)
 
     def __getstate__(self) -> _t.Dict[str, _t.Any]:
         rows = {"sections": self.sections, "symbols": self.symbols}
-        return {**self.__dict__, "_made": rows, "_data": b"", "_sections": ()}
+        return {**self.__dict__, "_made": rows, "_data": None, "_sections": ()}
 
     def symbol_at(self, index: int) -> _t.Optional[Symbol]:
-        """The symbol whose record has this index: relocations and weak externals name symbols so. None where there is none,
-        also where the record is an auxiliary one."""
-        place = _bisect.bisect_left(self.symbols, (index,))
-        return next((s for s in self.symbols[place: place + 1] if s.index == index), None)
+        """The symbol whose record has this index: relocations and weak externals name symbols so. None where the table ends
+        before it; an auxiliary record is read as a symbol, too."""
+        return _symbol_at(_here(self._data), self._symbol_table, index)
 
     def __repr__(self) -> str:
-        return "<ObjectFile machine=%#x sections=%d symbols=%d>" % (
-            self.coff_header.machine, self._count, len(self.symbols))
+        symbols = self._made["symbols"] if "symbols" in self._made else self.walk_symbols()
+        return "<ObjectFile machine=%#x sections=%d symbols=%d>" % (self.coff_header.machine, self._count, sum(1 for _ in symbols))
 
 
 class Te:
-    """A Terse Executable that was read: Te(data). Its signature is not looked at. A file that is refused raises Refused.
+    """A Terse Executable that was read: Te(data). Its signature is not looked at. A file that is refused raises Refused. It keeps
+    `data`, or the copy of a buffer that could be written, for the names of its sections.
 
     header: the header.
-    sections: a list of Section.
     """
 
     def __init__(self, data: Data):
-        header, sections = _laid_out.laid_out(TeHeader)(), _room(records.Section, 255)
-        read = _kept(data)
-        with _held(read) as (address, length):
-            _test(_LIB.goblin_pe_raw_read_te(address, length, _c.byref(header), sections, 255))
-            self.header: TeHeader = _laid_out.read(TeHeader, header)
-            self.sections: _t.List[Section] = list(map(_Rows(read, address).section, sections[: self.header.number_of_sections]))
+        header, self._stored = _laid_out.laid_out(TeHeader)(), _room(records.Section, 255)
+        self._data = _kept(data)
+        with _held(self._data) as (address, length):
+            _test(_LIB.goblin_pe_raw_read_te(address, length, _c.byref(header), self._stored, 255))
+        self.header: TeHeader = _laid_out.read(TeHeader, header)
+        self._address, self._count = address, self.header.number_of_sections
+        self._made: _t.Optional[_t.List[Section]] = None  # (the sections, once they were asked for)
+
+    def _each(self, most_kept: _t.Optional[int] = _MOST_KEPT) -> _t.Iterator[Section]:
+        return _section_rows(self._data, self._address, self._stored, self._count, most_kept)
+
+    @property
+    def sections(self) -> _t.List[Section]:
+        """The sections."""
+        if self._made is None:
+            self._made = list(self._each(None))
+        return self._made
+
+    def __getstate__(self) -> _t.Dict[str, _t.Any]:
+        return {**self.__dict__, "_made": self.sections, "_data": b"", "_stored": ()}
 
     def __repr__(self) -> str:
-        return "<Te machine=%#x sections=%d>" % (self.header.machine, len(self.sections))
+        return "<Te machine=%#x sections=%d>" % (self.header.machine, self._count)
 
 
 from ._described import to_json as to_json  # noqa: E402  # (it tells of what is above)

@@ -68,10 +68,10 @@ def lines_of(pe: Pe, imports: Optional[int]) -> Iterator[str]:
 
 def symbols(found: ObjectFile) -> Iterator[str]:
     """The lines of an object."""
-    for it in found.symbols:
+    for it in found.walk_symbols():
         yield "symbol %d value=%d section=%d class=%d aux=%d name=%s" % (
             it.index, it.value, it.section_number, it.storage_class, it.number_of_aux_symbols, shown(it.name or b""))
-    for s in found.sections:
+    for s in found._each():
         if s.number_of_relocations:
             yield "relocations %s %d" % (shown(s.name), s.number_of_relocations)
 
@@ -83,7 +83,7 @@ def te(found: Te) -> Iterator[str]:
         yield "%s %#x" % (field, getattr(h, field))
     for field in ("reloc_dir", "debug_dir"):
         yield "%s %#x %d" % (field, getattr(h, field).virtual_address, getattr(h, field).size)
-    for s in found.sections:
+    for s in found._each():
         yield "section %s va=%#x vsize=%#x raw=%#x ptr=%#x characteristics=%#x" % (
             shown(s.name), s.virtual_address, s.virtual_size, s.size_of_raw_data, s.pointer_to_raw_data, s.characteristics)
 

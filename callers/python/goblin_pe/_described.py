@@ -4,10 +4,11 @@ import enum
 import json
 from typing import Any, Callable, Dict, Union
 
-from . import Block, ObjectFile, Pe, Refused, Te
+from . import Block, Layout, ObjectFile, Pe, Refused, Te
 
 # What a text tells of each that was read.
 FIELDS: Dict[Any, str] = {
+    Layout: "dos_header coff_header optional_header data_directories sections damage",
     Pe: "dos_header coff_header optional_header rich_header rich_entries rich_rest data_directories sections import_table imports "
         "export_table exports export_directory export_addresses relocation_table blocks block_rest damage",
     ObjectFile: "coff_header sections symbols",
@@ -33,15 +34,16 @@ def plain(value: Any) -> Any:
     return [plain(it) for it in value] if isinstance(value, (list, tuple)) else value
 
 
-def described(found: Union[Pe, ObjectFile, Te]) -> Dict[str, Any]:
-    """What was read, by the names of its attributes; of an image with its damage and the hash of its imports."""
-    told = {name: plain(getattr(found, name)) for name in FIELDS[type(found)].split()}
+def described(found: Union[Layout, ObjectFile, Te]) -> Dict[str, Any]:
+    """What was read, by the names of its attributes; of an image with its damage, and of a Pe with the hash of its imports."""
+    fields = next(FIELDS[it] for it in type(found).__mro__ if it in FIELDS)
+    told = {name: plain(getattr(found, name)) for name in fields.split()}
     return {**told, "imphash": found.imphash()} if isinstance(found, Pe) else told
 
 
-def to_json(found: Union[Pe, ObjectFile, Te]) -> str:
-    """What was read as an object of JSON, by the names of its attributes; of an image with its damage and the hash of its
-    imports. Rows are objects by their fields, numbers that have names those, and of the words of a block it is told how many
+def to_json(found: Union[Layout, ObjectFile, Te]) -> str:
+    """What was read as an object of JSON, by the names of its attributes; of an image with its damage, and of a Pe with the hash
+    of its imports. Rows are objects by their fields, numbers that have names those, and of the words of a block it is told how many
     there are. Texts have a backslash, x and two digits for each byte that is not UTF-8."""
     return json.dumps(described(found))
 

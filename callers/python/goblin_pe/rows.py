@@ -57,14 +57,13 @@ class Section(NamedTuple):
         """All its relocations in the object, one by one, also where there are more than number_of_relocations can say: then
         without the first record, which has their number. Refused is raised where the file is too short for them, and where
         they begin at or past its end, even if there are none."""
-        kind, record, position, count = _laid_out.laid_out(Relocation), record_of(self), c.c_size_t(), c.c_size_t(1)
-        found, data = room(kind, 256), kept(file)
-        while count.value:
-            with held(data) as (address, length):
-                test(LIB.goblin_pe_raw_next_relocations(
-                    address, length, c.byref(record), c.byref(position), found, 256, c.byref(count)))
-                batch = [_laid_out.read(Relocation, it) for it in found[: count.value]]
-            yield from batch
+        record, found = record_of(self), room(_laid_out.laid_out(Relocation), 256)
+
+        def call(address: int, length: int, *to: Any) -> records.Fault:
+            fault: records.Fault = LIB.goblin_pe_raw_next_relocations(address, length, c.byref(record), *to)
+            return fault
+
+        return (_laid_out.read(Relocation, it) for _, count in batches(kept(file), found, call, c.c_size_t()) for it in found[:count])
 
     def relocations(self, file: Data) -> List[Relocation]:
         """Its relocations in the object: as many as number_of_relocations says, so at most 65,535. Where that is 65,535, and
@@ -243,6 +242,18 @@ def data_of(s: Section, file: Kept, options: records.Options, file_alignment: in
 def room(kind: Any, count: int) -> Any:
     """Records to be filled; one more than asked for, so that the pointer is never null."""
     return (kind * (count + 1))()
+
+
+def batches(data: Kept, found: Any, call: Callable[..., records.Fault], position: Any) -> Iterator[Tuple[int, int]]:
+    """What a walk gives into this room, as long as there is more: the address of the file's bytes, and how many records.
+    `call` takes the address, the length, the position, the room, how much that is, and the count."""
+    most, count = len(found) - 1, c.c_size_t()
+    while True:
+        with held(data) as (address, length):
+            test(call(address, length, c.byref(position), found, most, c.byref(count)))
+        if not count.value:
+            return
+        yield address, count.value
 
 
 class Rows:
