@@ -25,10 +25,13 @@
 //! |---|---|---|
 //! | [`Pe::read`] | as long as what it lists, some microseconds for a small file | a record for each row, of 8 to 96 bytes |
 //! | [`Layout::read`] | as long as the file, and the names of the sections | a record for each section |
-//! | [`Pe::walk_imports`], [`Pe::walk_exports`], [`Pe::symbols`] | as they go on | room for 256 rows; where there are more than 96 sections, for 4,096, and an index of these |
+//! | [`Pe::walk_imports`], [`Pe::walk_exports`] | as they go on | room for 256 rows; of more than 96 sections for 4,096, and an index |
+//! | [`Pe::walk_libraries`] | a call for each library | an index of more than 96 sections |
+//! | [`Pe::symbols`], [`Section::walk_relocations`] | as they go on | room for 256 rows |
 //! | [`Pe::damage`] | as a read | an index of more than 96 sections |
 //! | [`Pe::footprint`], [`Pe::write_fingerprint_text`] | as two reads | a bit for each byte of the file, and the ranges; an index of more than 96 sections |
 //! | [`Pe::find_offset`] and what is at an address | a walk over the sections | none |
+//! | [`Pe::find_rva`] | a walk over the sections, and one more for each whose data holds the offset | none |
 //! | [`Object::read`], [`Te::read`] | as many sections as there are | a record for each section |
 //! | rows, names and texts | none: they are places in the bytes | none |
 //!
