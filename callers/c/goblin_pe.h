@@ -265,8 +265,8 @@ static inline struct goblin_pe_fault goblin_pe_read_symbol_table(
    beginning: fills as many records as there is room for, says in `count` how many, and leaves in `position` the
    index of the record that is read next. The count 0 without a refusal is the end, where there is room; so it is
    of a table of zeros. The record at the position is read as a symbol, even where it is an auxiliary one of the
-   symbol before it. Of a table that goblin_pe_read_symbol_table did not fill, only what is named is tested; one
-   that does not lie in the file is refused. No memory is taken. */
+   symbol before it. A table may also be made by hand: it is refused where it does not lie in the file, and of
+   its string table only the names that are given are tested. No memory is taken. */
 static inline struct goblin_pe_fault goblin_pe_next_symbols(
     const uint8_t *bytes, size_t length, const struct goblin_pe_symbol_table *table, size_t *position,
     struct goblin_pe_named_symbol *symbols, size_t room, size_t *count)
@@ -338,8 +338,9 @@ static inline struct goblin_pe_fault goblin_pe_read_relocations(
 /* Goes on with the walk over all relocations of a section of an object from the index `position` on, 0 at the
    beginning: fills as many records as there is room for, says in `count` how many, and moves `position` past them.
    The count 0 without a refusal is the end, where there is room. Where the section has more than its counter can say,
-   the first record, which has their number, is none of them. Refused is what goblin_pe_read_relocations refuses. No
-   memory is taken. */
+   the first record is none of them: its virtual_address is the number of all records, itself among them. Refused is
+   a file that is too short for all of them, and one in which they begin at or past the end, even where there are
+   none. No memory is taken. */
 static inline struct goblin_pe_fault goblin_pe_next_relocations(
     const uint8_t *bytes, size_t length, const struct goblin_pe_section *section, size_t *position,
     struct goblin_pe_relocation *relocations, size_t room, size_t *count)
@@ -404,8 +405,8 @@ static inline bool goblin_pe_find_offset(const struct goblin_pe_image *image, si
     return goblin_pe_raw_find_offset(&sound, rva, offset);
 }
 
-/* Puts the index of the section of an address into `index`, and answers whether it lies in one: the first by
-   which the address is mapped. The options are not looked at. */
+/* Puts the index of the section of an address into `index`, and answers whether it lies in one: the first
+   whose window holds it; none where the file alignment is no power of two. The options are not looked at. */
 static inline bool goblin_pe_section_at(const struct goblin_pe_image *image, size_t rva, size_t *index)
 {
     struct goblin_pe_image sound = goblin_pe_sound_image(image);
@@ -425,7 +426,8 @@ static inline bool goblin_pe_find_rva(const struct goblin_pe_image *image, size_
 /* The bytes that a loader sees at an address: those that the file has, and how many zeros follow them. They lie
    in the memory of the first section that holds the address, which has as many bytes as its virtual size says,
    or its raw size where that is 0; a header lies in none. Refused are an address that no section's memory holds,
-   bytes that pass the section's memory, and bytes that the file does not have. No memory is taken. */
+   bytes that pass the section's memory, and bytes that the file does not have; where all of them are zeros, it need
+   not have any. Where the options say that addresses are offsets, they are the file's own. No memory is taken. */
 static inline struct goblin_pe_fault goblin_pe_memory_at(
     const struct goblin_pe_image *image, size_t rva, size_t size, struct goblin_pe_section_data *contents)
 {
@@ -478,8 +480,8 @@ static inline struct goblin_pe_fault goblin_pe_read_section_data(
 
 /* The checksum of an image, whose field, check_sum of the optional header, stands at the file offset `field`: 88
    bytes after pe_pointer. It is the sum of the little-endian words of two bytes, in 16 bits and with each carry
-   added, and the length, in 32 bits; the bytes of the field count as zeros. Whoever changes an image of which
-   Windows tests it, as of drivers, writes it anew. */
+   added, and the length, in 32 bits; the bytes of the field count as zeros. After a change of an image
+   whose checksum Windows tests, such as a driver, write it anew. */
 static inline uint32_t goblin_pe_checksum(const uint8_t *bytes, size_t length, size_t field)
 {
     return goblin_pe_raw_checksum(GOBLIN_PE_BYTES(bytes), length, field);

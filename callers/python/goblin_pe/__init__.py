@@ -156,7 +156,7 @@ def kind(data: Data) -> Kind:
 def checksum(data: Data, field: int) -> int:
     """The checksum of an image, whose field stands at the file offset `field`: 88 bytes after pe_pointer. It is the sum of the
     little-endian words of two bytes, in 16 bits and with each carry added, and the length, in 32 bits; the bytes of the field
-    count as zeros. Windows loads a driver only where the field has this value."""
+    count as zeros. Windows tests it of drivers, and of libraries that it loads at boot or into critical processes."""
     with _held(_kept(data)) as (address, length):
         return int(_LIB.goblin_pe_raw_checksum(address, length, _size(field)))
 
@@ -393,8 +393,9 @@ class Layout:
     def memory_at(self, rva: int, size: int) -> _t.Optional[SectionData]:
         """The bytes that a loader sees at an address: those that the file has, and how many zeros follow them. They lie in the
         memory of the first section that holds the address, which has as many bytes as its virtual size says, or its raw
-        size where that is 0; a header lies in none. None where no section's memory holds the address, the bytes pass the
-        section's memory, or the file does not have its bytes."""
+        size where that is 0; a header lies in none. Where the options say that addresses are offsets, they are the file's
+        own. None where no section's memory holds the address, the bytes pass the section's memory, or the file does not
+        have its bytes."""
         seen, data = records.SectionData(), self._bytes()
         with _held(data) as (address, length):
             image = self._image(address, length)
@@ -411,7 +412,7 @@ class Layout:
             return None if refused else _Rows(data, address).forwarder(found)
 
     def section_at(self, rva: int) -> _t.Optional[Section]:
-        """The section of an address: the first by which it is mapped; None where there is none."""
+        """The section of an address: the first whose window holds it; None where there is none."""
         index = _c.c_size_t()
         is_found = _LIB.goblin_pe_raw_section_at(_c.byref(self._image(_laid_out.NOWHERE, 0)), _size(rva), _c.byref(index))
         return self._section(index.value) if is_found else None

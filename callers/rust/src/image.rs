@@ -302,7 +302,8 @@ macro_rules! images {
 
             /// The pair (bytes in the file, how many zeros follow them) of the `size` bytes that a loader sees at an
             /// address. They lie in the memory of the first section that holds the address, which has as many
-            /// bytes as its virtual size says, or its raw size where that is 0; a header lies in none.
+            /// bytes as its virtual size says, or its raw size where that is 0; a header lies in none. Where the
+            /// options say that addresses are offsets, they are the file's own.
             ///
             /// # Errors
             /// Where no section's memory holds the address, where the bytes pass the section's memory, and where
@@ -338,7 +339,7 @@ macro_rules! images {
                 Ok(Forwarder::from(&found))
             }
 
-            /// The section of an address: the first by which it is mapped; `None` where there is none.
+            /// The section of an address: the first whose window holds it; `None` where there is none.
             ///
             /// ```no_run
             #[doc = $read]

@@ -125,8 +125,8 @@ pub fn kind(bytes: &[u8]) -> Kind {
 
 /// The checksum of an image, whose field stands at the file offset `field`: 88 bytes after `pe_pointer`. It
 /// is the sum of the little-endian words of two bytes, in 16 bits and with each carry added, and the
-/// length, in 32 bits; the bytes of the field count as zeros. Windows loads a driver only where the field
-/// has this value.
+/// length, in 32 bits; the bytes of the field count as zeros. Windows tests it of drivers, and of libraries
+/// that it loads at boot or into critical processes.
 ///
 /// ```no_run
 /// # use goblin_pe::{Options, Pe};
