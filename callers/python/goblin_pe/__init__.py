@@ -67,7 +67,8 @@ from .records import (
     StandardFields as StandardFields, TeHeader as TeHeader, WindowsFields as WindowsFields)
 from .rows import (
     NO_TEXT as _NO_TEXT, Block as Block, Export as Export, ExportAddress as ExportAddress,
-    ExportDirectory as ExportDirectory, Import as Import, Library as Library, Range as Range, RichHeader as RichHeader, Rows as _Rows,
+    ExportDirectory as ExportDirectory, ExportEntry as ExportEntry, Import as Import, Library as Library, Range as Range,
+    RichHeader as RichHeader, Rows as _Rows,
     Section as Section, SectionData as SectionData, Symbol as Symbol, batches as _batches, data_of as _data_of,
     record_of as _section_record, room as _room)
 
@@ -468,10 +469,13 @@ class Layout:
     def _libraries(self, data: _Kept, call: _t.Callable[..., records.Fault]) -> _t.Iterator[Library]:
         # of each library the first import is read, and then the next record
         position, first = records.ImportPosition(), _room(records.Import, 1)
+        directory = self._directories.get(DirectoryType.IMPORT_TABLE)
+        begin = self.find_offset(directory.virtual_address) if directory else 0
         for address, _ in _batches(data, first, call, position):
-            stamp, chain = _struct.unpack_from("<II", data, position.record_offset + 4)
-            yield Library(_Rows(data, address).text(first[0].dll), position.record_offset, stamp, chain)
-            position.record_offset, position.slot_offset = position.record_offset + 20, 0
+            record = position.record_offset
+            stamp, chain = _struct.unpack_from("<II", data, record + 4)
+            yield Library(_Rows(data, address).text(first[0].dll), record, stamp, chain, (record - (begin or 0)) // 20)
+            position.record_offset, position.slot_offset = record + 20, 0
 
     def walk_exports(self) -> _t.Iterator[Export]:
         """The exports one by one, of which none is kept."""
@@ -616,6 +620,11 @@ class Pe(Layout):
     def export_addresses(self) -> _t.List[ExportAddress]:
         """The entries of the export address table, by rising ordinals, also those without a name."""
         return self._rows("export_addresses")
+
+    def walk_export_addresses(self) -> _t.Iterator[ExportEntry]:
+        """The entries of the export address table one by one, by rising ordinals, also those without a name, each with its
+        forwarder, which is read as the walk goes on. None is kept."""
+        return (ExportEntry(*it, self.forwarder_at(it.rva) if it.forwards else None) for it in self._each("export_addresses"))
 
     @property
     def relocation_table(self) -> State:
