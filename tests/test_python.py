@@ -292,6 +292,11 @@ class Package(Case):
     def test_its_own_tests(self):
         succeed([*PYTHON, "-m", "unittest", "-q", "test_goblin_pe"], env=self.env)
 
+    def test_fifteen_idioms_of_a_newcomer(self):
+        status, _, said = run([*PYTHON, "-m", "unittest", "-q", "test_idioms"], env=self.env, cwd=CALLERS / "python")
+        self.assertEqual(status, 0, said.decode())
+        self.assertIn(b"\nRan 15 tests ", said)
+
     def test_too_little_memory_is_told(self):
         """Of an image that asks for more than there is: in JSON, which lists it. Its lines come one by one."""
         image = self.written("hostile.dll", images.shared_image(libraries=2000, functions=50000))
