@@ -27,6 +27,7 @@
 //! | [`Layout::read`] | as long as the file, and the names of the sections | a record for each section |
 //! | [`Layout::walk_imports`], [`Layout::walk_exports`] | as they go on | room for 256 rows; of more than 96 sections for 4,096, and an index |
 //! | [`Layout::walk_libraries`] | a call for each library | an index of more than 96 sections |
+//! | [`Pe::walk_export_addresses`] | as it goes on, a walk over the sections for each forwarder | none |
 //! | [`Layout::symbols`], [`Section::walk_relocations`] | as they go on | room for 256 rows |
 //! | [`Layout::damage`] | as a read | an index of more than 96 sections |
 //! | [`Layout::footprint`], [`Layout::write_fingerprint_text`] | as two reads | a bit for each byte of the file, and the ranges; an index of more than 96 sections |

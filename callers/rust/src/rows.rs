@@ -452,6 +452,20 @@ impl<'a> Imported<'a> {
     }
 }
 
+impl PartialEq<str> for Imported<'_> {
+    /// Whether it is imported by this name.
+    fn eq(&self, name: &str) -> bool {
+        self.name().is_some_and(|its| its == *name)
+    }
+}
+
+impl PartialEq<&str> for Imported<'_> {
+    /// Whether it is imported by this name.
+    fn eq(&self, name: &&str) -> bool {
+        *self == **name
+    }
+}
+
 impl fmt::Display for Imported<'_> {
     /// The name, or the word `ORDINAL` and the ordinal.
     fn fmt(&self, f: &mut fmt::Formatter<'_>) -> fmt::Result {

@@ -66,6 +66,11 @@ fn rows_are_collected_and_gone_through_again() {
     let imports: Vec<Import> = pe.imports().collect();
     let from_kernel = |x: &&Import| x.dll.eq_ignore_ascii_case(b"kernel32.dll");
     assert_eq!(imports.iter().filter(from_kernel).count(), 1);
+    assert!(
+        imports
+            .iter()
+            .any(|x| x.name == "GetTickCount" && x.dll != "user32.dll")
+    );
     let mut exports: Vec<Export> = pe.exports().collect();
     exports.sort_by_key(|x| x.rva);
     exports.dedup_by_key(|x| x.ordinal);
