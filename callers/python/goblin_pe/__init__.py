@@ -624,7 +624,10 @@ class Pe(Layout):
     def walk_export_addresses(self) -> _t.Iterator[ExportEntry]:
         """The entries of the export address table one by one, by rising ordinals, also those without a name, each with its
         forwarder, which is read as the walk goes on. None is kept."""
-        return (ExportEntry(*it, self.forwarder_at(it.rva) if it.forwards else None) for it in self._each("export_addresses"))
+        return map(self._export_entry, self._each("export_addresses"))
+
+    def _export_entry(self, it: ExportAddress) -> ExportEntry:
+        return ExportEntry(it.ordinal, it.rva, it.forwards, self.forwarder_at(it.rva) if it.forwards else None)
 
     @property
     def relocation_table(self) -> State:
