@@ -232,7 +232,7 @@ class Layout:
     """An image by its header and its sections: Layout(data, options), where `data` are the file's bytes and `options` are
     Options. A file whose header or sections are refused raises Refused. Nothing of it is listed, so it takes memory for the
     records of its sections alone, however much its tables list: these are walked over, or looked up. Of the sections rows are
-    made where `sections` is asked for.
+    made where `sections` is asked for. The Rich header is no part of it: Pe has it.
 
     It keeps `data`, or the copy of a buffer that could be written, until close() or the end of a `with`. Sections that were not
     asked for before, symbols, damage and the methods raise ValueError then, but find_offset needs the bytes no longer. A copy, as
