@@ -2,6 +2,7 @@
 import collections
 import concurrent.futures
 import copy
+import dataclasses
 import io
 import itertools
 import json
@@ -32,6 +33,7 @@ class Idioms(unittest.TestCase):
         path = pathlib.Path(SAMPLES) / "imports_by_name_x64.dll"
         self.assertEqual(Pe.open(path).imports, Pe(path.read_bytes()).imports)
         self.assertEqual(Layout.open(str(path), Options(is_permissive=True)).sections, Pe.open(path).sections)
+        self.assertIsInstance(Pe.open(path), Layout)
 
     def test_rows_are_sliced_and_indexed(self):
         sections = Pe(DATA).sections
@@ -51,6 +53,7 @@ class Idioms(unittest.TestCase):
         self.assertEqual((dll, name), (b"KERNEL32.dll", b"GetTickCount"))
         row = Pe(DATA).sections[0]
         self.assertEqual((row._replace(name=b".code").name, row._asdict()["virtual_address"], row._fields[0]), (b".code", 0x1000, "name"))
+        self.assertEqual(dataclasses.replace(Options(), is_permissive=True), Options(is_permissive=True))
 
     def test_rows_are_equal_and_hashed(self):
         one, two = Pe(DATA), Pe(DATA)
