@@ -131,8 +131,11 @@ def open_without_imports(file):
 
 
 def next_imports(file):
+    layout, directories = records.Layout(), (records.Directory * 16)()
+    LIB.goblin_pe_raw_read_layout(file, len(file), c.byref(STRICT), c.byref(layout), directories, 16, (records.Section * 1)(), 0)
     position, room, count = records.ImportPosition(), (records.Import * 256)(), c.c_size_t()
-    fault = LIB.goblin_pe_raw_next_imports(file, len(file), c.byref(STRICT), c.byref(position), room, 256, c.byref(count))
+    fault = LIB.goblin_pe_raw_next_imports(
+        file, len(file), c.byref(STRICT), c.byref(layout.places), c.byref(position), room, 256, c.byref(count))
     return fault.status, count.value
 
 

@@ -101,8 +101,11 @@ static bool a_walk(void)
 {
     size_t position = 0, count, all = 0;
     struct goblin_pe_export room[1];
+    struct goblin_pe_layout layout;
+    if (goblin_pe_read_layout(bytes, length, NULL, &layout, NULL, 0, NULL, 0).status)
+        return false;
     do {
-        if (goblin_pe_next_exports(bytes, length, NULL, &position, room, 1, &count).status)
+        if (goblin_pe_next_exports(bytes, length, NULL, &layout.places, &position, room, 1, &count).status)
             return false;
         all += count;
     } while (count);

@@ -259,6 +259,7 @@ class Layout:
 
     def _take_headers(self, file: _t.Union[records.File, records.Layout], directories: _t.List[records.Directory]) -> None:
         self._dos_header, self._coff_header, self._header = file.dos_header, file.coff_header, file.optional_header
+        self._places = file.places
         self._directories = {_named(DirectoryType, index): d.directory for index, d in enumerate(directories) if d.is_present}
         self._has_directories = bool(directories)
 
@@ -446,7 +447,8 @@ class Layout:
         # the call of walks over imports, by the options, but with imports
         how = self._options
         asked = records.Options(how.is_permissive, how.resolve_rva, how.raw_pointer_rule, True)
-        return lambda address, length, *to: _LIB.goblin_pe_raw_next_imports(address, length, _c.byref(asked), *to)
+        return lambda address, length, *to: _LIB.goblin_pe_raw_next_imports(
+            address, length, _c.byref(asked), _c.byref(self._places), *to)
 
     def _count_imports(self) -> _t.Optional[int]:
         # how many the walk over imports gives, of which none becomes a row; None where the file has no table of them
@@ -469,18 +471,17 @@ class Layout:
     def _libraries(self, data: _Kept, call: _t.Callable[..., records.Fault]) -> _t.Iterator[Library]:
         # of each library the first import is read, and then the next record
         position, first = records.ImportPosition(), _room(records.Import, 1)
-        directory = self._directories.get(DirectoryType.IMPORT_TABLE)
-        begin = self.find_offset(directory.virtual_address) if directory else 0
+        begin = self.find_offset(self._places.imports.virtual_address) or 0
         for address, _ in _batches(data, first, call, position):
             record = position.record_offset
             stamp, chain = _struct.unpack_from("<II", data, record + 4)
-            yield Library(_Rows(data, address).text(first[0].dll), record, stamp, chain, (record - (begin or 0)) // 20)
+            yield Library(_Rows(data, address).text(first[0].dll), record, stamp, chain, (record - begin) // 20)
             position.record_offset, position.slot_offset = record + 20, 0
 
     def walk_exports(self) -> _t.Iterator[Export]:
         """The exports one by one, of which none is kept."""
         return _walk(self._bytes(), records.Export, "exported", lambda address, length, *to: _LIB.goblin_pe_raw_next_exports(
-            address, length, _c.byref(self._options), *to), _c.c_size_t(), self._batch())
+            address, length, _c.byref(self._options), _c.byref(self._places), *to), _c.c_size_t(), self._batch())
 
     @property
     def symbols(self) -> _t.List[Symbol]:

@@ -350,14 +350,15 @@ macro_rules! walks {
         pub struct $name<'a> {
             bytes: &'a [u8],
             options: Options,
+            places: raw::Places,
             batches: Batches<raw::$record<'a>, $position>,
         }
 
         impl<'a> $name<'a> {
-            // From the beginning, in a file with so many sections.
-            pub(crate) fn of(bytes: &'a [u8], options: Options, sections: usize) -> Self {
-                let batches = Batches::by_sections(sections);
-                $name { bytes, options, batches }
+            // From the beginning, in a file whose sections and tables lie there.
+            pub(crate) fn of(bytes: &'a [u8], options: Options, places: raw::Places) -> Self {
+                let batches = Batches::by_sections(usize::from(places.number_of_sections));
+                $name { bytes, options, places, batches }
             }
         }
 
@@ -366,7 +367,7 @@ macro_rules! walks {
 
             fn next(&mut self) -> Option<Result<$item, Error>> {
                 let found = self.batches.next(|position, records, count| {
-                    $call(self.bytes, &self.options, position, records, count)
+                    $call(self.bytes, &self.options, &self.places, position, records, count)
                 })?;
                 Some(found.map(<$item>::from))
             }
@@ -397,17 +398,24 @@ walks! {
 pub struct WalkLibraries<'a> {
     bytes: &'a [u8],
     options: Options,
+    places: raw::Places,
     // The file offset of the import directory.
     directory: usize,
     position: Option<raw::ImportPosition>,
 }
 
 impl<'a> WalkLibraries<'a> {
-    // From the beginning, of a file whose import directory stands at this offset.
-    pub(crate) fn of(bytes: &'a [u8], options: Options, directory: usize) -> Self {
+    // From the beginning, of a file whose tables lie at these places, and whose import directory at this offset.
+    pub(crate) fn of(
+        bytes: &'a [u8],
+        options: Options,
+        places: raw::Places,
+        directory: usize,
+    ) -> Self {
         WalkLibraries {
             bytes,
             options,
+            places,
             directory,
             position: Some(raw::ImportPosition::default()),
         }
@@ -423,6 +431,7 @@ impl<'a> WalkLibraries<'a> {
         let fault = raw::next_imports(
             self.bytes,
             &self.options,
+            &self.places,
             &mut position,
             &mut first,
             &mut count,

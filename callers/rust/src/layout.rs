@@ -334,7 +334,7 @@ impl<'a> Layout<'a> {
         WalkImports::of(
             self.bytes,
             self.options.with_parse_imports(true),
-            self.sections().len(),
+            self.file.places,
         )
     }
 
@@ -353,12 +353,13 @@ impl<'a> Layout<'a> {
     /// ```
     #[must_use]
     pub fn walk_libraries(&self) -> WalkLibraries<'a> {
-        let directory = self.data_directory(DirectoryType::ImportTable);
-        let offset = directory.and_then(|it| self.find_offset(it.virtual_address as usize));
+        let directory = self.file.places.imports.virtual_address;
         // (without an offset there are no libraries)
+        let offset = self.find_offset(directory as usize);
         WalkLibraries::of(
             self.bytes,
             self.options.with_parse_imports(true),
+            self.file.places,
             offset.unwrap_or(0),
         )
     }
@@ -375,7 +376,7 @@ impl<'a> Layout<'a> {
     /// ```
     #[must_use]
     pub fn walk_exports(&self) -> WalkExports<'a> {
-        WalkExports::of(self.bytes, self.options, self.sections().len())
+        WalkExports::of(self.bytes, self.options, self.file.places)
     }
 
     /// The symbols, which few images have; they are read as the walk goes on.

@@ -86,6 +86,7 @@ impl<'a> Pe<'a> {
                 optional_header: file.optional_header,
                 directories: file.directories,
                 sections: file.sections,
+                places: file.places,
                 dos_header: file.dos_header,
                 coff_header: file.coff_header,
                 dos_stub: tables.dos_stub,
