@@ -1,5 +1,6 @@
 """Rich headers, symbols, relocations, and where addresses lie in a file: worked values, which the library for callers reads."""
 import ctypes
+import itertools
 import struct
 import unittest
 
@@ -317,6 +318,9 @@ class Tables(unittest.TestCase):
             with self.subTest(name):
                 pe = package().Pe(with_blocks(directory), package().Options(resolve_rva=False))
                 self.assertEqual((pe.blocks, told(pe.block_rest)), (wanted, rest))
+                walk = pe.walk_blocks()
+                self.assertEqual([*itertools.islice(walk, len(wanted))], wanted)
+                self.assertEqual(refusal(next, walk, None), rest)
 
     def test_an_address_belongs_to_the_first_section_whose_window_holds_it(self):
         for sections, alignment, how, rva, wanted in OFFSETS:

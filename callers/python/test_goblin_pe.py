@@ -21,7 +21,7 @@ import unittest.mock
 
 import goblin_pe
 from goblin_pe import (AuxBeginAndEndFunction, AuxFunctionDefinition, AuxSectionDefinition, AuxWeakExternal, Cause, DataDirectory,
-                       DirectoryType, Kind, Layout, ObjectFile, Options, Pe, RawPointerRule, ReadFault, Refused, State, Status, Te, kind)
+                       DirectoryType, ExportAddress, Kind, Layout, ObjectFile, Options, Pe, RawPointerRule, ReadFault, Refused, State, Status, Te, kind)
 from goblin_pe.records import Text
 from goblin_pe.rows import Rows
 
@@ -449,7 +449,10 @@ class Files(unittest.TestCase):
         for name in ("imports_by_name_x64.dll", "forwarders_x64.dll", "program_x86.exe"):
             data = sample(name)
             pe, unlisted = Pe(data), Pe(data, Options(parse_imports=False))
-            self.assertEqual((list(pe.walk_imports()), list(pe.walk_exports())), (pe.imports, pe.exports))
+            self.assertEqual((list(pe.walk_imports()), list(pe.walk_exports()), list(pe.walk_blocks())), (pe.imports, pe.exports, pe.blocks))
+            entries = list(Layout(data).walk_export_addresses())
+            self.assertEqual([ExportAddress(*it[:3]) for it in entries], pe.export_addresses)
+            self.assertEqual([it.forwarder for it in entries if it.forwards], [x.forwarder for x in pe.exports if x.forwarder])
             self.assertEqual((unlisted.imports, list(unlisted.walk_imports()), unlisted.imphash()), ([], pe.imports, pe.imphash()))
 
     def test_libraries_have_records(self):

@@ -483,6 +483,27 @@ class Layout:
         return _walk(self._bytes(), records.Export, "exported", lambda address, length, *to: _LIB.goblin_pe_raw_next_exports(
             address, length, _c.byref(self._options), _c.byref(self._places), *to), _c.c_size_t(), self._batch())
 
+    def walk_export_addresses(self) -> _t.Iterator[ExportEntry]:
+        """The entries of the export address table one by one, by rising ordinals, also those without a name, each with its
+        forwarder. None is kept. Refused is raised where it would be of the exports."""
+        data, found = self._bytes(), _room(records.ExportAddress, self._batch())
+        directory = self.bytes_at(self._places.exports.virtual_address, 40)  # (where it is refused, no entry comes)
+        base, = _struct.unpack_from("<I", directory, 16) if directory else (0,)
+        batches = _batches(data, found, lambda address, length, *to: _LIB.goblin_pe_raw_next_export_addresses(
+            address, length, _c.byref(self._options), _c.byref(self._places), *to), _c.c_size_t())
+        addresses = _itertools.chain.from_iterable(found[:count] for _, count in batches)
+        return map(self._export_entry, _itertools.count(base), addresses)
+
+    def _export_entry(self, ordinal: int, it: records.ExportAddress) -> ExportEntry:
+        return ExportEntry(ordinal, it.rva, it.forwards, self.forwarder_at(it.rva) if it.forwards else None)
+
+    def walk_blocks(self) -> _t.Iterator[Block]:
+        """The blocks of base relocations one by one, of which none is kept. Where a rest of their directory is no block, Refused
+        is raised in either mode, after what comes before, as block_rest of a Pe has it; and where strict mode refuses the
+        directory."""
+        return _walk(self._bytes(), records.Block, "block", lambda address, length, *to: _LIB.goblin_pe_raw_next_blocks(
+            address, length, _c.byref(self._options), _c.byref(self._places), *to), _c.c_size_t(), self._batch())
+
     @property
     def symbols(self) -> _t.List[Symbol]:
         """The symbols, which few images have. Refused is raised where the file is too short for their table or its string
@@ -621,14 +642,6 @@ class Pe(Layout):
     def export_addresses(self) -> _t.List[ExportAddress]:
         """The entries of the export address table, by rising ordinals, also those without a name."""
         return self._rows("export_addresses")
-
-    def walk_export_addresses(self) -> _t.Iterator[ExportEntry]:
-        """The entries of the export address table one by one, by rising ordinals, also those without a name, each with its
-        forwarder, which is read as the walk goes on. None is kept."""
-        return map(self._export_entry, self._each("export_addresses"))
-
-    def _export_entry(self, it: ExportAddress) -> ExportEntry:
-        return ExportEntry(it.ordinal, it.rva, it.forwards, self.forwarder_at(it.rva) if it.forwards else None)
 
     @property
     def relocation_table(self) -> State:

@@ -108,65 +108,6 @@ fn word(bytes: &[u8]) -> (u8, u16) {
     ((word >> 12) as u8, word & 0xFFF)
 }
 
-/// A walk over the entries of the export address table of an image, each with its forwarder, which is read as the walk
-/// goes on.
-#[derive(Clone)]
-pub struct WalkExportAddresses<'p, 'a> {
-    layout: &'p Layout<'a>,
-    entries: ExportAddresses<'p>,
-}
-
-impl<'p, 'a> WalkExportAddresses<'p, 'a> {
-    pub(crate) fn of(layout: &'p Layout<'a>, entries: ExportAddresses<'p>) -> Self {
-        WalkExportAddresses { layout, entries }
-    }
-
-    // The entry with its forwarder.
-    fn read(layout: &Layout<'a>, entry: ExportAddress) -> ExportEntry<'a> {
-        let ExportAddress {
-            ordinal,
-            rva,
-            forwards,
-        } = entry;
-        let forwarder = forwards.then(|| layout.forwarder_at(rva as usize).ok());
-        ExportEntry {
-            ordinal,
-            rva,
-            forwards,
-            forwarder: forwarder.flatten(),
-        }
-    }
-}
-
-impl<'a> Iterator for WalkExportAddresses<'_, 'a> {
-    type Item = ExportEntry<'a>;
-
-    fn next(&mut self) -> Option<ExportEntry<'a>> {
-        self.entries.next().map(|it| Self::read(self.layout, it))
-    }
-
-    fn size_hint(&self) -> (usize, Option<usize>) {
-        self.entries.size_hint()
-    }
-
-    fn nth(&mut self, count: usize) -> Option<ExportEntry<'a>> {
-        self.entries
-            .nth(count)
-            .map(|it| Self::read(self.layout, it))
-    }
-}
-
-impl ExactSizeIterator for WalkExportAddresses<'_, '_> {}
-
-impl FusedIterator for WalkExportAddresses<'_, '_> {}
-
-impl fmt::Debug for WalkExportAddresses<'_, '_> {
-    fn fmt(&self, f: &mut fmt::Formatter<'_>) -> fmt::Result {
-        f.debug_struct("WalkExportAddresses")
-            .finish_non_exhaustive()
-    }
-}
-
 /// The imports of an image, which the image was given up for. A copy has records of its own; where memory for them
 /// is refused, the process ends as it does for a [`Vec`].
 #[derive(Clone)]
@@ -266,6 +207,17 @@ impl Position for raw::ImportPosition {
     // (a batch that is not full may come before a refusal)
     fn is_end(&self, count: usize, _room: usize) -> bool {
         count == 0 || self.record_offset == usize::MAX
+    }
+}
+
+// The offset of a block in the directory of base relocations.
+#[derive(Clone, Default)]
+struct BlockPosition(usize);
+
+impl Position for BlockPosition {
+    // (a batch that is not full may come before a refusal)
+    fn is_end(&self, count: usize, _room: usize) -> bool {
+        count == 0
     }
 }
 
@@ -390,6 +342,87 @@ walks! {
 
     /// A walk over the exports of an image, in constant memory. A copy is as that of [`WalkImports`].
     WalkExports by raw::next_exports, Export from usize => Export<'a>;
+
+    /// A walk over the blocks of base relocations of an image, in constant memory. A copy is as that of
+    /// [`WalkImports`].
+    WalkBlocks by next_blocks, Block from BlockPosition => Block<'a>;
+}
+
+// The call of the walk over blocks, as those of the other walks are.
+#[allow(clippy::trivially_copy_pass_by_ref)]
+fn next_blocks<'a>(
+    bytes: &'a [u8],
+    options: &Options,
+    places: &raw::Places,
+    position: &mut BlockPosition,
+    blocks: &mut [raw::Block<'a>],
+    count: &mut usize,
+) -> Fault {
+    raw::next_blocks(bytes, options, places, &mut position.0, blocks, count)
+}
+
+/// A walk over the entries of the export address table of an image, each with its forwarder, in constant memory. A copy
+/// is as that of [`WalkImports`].
+#[derive(Clone)]
+pub struct WalkExportAddresses<'p, 'a> {
+    layout: &'p Layout<'a>,
+    // The ordinal of the next entry.
+    ordinal: usize,
+    batches: Batches<raw::ExportAddress, usize>,
+}
+
+impl<'p, 'a> WalkExportAddresses<'p, 'a> {
+    // From the beginning, whose entry has this ordinal.
+    pub(crate) fn of(layout: &'p Layout<'a>, ordinal: usize) -> Self {
+        let sections = layout.file.places.number_of_sections;
+        WalkExportAddresses {
+            layout,
+            ordinal,
+            batches: Batches::by_sections(usize::from(sections)),
+        }
+    }
+
+    // An entry with its forwarder.
+    fn read(layout: &Layout<'a>, ordinal: usize, entry: raw::ExportAddress) -> ExportEntry<'a> {
+        let raw::ExportAddress { rva, forwards } = entry;
+        let forwarder = forwards.then(|| layout.forwarder_at(rva as usize).ok());
+        ExportEntry {
+            ordinal,
+            rva,
+            forwards,
+            forwarder: forwarder.flatten(),
+        }
+    }
+}
+
+impl<'a> Iterator for WalkExportAddresses<'_, 'a> {
+    type Item = Result<ExportEntry<'a>, Error>;
+
+    fn next(&mut self) -> Option<Result<ExportEntry<'a>, Error>> {
+        let (layout, ordinal) = (self.layout, self.ordinal);
+        let found = self.batches.next(|position, records, count| {
+            let places = &layout.file.places;
+            raw::next_export_addresses(
+                layout.bytes,
+                &layout.options,
+                places,
+                position,
+                records,
+                count,
+            )
+        })?;
+        self.ordinal += 1;
+        Some(found.map(|it| Self::read(layout, ordinal, *it)))
+    }
+}
+
+impl FusedIterator for WalkExportAddresses<'_, '_> {}
+
+impl fmt::Debug for WalkExportAddresses<'_, '_> {
+    fn fmt(&self, f: &mut fmt::Formatter<'_>) -> fmt::Result {
+        f.debug_struct("WalkExportAddresses")
+            .finish_non_exhaustive()
+    }
 }
 
 /// A walk over the libraries of which an image imports something, without memory but for an index of more than 96

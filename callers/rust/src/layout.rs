@@ -8,7 +8,8 @@ use crate::error::Error;
 use crate::footprint::Footprint;
 use crate::imphash;
 use crate::iterators::{
-    DataDirectories, Sections, Symbols, WalkExports, WalkImports, WalkLibraries,
+    DataDirectories, Sections, Symbols, WalkBlocks, WalkExportAddresses, WalkExports, WalkImports,
+    WalkLibraries,
 };
 use crate::memory::records;
 use crate::numbers::DirectoryType;
@@ -379,6 +380,44 @@ impl<'a> Layout<'a> {
         WalkExports::of(self.bytes, self.options, self.file.places)
     }
 
+    /// A walk over the entries of the export address table, by rising ordinals, also those without a name, each with its
+    /// forwarder. What is refused of the exports ends it.
+    ///
+    /// ```no_run
+    /// # let bytes = [];
+    /// # let layout = goblin_pe::Layout::read(&bytes, &goblin_pe::Options::permissive())?;
+    /// for entry in layout.walk_export_addresses() {
+    ///     let entry = entry?;
+    ///     println!("{} {:#x} {:?}", entry.ordinal, entry.rva, entry.forwarder);
+    /// }
+    /// # Ok::<(), goblin_pe::Error>(())
+    /// ```
+    #[must_use]
+    pub fn walk_export_addresses(&self) -> WalkExportAddresses<'_, 'a> {
+        // (where the directory is refused, no entry comes)
+        let directory = self.file.places.exports.virtual_address as usize;
+        let stored = self.bytes_at(directory + ORDINAL_BASE, 4).ok();
+        let base = stored.and_then(|it| it.first_chunk().copied());
+        WalkExportAddresses::of(self, base.map_or(0, u32::from_le_bytes) as usize)
+    }
+
+    /// A walk over the blocks of base relocations, in constant memory, which reads the file as it goes on. Where a rest
+    /// of their directory is no block, it ends with the reason, as [`Pe::block_rest`] has it, and so it does where
+    /// strict mode refuses the directory.
+    ///
+    /// ```no_run
+    /// # let bytes = [];
+    /// # let layout = goblin_pe::Layout::read(&bytes, &goblin_pe::Options::permissive())?;
+    /// for block in layout.walk_blocks() {
+    ///     println!("{:#x}", block?.rva);
+    /// }
+    /// # Ok::<(), goblin_pe::Error>(())
+    /// ```
+    #[must_use]
+    pub fn walk_blocks(&self) -> WalkBlocks<'a> {
+        WalkBlocks::of(self.bytes, self.options, self.file.places)
+    }
+
     /// The symbols, which few images have; they are read as the walk goes on.
     ///
     /// # Errors
@@ -482,6 +521,9 @@ impl fmt::Debug for Layout<'_> {
             .finish_non_exhaustive()
     }
 }
+
+// Where the ordinal base stands in the record of the exports, in bytes.
+const ORDINAL_BASE: usize = 16;
 
 impl<'a> From<Pe<'a>> for Layout<'a> {
     /// The image without its lists, whose memory is given back.

@@ -25,9 +25,9 @@
 //! |---|---|---|
 //! | [`Pe::read`] | as long as what it lists, some microseconds for a small file | a record for each row, of 8 to 96 bytes |
 //! | [`Layout::read`] | as long as the file, and the names of the sections | a record for each section |
-//! | [`Layout::walk_imports`], [`Layout::walk_exports`] | as they go on | room for 256 rows; of more than 96 sections for 4,096, and an index |
+//! | [`Layout::walk_imports`], [`Layout::walk_exports`], [`Layout::walk_blocks`] | as they go on | room for 256 rows; of more than 96 sections for 4,096, and an index |
 //! | [`Layout::walk_libraries`] | a call for each library | an index of more than 96 sections |
-//! | [`Pe::walk_export_addresses`] | as it goes on, a walk over the sections for each forwarder | none |
+//! | [`Layout::walk_export_addresses`] | as it goes on, a walk over the sections for each forwarder | as the walks above |
 //! | [`Layout::symbols`], [`Section::walk_relocations`] | as they go on | room for 256 rows |
 //! | [`Layout::damage`] | as a read | an index of more than 96 sections |
 //! | [`Layout::footprint`], [`Layout::write_fingerprint_text`] | as two reads | a bit for each byte of the file, and the ranges; an index of more than 96 sections |
@@ -85,7 +85,7 @@ pub use error::Error;
 pub use footprint::Footprint;
 pub use iterators::{
     Blocks, DataDirectories, ExportAddresses, Exports, FootprintRanges, Imports, IntoImports,
-    Sections, Symbols, WalkExportAddresses, WalkExports, WalkImports, WalkLibraries,
+    Sections, Symbols, WalkBlocks, WalkExportAddresses, WalkExports, WalkImports, WalkLibraries,
     WalkRelocations, Words,
 };
 pub use layout::Layout;

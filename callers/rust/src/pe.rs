@@ -7,9 +7,7 @@ use std::ops::Deref;
 
 use crate::error::Error;
 use crate::imphash;
-use crate::iterators::{
-    Blocks, ExportAddresses, Exports, Imports, IntoImports, WalkExportAddresses,
-};
+use crate::iterators::{Blocks, ExportAddresses, Exports, Imports, IntoImports};
 use crate::layout::{Layout, SectionRecords};
 use crate::numbers::Part;
 use crate::raw::{self, Options, RichMetadata};
@@ -354,22 +352,6 @@ impl<'a> Pe<'a> {
         let base = self.ordinal_base();
         let records = self.tables.export_addresses.get();
         ExportAddresses((base..base + records.len()).zip(records.iter()))
-    }
-
-    /// The entries of the export address table, by rising ordinals, also those without a name, each with its forwarder,
-    /// which is read as the walk goes on.
-    ///
-    /// ```no_run
-    /// # let bytes = [];
-    /// let pe = goblin_pe::Pe::read(&bytes, &goblin_pe::Options::default())?;
-    /// for entry in pe.walk_export_addresses().filter(|it| it.rva != 0) {
-    ///     println!("{} {:#x} {:?}", entry.ordinal, entry.rva, entry.forwarder);
-    /// }
-    /// # Ok::<(), goblin_pe::Error>(())
-    /// ```
-    #[must_use]
-    pub fn walk_export_addresses(&self) -> WalkExportAddresses<'_, 'a> {
-        WalkExportAddresses::of(&self.layout, self.export_addresses())
     }
 
     fn ordinal_base(&self) -> usize {

@@ -363,6 +363,58 @@ pub fn next_exports<'a>(
     }
 }
 
+/// Goes on with the walk over the entries of the export address table; fills the records as far as there is room,
+/// and says how many.
+pub fn next_export_addresses(
+    bytes: &[u8],
+    options: &Options,
+    places: &Places,
+    position: &mut usize,
+    addresses: &mut [ExportAddress],
+    count: &mut usize,
+) -> Fault {
+    test_interface();
+    // SAFETY: as in `kind`.
+    unsafe {
+        goblin_pe_raw_next_export_addresses(
+            bytes.as_ptr(),
+            bytes.len(),
+            options,
+            places,
+            position,
+            addresses.as_mut_ptr(),
+            addresses.len(),
+            count,
+        )
+    }
+}
+
+/// Goes on with the walk over the blocks of base relocations; fills the records as far as there is room, and says how
+/// many.
+pub fn next_blocks<'a>(
+    bytes: &'a [u8],
+    options: &Options,
+    places: &Places,
+    position: &mut usize,
+    blocks: &mut [Block<'a>],
+    count: &mut usize,
+) -> Fault {
+    test_interface();
+    // SAFETY: as in `open`.
+    unsafe {
+        goblin_pe_raw_next_blocks(
+            bytes.as_ptr(),
+            bytes.len(),
+            options,
+            places,
+            position,
+            blocks.as_mut_ptr(),
+            blocks.len(),
+            count,
+        )
+    }
+}
+
 /// Reads an object; fills the records as far as there is room.
 pub fn read_object<'a>(
     bytes: &'a [u8],

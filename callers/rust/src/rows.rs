@@ -611,7 +611,7 @@ pub struct ExportAddress {
     /// The address, relative to the image's base; of a forwarder that of its text, which
     /// [`Layout::forwarder_at`](crate::Layout::forwarder_at) reads.
     pub rva: u32,
-    /// Whether it is a forwarder: [`Pe::walk_export_addresses`](crate::Pe::walk_export_addresses) reads which.
+    /// Whether it is a forwarder: [`Layout::walk_export_addresses`](crate::Layout::walk_export_addresses) reads which.
     pub forwards: bool,
 }
 

@@ -211,6 +211,8 @@ fn walks_give_what_is_listed() {
         let exports: Vec<_> = pe.walk_exports().map(Result::unwrap).collect();
         assert!(pe.imports().eq(imports.iter().copied()), "{name}");
         assert!(pe.exports().eq(exports), "{name}");
+        let blocks: Vec<_> = pe.walk_blocks().map(Result::unwrap).collect();
+        assert!(pe.blocks().eq(blocks), "{name}");
         let options = Options::default().with_parse_imports(false);
         let unlisted = Pe::read(&bytes, &options).unwrap();
         assert_eq!(unlisted.imports().len(), 0);
@@ -748,13 +750,13 @@ fn each_forwarder_is_at_its_address() {
     for x in pe.exports() {
         let found = pe.forwarder_at(x.rva).ok();
         assert!(x.forwarder.is_none() || found == x.forwarder);
-        let entry = pe
-            .walk_export_addresses()
-            .find(|it| it.ordinal == x.ordinal);
+        let mut entries = pe.walk_export_addresses().map(Result::unwrap);
+        let entry = entries.find(|it| it.ordinal == x.ordinal);
         let told = entry.map(|it| (it.rva as usize, it.forwards, it.forwarder));
         assert_eq!(told, Some((x.rva, x.forwarder.is_some(), x.forwarder)));
     }
-    let addresses = pe.walk_export_addresses().map(|it| (it.ordinal, it.rva));
+    let entries = pe.walk_export_addresses().map(Result::unwrap);
+    let addresses = entries.map(|it| (it.ordinal, it.rva));
     assert!(addresses.eq(pe.export_addresses().map(|it| (it.ordinal, it.rva))));
 }
 
