@@ -26,7 +26,8 @@ view of one, is copied first. A mapped file must not be written or cut by whatev
 The rows of a table are made when they are first asked for, of the file's bytes, and are Python's own then: they stay when
 the bytes are gone. A file of 256 KiB can have more than 800 million imports, and exports whose names have 2 GB; those of
 sections can have hundreds of megabytes. Where memory can't be limited, read a Layout, which lists nothing, and use its
-walk_imports, walk_exports and walk_symbols, which keep no row. A Pe is a Layout with its lists.
+walk_imports, walk_exports, walk_export_addresses, walk_blocks and walk_symbols, which keep no row. A Pe is a Layout with its
+lists.
 
 A refusal raises Refused, also where the library is refused memory: its status is then Status.MEMORY. MemoryError
 comes from Python alone, where there is no memory for what was read.
