@@ -18,7 +18,6 @@ pub mod found;
 pub mod headers;
 pub mod image;
 pub mod kind;
-mod mapping;
 pub mod memory;
 pub mod object;
 mod onward;
