@@ -9,7 +9,7 @@ ghost use Rattle.goblin_pe_calls.specs.Batches.{GivesImports};
 ghost use Rattle.goblin_pe_calls.specs.Batches.{ImportBatch, IsExportsFault, IsImportsFault};
 ghost use Rattle.goblin_pe_records.specs.Calls.{ReadsInto, ReadsWithout, Reported};
 ghost use Rattle.goblin_pe_calls.specs.FileLayouts.{LayoutRecords, SaysLayout};
-ghost use Rattle.goblin_pe.specs.SectionRoom.{TakesIndex};
+ghost use Rattle.goblin_pe.specs.TakenMemory.{TakesIndex};
 ghost use Rattle.goblin_pe_calls.specs.Damages.{RecordsDamage};
 ghost use Rattle.goblin_pe_calls.specs.Footprints.{Lists};
 ghost use Rattle.goblin_pe_calls.specs.Growth.{TakesRecords};

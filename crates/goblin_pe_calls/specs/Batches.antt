@@ -36,7 +36,7 @@ use Rattle.goblin_pe.specs.declared.whole.imports.FileImports.TheVariants.{Narro
 use Rattle.goblin_pe_calls.specs.declared.export.PeExport.{PeExport}
 use Rattle.goblin_pe_calls.specs.declared.import.PeImport.{PeImport}
 use Rattle.goblin_pe_calls.specs.declared.next.PeImportPosition.{PeImportPosition}
-use Rattle.goblin_pe.specs.SectionRoom.{TakesIndex}
+use Rattle.goblin_pe.specs.TakenMemory.{TakesIndex}
 use Rattle.goblin_pe_calls.specs.Exports.{export_said, export_view}
 use Rattle.goblin_pe_records.specs.Filled.{Filled}
 use Rattle.goblin_pe_calls.specs.Imports.{import_said, import_view}

@@ -1,16 +1,15 @@
 -- A file that has the pieces of a key agrees with the file whose key it is, and the other way round.
 use Rattle.std.proofs.Common.{◌≡◌, ℕ, List, length, sym, subst, ◌∙◌}
 use Rattle.std.specs.List.{All}
-use Rattle.goblin_pe.specs.declared.options.ParseOptions.{ParseOptions}
-use Rattle.goblin_pe.specs.Callers.{HasPiece, Piece}
-use Rattle.goblin_pe.specs.Footprints.{Agree, Range}
+use Rattle.goblin_pe_sect.specs.declared.options.ParseOptions.{ParseOptions}
+use Rattle.goblin_base.specs.Footprints.{Agree, Range}
+use Rattle.goblin_pe.specs.Keys.{HasPiece, IsKeyOf, Piece}
 use Rattle.goblin_pe.specs.Whole.{whole_file}
 use Rattle.goblin_pe.proofs.Covered.{agree-pieces, pieces-agree}
-use Rattle.goblin_pe.proofs.Footprints.{agree-fewer}
-use Rattle.goblin_pe_caller.specs.Keys.{IsKeyOf}
-use Rattle.goblin_pe_caller.specs.declared.footprint.Key.{Key}
+use Rattle.goblin_base.proofs.Footprints.{agree-fewer}
+use Rattle.goblin_pe.specs.declared.laws.key.FileKey.{FileKey}
 
-module _ (opts : ParseOptions) (was file : List ℕ) (key : Key) (is : IsKeyOf opts was key) where
+module _ (opts : ParseOptions) (was file : List ℕ) (key : FileKey) (is : IsKeyOf opts was key) where
   abbrev reached : List Range
   reached = (whole_file opts).reaches was
 

@@ -1,23 +1,22 @@
-//! What a cache keeps of a file, to know later files with the same answer.
+//! What a file is known by to one who has its answer.
 
 ghost use Rattle.std.specs.Prelude.{◌≡◌, ◌↔◌, ◌<◌, ◌≤◌, IfErr, IfOk, IsTrue, List, length, map};
 ghost use Rattle.std.specs.Prelude.{ℕ};
 ghost use Rattle.std.specs.List.{All};
-ghost use Rattle.goblin_pe.specs.Answers.{IsMemory};
-ghost use Rattle.goblin_pe.specs.Callers.{HasPiece, piece_at};
-ghost use Rattle.goblin_pe.specs.Footprints.{Agree};
-ghost use Rattle.goblin_pe.specs.Reading.{IsInFile};
+ghost use Rattle.goblin_base.specs.Answers.{IsMemory};
+ghost use Rattle.goblin_base.specs.Footprints.{Agree};
+ghost use Rattle.goblin_base.specs.Reading.{IsInFile};
+ghost use Rattle.goblin_pe_sect.specs.declared.options.ParseOptions.{ParseOptions};
+ghost use Rattle.goblin_pe.specs.Keys.{HasPiece, IsKeyOf, piece_at};
 ghost use Rattle.goblin_pe.specs.Whole.{whole_file};
-ghost use Rattle.goblin_pe.specs.declared.options.ParseOptions.{ParseOptions};
-ghost use Rattle.goblin_pe_caller.specs.Keys.{IsKeyOf};
 
-use goblin_pe::Result;
-use goblin_pe::laws::footprint_whole;
-use goblin_pe::options::ParseOptions;
+use crate::laws::footprint_whole;
+use goblin_base::Result;
+use goblin_pe_sect::ParseOptions;
 use std::alloc::Global;
 use std::marker::Model;
 
-/// The bytes of a file from `begin` on and before `end`.
+/// The bytes of a file at the offsets from `begin` on and before `end`.
 #[derive(Drop)]
 pub struct Piece {
     begin: usize,
@@ -27,32 +26,33 @@ pub struct Piece {
 
 impl Model for Piece {
     ghost use Rattle.std.specs.Prelude.{List, ℕ};
-    ghost use Rattle.goblin_pe.specs.Footprints.{Range};
+    ghost use Rattle.goblin_base.specs.Footprints.{Range};
 
     ghost Value = { Range × List ℕ };
 
     ghost view = { λ piece. ((piece.begin, piece.end), piece.bytes.items) };
 }
 
-/// What the answer for a file depends on: its length, and the bytes of its footprint.
+/// What [`Whole::read`](crate::Whole::read) of a file depends on: its length, and the bytes of its
+/// footprint. A cache keeps it beside what was read, to know later files with the same answer.
 #[derive(Drop)]
-pub struct Key {
-    pub length: usize,
-    pub pieces: Vec<Piece>,
+pub struct FileKey {
+    length: usize,
+    pieces: Vec<Piece>,
 }
 
-impl Key {
-    /// The key of a file.
+impl FileKey {
+    /// The key of a file that is read by these options.
     ///
     /// # Errors
-    /// `Memory` only.
-    pub fn of(alloc: Global, file: &[u8], opts: &ParseOptions) -> Result<Key>
+    /// [`Error::Memory`](goblin_base::Error::Memory) only.
+    pub fn of(alloc: Global, file: &[u8], opts: &ParseOptions) -> Result<FileKey>
         ensures value { IfOk result (IsKeyOf opts.now file.now) }
         ensures refused { IfErr result IsMemory }
     {
         let ranges = footprint_whole(alloc, file, opts)?;
         let pieces = pieces_of(alloc, file, &ranges)?;
-        Ok(Key {
+        Ok(FileKey {
             length: file.len(),
             pieces,
         })
@@ -101,6 +101,7 @@ fn pieces_of(alloc: Global, file: &[u8], ranges: &[(usize, usize)]) -> Result<Ve
     Ok(pieces)
 }
 
+// The piece of a file in a range.
 fn piece_at(alloc: Global, file: &[u8], begin: usize, end: usize) -> Result<Piece>
     requires { (begin < end) × (end ≤ length file.now) }
     ensures value { IfOk result (λ piece. piece ≡ piece_at file.now (begin, end)) }

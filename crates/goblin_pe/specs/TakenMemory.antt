@@ -1,7 +1,8 @@
 -- Where memory is taken for a file.
-use Rattle.std.specs.Prelude.{ℕ, ◌/◌, ◌<◌, ◌≤◌, ◌⊎◌, IsSomeAnd, IsTrue, List, length}
+use Rattle.std.specs.Prelude.{ℕ, ◌⊎◌, IsSomeAnd, IsTrue, List}
 use Rattle.goblin_pe_export.specs.Exports.{HasExportEntries, export_data}
 use Rattle.goblin_pe_head.specs.PeHeader.{PeHeader}
+use Rattle.goblin_pe_head.specs.SectionRoom.{HasRoom, TakesSections}
 use Rattle.goblin_pe_import.specs.ImportDirectory.{TakesLibraries}
 use Rattle.goblin_pe_sect.specs.declared.options.ParseOptions.{ParseOptions}
 use Rattle.goblin_pe_sect.specs.Addresses.{AreMany, MapOfAddresses, map_by, offset_of}
@@ -9,20 +10,6 @@ use Rattle.goblin_pe_sect.specs.Addresses.{reads_strictly}
 use Rattle.goblin_pe_sect.specs.Options.{is_strict}
 use Rattle.goblin_pe_sect.specs.WindowIndex.{HasPieces}
 use Rattle.goblin_pe.specs.Whole.{TablePlaces, entry_format, places_in, sections_after}
-
--- ---- sections
-
--- the file has room for so many sections
-abbrev pub HasRoomFor : ℕ → List ℕ → Type 0
-HasRoomFor count bytes = count ≤ length bytes / 40
-
--- memory is taken for so many sections: there is one, and the file has room for all
-abbrev pub TakesSections : ℕ → List ℕ → Type 0
-TakesSections count bytes = (0 < count) × HasRoomFor count bytes
-
--- the file has room for as many sections as its header says
-abbrev pub HasRoom : List ℕ → PeHeader → Type 0
-HasRoom bytes h = HasRoomFor h.coff_header.number_of_sections bytes
 
 -- Memory is taken for an index of the sections of a file with this header: they are many, the file
 -- has room for all, and addresses are mapped by their windows.

@@ -1,10 +1,10 @@
 use Rattle.std.proofs.Common.{List, subst, sym, ◌∙◌}
 use Rattle.std.specs.List.{All}
 use Rattle.std.proofs.lemmas.Bool.{eqb-true}
-use Rattle.goblin_pe.specs.Callers.{HasPiece, Piece}
+use Rattle.goblin_pe.specs.Keys.{HasPiece, Piece}
 use Rattle.goblin_pe.specs.Whole.{whole_file}
-use Rattle.goblin_pe_caller.proofs.Keys.{agree-there, there-agree}
-use Rattle.goblin_pe_caller.proofs.footprint.Key.fits.Goals as goal
+use Rattle.goblin_pe.proofs.Keys.{agree-there, there-agree}
+use Rattle.goblin_pe.proofs.laws.key.FileKey.fits.Goals as goal
 
 pub returns-then-file-self-clause-exact : goal.returns-then-file-self-clause-exact
 returns-then-file-self-clause-exact c = λ opts was is.

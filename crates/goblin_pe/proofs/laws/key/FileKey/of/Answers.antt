@@ -1,6 +1,6 @@
 use Rattle.std.proofs.Common.{map, refl, ap, ◌∙◌}
-use Rattle.goblin_pe.specs.Callers.{piece_at}
-use Rattle.goblin_pe_caller.proofs.footprint.Key.of.Goals as goal
+use Rattle.goblin_pe.specs.Keys.{piece_at}
+use Rattle.goblin_pe.proofs.laws.key.FileKey.of.Goals as goal
 
 pub returns-clause-value : goal.returns-clause-value
 returns-clause-value c = record {
