@@ -1,6 +1,5 @@
 -- Words for callers: one table of a file, and a refusal.
-use Rattle.std.specs.Prelude.{◌≡◌, ◌-◌, ◌^◌, ℕ, Bool, List, Option, None, count_by, min}
-use Rattle.std.specs.List.{list_any}
+use Rattle.std.specs.Prelude.{◌≡◌, ℕ, List, Option, None}
 use Rattle.goblin_base.specs.declared.error.ErrorOf.{ErrorOf}
 use Rattle.goblin_base.specs.ErrorText.{error_text}
 use Rattle.goblin_base.specs.Reading.{Reading}
@@ -11,9 +10,6 @@ use Rattle.goblin_pe_sect.specs.Options.{is_strict}
 use Rattle.goblin_pe_sect.specs.SectionTable.{Section}
 use Rattle.goblin_pe_head.specs.HeaderReadings.{pe_header}
 use Rattle.goblin_pe_head.specs.PeHeader.{PeHeader}
-use Rattle.goblin_pe_import.specs.declared.import.imports.WalkedImport.{WalkedImport}
-use Rattle.goblin_pe_import.specs.ImportWalks.{walked_value}
-use Rattle.goblin_pe_import.specs.Imports.{ImportValue}
 use Rattle.goblin_pe.specs.declared.whole.Part.{Part}
 use Rattle.goblin_pe.specs.declared.whole.Part.TheVariants.{Absent, Refused}
 use Rattle.goblin_pe.specs.declared.whole.Part.TheVariants as part
@@ -47,19 +43,6 @@ abbrev pub read_or : {A B : Type 0} → B → (A → B) → Part A → B
 read_or default f Absent = default
 read_or default f (part.Read table) = f table
 read_or default f Refused = default
-
--- a call with an import of a walk tells whether the import passes the test
-abbrev pub IsTest : (WalkedImport → Bool → Type 0) → (ImportValue → Bool) → Type 0
-IsTest Returns test =
-    (x : WalkedImport) (found : Bool) → Returns x found → found ≡ test (walked_value x)
-
--- whether one passes the test
-unfoldable pub has_any : {A : Type 0} → (A → Bool) → List A → Bool
-has_any test items = list_any test items
-
--- how many pass the test, at most the greatest number of 64 bits
-abbrev pub counted : {A : Type 0} → (A → Bool) → List A → ℕ
-counted test items = min (count_by test items) (2 ^ 64 - 1)
 
 -- the file is refused by this reading, and this cause is true
 abbrev pub IsRefused : {A : Type 0} → Reading A → List ℕ → ErrorOf → Type 0

@@ -23,6 +23,7 @@ pub use Rattle.goblin_base.specs.Strtab
 pub use Rattle.goblin_base.specs.Tables
 pub use Rattle.goblin_base.specs.Values
 pub use Rattle.readings.specs.Reads
+pub use Rattle.readings.specs.Tests
 pub use Rattle.readings.specs.Walks
 pub use Rattle.goblin_pe_sect.specs.AddressReadings
 pub use Rattle.goblin_pe_sect.specs.Addresses

@@ -53,11 +53,5 @@ fn layout_forwarders(layout: &Layout) -> Result<usize>
 fn count(exports: Exports) -> usize
     ensures { result ≡ count_by (λ x. is_forwarder x.row) (exports_left exports.entry) }
 {
-    let mut count = 0;
-    'exports: for export in exports {
-        if export.export.reexport.is_some() {
-            count += 1;
-        }
-    }
-    count
+    exports.count_exports(|export| export.export.reexport.is_some())
 }

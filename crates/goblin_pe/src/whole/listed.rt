@@ -167,7 +167,9 @@ impl Places {
         };
         match exports_of(alloc, bytes, directory, address_map) {
             Ok(read) => Ok(Part::Read(read)),
-            Err(error) if is_passed_over(&error, !address_map.reads_strictly()) => Ok(Part::Refused),
+            Err(error) if is_passed_over(&error, !address_map.reads_strictly()) => Ok(
+                Part::Refused,
+            ),
             Err(error) => Err(error),
         }
     }
