@@ -48,7 +48,7 @@
      memory_at, forwarder_at         none                                  the sections, and one text
    find_rva                          none                                  the sections, and these once more for each
                                                                            whose data holds the offset
-   next_imports, next_exports        none, or for more than 96 sections    n once a batch, and a name for each record
+   next_imports, next_exports        none, or for more than 96 sections    the sections, and a name for each record
                                      an index of some 300 bytes for each
    read_damage                       the same                              a name for each import and each export
    open                              its tables, which no n bounds: see    what these take
@@ -202,16 +202,17 @@ static inline void goblin_pe_free_ranges(struct goblin_pe_ranges *ranges)
    without a refusal is the end, where there is room; so it is of a file without imports, where these are not
    asked for, and in permissive mode where their directory has no file offset, or the offset 0. In strict mode the
    walk ends with a refusal where goblin_pe_open has one for its imports; what comes before it is given first, and
-   no law says on which bytes that depends. Each call reads the header and the sections anew, so room for some
-   hundreds is better than for one. Memory is taken only for an index of more than 96 sections, which Windows does
-   not load, and given back: each call makes it anew, of 65,535 sections in some 25 milliseconds, so give room
-   for thousands then. */
+   no law says on which bytes that depends. The sections and the tables lie at `places`, which goblin_pe_read_layout
+   and goblin_pe_open say, so no call reads the header again; other places lead to other tables, and harm nothing.
+   Refused is also a file that is too short for the records of its sections. Memory is taken only for an index of
+   more than 96 sections, which Windows does not load, and given back: each call makes it anew, of 65,535 sections
+   in some 25 milliseconds, so give room for thousands then. */
 static inline struct goblin_pe_fault goblin_pe_next_imports(
-    const uint8_t *bytes, size_t length, const struct goblin_pe_options *options,
+    const uint8_t *bytes, size_t length, const struct goblin_pe_options *options, const struct goblin_pe_places *places,
     struct goblin_pe_import_position *position, struct goblin_pe_import *imports, size_t room, size_t *count)
 {
     return goblin_pe_raw_next_imports(
-        GOBLIN_PE_BYTES(bytes), length, goblin_pe_options_or_default(options), position,
+        GOBLIN_PE_BYTES(bytes), length, goblin_pe_options_or_default(options), places, position,
         GOBLIN_PE_SOME(struct goblin_pe_import, imports), room, count);
 }
 
@@ -219,11 +220,11 @@ static inline struct goblin_pe_fault goblin_pe_next_imports(
    position is the index of a name pointer, 0 at the beginning. There are none where permissive mode passes over
    a refused directory; strict mode refuses it at once. */
 static inline struct goblin_pe_fault goblin_pe_next_exports(
-    const uint8_t *bytes, size_t length, const struct goblin_pe_options *options, size_t *position,
-    struct goblin_pe_export *exports, size_t room, size_t *count)
+    const uint8_t *bytes, size_t length, const struct goblin_pe_options *options, const struct goblin_pe_places *places,
+    size_t *position, struct goblin_pe_export *exports, size_t room, size_t *count)
 {
     return goblin_pe_raw_next_exports(
-        GOBLIN_PE_BYTES(bytes), length, goblin_pe_options_or_default(options), position,
+        GOBLIN_PE_BYTES(bytes), length, goblin_pe_options_or_default(options), places, position,
         GOBLIN_PE_SOME(struct goblin_pe_export, exports), room, count);
 }
 

@@ -433,6 +433,48 @@ struct goblin_pe_optional_header {
     struct goblin_pe_windows_fields windows_fields;
 };
 
+/* Where a table of an image lies.
+
+   Source: PE Format, "Optional Header Data Directories (Image Only)". Numbers are as stored; the
+   record has 8 bytes, and `at` gives a field's offset in it. */
+struct goblin_pe_data_directory {
+    /* The table's address, relative to the image's base, at 0. That of the certificates is a file
+       offset, since they are not loaded. */
+    uint32_t virtual_address;
+    /* The table's size in bytes, at 4. An import directory ends at its own last record, and a value
+       at an address by its own type, whatever the size; of an export directory the size says which
+       addresses are forwarders, of base relocations where the blocks end. */
+    uint32_t size;
+};
+
+/* Where the sections and the tables of an image lie, and how the tables are read, as its header
+   says: what walks over the tables take, so that none reads the header again.
+
+   Source: PE Format, "Optional Header (Image Only)". */
+struct goblin_pe_places {
+    /* The file offset of the section table. */
+    size_t section_table;
+    /* The export directory; zeros where there is none. */
+    struct goblin_pe_data_directory exports;
+    /* The import directory; zeros where there is none. */
+    struct goblin_pe_data_directory imports;
+    /* The directory of base relocations; zeros where there is none. */
+    struct goblin_pe_data_directory relocations;
+    /* The file alignment of the sections' raw data, in bytes; 0 where there is no optional header. */
+    uint32_t file_alignment;
+    /* How many records the section table has. */
+    uint16_t number_of_sections;
+    /* The magic of the optional header: by 0x10B the entries of import tables have four bytes, else
+       eight; 0 where there is no optional header. */
+    uint16_t magic;
+    /* Whether there is an export directory. */
+    bool has_exports;
+    /* Whether there is an import directory. */
+    bool has_imports;
+    /* Whether there is a directory of base relocations. */
+    bool has_relocations;
+};
+
 /* A table of the file. */
 struct goblin_pe_table {
     /* How many entries it has, whatever the room. */
@@ -552,6 +594,8 @@ struct goblin_pe_file {
     size_t directories;
     /* How many sections there are. */
     size_t sections;
+    /* Where the sections and the tables lie, for walks over these. */
+    struct goblin_pe_places places;
     /* The imports. */
     struct goblin_pe_table imports;
     /* The exports. */
@@ -564,20 +608,6 @@ struct goblin_pe_file {
     struct goblin_pe_dos_header dos_header;
     /* The COFF header. */
     struct goblin_pe_coff_header coff_header;
-};
-
-/* Where a table of an image lies.
-
-   Source: PE Format, "Optional Header Data Directories (Image Only)". Numbers are as stored; the
-   record has 8 bytes, and `at` gives a field's offset in it. */
-struct goblin_pe_data_directory {
-    /* The table's address, relative to the image's base, at 0. That of the certificates is a file
-       offset, since they are not loaded. */
-    uint32_t virtual_address;
-    /* The table's size in bytes, at 4. An import directory ends at its own last record, and a value
-       at an address by its own type, whatever the size; of an export directory the size says which
-       addresses are forwarders, of base relocations where the blocks end. */
-    uint32_t size;
 };
 
 /* An entry of the table of data directories. */
@@ -798,6 +828,8 @@ struct goblin_pe_layout {
     size_t directories;
     /* How many sections there are, whatever the room. */
     size_t sections;
+    /* Where the sections and the tables lie, for walks over these. */
+    struct goblin_pe_places places;
     /* The DOS header. */
     struct goblin_pe_dos_header dos_header;
     /* The COFF header. */
@@ -805,15 +837,6 @@ struct goblin_pe_layout {
     /* The DOS stub, which is written with a header: bytes of the file, or where permissive mode
        could not read them a stub of the library's own. */
     struct goblin_pe_text dos_stub;
-};
-
-/* Where a walk over imports goes on; zeros are the beginning. It may be kept, and copied. */
-struct goblin_pe_import_position {
-    /* The file offset of a library's record; the greatest number once the end has been reached,
-       also of a file without imports. */
-    size_t record_offset;
-    /* The file offset of the slot that is read next, or 0 before the library's first. */
-    size_t slot_offset;
 };
 
 /* What strict mode would refuse of a file, part by part: for each part a fault of the status 0
@@ -999,6 +1022,15 @@ struct goblin_pe_te_header {
     struct goblin_pe_data_directory debug_dir;
 };
 
+/* Where a walk over imports goes on; zeros are the beginning. It may be kept, and copied. */
+struct goblin_pe_import_position {
+    /* The file offset of a library's record; the greatest number once the end has been reached,
+       also of a file without imports. */
+    size_t record_offset;
+    /* The file offset of the slot that is read next, or 0 before the library's first. */
+    size_t slot_offset;
+};
+
 /* A word of a block of base relocations: which bytes a loader changes, and how.
 
    Source: PE Format, "Base Relocation Block". */
@@ -1036,13 +1068,6 @@ struct goblin_pe_fault goblin_pe_raw_read_layout(
     const uint8_t *bytes, size_t byte_count, const struct goblin_pe_options *options,
     struct goblin_pe_layout *layout, struct goblin_pe_directory *directories, size_t directory_room,
     struct goblin_pe_section *sections, size_t section_room);
-struct goblin_pe_fault goblin_pe_raw_next_imports(
-    const uint8_t *bytes, size_t byte_count, const struct goblin_pe_options *options,
-    struct goblin_pe_import_position *position, struct goblin_pe_import *records,
-    size_t record_room, size_t *count);
-struct goblin_pe_fault goblin_pe_raw_next_exports(
-    const uint8_t *bytes, size_t byte_count, const struct goblin_pe_options *options,
-    size_t *position, struct goblin_pe_export *records, size_t record_room, size_t *count);
 struct goblin_pe_fault goblin_pe_raw_read_damage(
     const uint8_t *bytes, size_t byte_count, const struct goblin_pe_options *options,
     struct goblin_pe_damage *damage);
@@ -1082,6 +1107,14 @@ struct goblin_pe_fault goblin_pe_raw_read_relocations(
 struct goblin_pe_fault goblin_pe_raw_read_te(
     const uint8_t *bytes, size_t byte_count, struct goblin_pe_te_header *header,
     struct goblin_pe_section *sections, size_t section_room);
+struct goblin_pe_fault goblin_pe_raw_next_imports(
+    const uint8_t *bytes, size_t byte_count, const struct goblin_pe_options *options,
+    const struct goblin_pe_places *places, struct goblin_pe_import_position *position,
+    struct goblin_pe_import *records, size_t record_room, size_t *count);
+struct goblin_pe_fault goblin_pe_raw_next_exports(
+    const uint8_t *bytes, size_t byte_count, const struct goblin_pe_options *options,
+    const struct goblin_pe_places *places, size_t *position, struct goblin_pe_export *records,
+    size_t record_room, size_t *count);
 struct goblin_pe_fault goblin_pe_raw_next_relocations(
     const uint8_t *bytes, size_t byte_count, const struct goblin_pe_section *section,
     size_t *position, struct goblin_pe_relocation *records, size_t record_room, size_t *count);
@@ -1196,6 +1229,22 @@ GOBLIN_PE_HAS_SIZE(optional_header, 144, 8);
 GOBLIN_PE_IS_AT(optional_header, standard_fields, 0);
 GOBLIN_PE_IS_AT(optional_header, windows_fields, 56);
 
+GOBLIN_PE_HAS_SIZE(data_directory, 8, 4);
+GOBLIN_PE_IS_AT(data_directory, virtual_address, 0);
+GOBLIN_PE_IS_AT(data_directory, size, 4);
+
+GOBLIN_PE_HAS_SIZE(places, 48, 8);
+GOBLIN_PE_IS_AT(places, section_table, 0);
+GOBLIN_PE_IS_AT(places, exports, 8);
+GOBLIN_PE_IS_AT(places, imports, 16);
+GOBLIN_PE_IS_AT(places, relocations, 24);
+GOBLIN_PE_IS_AT(places, file_alignment, 32);
+GOBLIN_PE_IS_AT(places, number_of_sections, 36);
+GOBLIN_PE_IS_AT(places, magic, 38);
+GOBLIN_PE_IS_AT(places, has_exports, 40);
+GOBLIN_PE_IS_AT(places, has_imports, 41);
+GOBLIN_PE_IS_AT(places, has_relocations, 42);
+
 GOBLIN_PE_HAS_SIZE(table, 16, 8);
 GOBLIN_PE_IS_AT(table, count, 0);
 GOBLIN_PE_IS_AT(table, state, 8);
@@ -1243,20 +1292,17 @@ GOBLIN_PE_IS_AT(coff_header, number_of_symbol_table, 12);
 GOBLIN_PE_IS_AT(coff_header, size_of_optional_header, 16);
 GOBLIN_PE_IS_AT(coff_header, characteristics, 18);
 
-GOBLIN_PE_HAS_SIZE(file, 376, 8);
+GOBLIN_PE_HAS_SIZE(file, 424, 8);
 GOBLIN_PE_IS_AT(file, optional_header, 0);
 GOBLIN_PE_IS_AT(file, directories, 144);
 GOBLIN_PE_IS_AT(file, sections, 152);
-GOBLIN_PE_IS_AT(file, imports, 160);
-GOBLIN_PE_IS_AT(file, exports, 176);
-GOBLIN_PE_IS_AT(file, relocations, 192);
-GOBLIN_PE_IS_AT(file, rich_header, 232);
-GOBLIN_PE_IS_AT(file, dos_header, 288);
-GOBLIN_PE_IS_AT(file, coff_header, 352);
-
-GOBLIN_PE_HAS_SIZE(data_directory, 8, 4);
-GOBLIN_PE_IS_AT(data_directory, virtual_address, 0);
-GOBLIN_PE_IS_AT(data_directory, size, 4);
+GOBLIN_PE_IS_AT(file, places, 160);
+GOBLIN_PE_IS_AT(file, imports, 208);
+GOBLIN_PE_IS_AT(file, exports, 224);
+GOBLIN_PE_IS_AT(file, relocations, 240);
+GOBLIN_PE_IS_AT(file, rich_header, 280);
+GOBLIN_PE_IS_AT(file, dos_header, 336);
+GOBLIN_PE_IS_AT(file, coff_header, 400);
 
 GOBLIN_PE_HAS_SIZE(directory, 24, 8);
 GOBLIN_PE_IS_AT(directory, end, 0);
@@ -1351,17 +1397,14 @@ GOBLIN_PE_IS_AT(tables, block_count, 88);
 GOBLIN_PE_IS_AT(tables, export_directory, 96);
 GOBLIN_PE_IS_AT(tables, dos_stub, 160);
 
-GOBLIN_PE_HAS_SIZE(layout, 264, 8);
+GOBLIN_PE_HAS_SIZE(layout, 312, 8);
 GOBLIN_PE_IS_AT(layout, optional_header, 0);
 GOBLIN_PE_IS_AT(layout, directories, 144);
 GOBLIN_PE_IS_AT(layout, sections, 152);
-GOBLIN_PE_IS_AT(layout, dos_header, 160);
-GOBLIN_PE_IS_AT(layout, coff_header, 224);
-GOBLIN_PE_IS_AT(layout, dos_stub, 248);
-
-GOBLIN_PE_HAS_SIZE(import_position, 16, 8);
-GOBLIN_PE_IS_AT(import_position, record_offset, 0);
-GOBLIN_PE_IS_AT(import_position, slot_offset, 8);
+GOBLIN_PE_IS_AT(layout, places, 160);
+GOBLIN_PE_IS_AT(layout, dos_header, 208);
+GOBLIN_PE_IS_AT(layout, coff_header, 272);
+GOBLIN_PE_IS_AT(layout, dos_stub, 296);
 
 GOBLIN_PE_HAS_SIZE(damage, 144, 8);
 GOBLIN_PE_IS_AT(damage, dos_stub, 0);
@@ -1440,6 +1483,10 @@ GOBLIN_PE_IS_AT(te_header, base_of_code, 12);
 GOBLIN_PE_IS_AT(te_header, image_base, 16);
 GOBLIN_PE_IS_AT(te_header, reloc_dir, 24);
 GOBLIN_PE_IS_AT(te_header, debug_dir, 32);
+
+GOBLIN_PE_HAS_SIZE(import_position, 16, 8);
+GOBLIN_PE_IS_AT(import_position, record_offset, 0);
+GOBLIN_PE_IS_AT(import_position, slot_offset, 8);
 
 GOBLIN_PE_HAS_SIZE(word, 16, 8);
 GOBLIN_PE_IS_AT(word, rva, 0);

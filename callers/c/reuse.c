@@ -87,13 +87,14 @@ static bool is_import(const struct goblin_pe_import *x, const struct goblin_pe_i
            x->rva == y->rva && x->slot == y->slot && x->ordinal == y->ordinal && x->is_by_name == y->is_by_name;
 }
 
-static bool walks_over_imports(const struct goblin_pe_tables *tables)
+static bool walks_over_imports(const struct goblin_pe_places *places, const struct goblin_pe_tables *tables)
 {
     struct goblin_pe_import_position position = { 0, 0 };
     struct goblin_pe_import imports[2];
     size_t found = 0, count = 0;
     do {
-        if (goblin_pe_next_imports(bytes, length, NULL, &position, imports, 2, &count).status != GOBLIN_PE_STATUS_OK)
+        if (goblin_pe_next_imports(bytes, length, NULL, places, &position, imports, 2, &count).status !=
+            GOBLIN_PE_STATUS_OK)
             return false;
         for (size_t i = 0; i < count; i++, found++)
             if (found >= tables->import_count || !is_import(&imports[i], &tables->imports[found]))
@@ -102,12 +103,13 @@ static bool walks_over_imports(const struct goblin_pe_tables *tables)
     return found == tables->import_count;
 }
 
-static bool walks_over_exports(const struct goblin_pe_tables *tables)
+static bool walks_over_exports(const struct goblin_pe_places *places, const struct goblin_pe_tables *tables)
 {
     struct goblin_pe_export exports[2];
     size_t position = 0, found = 0, count = 0;
     do {
-        if (goblin_pe_next_exports(bytes, length, NULL, &position, exports, 2, &count).status != GOBLIN_PE_STATUS_OK)
+        if (goblin_pe_next_exports(bytes, length, NULL, places, &position, exports, 2, &count).status !=
+            GOBLIN_PE_STATUS_OK)
             return false;
         for (size_t i = 0; i < count; i++, found++)
             if (found >= tables->export_count || exports[i].ordinal != tables->exports[found].ordinal ||
@@ -170,7 +172,7 @@ int main(int argc, char **argv)
             return 4;
         if (!are_in_file(&tables) || !has_footprint() || !has_addresses(&tables))
             return 5;
-        if (!walks_over_imports(&tables) || !walks_over_exports(&tables))
+        if (!walks_over_imports(&file.places, &tables) || !walks_over_exports(&file.places, &tables))
             return 6;
         if (has_header && !is_written(&file, directories, &tables))
             return 7;

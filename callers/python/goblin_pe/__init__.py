@@ -258,6 +258,7 @@ class Layout:
 
     def _take_headers(self, file: _t.Union[records.File, records.Layout], directories: _t.List[records.Directory]) -> None:
         self._dos_header, self._coff_header, self._header = file.dos_header, file.coff_header, file.optional_header
+        self._places = file.places
         self._directories = {_named(DirectoryType, index): d.directory for index, d in enumerate(directories) if d.is_present}
         self._has_directories = bool(directories)
 
@@ -445,7 +446,8 @@ class Layout:
         # the call of walks over imports, by the options, but with imports
         how = self._options
         asked = records.Options(how.is_permissive, how.resolve_rva, how.raw_pointer_rule, True)
-        return lambda address, length, *to: _LIB.goblin_pe_raw_next_imports(address, length, _c.byref(asked), *to)
+        return lambda address, length, *to: _LIB.goblin_pe_raw_next_imports(
+            address, length, _c.byref(asked), _c.byref(self._places), *to)
 
     def _count_imports(self) -> _t.Optional[int]:
         # how many the walk over imports gives, of which none becomes a row; None where the file has no table of them
@@ -476,7 +478,7 @@ class Layout:
     def walk_exports(self) -> _t.Iterator[Export]:
         """The exports one by one, of which none is kept."""
         return _walk(self._bytes(), records.Export, "exported", lambda address, length, *to: _LIB.goblin_pe_raw_next_exports(
-            address, length, _c.byref(self._options), *to), _c.c_size_t(), self._batch())
+            address, length, _c.byref(self._options), _c.byref(self._places), *to), _c.c_size_t(), self._batch())
 
     @property
     def symbols(self) -> _t.List[Symbol]:

@@ -261,6 +261,57 @@ class OptionalHeader(NamedTuple):
     windows_fields: WindowsFields
 
 
+@header
+class DataDirectory(NamedTuple):
+    """Where a table of an image lies.
+
+    Source: PE Format, "Optional Header Data Directories (Image Only)". Numbers are as stored; the
+    record has 8 bytes, and `at` gives a field's offset in it.
+
+    virtual_address: The table's address, relative to the image's base, at 0. That of the
+        certificates is a file offset, since they are not loaded.
+    size: The table's size in bytes, at 4. An import directory ends at its own last record, and a
+        value at an address by its own type, whatever the size; of an export directory the size says
+        which addresses are forwarders, of base relocations where the blocks end.
+    """
+
+    virtual_address: Annotated[int, c.c_uint32]
+    size: Annotated[int, c.c_uint32]
+
+
+@record
+class Places(Record):
+    """Where the sections and the tables of an image lie, and how the tables are read, as its header
+    says: what walks over the tables take, so that none reads the header again.
+
+    Source: PE Format, "Optional Header (Image Only)".
+
+    section_table: The file offset of the section table.
+    exports: The export directory; zeros where there is none.
+    imports: The import directory; zeros where there is none.
+    relocations: The directory of base relocations; zeros where there is none.
+    file_alignment: The file alignment of the sections' raw data, in bytes; 0 where there is no
+        optional header.
+    number_of_sections: How many records the section table has.
+    magic: The magic of the optional header: by 0x10B the entries of import tables have four bytes,
+        else eight; 0 where there is no optional header.
+    has_exports: Whether there is an export directory.
+    has_imports: Whether there is an import directory.
+    has_relocations: Whether there is a directory of base relocations.
+    """
+
+    section_table: Annotated[int, c.c_size_t]
+    exports: DataDirectory
+    imports: DataDirectory
+    relocations: DataDirectory
+    file_alignment: Annotated[int, c.c_uint32]
+    number_of_sections: Annotated[int, c.c_uint16]
+    magic: Annotated[int, c.c_uint16]
+    has_exports: Annotated[bool, c.c_bool]
+    has_imports: Annotated[bool, c.c_bool]
+    has_relocations: Annotated[bool, c.c_bool]
+
+
 @record
 class Table(Record):
     """A table of the file.
@@ -402,6 +453,7 @@ class File(Record):
     directories: How many data directories there are, whatever the room: sixteen, or none where
         there is no optional header. Records past them are not filled.
     sections: How many sections there are.
+    places: Where the sections and the tables lie, for walks over these.
     imports: The imports.
     exports: The exports.
     relocations: The base relocations.
@@ -413,30 +465,13 @@ class File(Record):
     optional_header: OptionalHeader
     directories: Annotated[int, c.c_size_t]
     sections: Annotated[int, c.c_size_t]
+    places: Places
     imports: Table
     exports: Table
     relocations: BaseRelocations
     rich_header: RichHeader
     dos_header: DosHeader
     coff_header: CoffHeader
-
-
-@header
-class DataDirectory(NamedTuple):
-    """Where a table of an image lies.
-
-    Source: PE Format, "Optional Header Data Directories (Image Only)". Numbers are as stored; the
-    record has 8 bytes, and `at` gives a field's offset in it.
-
-    virtual_address: The table's address, relative to the image's base, at 0. That of the
-        certificates is a file offset, since they are not loaded.
-    size: The table's size in bytes, at 4. An import directory ends at its own last record, and a
-        value at an address by its own type, whatever the size; of an export directory the size says
-        which addresses are forwarders, of base relocations where the blocks end.
-    """
-
-    virtual_address: Annotated[int, c.c_uint32]
-    size: Annotated[int, c.c_uint32]
 
 
 @record
@@ -685,6 +720,7 @@ class Layout(Record):
     directories: How many data directories there are, whatever the room: sixteen, or none where
         there is no optional header. Records past them are not filled.
     sections: How many sections there are, whatever the room.
+    places: Where the sections and the tables lie, for walks over these.
     dos_header: The DOS header.
     coff_header: The COFF header.
     dos_stub: The DOS stub, which is written with a header: bytes of the file, or where permissive
@@ -694,22 +730,10 @@ class Layout(Record):
     optional_header: OptionalHeader
     directories: Annotated[int, c.c_size_t]
     sections: Annotated[int, c.c_size_t]
+    places: Places
     dos_header: DosHeader
     coff_header: CoffHeader
     dos_stub: Text
-
-
-@record
-class ImportPosition(Record):
-    """Where a walk over imports goes on; zeros are the beginning. It may be kept, and copied.
-
-    record_offset: The file offset of a library's record; the greatest number once the end has been
-        reached, also of a file without imports.
-    slot_offset: The file offset of the slot that is read next, or 0 before the library's first.
-    """
-
-    record_offset: Annotated[int, c.c_size_t]
-    slot_offset: Annotated[int, c.c_size_t]
 
 
 @record
@@ -951,6 +975,19 @@ class TeHeader(NamedTuple):
 
 
 @record
+class ImportPosition(Record):
+    """Where a walk over imports goes on; zeros are the beginning. It may be kept, and copied.
+
+    record_offset: The file offset of a library's record; the greatest number once the end has been
+        reached, also of a file without imports.
+    slot_offset: The file offset of the slot that is read next, or 0 before the library's first.
+    """
+
+    record_offset: Annotated[int, c.c_size_t]
+    slot_offset: Annotated[int, c.c_size_t]
+
+
+@record
 class Word(Record):
     """A word of a block of base relocations: which bytes a loader changes, and how.
 
@@ -990,10 +1027,6 @@ CALLS: Dict[str, Tuple[Any, List[Any]]] = {
         (Fault, [c.c_void_p, c.c_size_t, to(Options), to(File), to(Directory), c.c_size_t, to(Tables)]),
     "goblin_pe_raw_read_layout":
         (Fault, [c.c_void_p, c.c_size_t, to(Options), to(Layout), to(Directory), c.c_size_t, to(Section), c.c_size_t]),
-    "goblin_pe_raw_next_imports":
-        (Fault, [c.c_void_p, c.c_size_t, to(Options), to(ImportPosition), to(Import), c.c_size_t, to(c.c_size_t)]),
-    "goblin_pe_raw_next_exports":
-        (Fault, [c.c_void_p, c.c_size_t, to(Options), to(c.c_size_t), to(Export), c.c_size_t, to(c.c_size_t)]),
     "goblin_pe_raw_read_damage":
         (Fault, [c.c_void_p, c.c_size_t, to(Options), to(Damage)]),
     "goblin_pe_raw_footprint":
@@ -1026,6 +1059,10 @@ CALLS: Dict[str, Tuple[Any, List[Any]]] = {
         (Fault, [c.c_void_p, c.c_size_t, to(Section), to(Relocation), c.c_size_t, to(c.c_size_t)]),
     "goblin_pe_raw_read_te":
         (Fault, [c.c_void_p, c.c_size_t, to(TeHeader), to(Section), c.c_size_t]),
+    "goblin_pe_raw_next_imports":
+        (Fault, [c.c_void_p, c.c_size_t, to(Options), to(Places), to(ImportPosition), to(Import), c.c_size_t, to(c.c_size_t)]),
+    "goblin_pe_raw_next_exports":
+        (Fault, [c.c_void_p, c.c_size_t, to(Options), to(Places), to(c.c_size_t), to(Export), c.c_size_t, to(c.c_size_t)]),
     "goblin_pe_raw_next_relocations":
         (Fault, [c.c_void_p, c.c_size_t, to(Section), to(c.c_size_t), to(Relocation), c.c_size_t, to(c.c_size_t)]),
     "goblin_pe_raw_next_words":

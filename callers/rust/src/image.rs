@@ -194,7 +194,7 @@ macro_rules! images {
                 WalkImports::of(
                     self.bytes,
                     self.options.with_parse_imports(true),
-                    self.sections().len(),
+                    self.file.places,
                 )
             }
 
@@ -212,7 +212,11 @@ macro_rules! images {
             /// ```
             #[must_use]
             pub fn walk_libraries(&self) -> WalkLibraries<'a> {
-                WalkLibraries::of(self.bytes, self.options.with_parse_imports(true))
+                WalkLibraries::of(
+                    self.bytes,
+                    self.options.with_parse_imports(true),
+                    self.file.places,
+                )
             }
 
             /// A walk over the exports, in constant memory, which reads the file as it goes on.
@@ -226,7 +230,7 @@ macro_rules! images {
             /// ```
             #[must_use]
             pub fn walk_exports(&self) -> WalkExports<'a> {
-                WalkExports::of(self.bytes, self.options, self.sections().len())
+                WalkExports::of(self.bytes, self.options, self.file.places)
             }
 
             /// The symbols, which few images have; they are read as the walk goes on.

@@ -290,14 +290,15 @@ macro_rules! walks {
         pub struct $name<'a> {
             bytes: &'a [u8],
             options: Options,
+            places: raw::Places,
             batches: Batches<raw::$record<'a>, $position>,
         }
 
         impl<'a> $name<'a> {
-            // From the beginning, in a file with so many sections.
-            pub(crate) fn of(bytes: &'a [u8], options: Options, sections: usize) -> Self {
-                let batches = Batches::by_sections(sections);
-                $name { bytes, options, batches }
+            // From the beginning, in a file whose sections and tables lie there.
+            pub(crate) fn of(bytes: &'a [u8], options: Options, places: raw::Places) -> Self {
+                let batches = Batches::by_sections(usize::from(places.number_of_sections));
+                $name { bytes, options, places, batches }
             }
         }
 
@@ -306,7 +307,7 @@ macro_rules! walks {
 
             fn next(&mut self) -> Option<Result<$item, Error>> {
                 let found = self.batches.next(|position, records, count| {
-                    $call(self.bytes, &self.options, position, records, count)
+                    $call(self.bytes, &self.options, &self.places, position, records, count)
                 })?;
                 Some(found.map(<$item>::from))
             }
@@ -337,15 +338,17 @@ walks! {
 pub struct WalkLibraries<'a> {
     bytes: &'a [u8],
     options: Options,
+    places: raw::Places,
     position: Option<raw::ImportPosition>,
 }
 
 impl<'a> WalkLibraries<'a> {
-    pub(crate) fn of(bytes: &'a [u8], options: Options) -> Self {
+    pub(crate) fn of(bytes: &'a [u8], options: Options, places: raw::Places) -> Self {
         let position = Some(raw::ImportPosition::default());
         WalkLibraries {
             bytes,
             options,
+            places,
             position,
         }
     }
@@ -360,6 +363,7 @@ impl<'a> WalkLibraries<'a> {
         let fault = raw::next_imports(
             self.bytes,
             &self.options,
+            &self.places,
             &mut position,
             &mut first,
             &mut count,

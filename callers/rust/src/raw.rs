@@ -317,6 +317,7 @@ pub fn footprint(bytes: &[u8], options: &Options, ranges: &mut Ranges<'_>) -> Fa
 pub fn next_imports<'a>(
     bytes: &'a [u8],
     options: &Options,
+    places: &Places,
     position: &mut ImportPosition,
     imports: &mut [Import<'a>],
     count: &mut usize,
@@ -328,6 +329,7 @@ pub fn next_imports<'a>(
             bytes.as_ptr(),
             bytes.len(),
             options,
+            places,
             position,
             imports.as_mut_ptr(),
             imports.len(),
@@ -340,6 +342,7 @@ pub fn next_imports<'a>(
 pub fn next_exports<'a>(
     bytes: &'a [u8],
     options: &Options,
+    places: &Places,
     position: &mut usize,
     exports: &mut [Export<'a>],
     count: &mut usize,
@@ -351,6 +354,7 @@ pub fn next_exports<'a>(
             bytes.as_ptr(),
             bytes.len(),
             options,
+            places,
             position,
             exports.as_mut_ptr(),
             exports.len(),

@@ -219,6 +219,52 @@ pub struct OptionalHeader {
     pub windows_fields: WindowsFields,
 }
 
+/// Where a table of an image lies.
+///
+/// Source: PE Format, "Optional Header Data Directories (Image Only)". Numbers are as stored; the
+/// record has 8 bytes, and `at` gives a field's offset in it.
+#[repr(C)]
+#[derive(Clone, Copy, Default, Debug, PartialEq, Eq, PartialOrd, Ord, Hash)]
+pub struct DataDirectory {
+    /// The table's address, relative to the image's base, at 0. That of the certificates is a file
+    /// offset, since they are not loaded.
+    pub virtual_address: u32,
+    /// The table's size in bytes, at 4. An import directory ends at its own last record, and a
+    /// value at an address by its own type, whatever the size; of an export directory the size says
+    /// which addresses are forwarders, of base relocations where the blocks end.
+    pub size: u32,
+}
+
+/// Where the sections and the tables of an image lie, and how the tables are read, as its header
+/// says: what walks over the tables take, so that none reads the header again.
+///
+/// Source: PE Format, "Optional Header (Image Only)".
+#[repr(C)]
+#[derive(Clone, Copy, Default, Debug, PartialEq, Eq, PartialOrd, Ord, Hash)]
+pub struct Places {
+    /// The file offset of the section table.
+    pub section_table: usize,
+    /// The export directory; zeros where there is none.
+    pub exports: DataDirectory,
+    /// The import directory; zeros where there is none.
+    pub imports: DataDirectory,
+    /// The directory of base relocations; zeros where there is none.
+    pub relocations: DataDirectory,
+    /// The file alignment of the sections' raw data, in bytes; 0 where there is no optional header.
+    pub file_alignment: u32,
+    /// How many records the section table has.
+    pub number_of_sections: u16,
+    /// The magic of the optional header: by 0x10B the entries of import tables have four bytes,
+    /// else eight; 0 where there is no optional header.
+    pub magic: u16,
+    /// Whether there is an export directory.
+    pub has_exports: bool,
+    /// Whether there is an import directory.
+    pub has_imports: bool,
+    /// Whether there is a directory of base relocations.
+    pub has_relocations: bool,
+}
+
 /// A table of the file.
 #[repr(C)]
 #[derive(Clone, Copy, Default, Debug, PartialEq, Eq, PartialOrd, Ord, Hash)]
@@ -350,6 +396,8 @@ pub struct File {
     pub directories: usize,
     /// How many sections there are.
     pub sections: usize,
+    /// Where the sections and the tables lie, for walks over these.
+    pub places: Places,
     /// The imports.
     pub imports: Table,
     /// The exports.
@@ -362,22 +410,6 @@ pub struct File {
     pub dos_header: DosHeader,
     /// The COFF header.
     pub coff_header: CoffHeader,
-}
-
-/// Where a table of an image lies.
-///
-/// Source: PE Format, "Optional Header Data Directories (Image Only)". Numbers are as stored; the
-/// record has 8 bytes, and `at` gives a field's offset in it.
-#[repr(C)]
-#[derive(Clone, Copy, Default, Debug, PartialEq, Eq, PartialOrd, Ord, Hash)]
-pub struct DataDirectory {
-    /// The table's address, relative to the image's base, at 0. That of the certificates is a file
-    /// offset, since they are not loaded.
-    pub virtual_address: u32,
-    /// The table's size in bytes, at 4. An import directory ends at its own last record, and a
-    /// value at an address by its own type, whatever the size; of an export directory the size says
-    /// which addresses are forwarders, of base relocations where the blocks end.
-    pub size: u32,
 }
 
 /// An entry of the table of data directories.
@@ -614,6 +646,8 @@ pub struct Layout<'a> {
     pub directories: usize,
     /// How many sections there are, whatever the room.
     pub sections: usize,
+    /// Where the sections and the tables lie, for walks over these.
+    pub places: Places,
     /// The DOS header.
     pub dos_header: DosHeader,
     /// The COFF header.
@@ -621,17 +655,6 @@ pub struct Layout<'a> {
     /// The DOS stub, which is written with a header: bytes of the file, or where permissive mode
     /// could not read them a stub of the library's own.
     pub dos_stub: Slice<'a>,
-}
-
-/// Where a walk over imports goes on; zeros are the beginning. It may be kept, and copied.
-#[repr(C)]
-#[derive(Clone, Copy, Default, Debug, PartialEq, Eq, PartialOrd, Ord, Hash)]
-pub struct ImportPosition {
-    /// The file offset of a library's record; the greatest number once the end has been reached,
-    /// also of a file without imports.
-    pub record_offset: usize,
-    /// The file offset of the slot that is read next, or 0 before the library's first.
-    pub slot_offset: usize,
 }
 
 /// What strict mode would refuse of a file, part by part: for each part a fault of the status 0
@@ -841,6 +864,17 @@ pub struct TeHeader {
     pub debug_dir: DataDirectory,
 }
 
+/// Where a walk over imports goes on; zeros are the beginning. It may be kept, and copied.
+#[repr(C)]
+#[derive(Clone, Copy, Default, Debug, PartialEq, Eq, PartialOrd, Ord, Hash)]
+pub struct ImportPosition {
+    /// The file offset of a library's record; the greatest number once the end has been reached,
+    /// also of a file without imports.
+    pub record_offset: usize,
+    /// The file offset of the slot that is read next, or 0 before the library's first.
+    pub slot_offset: usize,
+}
+
 /// A word of a block of base relocations: which bytes a loader changes, and how.
 ///
 /// Source: PE Format, "Base Relocation Block".
@@ -936,6 +970,20 @@ const _: () = {
     assert!(size_of::<OptionalHeader>() == 144 && align_of::<OptionalHeader>() == 8);
     assert!(offset_of!(OptionalHeader, standard_fields) == 0);
     assert!(offset_of!(OptionalHeader, windows_fields) == 56);
+    assert!(size_of::<DataDirectory>() == 8 && align_of::<DataDirectory>() == 4);
+    assert!(offset_of!(DataDirectory, virtual_address) == 0);
+    assert!(offset_of!(DataDirectory, size) == 4);
+    assert!(size_of::<Places>() == 48 && align_of::<Places>() == 8);
+    assert!(offset_of!(Places, section_table) == 0);
+    assert!(offset_of!(Places, exports) == 8);
+    assert!(offset_of!(Places, imports) == 16);
+    assert!(offset_of!(Places, relocations) == 24);
+    assert!(offset_of!(Places, file_alignment) == 32);
+    assert!(offset_of!(Places, number_of_sections) == 36);
+    assert!(offset_of!(Places, magic) == 38);
+    assert!(offset_of!(Places, has_exports) == 40);
+    assert!(offset_of!(Places, has_imports) == 41);
+    assert!(offset_of!(Places, has_relocations) == 42);
     assert!(size_of::<Table>() == 16 && align_of::<Table>() == 8);
     assert!(offset_of!(Table, count) == 0);
     assert!(offset_of!(Table, state) == 8);
@@ -978,19 +1026,17 @@ const _: () = {
     assert!(offset_of!(CoffHeader, number_of_symbol_table) == 12);
     assert!(offset_of!(CoffHeader, size_of_optional_header) == 16);
     assert!(offset_of!(CoffHeader, characteristics) == 18);
-    assert!(size_of::<File>() == 376 && align_of::<File>() == 8);
+    assert!(size_of::<File>() == 424 && align_of::<File>() == 8);
     assert!(offset_of!(File, optional_header) == 0);
     assert!(offset_of!(File, directories) == 144);
     assert!(offset_of!(File, sections) == 152);
-    assert!(offset_of!(File, imports) == 160);
-    assert!(offset_of!(File, exports) == 176);
-    assert!(offset_of!(File, relocations) == 192);
-    assert!(offset_of!(File, rich_header) == 232);
-    assert!(offset_of!(File, dos_header) == 288);
-    assert!(offset_of!(File, coff_header) == 352);
-    assert!(size_of::<DataDirectory>() == 8 && align_of::<DataDirectory>() == 4);
-    assert!(offset_of!(DataDirectory, virtual_address) == 0);
-    assert!(offset_of!(DataDirectory, size) == 4);
+    assert!(offset_of!(File, places) == 160);
+    assert!(offset_of!(File, imports) == 208);
+    assert!(offset_of!(File, exports) == 224);
+    assert!(offset_of!(File, relocations) == 240);
+    assert!(offset_of!(File, rich_header) == 280);
+    assert!(offset_of!(File, dos_header) == 336);
+    assert!(offset_of!(File, coff_header) == 400);
     assert!(size_of::<Directory>() == 24 && align_of::<Directory>() == 8);
     assert!(offset_of!(Directory, end) == 0);
     assert!(offset_of!(Directory, directory) == 8);
@@ -1068,16 +1114,14 @@ const _: () = {
     assert!(offset_of!(Tables, blocks) == 80);
     assert!(offset_of!(Tables, export_directory) == 96);
     assert!(offset_of!(Tables, dos_stub) == 160);
-    assert!(size_of::<Layout>() == 264 && align_of::<Layout>() == 8);
+    assert!(size_of::<Layout>() == 312 && align_of::<Layout>() == 8);
     assert!(offset_of!(Layout, optional_header) == 0);
     assert!(offset_of!(Layout, directories) == 144);
     assert!(offset_of!(Layout, sections) == 152);
-    assert!(offset_of!(Layout, dos_header) == 160);
-    assert!(offset_of!(Layout, coff_header) == 224);
-    assert!(offset_of!(Layout, dos_stub) == 248);
-    assert!(size_of::<ImportPosition>() == 16 && align_of::<ImportPosition>() == 8);
-    assert!(offset_of!(ImportPosition, record_offset) == 0);
-    assert!(offset_of!(ImportPosition, slot_offset) == 8);
+    assert!(offset_of!(Layout, places) == 160);
+    assert!(offset_of!(Layout, dos_header) == 208);
+    assert!(offset_of!(Layout, coff_header) == 272);
+    assert!(offset_of!(Layout, dos_stub) == 296);
     assert!(size_of::<Damage>() == 144 && align_of::<Damage>() == 8);
     assert!(offset_of!(Damage, dos_stub) == 0);
     assert!(offset_of!(Damage, section_names) == 24);
@@ -1142,6 +1186,9 @@ const _: () = {
     assert!(offset_of!(TeHeader, image_base) == 16);
     assert!(offset_of!(TeHeader, reloc_dir) == 24);
     assert!(offset_of!(TeHeader, debug_dir) == 32);
+    assert!(size_of::<ImportPosition>() == 16 && align_of::<ImportPosition>() == 8);
+    assert!(offset_of!(ImportPosition, record_offset) == 0);
+    assert!(offset_of!(ImportPosition, slot_offset) == 8);
     assert!(size_of::<Word>() == 16 && align_of::<Word>() == 8);
     assert!(offset_of!(Word, rva) == 0);
     assert!(offset_of!(Word, typ) == 8);
@@ -1208,26 +1255,6 @@ unsafe extern "C" {
         directory_room: usize,
         sections: *mut Section<'a>,
         section_room: usize,
-    ) -> Fault;
-
-    pub fn goblin_pe_raw_next_imports(
-        bytes: *const u8,
-        byte_count: usize,
-        options: &Options,
-        position: &mut ImportPosition,
-        records: *mut Import<'_>,
-        record_room: usize,
-        count: &mut usize,
-    ) -> Fault;
-
-    pub fn goblin_pe_raw_next_exports(
-        bytes: *const u8,
-        byte_count: usize,
-        options: &Options,
-        position: &mut usize,
-        records: *mut Export<'_>,
-        record_room: usize,
-        count: &mut usize,
     ) -> Fault;
 
     pub fn goblin_pe_raw_read_damage(
@@ -1335,6 +1362,28 @@ unsafe extern "C" {
         header: &mut TeHeader,
         sections: *mut Section<'_>,
         section_room: usize,
+    ) -> Fault;
+
+    pub fn goblin_pe_raw_next_imports(
+        bytes: *const u8,
+        byte_count: usize,
+        options: &Options,
+        places: &Places,
+        position: &mut ImportPosition,
+        records: *mut Import<'_>,
+        record_room: usize,
+        count: &mut usize,
+    ) -> Fault;
+
+    pub fn goblin_pe_raw_next_exports(
+        bytes: *const u8,
+        byte_count: usize,
+        options: &Options,
+        places: &Places,
+        position: &mut usize,
+        records: *mut Export<'_>,
+        record_room: usize,
+        count: &mut usize,
     ) -> Fault;
 
     pub fn goblin_pe_raw_next_relocations(

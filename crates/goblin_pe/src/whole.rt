@@ -32,10 +32,9 @@ mod reached;
 
 pub use damage::Damage;
 pub use imports::FileImports;
-use layout::sections_of;
-pub use layout::{Layout, section_records_of};
+pub use layout::{Layout, section_records_of, section_table_offset, sections_of};
 use listed::{ListedTables, export_parts};
-use places::Places;
+pub use places::Places;
 
 /// A table of a file, as [`Whole::read`] found it.
 #[derive(Debug, Drop)]

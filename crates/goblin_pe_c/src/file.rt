@@ -4,9 +4,6 @@ ghost use Rattle.std.specs.Prelude.{◌≡◌, length};
 ghost use Rattle.goblin_pe_sect.specs.Options.{is_strict};
 ghost use Rattle.goblin_pe_head.specs.HeaderReadings.{pe_header};
 ghost use Rattle.goblin_pe.specs.Whole.{layout as file_layout};
-ghost use Rattle.goblin_pe_calls.specs.Batches.{ExportBatch, GivesBatch, GivesExports};
-ghost use Rattle.goblin_pe_calls.specs.Batches.{GivesImports};
-ghost use Rattle.goblin_pe_calls.specs.Batches.{ImportBatch, IsExportsFault, IsImportsFault};
 ghost use Rattle.goblin_pe_records.specs.Calls.{ReadsInto, ReadsWithout, Reported};
 ghost use Rattle.goblin_pe_calls.specs.FileLayouts.{LayoutRecords, SaysLayout};
 ghost use Rattle.goblin_pe.specs.TakenMemory.{TakesIndex};
@@ -18,11 +15,8 @@ ghost use Rattle.goblin_pe_calls.specs.Opened.{Opened, Opens, opened_file};
 ghost use Rattle.goblin_pe_records.specs.Options.{options_of};
 
 use goblin_pe_calls::damage::{self, PeDamage};
-use goblin_pe_calls::export::PeExport;
 use goblin_pe_calls::footprint::{self, PeRanges};
-use goblin_pe_calls::import::PeImport;
 use goblin_pe_calls::layout::{self, PeLayout};
-use goblin_pe_calls::next::{self, PeImportPosition};
 use goblin_pe_calls::open::{self, PeTables};
 use goblin_pe_records::directory::PeDirectory;
 use goblin_pe_records::fault::{PeFault, status_of};
@@ -109,74 +103,6 @@ pub extern "C" fn goblin_pe_raw_read_layout<'a>(
 {
     let opts = options_of(options);
     status_of(layout::read(bytes, &opts, layout, directories, sections))
-}
-
-/// Fills `records` with the imports of a file from a position on, as many as there is room for,
-/// says in `count` how many, and leaves in `position` where the next call goes on. With room for
-/// any, a `count` of 0 is the end. Zeros are the position of the first import; a file without an
-/// import directory, or imports that are not asked for, have none, and in permissive mode neither
-/// has a directory without a file offset, or at the offset 0. Where nothing is left, and there
-/// is room for more, the position's `record_offset` is then the greatest number, and its
-/// `slot_offset` 0; without room the position stays.
-///
-/// Refused, with nothing changed, are a header or sections that the options refuse; in strict mode
-/// an import directory whose address has no offset, if the position is the first; and in strict
-/// mode the very next import, if there is room for it. Imports that come before a refusal are
-/// given, and the next call is refused; no law says on which bytes those before a refusal depend.
-/// Memory (the status 5) is refused only of a file that has more than 96 sections, by whose windows
-/// addresses are mapped, and room for as many as its header says: it is taken for an index of them,
-/// and given back before the call returns.
-#[unsafe(no_mangle)]
-pub extern "C" fn goblin_pe_raw_next_imports<'a>(
-    alloc: Global,
-    bytes: &'a [u8],
-    options: &PeOptions,
-    position: &mut PeImportPosition,
-    records: &mut [PeImport<'a>],
-    count: &mut usize,
-) -> PeFault
-    ensures { let opts = options_of options.now in
-        let old : ImportBatch = record { position = position.old; records = records.old } in
-        let new : ImportBatch = record { position = position.new; records = records.new } in
-        Reported result
-        (GivesBatch opts bytes.now
-        (λ m places. GivesImports m places bytes.now old new count.new)
-        (λ m places. IsImportsFault m places bytes.now old)
-        ((new ≡ old) × (count.new ≡ count.old))) }
-{
-    let opts = options_of(options);
-    status_of(next::give_imports(alloc, bytes, &opts, position, records, count))
-}
-
-/// Fills `records` with the exports of a file from a position on, as many as there is room for,
-/// says in `count` how many, and leaves in `position` where the next call goes on: the index of the
-/// name pointer that is read next, at first 0. With room for any, a `count` of 0 is the end; the
-/// position then stays. A file without an export directory, and in permissive mode one whose
-/// directory is refused, has none.
-///
-/// Refused, with nothing changed, are a header or sections that the options refuse, and in strict
-/// mode the export directory. Memory as for
-/// [`goblin_pe_raw_next_imports`](crate::file::goblin_pe_raw_next_imports).
-#[unsafe(no_mangle)]
-pub extern "C" fn goblin_pe_raw_next_exports<'a>(
-    alloc: Global,
-    bytes: &'a [u8],
-    options: &PeOptions,
-    position: &mut usize,
-    records: &mut [PeExport<'a>],
-    count: &mut usize,
-) -> PeFault
-    ensures { let opts = options_of options.now in
-        let old : ExportBatch = record { position = position.old; records = records.old } in
-        let new : ExportBatch = record { position = position.new; records = records.new } in
-        Reported result
-        (GivesBatch opts bytes.now
-        (λ m places. GivesExports m places bytes.now old new count.new)
-        (λ m places. IsExportsFault m places bytes.now)
-        ((new ≡ old) × (count.new ≡ count.old))) }
-{
-    let opts = options_of(options);
-    status_of(next::give_exports(alloc, bytes, &opts, position, records, count))
 }
 
 /// Tells in `damage` what strict mode would refuse of a file, part by part, where its header and

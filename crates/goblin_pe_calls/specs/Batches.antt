@@ -8,8 +8,6 @@ use Rattle.goblin_base.specs.declared.error.ErrorOf.{ErrorOf}
 use Rattle.goblin_base.specs.Answers.{FirstFault, IsMemory}
 use Rattle.goblin_base.specs.Tables.{Format}
 use Rattle.goblin_pe_sect.specs.declared.options.ParseOptions.{ParseOptions}
-use Rattle.goblin_pe_sect.specs.Options.{is_strict}
-use Rattle.goblin_pe_sect.specs.SectionTable.{Section}
 use Rattle.goblin_pe_import.specs.ImportEntries.{EntryValue}
 use Rattle.goblin_pe_import.specs.ImportLookup.{entries_32, entries_64}
 use Rattle.goblin_pe_import.specs.ImportWalks.{AreImportsOver, HasPosition, IsImportsCause}
@@ -18,16 +16,14 @@ use Rattle.goblin_pe_import.specs.ImportWalks.{imports_bytes, imports_left, impo
 use Rattle.goblin_pe_import.specs.ImportWalks.{position_of}
 use Rattle.goblin_pe_import.specs.declared.import.imports.ImportPosition.{ImportPosition}
 use Rattle.goblin_pe_import.specs.declared.import.imports.Imports.{Imports}
-use Rattle.goblin_pe.specs.Addresses.{MapOfAddresses, map_by, offset_of}
+use Rattle.goblin_pe.specs.Addresses.{MapOfAddresses, offset_of}
 use Rattle.goblin_pe.specs.ExportRecords.{ExportRow, ExportTables}
 use Rattle.goblin_pe.specs.ExportWalks.{NumberedExport, numbered_from}
-use Rattle.goblin_pe.specs.HeaderReadings.{pe_header}
 use Rattle.goblin_pe.specs.Imports.{ImportValue}
 use Rattle.goblin_pe.specs.LayoutPositions.{IsFileFaultAt, IsImportWalk, file_imports_at}
 use Rattle.goblin_pe.specs.LayoutPositions.{import_start}
 use Rattle.goblin_pe.specs.Layouts.{file_imports_left}
-use Rattle.goblin_pe.specs.PeHeader.{PeHeader}
-use Rattle.goblin_pe.specs.Whole.{TablePlaces, export_part, layout, places_in}
+use Rattle.goblin_pe.specs.Whole.{TablePlaces, export_part}
 use Rattle.goblin_pe.specs.declared.whole.Part.{Part}
 use Rattle.goblin_pe.specs.declared.whole.Part.TheVariants.{Absent, Refused}
 use Rattle.goblin_pe.specs.declared.whole.Part.TheVariants as part
@@ -36,10 +32,11 @@ use Rattle.goblin_pe.specs.declared.whole.imports.FileImports.TheVariants.{Narro
 use Rattle.goblin_pe_calls.specs.declared.export.PeExport.{PeExport}
 use Rattle.goblin_pe_calls.specs.declared.import.PeImport.{PeImport}
 use Rattle.goblin_pe_calls.specs.declared.next.PeImportPosition.{PeImportPosition}
-use Rattle.goblin_pe.specs.TakenMemory.{TakesIndex}
 use Rattle.goblin_pe_calls.specs.Exports.{export_said, export_view}
-use Rattle.goblin_pe_records.specs.Filled.{Filled}
 use Rattle.goblin_pe_calls.specs.Imports.{import_said, import_view}
+use Rattle.goblin_pe_calls.specs.Places.{TakesIndexAt, map_at, placed_sections, places_said}
+use Rattle.goblin_pe_records.specs.Filled.{Filled}
+use Rattle.goblin_pe_records.specs.declared.places.PePlaces.{PePlaces}
 
 -- ---- what a batch holds
 
@@ -72,10 +69,6 @@ pub record AtBatch {R A B : Type 0} (view : R → B) (said : A → B) (old : Lis
   pub filled : Filled view (map said values) old records
   pub same : length records ≡ length old
   pub fits : count ≤ length old
-
--- the map of addresses of a file with this header and these sections
-abbrev pub map_in : ParseOptions → PeHeader × List Section → MapOfAddresses
-map_in opts l = map_by opts l.1 (places_in l.0.optional_header).file_alignment
 
 -- ---- imports
 
@@ -213,16 +206,16 @@ IsExportsFault m places bytes e =
 
 -- ---- a call
 
--- A call has given what comes next in a file; or its header or sections are refused, or what comes
--- next, or memory for an index of many sections, and everything is unchanged.
-abbrev pub GivesBatch : ParseOptions → List ℕ → (MapOfAddresses → TablePlaces → Type 0)
+-- A call has given what comes next by these places; or the records of the sections are not there, or
+-- what comes next is refused, or memory for an index of many sections, and everything is unchanged.
+abbrev pub GivesBatch : ParseOptions → PePlaces → List ℕ
+    → (MapOfAddresses → TablePlaces → Type 0)
     → (MapOfAddresses → TablePlaces → ErrorOf → Type 0) → Type 0 → Result Unit ErrorOf → Type 0
-GivesBatch opts bytes Gives IsFault Left (Ok x) =
-    IsSomeAnd ((layout opts).value bytes)
-    (λ l. Gives (map_in opts l) (places_in l.0.optional_header))
-GivesBatch opts bytes Gives IsFault Left (Err e) =
-    (¬ IsMemory e → FirstFault ((layout opts).value bytes) ((layout opts).IsCause bytes)
-    (λ l. IsFault (map_in opts l) (places_in l.0.optional_header)) e)
-    × (IsMemory e → IsSomeAnd ((pe_header (is_strict opts.parse_mode)).value bytes)
-    (TakesIndex opts bytes))
+GivesBatch opts p bytes Gives IsFault Left (Ok x) =
+    IsSomeAnd ((placed_sections p).value bytes)
+    (λ sections. Gives (map_at opts p sections) (places_said p))
+GivesBatch opts p bytes Gives IsFault Left (Err e) =
+    (¬ IsMemory e → FirstFault ((placed_sections p).value bytes) ((placed_sections p).IsCause bytes)
+    (λ sections. IsFault (map_at opts p sections) (places_said p)) e)
+    × (IsMemory e → TakesIndexAt opts p bytes)
     × Left

@@ -2,14 +2,15 @@
 
 ghost use Rattle.std.specs.Prelude.{◌≡◌, length};
 ghost use Rattle.goblin_pe_head.specs.PeHeader.{header_value};
-ghost use Rattle.goblin_pe.specs.Layouts.{layout_header};
 ghost use Rattle.goblin_pe.specs.Whole.{part_map};
 ghost use Rattle.goblin_pe_records.specs.RichHeaders.{rich_of};
 ghost use Rattle.goblin_pe_calls.specs.Blocks.{base_relocations_of};
 ghost use Rattle.goblin_pe_calls.specs.Files.{summary, table_of};
 ghost use Rattle.goblin_pe_calls.specs.Opened.{records_view};
 
+use crate::places::places_record;
 use crate::records::FileRecords;
+use goblin_pe::header::Header;
 use goblin_pe::{Layout, Part};
 use goblin_pe_records::block::PeBaseRelocations;
 use goblin_pe_records::directory::directories_of;
@@ -36,24 +37,24 @@ fn fill_table<T>(place: &mut PeTable, table: &Part<Vec<T>>)
 #[inline(always)]
 pub(crate) fn fill_file<'a>(
     file: &mut PeFile,
-    layout: &Layout<'a, '_>,
+    header: &Header<'a>,
+    layout: &Layout<'a>,
     records: &FileRecords<'a>,
     relocations: PeBaseRelocations,
     rich_header: PeRichHeader,
 )
-    requires relocations { let v = records_view layout.now records.now in
+    requires relocations { let v = records_view header.now layout.now records.now in
         relocations ≡ base_relocations_of v.relocations }
-    requires rich_header { let header = header_value (layout_header layout.now) in
-        rich_header ≡ rich_of header.rich_header }
-    ensures { let v = records_view layout.now records.now in
+    requires rich_header { rich_header ≡ rich_of (header_value header.now).rich_header }
+    ensures { let v = records_view header.now layout.now records.now in
         file.new
         ≡ summary v.header (length v.sections) (table_of v.imports) (table_of v.exports.exports)
         v.relocations }
 {
-    let header = layout.header();
     fill_optional(&mut file.optional_header, &header.optional_header);
     file.directories = directories_of(&header.optional_header).len();
     file.sections = layout.section_records().len();
+    file.places = places_record(header);
     fill_table(&mut file.imports, &records.imports);
     fill_table(&mut file.exports, &records.exports.exports);
     file.relocations = relocations;

@@ -21,5 +21,6 @@ pub mod import;
 pub mod layout;
 pub mod next;
 pub mod open;
+pub mod places;
 mod records;
 pub mod write;
