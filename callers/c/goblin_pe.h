@@ -512,7 +512,8 @@ static inline size_t goblin_pe_header_size(const struct goblin_pe_file *file, si
    file, as patch.c does. The signature follows the stub, whatever pe_pointer says: where permissive mode replaced
    the stub, the headers after it do not stand at their places. The stub may not lie in `out`. Refused are a magic
    that is neither of the two, a field that does not fit an optional header for 32 bits, and too little room;
-   nothing is written then. */
+   nothing is written then, `written` neither: unlike other calls, one without room does not tell how much is
+   needed, but goblin_pe_header_size does. */
 static inline struct goblin_pe_fault goblin_pe_write_header(
     const struct goblin_pe_file *file, const struct goblin_pe_directory *directories, size_t directory_count,
     struct goblin_pe_text stub, uint8_t *out, size_t room, size_t *written)
