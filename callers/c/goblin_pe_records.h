@@ -915,6 +915,26 @@ struct goblin_pe_section_data {
     size_t zeros;
 };
 
+/* A record of an import directory: where the imports from a library are.
+
+   Source: PE Format, "Import Directory Table". Numbers are as stored; the record has 20 bytes, and
+   `at` gives a field's offset in it. Addresses are relative to the image's base. */
+struct goblin_pe_import_directory_entry {
+    /* The address of the lookup table, which says what is imported, at 0. Where it has no file
+       offset, the address table is read instead, as images of some old linkers ask for. */
+    uint32_t import_lookup_table_rva;
+    /* 0 until the imports are bound, at 4; then the time stamp of the library to which they were
+       bound, or 2^32 - 1 if the bound imports say it. */
+    uint32_t time_date_stamp;
+    /* The index of the first forwarder, at 8. */
+    uint32_t forwarder_chain;
+    /* The address of the library's name, at 12. The record with 0 here is the directory's last. */
+    uint32_t name_rva;
+    /* The address of the address table, at 16: a copy of the lookup table, whose entries the loader
+       replaces with addresses. The record with 0 here is the directory's last. */
+    uint32_t import_address_table_rva;
+};
+
 /* An object as a whole. */
 struct goblin_pe_object {
     /* How many sections there are, whatever the room. */
@@ -1084,6 +1104,9 @@ struct goblin_pe_fault goblin_pe_raw_bytes_at(
 struct goblin_pe_fault goblin_pe_raw_read_section_data(
     const struct goblin_pe_image *image, const struct goblin_pe_section *section,
     struct goblin_pe_section_data *contents);
+bool goblin_pe_raw_import_record_at(
+    const uint8_t *bytes, size_t byte_count, size_t offset,
+    struct goblin_pe_import_directory_entry *record);
 bool goblin_pe_raw_section_at(const struct goblin_pe_image *image, size_t rva, size_t *index);
 bool goblin_pe_raw_find_rva(const struct goblin_pe_image *image, size_t offset, size_t *rva);
 struct goblin_pe_fault goblin_pe_raw_memory_at(
@@ -1441,6 +1464,13 @@ GOBLIN_PE_IS_AT(forwarder, reserved, 44);
 GOBLIN_PE_HAS_SIZE(section_data, 24, 8);
 GOBLIN_PE_IS_AT(section_data, bytes, 0);
 GOBLIN_PE_IS_AT(section_data, zeros, 16);
+
+GOBLIN_PE_HAS_SIZE(import_directory_entry, 20, 4);
+GOBLIN_PE_IS_AT(import_directory_entry, import_lookup_table_rva, 0);
+GOBLIN_PE_IS_AT(import_directory_entry, time_date_stamp, 4);
+GOBLIN_PE_IS_AT(import_directory_entry, forwarder_chain, 8);
+GOBLIN_PE_IS_AT(import_directory_entry, name_rva, 12);
+GOBLIN_PE_IS_AT(import_directory_entry, import_address_table_rva, 16);
 
 GOBLIN_PE_HAS_SIZE(object, 32, 8);
 GOBLIN_PE_IS_AT(object, sections, 0);

@@ -744,6 +744,28 @@ pub struct SectionData<'a> {
     pub zeros: usize,
 }
 
+/// A record of an import directory: where the imports from a library are.
+///
+/// Source: PE Format, "Import Directory Table". Numbers are as stored; the record has 20 bytes, and
+/// `at` gives a field's offset in it. Addresses are relative to the image's base.
+#[repr(C)]
+#[derive(Clone, Copy, Default, Debug, PartialEq, Eq, PartialOrd, Ord, Hash)]
+pub struct ImportDirectoryEntry {
+    /// The address of the lookup table, which says what is imported, at 0. Where it has no file
+    /// offset, the address table is read instead, as images of some old linkers ask for.
+    pub import_lookup_table_rva: u32,
+    /// 0 until the imports are bound, at 4; then the time stamp of the library to which they were
+    /// bound, or 2^32 - 1 if the bound imports say it.
+    pub time_date_stamp: u32,
+    /// The index of the first forwarder, at 8.
+    pub forwarder_chain: u32,
+    /// The address of the library's name, at 12. The record with 0 here is the directory's last.
+    pub name_rva: u32,
+    /// The address of the address table, at 16: a copy of the lookup table, whose entries the
+    /// loader replaces with addresses. The record with 0 here is the directory's last.
+    pub import_address_table_rva: u32,
+}
+
 /// An object as a whole.
 #[repr(C)]
 #[derive(Clone, Copy, Default, Debug, PartialEq, Eq, PartialOrd, Ord, Hash)]
@@ -1150,6 +1172,12 @@ const _: () = {
     assert!(size_of::<SectionData>() == 24 && align_of::<SectionData>() == 8);
     assert!(offset_of!(SectionData, bytes) == 0);
     assert!(offset_of!(SectionData, zeros) == 16);
+    assert!(size_of::<ImportDirectoryEntry>() == 20 && align_of::<ImportDirectoryEntry>() == 4);
+    assert!(offset_of!(ImportDirectoryEntry, import_lookup_table_rva) == 0);
+    assert!(offset_of!(ImportDirectoryEntry, time_date_stamp) == 4);
+    assert!(offset_of!(ImportDirectoryEntry, forwarder_chain) == 8);
+    assert!(offset_of!(ImportDirectoryEntry, name_rva) == 12);
+    assert!(offset_of!(ImportDirectoryEntry, import_address_table_rva) == 16);
     assert!(size_of::<Object>() == 32 && align_of::<Object>() == 8);
     assert!(offset_of!(Object, sections) == 0);
     assert!(offset_of!(Object, coff_header) == 8);
@@ -1301,6 +1329,13 @@ unsafe extern "C" {
         section: &Section<'_>,
         contents: &mut SectionData<'a>,
     ) -> Fault;
+
+    pub fn goblin_pe_raw_import_record_at(
+        bytes: *const u8,
+        byte_count: usize,
+        offset: usize,
+        record: &mut ImportDirectoryEntry,
+    ) -> bool;
 
     pub fn goblin_pe_raw_section_at(image: &Image<'_, '_>, rva: usize, index: &mut usize) -> bool;
 

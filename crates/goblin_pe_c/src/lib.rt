@@ -14,6 +14,7 @@ mod fault;
 mod file;
 mod forwarder;
 mod image;
+mod import;
 mod look_up;
 mod object;
 mod te;
