@@ -14,8 +14,8 @@ import pefile
 
 from goblin_pe import Options, Pe, RawPointerRule, Refused
 
-# pefile gives up after so many rows.
-pefile.MAX_IMPORT_SYMBOLS = pefile.MAX_SYMBOL_EXPORT_COUNT = 1 << 32
+# How many rows pefile reads before it gives up, if it is not told otherwise: 8,192.
+MOST = pefile.MAX_IMPORT_SYMBOLS = 1 << 32
 
 OPTIONS = Options(is_permissive=True, raw_pointer_rule=RawPointerRule.BY_FILE_ALIGNMENT)
 FIELDS = ("Misc_VirtualSize", "VirtualAddress", "SizeOfRawData", "PointerToRawData", "PointerToRelocations", "PointerToLinenumbers",
@@ -56,7 +56,7 @@ def ours(data: bytes) -> Optional[Dict[str, Any]]:
 def theirs(data: bytes) -> Optional[Dict[str, Any]]:
     """What pefile sees; None where it refuses the file."""
     try:
-        pe = pefile.PE(data=data, fast_load=True)
+        pe = pefile.PE(data=data, fast_load=True, max_symbol_exports=MOST, max_repeated_symbol=MOST)
     except pefile.PEFormatError:
         return None
     pe.parse_data_directories(directories=[0, 1])

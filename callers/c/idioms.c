@@ -46,7 +46,7 @@ static bool other_options(void)
     options.parse_imports = false;
     if (goblin_pe_open(bytes, length, &options, &file, NULL, 0, &tables).status != GOBLIN_PE_STATUS_OK)
         return false;
-    bool is_absent = file.imports.state == GOBLIN_PE_STATE_ABSENT && tables.imports == NULL;
+    bool is_absent = file.imports.state == GOBLIN_PE_STATE_ABSENT && tables.import_count == 0;
     return goblin_pe_free(&tables), is_absent;
 }
 
