@@ -22,5 +22,8 @@ pub extern "C" fn goblin_pe_raw_import_record_at(
     ensures { Puts (λ r. r) result (record_at 20 (import_record Endian.Little) bytes.now offset)
         record.old record.new }
 {
-    put_found(record, ImportDirectoryEntry::read_at(bytes, offset, Endian::Little).ok())
+    put_found(
+        record,
+        ImportDirectoryEntry::read_at(bytes, offset, Endian::Little).ok(),
+    )
 }

@@ -11,7 +11,6 @@
 mod auxiliary;
 mod checksum;
 mod fault;
-mod file;
 mod forwarder;
 mod image;
 mod import;
@@ -19,4 +18,5 @@ mod look_up;
 mod object;
 mod te;
 mod walk;
-mod write;
+mod whole_file;
+mod writers;

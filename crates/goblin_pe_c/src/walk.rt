@@ -34,8 +34,8 @@ use std::alloc::Global;
 /// `slot_offset` 0; without room the position stays.
 ///
 /// The sections and the import directory lie where `places` says, as
-/// [`goblin_pe_raw_read_layout`](crate::file::goblin_pe_raw_read_layout) and
-/// [`goblin_pe_raw_open`](crate::file::goblin_pe_raw_open) say of the file; the header is not read
+/// [`goblin_pe_raw_read_layout`](crate::whole_file::goblin_pe_raw_read_layout) and
+/// [`goblin_pe_raw_open`](crate::whole_file::goblin_pe_raw_open) say of the file; the header is not read
 /// again. Any other places are gone by alike: what they lead to are the records and the directory.
 ///
 /// Refused, with nothing changed, is a file that is too short for the records of its sections, where

@@ -22,8 +22,8 @@ pointers-preserved c =
     let added = c.from-count.ensures ∙ ap (λ (b : Bool). from_bool (not b)) given in (
       c.gives_export-gives.ensures.same ∙ c.pointers.invariant.0,
       ap (λ (n : ℕ). n + c.from-count.result) c.pointers.invariant.1
-      ∙ ap (λ (n : ℕ). count_by (λ x. not (gives x)) (range_with_len 0 i) + n) added
-      ∙ sym (counted-more (λ x. not (gives x)) i),
+          ∙ ap (λ (n : ℕ). count_by (λ x. not (gives x)) (range_with_len 0 i) + n) added
+          ∙ sym (counted-more (λ x. not (gives x)) i),
       omega (arith, c.pointers.invariant.2, added, few (not (gives i))),
     )
 

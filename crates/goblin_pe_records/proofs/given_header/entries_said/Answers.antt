@@ -2,7 +2,7 @@ use Rattle.std.proofs.Common.{arith, refl, ◌∙◌}
 use Rattle.std.proofs.lemmas.List.{length-set}
 use Rattle.goblin_pe_records.proofs.Filling.{filling-start, filling-next, filling-end, least-end, any-default}
 use Rattle.goblin_pe_records.proofs.Written.{filled-entries}
-use Rattle.goblin_pe_records.proofs.write.entries_said.Goals as goal
+use Rattle.goblin_pe_records.proofs.given_header.entries_said.Goals as goal
 
 pub records-init : goal.records-init
 records-init c = (filling-start _ _ _ _, refl)

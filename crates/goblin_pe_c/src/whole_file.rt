@@ -15,9 +15,9 @@ ghost use Rattle.goblin_pe_calls.specs.Opened.{Opened, Opens, opened_file};
 ghost use Rattle.goblin_pe_records.specs.Options.{options_of};
 
 use goblin_pe_calls::damage::{self, PeDamage};
-use goblin_pe_calls::footprint::{self, PeRanges};
 use goblin_pe_calls::layout::{self, PeLayout};
 use goblin_pe_calls::open::{self, PeTables};
+use goblin_pe_calls::ranges::{PeRanges, list as list_ranges};
 use goblin_pe_records::directory::PeDirectory;
 use goblin_pe_records::fault::{PeFault, status_of};
 use goblin_pe_records::file::PeFile;
@@ -77,7 +77,7 @@ pub extern "C" fn goblin_pe_raw_open<'a>(
 /// Reads an image without its tables: says in `layout` what it is, and fills the records of its data
 /// directories and of its sections as far as there is room. It takes no memory, however much the
 /// tables list: these are walked over, or looked up, by other calls. After a refusal nothing is
-/// changed; it is refused where [`goblin_pe_raw_open`](crate::file::goblin_pe_raw_open) refuses the
+/// changed; it is refused where [`goblin_pe_raw_open`](crate::whole_file::goblin_pe_raw_open) refuses the
 /// header or the sections.
 #[unsafe(no_mangle)]
 pub extern "C" fn goblin_pe_raw_read_layout<'a>(
@@ -131,7 +131,7 @@ pub extern "C" fn goblin_pe_raw_read_damage(
 }
 
 /// Puts into `ranges` the positions of a file on which all that
-/// [`goblin_pe_raw_open`](crate::file::goblin_pe_raw_open) gives by these options depends: of two
+/// [`goblin_pe_raw_open`](crate::whole_file::goblin_pe_raw_open) gives by these options depends: of two
 /// files of one length with the same bytes there, both have the same header, sections and tables,
 /// or both are refused, not always for the same cause. A file that is refused has a footprint, too.
 ///
@@ -148,5 +148,5 @@ pub extern "C" fn goblin_pe_raw_footprint<'a>(
     ensures { let footprint = (opened_file (options_of options.now)).reaches bytes.now in
         Reported result (Lists (length bytes.now) footprint ranges.old ranges.new) }
 {
-    status_of(footprint::list(alloc, bytes, &options_of(options), ranges))
+    status_of(list_ranges(alloc, bytes, &options_of(options), ranges))
 }

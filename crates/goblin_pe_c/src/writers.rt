@@ -14,12 +14,11 @@ ghost use Rattle.goblin_pe_records.specs.Written.{Output, SetsName, WritesOut};
 ghost use Rattle.goblin_pe_records.specs.Written.{header_said, optional_said};
 ghost use Rattle.goblin_pe_calls.specs.Written.{OpenedWritesBack};
 
-use goblin_pe_calls::write::write_header;
+use goblin_pe_calls::write_header::write_header;
 use goblin_pe_records::directory::PeDirectory;
 use goblin_pe_records::fault::{PeFault, status_of};
 use goblin_pe_records::file::PeFile;
-use goblin_pe_records::section::PeSection;
-use goblin_pe_records::write::{set_name_offset, write_section};
+use goblin_pe_records::section::{PeSection, set_name_offset, write_section};
 
 /// Writes the header that `file`, the records of its data directories and the bytes of its DOS stub
 /// say to the front of `out`, and puts into `written` how many bytes it takes: the DOS header, the

@@ -4,7 +4,7 @@ use Rattle.goblin_base.specs.Marks.{joined, ranges_of}
 use Rattle.goblin_base.proofs.MarkRanges.{some_of}
 use Rattle.goblin_pe.specs.Whole.{whole_file}
 use Rattle.goblin_pe_calls.specs.Footprints.{range_record_of}
-use Rattle.goblin_pe_calls.proofs.footprint.range_records.Goals as goal
+use Rattle.goblin_pe_calls.proofs.ranges.range_records.Goals as goal
 
 pub returns-clause-listed : goal.returns-clause-listed
 unfolding joined

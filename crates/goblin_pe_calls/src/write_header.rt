@@ -11,7 +11,7 @@ ghost use Rattle.goblin_pe_calls.specs.Written.{OpenedWritesBack};
 use goblin_pe::{Endian, Result};
 use goblin_pe_records::directory::PeDirectory;
 use goblin_pe_records::file::PeFile;
-use goblin_pe_records::write::header_said;
+use goblin_pe_records::given_header::header_said;
 
 /// Writes the header that `file`, the records of its data directories and the bytes of its DOS stub
 /// say to the front of `out`, and puts into `written` how many bytes it takes.

@@ -2,7 +2,7 @@ use Rattle.std.proofs.Common.{rules, ◌∙◌}
 use Rattle.goblin_pe_calls.specs.Exports.{export_view}
 use Rattle.goblin_pe_calls.specs.Imports.{import_view}
 use Rattle.goblin_pe_calls.proofs.Opened.{table-viewed}
-use Rattle.goblin_pe_calls.proofs.file.fill_file.Goals as goal
+use Rattle.goblin_pe_calls.proofs.whole_file.fill_file.Goals as goal
 
 pub returns : goal.returns
 returns c =
