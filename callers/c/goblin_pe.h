@@ -49,8 +49,9 @@
      memory_at, forwarder_at         none                                  the sections, and one text
    find_rva                          none                                  the sections, and these once more for each
                                                                            whose data holds the offset
-   next_imports, next_exports        none, or for more than 96 sections    the sections, and a name for each record
-                                     an index of some 300 bytes for each
+   next_imports, next_exports,       none, or for more than 96 sections    the sections, and a name for each record
+     next_export_addresses,          an index of some 300 bytes for each
+     next_blocks
    read_damage                       the same                              a name for each import and each export
    open                              its tables, which no n bounds: see    what these take
                                      below
@@ -236,6 +237,33 @@ static inline struct goblin_pe_fault goblin_pe_next_exports(
     return goblin_pe_raw_next_exports(
         GOBLIN_PE_BYTES(bytes), length, goblin_pe_options_or_default(options), places, position,
         GOBLIN_PE_SOME(struct goblin_pe_export, exports), room, count);
+}
+
+/* Goes on with the walk over the entries of the export address table of an image, as goblin_pe_next_exports does over
+   exports: the records that goblin_pe_open puts into a table. The position is the index of an entry, 0 at the
+   beginning; with the ordinal base it is the ordinal that the entry stands for. goblin_pe_forwarder_at reads the
+   forwarder of one. */
+static inline struct goblin_pe_fault goblin_pe_next_export_addresses(
+    const uint8_t *bytes, size_t length, const struct goblin_pe_options *options, const struct goblin_pe_places *places,
+    size_t *position, struct goblin_pe_export_address *addresses, size_t room, size_t *count)
+{
+    return goblin_pe_raw_next_export_addresses(
+        GOBLIN_PE_BYTES(bytes), length, goblin_pe_options_or_default(options), places, position,
+        GOBLIN_PE_SOME(struct goblin_pe_export_address, addresses), room, count);
+}
+
+/* Goes on with the walk over the blocks of base relocations of an image, as goblin_pe_next_imports does over imports;
+   goblin_pe_next_words walks over the words of one. The position is the offset in the directory at which the next block
+   begins, 0 at the beginning. There are none where permissive mode passes over a refused directory; strict mode refuses
+   it at once. In both modes the walk ends with a refusal where a rest of the directory is no block: with the one that
+   goblin_pe_open says of the rest. */
+static inline struct goblin_pe_fault goblin_pe_next_blocks(
+    const uint8_t *bytes, size_t length, const struct goblin_pe_options *options, const struct goblin_pe_places *places,
+    size_t *position, struct goblin_pe_block *blocks, size_t room, size_t *count)
+{
+    return goblin_pe_raw_next_blocks(
+        GOBLIN_PE_BYTES(bytes), length, goblin_pe_options_or_default(options), places, position,
+        GOBLIN_PE_SOME(struct goblin_pe_block, blocks), room, count);
 }
 
 /* Reads an object, which begins with a COFF header: says in `object` how many sections there are, and fills

@@ -1122,6 +1122,14 @@ struct goblin_pe_fault goblin_pe_raw_next_exports(
     const uint8_t *bytes, size_t byte_count, const struct goblin_pe_options *options,
     const struct goblin_pe_places *places, size_t *position, struct goblin_pe_export *records,
     size_t record_room, size_t *count);
+struct goblin_pe_fault goblin_pe_raw_next_export_addresses(
+    const uint8_t *bytes, size_t byte_count, const struct goblin_pe_options *options,
+    const struct goblin_pe_places *places, size_t *position,
+    struct goblin_pe_export_address *records, size_t record_room, size_t *count);
+struct goblin_pe_fault goblin_pe_raw_next_blocks(
+    const uint8_t *bytes, size_t byte_count, const struct goblin_pe_options *options,
+    const struct goblin_pe_places *places, size_t *position, struct goblin_pe_block *records,
+    size_t record_room, size_t *count);
 struct goblin_pe_fault goblin_pe_raw_next_relocations(
     const uint8_t *bytes, size_t byte_count, const struct goblin_pe_section *section,
     size_t *position, struct goblin_pe_relocation *records, size_t record_room, size_t *count);

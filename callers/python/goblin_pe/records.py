@@ -1080,6 +1080,10 @@ CALLS: Dict[str, Tuple[Any, List[Any]]] = {
         (Fault, [c.c_void_p, c.c_size_t, to(Options), to(Places), to(ImportPosition), to(Import), c.c_size_t, to(c.c_size_t)]),
     "goblin_pe_raw_next_exports":
         (Fault, [c.c_void_p, c.c_size_t, to(Options), to(Places), to(c.c_size_t), to(Export), c.c_size_t, to(c.c_size_t)]),
+    "goblin_pe_raw_next_export_addresses":
+        (Fault, [c.c_void_p, c.c_size_t, to(Options), to(Places), to(c.c_size_t), to(ExportAddress), c.c_size_t, to(c.c_size_t)]),
+    "goblin_pe_raw_next_blocks":
+        (Fault, [c.c_void_p, c.c_size_t, to(Options), to(Places), to(c.c_size_t), to(Block), c.c_size_t, to(c.c_size_t)]),
     "goblin_pe_raw_next_relocations":
         (Fault, [c.c_void_p, c.c_size_t, to(Section), to(c.c_size_t), to(Relocation), c.c_size_t, to(c.c_size_t)]),
     "goblin_pe_raw_next_words":

@@ -1382,6 +1382,28 @@ unsafe extern "C" {
         count: &mut usize,
     ) -> Fault;
 
+    pub fn goblin_pe_raw_next_export_addresses(
+        bytes: *const u8,
+        byte_count: usize,
+        options: &Options,
+        places: &Places,
+        position: &mut usize,
+        records: *mut ExportAddress,
+        record_room: usize,
+        count: &mut usize,
+    ) -> Fault;
+
+    pub fn goblin_pe_raw_next_blocks(
+        bytes: *const u8,
+        byte_count: usize,
+        options: &Options,
+        places: &Places,
+        position: &mut usize,
+        records: *mut Block<'_>,
+        record_room: usize,
+        count: &mut usize,
+    ) -> Fault;
+
     pub fn goblin_pe_raw_next_relocations(
         bytes: *const u8,
         byte_count: usize,
