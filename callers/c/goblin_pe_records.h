@@ -673,6 +673,16 @@ struct goblin_pe_export {
     uint32_t reserved2;
 };
 
+/* An entry of the export address table. Its index and the ordinal base are the ordinal that it
+   stands for. */
+struct goblin_pe_export_address {
+    /* The address, relative to the image's base; of a forwarder that of its text; 0 where the
+       ordinal is not used. */
+    uint32_t rva;
+    /* Whether it is a forwarder: its address lies in the export directory. */
+    bool forwards;
+};
+
 /* A block of base relocations, for one page of the image in memory.
 
    Source: PE Format, "Base Relocation Block". */
@@ -923,16 +933,6 @@ struct goblin_pe_rich_metadata {
     uint16_t product;
     /* How many files it made, at 4. */
     uint32_t use_count;
-};
-
-/* An entry of the export address table. Its index and the ordinal base are the ordinal that it
-   stands for. */
-struct goblin_pe_export_address {
-    /* The address, relative to the image's base; of a forwarder that of its text; 0 where the
-       ordinal is not used. */
-    uint32_t rva;
-    /* Whether it is a forwarder: its address lies in the export directory. */
-    bool forwards;
 };
 
 /* The record that an image's exports begin with.
@@ -1358,6 +1358,10 @@ GOBLIN_PE_IS_AT(export, forwards, 90);
 GOBLIN_PE_IS_AT(export, reserved, 91);
 GOBLIN_PE_IS_AT(export, reserved2, 92);
 
+GOBLIN_PE_HAS_SIZE(export_address, 8, 4);
+GOBLIN_PE_IS_AT(export_address, rva, 0);
+GOBLIN_PE_IS_AT(export_address, forwards, 4);
+
 GOBLIN_PE_HAS_SIZE(block, 24, 8);
 GOBLIN_PE_IS_AT(block, words, 0);
 GOBLIN_PE_IS_AT(block, rva, 16);
@@ -1465,10 +1469,6 @@ GOBLIN_PE_HAS_SIZE(rich_metadata, 8, 4);
 GOBLIN_PE_IS_AT(rich_metadata, build, 0);
 GOBLIN_PE_IS_AT(rich_metadata, product, 2);
 GOBLIN_PE_IS_AT(rich_metadata, use_count, 4);
-
-GOBLIN_PE_HAS_SIZE(export_address, 8, 4);
-GOBLIN_PE_IS_AT(export_address, rva, 0);
-GOBLIN_PE_IS_AT(export_address, forwards, 4);
 
 GOBLIN_PE_HAS_SIZE(export_directory_table, 40, 4);
 GOBLIN_PE_IS_AT(export_directory_table, export_flags, 0);

@@ -564,6 +564,20 @@ class Export(Record):
 
 
 @record
+class ExportAddress(Record):
+    """An entry of the export address table. Its index and the ordinal base are the ordinal that it
+    stands for.
+
+    rva: The address, relative to the image's base; of a forwarder that of its text; 0 where the
+        ordinal is not used.
+    forwards: Whether it is a forwarder: its address lies in the export directory.
+    """
+
+    rva: Annotated[int, c.c_uint32]
+    forwards: Annotated[bool, c.c_bool]
+
+
+@record
 class Block(Record):
     """A block of base relocations, for one page of the image in memory.
 
@@ -869,20 +883,6 @@ class RichMetadata(NamedTuple):
     build: Annotated[int, c.c_uint16]
     product: Annotated[int, c.c_uint16]
     use_count: Annotated[int, c.c_uint32]
-
-
-@record
-class ExportAddress(Record):
-    """An entry of the export address table. Its index and the ordinal base are the ordinal that it
-    stands for.
-
-    rva: The address, relative to the image's base; of a forwarder that of its text; 0 where the
-        ordinal is not used.
-    forwards: Whether it is a forwarder: its address lies in the export directory.
-    """
-
-    rva: Annotated[int, c.c_uint32]
-    forwards: Annotated[bool, c.c_bool]
 
 
 @header

@@ -487,6 +487,18 @@ pub struct Export<'a> {
     pub reserved2: u32,
 }
 
+/// An entry of the export address table. Its index and the ordinal base are the ordinal that it
+/// stands for.
+#[repr(C)]
+#[derive(Clone, Copy, Default, Debug, PartialEq, Eq, PartialOrd, Ord, Hash)]
+pub struct ExportAddress {
+    /// The address, relative to the image's base; of a forwarder that of its text; 0 where the
+    /// ordinal is not used.
+    pub rva: u32,
+    /// Whether it is a forwarder: its address lies in the export directory.
+    pub forwards: bool,
+}
+
 /// A block of base relocations, for one page of the image in memory.
 ///
 /// Source: PE Format, "Base Relocation Block".
@@ -761,18 +773,6 @@ pub struct RichMetadata {
     pub product: u16,
     /// How many files it made, at 4.
     pub use_count: u32,
-}
-
-/// An entry of the export address table. Its index and the ordinal base are the ordinal that it
-/// stands for.
-#[repr(C)]
-#[derive(Clone, Copy, Default, Debug, PartialEq, Eq, PartialOrd, Ord, Hash)]
-pub struct ExportAddress {
-    /// The address, relative to the image's base; of a forwarder that of its text; 0 where the
-    /// ordinal is not used.
-    pub rva: u32,
-    /// Whether it is a forwarder: its address lies in the export directory.
-    pub forwards: bool,
 }
 
 /// The record that an image's exports begin with.
@@ -1075,6 +1075,9 @@ const _: () = {
     assert!(offset_of!(Export, forwards) == 90);
     assert!(offset_of!(Export, reserved) == 91);
     assert!(offset_of!(Export, reserved2) == 92);
+    assert!(size_of::<ExportAddress>() == 8 && align_of::<ExportAddress>() == 4);
+    assert!(offset_of!(ExportAddress, rva) == 0);
+    assert!(offset_of!(ExportAddress, forwards) == 4);
     assert!(size_of::<Block>() == 24 && align_of::<Block>() == 8);
     assert!(offset_of!(Block, words) == 0);
     assert!(offset_of!(Block, rva) == 16);
@@ -1171,9 +1174,6 @@ const _: () = {
     assert!(offset_of!(RichMetadata, build) == 0);
     assert!(offset_of!(RichMetadata, product) == 2);
     assert!(offset_of!(RichMetadata, use_count) == 4);
-    assert!(size_of::<ExportAddress>() == 8 && align_of::<ExportAddress>() == 4);
-    assert!(offset_of!(ExportAddress, rva) == 0);
-    assert!(offset_of!(ExportAddress, forwards) == 4);
     assert!(size_of::<ExportDirectoryTable>() == 40 && align_of::<ExportDirectoryTable>() == 4);
     assert!(offset_of!(ExportDirectoryTable, export_flags) == 0);
     assert!(offset_of!(ExportDirectoryTable, time_date_stamp) == 4);

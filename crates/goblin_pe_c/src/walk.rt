@@ -144,7 +144,7 @@ pub extern "C" fn goblin_pe_raw_next_export_addresses(
 ///
 /// Refused, with nothing changed, are sections as by that call; in strict mode the directory; and in both
 /// modes a rest that is no block, if it comes next and there is room for a block, by the cause that
-/// [`goblin_pe_raw_open`](crate::file::goblin_pe_raw_open) says of the rest. Memory as there.
+/// [`goblin_pe_raw_open`](crate::whole_file::goblin_pe_raw_open) says of the rest. Memory as there.
 #[unsafe(no_mangle)]
 pub extern "C" fn goblin_pe_raw_next_blocks<'a>(
     alloc: Global,
