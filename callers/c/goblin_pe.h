@@ -37,7 +37,8 @@
 
    call                              memory at most                        time at most
    kind_of, read_section_data,
-     bytes_at, write_*, set_*        none                                  what the records say
+     bytes_at, import_record_at,
+     write_*, set_*                  none                                  what the records say
    read_layout                       none                                  n, and a name for each section with room
    read_object, read_te              none                                  a name for each section with room
    read_symbol_table, checksum       none                                  n
@@ -215,6 +216,15 @@ static inline struct goblin_pe_fault goblin_pe_next_imports(
     return goblin_pe_raw_next_imports(
         GOBLIN_PE_BYTES(bytes), length, goblin_pe_options_or_default(options), places, position,
         GOBLIN_PE_SOME(struct goblin_pe_import, imports), room, count);
+}
+
+/* Puts the record of a library in the import directory into `record`, and answers whether the file has it at this
+   offset, as the position of a walk says it after an import: its time stamp, its forwarder chain, and the address of
+   its name, at which goblin_pe_bytes_at reads a name that is not UTF-8. */
+static inline bool goblin_pe_import_record_at(
+    const uint8_t *bytes, size_t length, size_t offset, struct goblin_pe_import_directory_entry *record)
+{
+    return goblin_pe_raw_import_record_at(GOBLIN_PE_BYTES(bytes), length, offset, record);
 }
 
 /* Goes on with the walk over the exports of an image, as goblin_pe_next_imports does over imports. The

@@ -46,7 +46,6 @@ import hashlib as _hashlib
 import itertools as _itertools
 import operator as _operator
 import os as _os
-import struct as _struct
 import types as _types
 import typing as _t
 
@@ -474,10 +473,12 @@ class Layout:
         position, first = records.ImportPosition(), _room(records.Import, 1)
         begin = self.find_offset(self._places.imports.virtual_address) or 0
         for address, _ in _batches(data, first, call, position):
-            record = position.record_offset
-            stamp, chain = _struct.unpack_from("<II", data, record + 4)
-            yield Library(_Rows(data, address).text(first[0].dll), record, stamp, chain, (record - begin) // 20)
-            position.record_offset, position.slot_offset = record + 20, 0
+            offset, record = position.record_offset, _laid_out.laid_out(records.ImportDirectoryEntry)()
+            with _held(data) as (here, length):
+                _LIB.goblin_pe_raw_import_record_at(here, length, offset, _c.byref(record))
+            yield Library(_Rows(data, address).text(first[0].dll), offset, record.time_date_stamp, record.forwarder_chain,
+                          record.name_rva, (offset - begin) // 20)
+            position.record_offset, position.slot_offset = offset + 20, 0
 
     def walk_exports(self) -> _t.Iterator[Export]:
         """The exports one by one, of which none is kept."""

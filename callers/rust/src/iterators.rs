@@ -474,24 +474,21 @@ impl<'a> WalkLibraries<'a> {
             return Ok(None);
         }
         let record_offset = position.record_offset;
+        // (it was read for the import)
+        let record = raw::import_record_at(self.bytes, record_offset).unwrap_or_default();
         let library = Library {
             name: Text(first[0].dll.get()),
+            name_rva: record.name_rva,
             index: (record_offset - self.directory) / IMPORT_RECORD,
             record_offset,
-            time_date_stamp: self.number_at(record_offset + 4),
-            forwarder_chain: self.number_at(record_offset + 8),
+            time_date_stamp: record.time_date_stamp,
+            forwarder_chain: record.forwarder_chain,
         };
         let next = raw::ImportPosition {
             record_offset: record_offset + IMPORT_RECORD,
             slot_offset: 0,
         };
         Ok(Some((library, next)))
-    }
-
-    // A number of a record that was read.
-    fn number_at(&self, offset: usize) -> u32 {
-        let stored = self.bytes.get(offset..).and_then(<[u8]>::first_chunk);
-        stored.map_or(0, |it| u32::from_le_bytes(*it))
     }
 }
 

@@ -338,6 +338,16 @@ pub fn next_imports<'a>(
     }
 }
 
+/// The record of a library in the import directory, at a file offset.
+pub fn import_record_at(bytes: &[u8], offset: usize) -> Option<ImportDirectoryEntry> {
+    test_interface();
+    let mut record = ImportDirectoryEntry::default();
+    // SAFETY: as in `kind`.
+    let is_there =
+        unsafe { goblin_pe_raw_import_record_at(bytes.as_ptr(), bytes.len(), offset, &mut record) };
+    is_there.then_some(record)
+}
+
 /// Goes on with the walk over exports; fills the records as far as there is room, and says how many.
 pub fn next_exports<'a>(
     bytes: &'a [u8],

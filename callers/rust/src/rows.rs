@@ -525,6 +525,8 @@ impl<'a> From<&raw::Import<'a>> for Import<'a> {
 pub struct Library<'a> {
     /// The name; empty where permissive mode could not read it.
     pub name: Text<'a>,
+    /// The address of its name, where [`Layout::bytes_at`](crate::Layout::bytes_at) reads one that is not UTF-8.
+    pub name_rva: u32,
     /// The index of its record in the import directory. Records that are left out count.
     pub index: usize,
     /// The file offset of its record, of 20 bytes.

@@ -463,10 +463,11 @@ fn libraries_have_records() {
                 it.record_offset,
                 it.time_date_stamp,
                 it.forwarder_chain,
+                pe.bytes_at(it.name_rva as usize, 4).unwrap(),
             )
         })
         .collect();
-    assert_eq!(found, [(Text(b"KERNEL32.dll"), 0, record, 1, 2)]);
+    assert_eq!(found, [(Text(b"KERNEL32.dll"), 0, record, 1, 2, &b"KERN"[..])]);
     let bytes = sample("forwarders_x64.dll");
     assert_eq!(Pe::parse(&bytes).unwrap().walk_libraries().count(), 0);
 }

@@ -1,10 +1,7 @@
--- Words for callers: one table of a file, a refusal, and pieces of a file.
-use Rattle.std.specs.Prelude.{◌≡◌, ◌≤◌, ◌-◌, ◌^◌, ℕ, Bool, List, Option, None, count_by, length, min}
-use Rattle.std.specs.Prelude.{slice_range}
-use Rattle.std.specs.List.{list_any}
+-- Words for callers: one table of a file, and a refusal.
+use Rattle.std.specs.Prelude.{◌≡◌, ℕ, List, Option, None}
 use Rattle.goblin_base.specs.declared.error.ErrorOf.{ErrorOf}
 use Rattle.goblin_base.specs.ErrorText.{error_text}
-use Rattle.goblin_base.specs.Footprints.{Range}
 use Rattle.goblin_base.specs.Reading.{Reading}
 use Rattle.readings.specs.Reads.{◌>>=◌}
 use Rattle.goblin_pe_sect.specs.declared.options.ParseOptions.{ParseOptions}
@@ -13,9 +10,6 @@ use Rattle.goblin_pe_sect.specs.Options.{is_strict}
 use Rattle.goblin_pe_sect.specs.SectionTable.{Section}
 use Rattle.goblin_pe_head.specs.HeaderReadings.{pe_header}
 use Rattle.goblin_pe_head.specs.PeHeader.{PeHeader}
-use Rattle.goblin_pe_import.specs.declared.import.imports.WalkedImport.{WalkedImport}
-use Rattle.goblin_pe_import.specs.ImportWalks.{walked_value}
-use Rattle.goblin_pe_import.specs.Imports.{ImportValue}
 use Rattle.goblin_pe.specs.declared.whole.Part.{Part}
 use Rattle.goblin_pe.specs.declared.whole.Part.TheVariants.{Absent, Refused}
 use Rattle.goblin_pe.specs.declared.whole.Part.TheVariants as part
@@ -50,19 +44,6 @@ read_or default f Absent = default
 read_or default f (part.Read table) = f table
 read_or default f Refused = default
 
--- a call with an import of a walk tells whether the import passes the test
-abbrev pub IsTest : (WalkedImport → Bool → Type 0) → (ImportValue → Bool) → Type 0
-IsTest Returns test =
-    (x : WalkedImport) (found : Bool) → Returns x found → found ≡ test (walked_value x)
-
--- whether one passes the test
-unfoldable pub has_any : {A : Type 0} → (A → Bool) → List A → Bool
-has_any test items = list_any test items
-
--- how many pass the test, at most the greatest number of 64 bits
-abbrev pub counted : {A : Type 0} → (A → Bool) → List A → ℕ
-counted test items = min (count_by test items) (2 ^ 64 - 1)
-
 -- the file is refused by this reading, and this cause is true
 abbrev pub IsRefused : {A : Type 0} → Reading A → List ℕ → ErrorOf → Type 0
 IsRefused reading bytes e = (reading.value bytes ≡ None) × reading.IsCause bytes e
@@ -71,16 +52,3 @@ IsRefused reading bytes e = (reading.value bytes ≡ None) × reading.IsCause by
 abbrev pub IsOnlyCause : {A : Type 0} → Reading A → List ℕ → ErrorOf → Type 0
 IsOnlyCause reading bytes e =
     (f : ErrorOf) → reading.IsCause bytes f → error_text f ≡ error_text e
-
--- a piece of a file: its bytes in a range
-abbrev pub Piece : Type 0
-Piece = Range × List ℕ
-
-abbrev pub piece_at : List ℕ → Range → Piece
-piece_at file range = (range, slice_range file range.0 range.1)
-
--- the file has this piece
-abbrev pub HasPiece : List ℕ → Piece → Type 0
-HasPiece file piece =
-    (piece.0.0 ≤ piece.0.1) × (piece.0.1 ≤ length file)
-    × (slice_range file piece.0.0 piece.0.1 ≡ piece.1)

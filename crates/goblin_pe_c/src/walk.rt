@@ -37,8 +37,8 @@ use std::alloc::Global;
 /// `slot_offset` 0; without room the position stays.
 ///
 /// The sections and the import directory lie where `places` says, as
-/// [`goblin_pe_raw_read_layout`](crate::file::goblin_pe_raw_read_layout) and
-/// [`goblin_pe_raw_open`](crate::file::goblin_pe_raw_open) say of the file; the header is not read
+/// [`goblin_pe_raw_read_layout`](crate::whole_file::goblin_pe_raw_read_layout) and
+/// [`goblin_pe_raw_open`](crate::whole_file::goblin_pe_raw_open) say of the file; the header is not read
 /// again. Any other places are gone by alike: what they lead to are the records and the directory.
 ///
 /// Refused, with nothing changed, is a file that is too short for the records of its sections, where
@@ -144,7 +144,7 @@ pub extern "C" fn goblin_pe_raw_next_export_addresses(
 ///
 /// Refused, with nothing changed, are sections as by that call; in strict mode the directory; and in both
 /// modes a rest that is no block, if it comes next and there is room for a block, by the cause that
-/// [`goblin_pe_raw_open`](crate::file::goblin_pe_raw_open) says of the rest. Memory as there.
+/// [`goblin_pe_raw_open`](crate::whole_file::goblin_pe_raw_open) says of the rest. Memory as there.
 #[unsafe(no_mangle)]
 pub extern "C" fn goblin_pe_raw_next_blocks<'a>(
     alloc: Global,

@@ -6,7 +6,7 @@ use Rattle.std.specs.Str.{bytes_eq}
 use Rattle.goblin_pe.specs.declared.error.ErrorOf.{ErrorOf}
 use Rattle.goblin_pe.specs.declared.optional_header.OptionalHeader.{OptionalHeader}
 use Rattle.goblin_pe.specs.declared.options.ParseOptions.{ParseOptions}
-use Rattle.goblin_pe.specs.Callers.{IsRefused, file_table, has_any, read_or}
+use Rattle.goblin_pe.specs.Callers.{IsRefused, file_table, read_or}
 use Rattle.goblin_pe.specs.ErrorText.{error_text}
 use Rattle.goblin_pe.specs.ExportRecords.{ExportRow, ExportTables}
 use Rattle.goblin_pe.specs.Imports.{ImportValue}
@@ -16,6 +16,7 @@ use Rattle.goblin_pe.specs.PeHeader.{PeHeader}
 use Rattle.goblin_pe.specs.Reading.{Reading}
 use Rattle.goblin_pe.specs.Reads.{mapped}
 use Rattle.goblin_pe.specs.SectionTable.{Section}
+use Rattle.goblin_pe.specs.Tests.{has_any}
 use Rattle.goblin_pe.specs.Whole.{export_part, import_list, layout}
 
 -- ---- imports

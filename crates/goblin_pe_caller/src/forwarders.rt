@@ -9,7 +9,7 @@ ghost use Rattle.goblin_pe.specs.HeaderReadings.{pe_header};
 ghost use Rattle.goblin_pe.specs.Options.{is_strict};
 ghost use Rattle.goblin_pe.specs.Reading.{Reads, ReadsOrMemory};
 ghost use Rattle.goblin_pe.specs.Reads.{mapped};
-ghost use Rattle.goblin_pe.specs.SectionRoom.{TakesIndex};
+ghost use Rattle.goblin_pe.specs.TakenMemory.{TakesIndex};
 ghost use Rattle.goblin_pe.specs.Whole.{export_part};
 ghost use Rattle.goblin_pe_caller.specs.Audits.{forwarder_count, forwarders, is_forwarder};
 
@@ -53,11 +53,5 @@ fn layout_forwarders(layout: &Layout) -> Result<usize>
 fn count(exports: Exports) -> usize
     ensures { result ≡ count_by (λ x. is_forwarder x.row) (exports_left exports.entry) }
 {
-    let mut count = 0;
-    'exports: for export in exports {
-        if export.export.reexport.is_some() {
-            count += 1;
-        }
-    }
-    count
+    exports.count_exports(|export| export.export.reexport.is_some())
 }

@@ -2,13 +2,14 @@
 
 ghost use Rattle.std.specs.Prelude.{◌≡◌, IfErr, IsSomeAnd, false, option_map, true};
 ghost use Rattle.goblin_pe.specs.Answers.{Answers, IsMemory, all_of};
-ghost use Rattle.goblin_pe.specs.Callers.{counted, has_any, layout_table, read_or};
+ghost use Rattle.goblin_pe.specs.Callers.{layout_table, read_or};
 ghost use Rattle.goblin_pe.specs.HeaderReadings.{pe_header};
 ghost use Rattle.goblin_pe.specs.Layouts.{IsFileImportsCause, file_imports_left, layout_bytes};
 ghost use Rattle.goblin_pe.specs.Options.{default_options};
 ghost use Rattle.goblin_pe.specs.Reading.{Reads, ReadsOrMemory};
 ghost use Rattle.goblin_pe.specs.Reads.{mapped};
-ghost use Rattle.goblin_pe.specs.SectionRoom.{TakesIndex};
+ghost use Rattle.goblin_pe.specs.TakenMemory.{TakesIndex};
+ghost use Rattle.goblin_pe.specs.Tests.{counted, has_any};
 ghost use Rattle.goblin_pe.specs.Whole.{import_list};
 ghost use Rattle.goblin_pe_caller.specs.Audits.{imports_from, is_from};
 

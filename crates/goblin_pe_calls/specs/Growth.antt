@@ -10,7 +10,7 @@ use Rattle.goblin_pe_import.specs.declared.import.imports.ImportPosition.{Import
 use Rattle.goblin_pe.specs.LayoutPositions.{file_imports_at, import_start}
 use Rattle.goblin_pe.specs.ExportRecords.{ExportRow, ExportTables}
 use Rattle.goblin_pe.specs.PeHeader.{PeHeader}
-use Rattle.goblin_pe.specs.SectionRoom.{HasRoom}
+use Rattle.goblin_pe_head.specs.SectionRoom.{HasRoom}
 use Rattle.goblin_pe.specs.Whole.{TableParts, TablePlaces, WholeFile, both_import_parts}
 use Rattle.goblin_pe.specs.Whole.{export_part}
 use Rattle.goblin_pe.specs.Whole.{part_map, places_in, whole_file}

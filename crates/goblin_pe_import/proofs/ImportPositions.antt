@@ -2,26 +2,19 @@
 -- position.
 use Rattle.std.proofs.Common.{◌≡◌, ◌+◌, ◌-◌, ℕ, Bool, true, List, ◌++◌, Option, Some, None}
 use Rattle.std.proofs.Common.{refl, sym, ap, subst, ◌∙◌, arith}
-use Rattle.std.specs.Prelude.{◌<◌, ◌&&◌, ◌==◌, not, false, IfOk, IfSome, IsSomeAnd, Result, Ok, Err, unwrap_or}
+use Rattle.std.specs.Prelude.{◌<◌, IfOk, IfSome, IsSomeAnd, Result, Ok, Err, unwrap_or}
 use Rattle.goblin_base.specs.declared.endian.Endian.TheVariants.{Little}
 use Rattle.goblin_base.specs.declared.error.ErrorOf.{ErrorOf}
 use Rattle.goblin_base.specs.Answers.{FirstFault, all_of}
-use Rattle.goblin_base.specs.declared.error.CauseOf.TheVariants.{Unmapped}
-use Rattle.goblin_base.specs.declared.error.ErrorOf.TheVariants.{Malformed}
-use Rattle.goblin_base.specs.Reading.{Reading}
 use Rattle.goblin_base.specs.Tables.{Format}
 use Rattle.goblin_base.proofs.Records.{record_at-some}
-use Rattle.readings.specs.Reads.{in_its_place}
 use Rattle.readings.specs.Walks.{until_refused}
 use Rattle.readings.proofs.Walks.{slot-going}
 use Rattle.goblin_pe_import.specs.declared.import.directory_entry.ImportDirectoryEntry.{ImportDirectoryEntry}
 use Rattle.goblin_pe_import.specs.declared.import.imports.ImportPosition.{ImportPosition}
 use Rattle.goblin_pe_import.specs.declared.import.imports.Walk.{Walk}
-use Rattle.goblin_pe_import.specs.declared.import.imports.Imports.{Imports}
 use Rattle.goblin_pe_import.specs.declared.import.imports.WalkedImport.{WalkedImport}
-use Rattle.goblin_pe_sect.specs.Addresses.{MapOfAddresses, map_of, offset_of, reads_strictly}
-use Rattle.goblin_pe_import.specs.ImportPositions.{BeginsAt, GoesOnAt}
-use Rattle.goblin_pe_import.specs.ImportPositions.{first_import, first_position}
+use Rattle.goblin_pe_sect.specs.Addresses.{map_of, offset_of, reads_strictly}
 use Rattle.goblin_pe_import.specs.ImportEntries.{EntryValue}
 use Rattle.goblin_pe_import.specs.ImportRecords.{address_table_rva, import_record, is_last_record}
 use Rattle.goblin_pe_import.specs.Imports.{ImportValue}
@@ -238,38 +231,3 @@ pub after-import : (format : Format EntryValue) (w : Walk)
 after-import format w None placed inside = tt
 after-import format w (Some (Ok import)) placed inside = in-table format w placed inside
 after-import format w (Some (Err e)) placed inside = tt
-
--- ---- where a directory begins
-
-module _ (m : MapOfAddresses) (format : Format EntryValue) (bytes : List ℕ) (rva : ℕ) where
-  abbrev found : Option ℕ
-  found = in_its_place (reads_strictly m) 0 (offset_of m rva)
-
-  abbrev first : Reading (Option ImportPosition)
-  first = first_import (reads_strictly m) (offset_of m) rva
-
-  pub begins-nowhere : found ≡ None → (e : ErrorOf) → e ≡ Malformed (Unmapped rva)
-      → (first.value bytes ≡ None) × first.IsCause bytes e
-  begins-nowhere none e is = (rw none refl, is)
-
-  begins-at : {T : Type 0} (o : ℕ) → found ≡ Some o → (it : Imports T)
-      → GoesOnAt m format bytes (first_position (reads_strictly m) o) it
-      → BeginsAt m format bytes first (Ok it)
-  begins-at o at it goes = rw at goes
-
-  pub begins-front : {T : Type 0} → found ≡ Some 0 → reads_strictly m ≡ false → (it : Imports T)
-      → GoesOnAt m format bytes None it → BeginsAt m format bytes first (Ok it)
-  begins-front at permissive it goes =
-      let none : first_position (reads_strictly m) 0 ≡ None = rw permissive refl in
-      begins-at 0 at it
-      (subst (λ (p : Option ImportPosition). GoesOnAt m format bytes p it) (sym none) goes)
-
-  pub begins-past : {T : Type 0} (o : ℕ) → found ≡ Some o
-      → (not (reads_strictly m) && o == 0) ≡ false → (it : Imports T)
-      → GoesOnAt m format bytes (Some (record { record_offset = o; slot_offset = None })) it
-      → BeginsAt m format bytes first (Ok it)
-  begins-past o at past it goes =
-      let here : first_position (reads_strictly m) o ≡ Some (record { record_offset = o; slot_offset = None }) =
-      rw past refl in
-      begins-at o at it
-      (subst (λ (p : Option ImportPosition). GoesOnAt m format bytes p it) (sym here) goes)

@@ -1,21 +1,17 @@
 -- What a walk over all imports collects is what import data has.
-use Rattle.std.proofs.Common.{◌≡◌, ◌<◌, ◌≤◌, ◌+◌, ◌-◌, ◌*◌, ◌^◌, ℕ, Bool, true, false, cond, List, ◌⊎◌, ◌↔◌, ◌≢◌, IsTrue}
+use Rattle.std.proofs.Common.{◌≡◌, ◌<◌, ◌≤◌, ◌+◌, ◌-◌, ◌*◌, ◌^◌, ℕ, Bool, true, false, cond, List}
 use Rattle.std.proofs.Common.{[], ◌∷◌, ◌++◌, map, length, Option, Some, None, refl, sym, ap, subst, ◌∙◌}
-use Rattle.std.proofs.Common.{append-nil, arith, zero, suc, IsSome, not, ◌&&◌, ◌==◌, inl, inr}
+use Rattle.std.proofs.Common.{append-nil, arith, zero, suc, IsSome, not, ◌&&◌, inl, inr}
 use Rattle.std.specs.Prelude.{is_none, option_map, slice_get, unwrap_or}
 use Rattle.std.specs.List.{flat_map}
 use Rattle.std.specs.Option.{is_some}
-use Rattle.std.proofs.lemmas.Bool.{and_left, cases_Bool, eq-eqb, lt-ltb, ne_eqb}
+use Rattle.std.proofs.lemmas.Bool.{and_left, cases_Bool, eq-eqb, lt-ltb}
 use Rattle.std.proofs.lemmas.List.{get_or_append_left, length-append, length-map, map-append, map-id}
 use Rattle.std.proofs.lemmas.List.Concat.{flat_map-append}
 use Rattle.std.proofs.lemmas.Option.{slice_get-get_or}
 use Rattle.std.proofs.Math.Seq.{get_or-append_seam}
 use Rattle.goblin_base.specs.declared.endian.Endian.TheVariants.{Little}
-use Rattle.goblin_base.specs.declared.error.CauseOf.TheVariants.{Unmapped}
 use Rattle.goblin_base.specs.declared.error.ErrorOf.{ErrorOf}
-use Rattle.goblin_base.specs.declared.error.ErrorOf.TheVariants.{Malformed}
-use Rattle.goblin_base.specs.declared.permissive.ParseMode.{ParseMode}
-use Rattle.goblin_base.specs.declared.permissive.ParseMode.TheVariants.{Permissive, Strict}
 use Rattle.goblin_base.specs.Answers.{◌>>=◌, all_at, all_of}
 use Rattle.goblin_base.specs.Bytes.{IsBytes}
 use Rattle.goblin_base.specs.Reading.{Reading}
@@ -25,15 +21,14 @@ use Rattle.goblin_base.proofs.Below.{each_below-there, least-before}
 use Rattle.goblin_base.proofs.Records.{record_at-some}
 use Rattle.goblin_base.proofs.Footprints.{same-all_at}
 use Rattle.goblin_base.proofs.Steps.{all_at-more, all_at-zero, same_value, step}
-use Rattle.readings.specs.Reads.{given, in_its_place, mapped, pair_of, with_slots}
+use Rattle.readings.specs.Reads.{mapped, pair_of, with_slots}
 use Rattle.readings.specs.Walks.{IsWalkOf, end_items, items_at, refusal_of, table_walk}
 use Rattle.readings.proofs.WalkValues.{all_of-append, all_of-until, joined-end, walk-holds}
-use Rattle.goblin_pe_sect.specs.Options.{is_strict}
 use Rattle.goblin_pe_import.specs.declared.import.directory_entry.ImportDirectoryEntry.{ImportDirectoryEntry}
 use Rattle.goblin_pe_sect.specs.Addresses.{offset_of}
 use Rattle.goblin_pe_import.specs.ImportEntries.{EntryValue, LookupEntry, entry_slots}
-use Rattle.goblin_pe_import.specs.ImportReadings.{import_data, kept_library, libraries_at}
-use Rattle.goblin_pe_import.specs.ImportReadings.{libraries_past_front, library_of, lookup_if}
+use Rattle.goblin_pe_import.specs.ImportReadings.{kept_library, libraries_at}
+use Rattle.goblin_pe_import.specs.ImportReadings.{library_of, lookup_if}
 use Rattle.goblin_pe_import.specs.ImportRecords.{ImportedLibrary, import_record, import_slots, lookup_offset}
 use Rattle.goblin_pe_import.specs.Imports.{ImportValue, import_at, import_of, imports_by, kept_imports}
 use Rattle.goblin_pe_import.specs.ImportWalks.{IsCauseAt, KeptValue, addresses_of}
@@ -421,57 +416,3 @@ imports-walked strict format offset_of bytes o wide short octets left IsCause fr
       ∙ ap all_of from ∙ imports-value strict format offset_of bytes wide short octets o;
   cause = λ e fault. (cause e fault).1;
 }
-
--- ---- the directory at an address
-
--- a directory that permissive mode does not treat as empty
-pub past-front : (mode : ParseMode) (permissive : Bool) (o : ℕ)
-    → (IsTrue permissive ↔ (mode ≡ Permissive))
-    → ((permissive ≡ true) × (o ≢ 0)) ⊎ (permissive ≡ false)
-    → (not (is_strict mode) && o == 0) ≡ false
-past-front Strict permissive o says which = refl
-past-front Permissive permissive o says (inl both) = ne_eqb o 0 both.1
-past-front Permissive permissive o says (inr not) =
-    let true_here = says.1 refl in
-    absurd cc
-
-module _ (strict : Bool) (format : Format EntryValue) (offset_of : ℕ → Option ℕ)
-    (bytes : List ℕ) (rva : ℕ) (left : List (Option ImportValue)) (IsCause : ErrorOf → Type 0) where
-  -- where the directory is
-  abbrev found : Option ℕ
-  found = in_its_place strict 0 (offset_of rva)
-
-  abbrev imports_of : Reading (List ImportedLibrary) → Reading (List ImportValue)
-  imports_of libraries = mapped (flat_map (kept_imports (λ x. x) format.width)) libraries
-
-  pub data-unmapped : found ≡ None → (e : ErrorOf) → e ≡ Malformed (Unmapped rva)
-      → ((imports_of (import_data strict format offset_of rva)).value bytes ≡ None)
-      × (import_data strict format offset_of rva).IsCause bytes e
-  unfolding import_data
-  data-unmapped none e is = (rw none refl, rw none is)
-
-  -- permissive mode treats it as empty
-  pub data-front : found ≡ Some 0 → strict ≡ false
-      → left ≡ imports_at strict format offset_of bytes None → ((e : ErrorOf) → IsCause e → ⊥)
-      → IsWalkOf (λ xs. xs) (imports_of (import_data strict format offset_of rva)) bytes left IsCause
-  unfolding import_data libraries_past_front all_of imports_at
-  data-front at permissive none never =
-      record { value = rw (none, at, permissive) refl; cause = λ e fault. absurd (never e fault) }
-
-  past_front : (libraries : Reading (List ImportedLibrary)) (test : Bool) → test ≡ false
-      → IsWalkOf (λ xs. xs) (imports_of libraries) bytes left IsCause
-      → IsWalkOf (λ xs. xs) (imports_of (cond test (given []) libraries)) bytes left IsCause
-  past_front libraries true past is = absurd cc
-  past_front libraries false past is = is
-
-  pub data-at : (o : ℕ) → found ≡ Some o → (not strict && o == 0) ≡ false
-      → IsWalkOf (λ xs. xs) (imports_of (libraries_at strict format offset_of o)) bytes left IsCause
-      → IsWalkOf (λ xs. xs) (imports_of (import_data strict format offset_of rva)) bytes left IsCause
-  unfolding import_data libraries_past_front
-  data-at o at past walk =
-      let is =
-      past_front (libraries_at strict format offset_of o) (not strict && o == 0) past walk in
-      record {
-        value = is.value ∙ sym (rw at refl);
-        cause = λ e fault. rw at (is.cause e fault);
-      }

@@ -1,6 +1,6 @@
 -- Positions in the imports of an image, from which a walk can go on.
-use Rattle.std.specs.Prelude.{◌≡◌, ℕ, ◌==◌, Bool, true, ◌&&◌, not, if◌then◌else◌, List}
-use Rattle.std.specs.Prelude.{Option, Some, None, IsSomeAnd, Result, Ok, Err}
+use Rattle.std.specs.Prelude.{◌≡◌, ℕ, Bool, true, List, Option, Some, None, option_map, IsSomeAnd}
+use Rattle.std.specs.Prelude.{Result, Ok, Err}
 use Rattle.goblin_base.specs.declared.error.ErrorOf.{ErrorOf}
 use Rattle.goblin_base.specs.Reading.{Reading}
 use Rattle.goblin_base.specs.Tables.{Format}
@@ -8,17 +8,18 @@ use Rattle.readings.specs.Reads.{mapped, or_else}
 use Rattle.goblin_pe_sect.specs.AddressReadings.{offset_at}
 use Rattle.goblin_pe_sect.specs.Addresses.{MapOfAddresses, offset_of, reads_strictly}
 use Rattle.goblin_pe_import.specs.ImportEntries.{EntryValue}
+use Rattle.goblin_pe_import.specs.ImportReadings.{first_record}
 use Rattle.goblin_pe_import.specs.ImportWalks.{IsCauseAt, IsImportsCause, imports_at, imports_left}
 use Rattle.goblin_pe_import.specs.declared.import.imports.ImportPosition.{ImportPosition}
 use Rattle.goblin_pe_import.specs.declared.import.imports.Imports.{Imports}
 
 -- ---- where imports begin
 
--- The position of the first import of a directory at an offset. Permissive mode has none where the
--- directory is at the front of the file.
+-- the position of the first import of a directory at an offset: at its first record, where it has
+-- one
 abbrev pub first_position : Bool → ℕ → Option ImportPosition
 first_position strict o =
-    if not strict && o == 0 then None else Some (record { record_offset = o; slot_offset = None })
+    option_map (λ p. record { record_offset = p; slot_offset = None }) (first_record strict (Some o))
 
 -- The position of the first import of a directory at an address. Permissive mode treats an address
 -- without an offset as one that leads to the front of the file.

@@ -1,12 +1,12 @@
 -- How much permissive mode leaves out of the imports of a directory, over a map of addresses to file
 -- offsets.
-use Rattle.std.specs.Prelude.{ℕ, zero, suc, ◌+◌, ◌==◌, Bool, false, ◌&&◌, not, if◌then◌else◌}
+use Rattle.std.specs.Prelude.{ℕ, zero, suc, ◌+◌, Bool, false, ◌&&◌, not, if◌then◌else◌}
 use Rattle.std.specs.Prelude.{List, Option, Some, None, is_none}
 use Rattle.std.specs.Int.{from_bool}
 use Rattle.std.specs.Option.{is_some}
 use Rattle.goblin_base.specs.Tables.{Format, SlotFormat, is_kept, slot_at, stop}
 use Rattle.goblin_pe_import.specs.ImportEntries.{EntryValue, entry_slots}
-use Rattle.goblin_pe_import.specs.ImportReadings.{library_of}
+use Rattle.goblin_pe_import.specs.ImportReadings.{first_record, library_of}
 use Rattle.goblin_pe_import.specs.ImportRecords.{import_slots, lookup_offset}
 use Rattle.goblin_pe_import.specs.LookupReadings.{kept_entry}
 use Rattle.goblin_pe_import.specs.declared.import.directory_entry.ImportDirectoryEntry.{ImportDirectoryEntry}
@@ -66,17 +66,11 @@ abbrev pub entries_of_directory : Format EntryValue → (ℕ → Option ℕ) →
 entries_of_directory format offset_of bytes o =
     sum_of_slots import_slots (entries_of_record format offset_of bytes) bytes o
 
--- The amount of the directory that has this offset. Permissive mode treats one at the front of the
--- file, or without an offset, as empty.
-abbrev pub past_front : (ℕ → ℕ) → Option ℕ → ℕ
-past_front amount None = 0
-past_front amount (Some o) = if o == 0 then 0 else amount o
-
--- the same for the directory at an address
+-- the same for the directory at an address: none if permissive mode finds no record
 abbrev pub libraries_left_out : Format EntryValue → (ℕ → Option ℕ) → List ℕ → ℕ → ℕ
 libraries_left_out format offset_of bytes rva =
-    past_front (libraries_of_directory format offset_of bytes) (offset_of rva)
+    amount_of (libraries_of_directory format offset_of bytes) (first_record false (offset_of rva))
 
 abbrev pub entries_left_out : Format EntryValue → (ℕ → Option ℕ) → List ℕ → ℕ → ℕ
 entries_left_out format offset_of bytes rva =
-    past_front (entries_of_directory format offset_of bytes) (offset_of rva)
+    amount_of (entries_of_directory format offset_of bytes) (first_record false (offset_of rva))

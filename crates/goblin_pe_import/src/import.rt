@@ -16,7 +16,7 @@ ghost use Rattle.goblin_pe_import.specs.ImportDirectory.{TakesLibrary};
 ghost use Rattle.goblin_pe_import.specs.ImportReadings as reading;
 
 use goblin_base::{Cause, Error, ResultOf, is_passed_over};
-use goblin_pe_sect::address_map::{AddressMap, Finder};
+use goblin_pe_sect::address_map::AddressMap;
 use goblin_pe_sect::data_directories::DataDirectory;
 use goblin_pe_sect::options::ParseOptions;
 use goblin_pe_sect::section_table::SectionTable;
@@ -42,8 +42,7 @@ pub use directory_entry::{ImportDirectoryEntry, SIZEOF_IMPORT_DIRECTORY_ENTRY};
 pub use imports::{ImportPosition, Imports, PlainImports, WalkedImport};
 pub use left_out::LeftOut;
 pub use library::SyntheticImportDirectoryEntry;
-use library::directory_offset;
-pub(crate) use library::{address_table_rva, lookup_offset};
+pub(crate) use library::{address_table_rva, first_record, lookup_offset};
 pub use listed::Import;
 pub use lookup_table::{HintNameTableEntry, ImportLookupTable, SyntheticImportLookupTableEntry};
 use slots::may_end;
@@ -85,7 +84,7 @@ fn add_library<'a, 'e, T: Bitfield<'a>>(
     let alloc = *libraries.allocator();
     match SyntheticImportDirectoryEntry::parse_by::<T>(alloc, bytes, entry, address_map) {
         Ok(library) => libraries.push(library)?,
-        Err(error) if is_passed_over(&error, address_map.is_permissive()) => (),
+        Err(error) if is_passed_over(&error, !address_map.reads_strictly()) => (),
         Err(error) => return Err(error),
     }
     Ok(())
@@ -112,7 +111,7 @@ fn libraries<'a, 'e, T: Bitfield<'a>>(
         add_library::<T>(&mut libraries, bytes, record, address_map)?;
         place += size;
     }
-    if may_end(bytes, place, size, address_map.is_permissive()) {
+    if may_end(bytes, place, size, address_map.reads_strictly()) {
         return Ok(libraries);
     }
     Err(Error::Malformed(Cause::ImportRecordEnd(place)))
@@ -211,13 +210,11 @@ impl<'a> ImportData<'a> {
             (TakesLibraries (reads_strictly m) T.format (offset_of m) bytes.now)) }
     {
         let rva = directory.virtual_address;
-        let Some(offset) = directory_offset(rva, &mut Finder::of(address_map)) else {
-            return Err(Error::Malformed(Cause::Unmapped(rva as usize)));
-        };
-        let import_data = if address_map.is_permissive() && offset == 0 {
-            Vec::new(alloc)
-        } else {
-            libraries::<T>(alloc, bytes, offset, address_map)?
+        let strictly = address_map.reads_strictly();
+        let import_data = match first_record(address_map.offset_of(rva), strictly) {
+            Some(offset) => libraries::<T>(alloc, bytes, offset, address_map)?,
+            None if strictly => return Err(Error::Malformed(Cause::Unmapped(rva as usize))),
+            None => Vec::new(alloc),
         };
         Ok(ImportData { import_data })
     }

@@ -7,7 +7,8 @@
 //!
 //! `specs/Reads` has the words that make readings, from a number at an offset to a table of slots.
 //! Each word carries the laws, so a reader specified with these words has them without a proof of
-//! its own. `specs/Walks` has the words for calls that give a table's items one by one.
+//! its own. `specs/Walks` has the words for calls that give a table's items one by one, and
+//! `specs/Tests` those for what callers ask of the items.
 //!
 //! `proofs/Loops` says what a loop over a table's slots returns at each exit, `proofs/Modes` what
 //! strict and permissive mode have in common, `proofs/Walks` how a walk goes from slot to slot,

@@ -6,9 +6,9 @@ ghost use Rattle.std.specs.Iterator.{UpTo, at_most};
 ghost use Rattle.std.specs.Iterator.SizeHint.{IsWithinCount};
 ghost use Rattle.goblin_base.specs.declared.error.ErrorOf.{ErrorOf};
 ghost use Rattle.goblin_base.specs.Answers.{Answers, all_of};
+ghost use Rattle.readings.specs.Tests.{IsTest, counted, has_any};
 ghost use Rattle.goblin_pe_import.specs.ImportWalks.{walked_value};
 ghost use Rattle.goblin_pe_import.specs.Imports.{ImportValue};
-ghost use Rattle.goblin_pe.specs.Callers.{IsTest, counted, has_any};
 ghost use Rattle.goblin_pe_sect.specs.Addresses.{MapOfAddresses, map_of};
 ghost use Rattle.goblin_pe.specs.LayoutPositions.{GivesFileImport, IsFileFaultAt, IsImportWalk};
 ghost use Rattle.goblin_pe.specs.LayoutPositions.{file_imports_at, file_map, file_position};
@@ -59,7 +59,7 @@ impl<'a, 'm, 'e> FileImports<'a, 'm, 'e> {
     /// In strict mode as the walk, at its end.
     pub fn any_import<F: Fn(&WalkedImport<'a>) -> bool>(self, test: F) -> ResultOf<'e, bool>
         requires { F.IsAlwaysCallable test }
-        ensures { (p : ImportValue → Bool) → IsTest (FnReturnsAt F.Fn test) p
+        ensures { (p : ImportValue → Bool) → IsTest walked_value (FnReturnsAt F.Fn test) p
             → Answers (λ b. b) result
             (option_map (has_any p) (all_of (file_imports_left self.entry)))
             (IsFileImportsCause self.entry) }
@@ -78,7 +78,7 @@ impl<'a, 'm, 'e> FileImports<'a, 'm, 'e> {
     /// In strict mode as the walk, at its end.
     pub fn count_imports<F: Fn(&WalkedImport<'a>) -> bool>(self, test: F) -> ResultOf<'e, usize>
         requires { F.IsAlwaysCallable test }
-        ensures { (p : ImportValue → Bool) → IsTest (FnReturnsAt F.Fn test) p
+        ensures { (p : ImportValue → Bool) → IsTest walked_value (FnReturnsAt F.Fn test) p
             → Answers (λ n. n) result
             (option_map (counted p) (all_of (file_imports_left self.entry)))
             (IsFileImportsCause self.entry) }
@@ -103,7 +103,7 @@ impl<'a, 'm, 'e> FileImports<'a, 'm, 'e> {
         test: F,
     ) -> ResultOf<'e, Option<WalkedImport<'a>>>
         requires { F.IsAlwaysCallable test }
-        ensures { (p : ImportValue → Bool) → IsTest (FnReturnsAt F.Fn test) p
+        ensures { (p : ImportValue → Bool) → IsTest walked_value (FnReturnsAt F.Fn test) p
             → Answers (option_map walked_value) result
             (option_map (find p) (all_of (file_imports_left self.entry)))
             (IsFileImportsCause self.entry) }

@@ -26,7 +26,8 @@ ghost use Rattle.goblin_pe.specs.Layouts.{IsExportWalk, IsFileImportsCause, IsLa
 ghost use Rattle.goblin_pe.specs.Layouts.{file_imports_left, layout_bytes};
 ghost use Rattle.goblin_pe.specs.Layouts.{layout_map, layout_places, layout_sections};
 ghost use Rattle.goblin_pe.specs.Layouts.{walked_exports};
-ghost use Rattle.goblin_pe.specs.SectionRoom.{TakesIndex, TakesSections};
+ghost use Rattle.goblin_pe_head.specs.SectionRoom.{TakesSections};
+ghost use Rattle.goblin_pe.specs.TakenMemory.{TakesIndex};
 ghost use Rattle.goblin_pe.specs.Whole.{AreListed, IfRead, TablePlaces, entry_format, export_part};
 ghost use Rattle.goblin_pe.specs.Whole.{import_list};
 ghost use Rattle.goblin_pe.specs.Whole.{part_map, relocation_part, section_table_offset};
@@ -111,7 +112,7 @@ pub fn section_records_of<'a>(
 /// # Errors
 /// As [`CoffHeader::sections_with_opts`](goblin_pe_head::CoffHeader::sections_with_opts).
 #[inline(always)]
-#[tactic(auto, unfolding(crate::specs::Whole::sections_after), using(crate::proofs::SectionRoom::sections_answer_takes))]
+#[tactic(auto, unfolding(crate::specs::Whole::sections_after))]
 pub fn sections_of(
     alloc: Global,
     bytes: &[u8],

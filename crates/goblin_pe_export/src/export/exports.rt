@@ -24,6 +24,7 @@ use std::fmt;
 use std::iter::FusedIterator;
 
 mod left_out;
+mod tested;
 
 /// An export, as a walk yields it: without memory.
 #[derive(Debug, Drop)]

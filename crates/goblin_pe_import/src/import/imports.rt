@@ -40,7 +40,7 @@ use crate::import::address_table::{test_address_table, test_numbers};
 use crate::import::bitfield::Bitfield;
 use crate::import::directory_entry::{ImportDirectoryEntry, SIZEOF_IMPORT_DIRECTORY_ENTRY};
 use crate::import::kept::{KeptEntry, next_kept, plain_kept};
-use crate::import::library::{address_table_rva, directory_offset, library_name, lookup_offset};
+use crate::import::library::{address_table_rva, first_record, library_name, lookup_offset};
 use crate::import::lookup_table::SyntheticImportLookupTableEntry;
 use crate::import::slots::{may_end, next_record};
 use goblin_base::{Cause, Error, ResultOf};
@@ -112,7 +112,7 @@ fn test_untested<'a, 'e, T: Bitfield<'a>>(
     let Some(rva) = untested else {
         return Ok(());
     };
-    if finder.is_permissive() {
+    if !finder.reads_strictly() {
         return Ok(());
     }
     let Some(offset) = finder.offset_of(rva) else {
@@ -131,7 +131,7 @@ fn is_left_out<'a, T: Bitfield<'a>>(
         let table = addresses_of T.format (offset_of m) entry.now in
         result ≡ (not (reads_strictly m) && is_none (table.value bytes.now)) }
 {
-    address_map.is_permissive() && test_address_table::<T>(bytes, entry, address_map).is_err()
+    !address_map.reads_strictly() && test_address_table::<T>(bytes, entry, address_map).is_err()
 }
 
 // Where the entries of a table begin to come: at its first slot, or at a given one.
@@ -325,7 +325,7 @@ impl<'a, 'm> Walk<'a, 'm> {
         let offset = at.record_offset;
         let size = SIZEOF_IMPORT_DIRECTORY_ENTRY;
         let Some(record) = next_record(self.bytes, offset) else {
-            if may_end(self.bytes, offset, size, self.finder.is_permissive()) {
+            if may_end(self.bytes, offset, size, self.finder.reads_strictly()) {
                 return None;
             }
             return Some(Err(Error::Malformed(Cause::ImportRecordEnd(offset))));
@@ -451,6 +451,7 @@ impl<'a, 'm, 'e, T: Bitfield<'a>> Imports<'a, 'm, 'e, T> {
     /// In strict mode [`Error::Malformed`] with [`Cause::Unmapped`] if the directory's address has
     /// no file offset.
     #[inline(always)]
+    #[tactic(auto, unfolding(crate::specs::ImportReadings::import_data, crate::specs::ImportReadings::libraries_past_front, crate::specs::ImportWalks::imports_at, goblin_base::specs::Answers::all_of))]
     pub fn of(
         bytes: &'a [u8],
         directory: DataDirectory,
@@ -470,14 +471,13 @@ impl<'a, 'm, 'e, T: Bitfield<'a>> Imports<'a, 'm, 'e, T> {
         ensures position { IfOk result (HasPosition T.format) }
     {
         let rva = directory.virtual_address;
+        let strictly = address_map.reads_strictly();
         let mut finder = Finder::of(address_map);
-        let Some(offset) = directory_offset(rva, &mut finder) else {
-            return Err(Error::Malformed(Cause::Unmapped(rva as usize)));
-        };
-        if address_map.is_permissive() && offset == 0 {
-            return Ok(Imports::from_position(bytes, None, finder));
+        match first_record(finder.offset_of(rva), strictly) {
+            Some(offset) => Ok(Imports::at(bytes, offset, finder)),
+            None if strictly => Err(Error::Malformed(Cause::Unmapped(rva as usize))),
+            None => Ok(Imports::from_position(bytes, None, finder)),
         }
-        Ok(Imports::at(bytes, offset, finder))
     }
 
     /// The imports of the libraries of the directory at the file offset `offset`.

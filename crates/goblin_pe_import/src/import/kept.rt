@@ -49,7 +49,7 @@ pub(super) fn next_kept<'a, 'e, T: Bitfield<'a>>(
     let mut place = place?;
     'slots: loop {
         let Some(entry) = next_entry::<T>(bytes, place) else {
-            if may_end(bytes, place, size, finder.is_permissive()) {
+            if may_end(bytes, place, size, finder.reads_strictly()) {
                 return None;
             }
             return Some(Err(Error::Malformed(Cause::LookupEnd(place))));

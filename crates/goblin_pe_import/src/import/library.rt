@@ -4,7 +4,7 @@ ghost use Rattle.std.specs.Prelude.{◌≡◌, ◌⊎◌, ◌<◌, ◌^◌, [], 
 ghost use Rattle.std.specs.Prelude.{option_map, true};
 ghost use Rattle.goblin_base.specs.Answers.{IsMemory};
 ghost use Rattle.goblin_base.specs.Reading.{Reads, ReadsOrMemory};
-ghost use Rattle.readings.specs.Reads.{in_its_place, or_else};
+ghost use Rattle.readings.specs.Reads.{or_else};
 ghost use Rattle.goblin_pe_sect.specs.Options.{default_options};
 ghost use Rattle.goblin_pe_sect.specs.Addresses.{TakesMap, map_by, map_of, offset_of};
 ghost use Rattle.goblin_pe_sect.specs.Addresses.{reads_strictly};
@@ -13,7 +13,7 @@ ghost use Rattle.goblin_pe_import.specs.ImportDirectory.{lookup_offset};
 ghost use Rattle.goblin_pe_import.specs.ImportLookup.{KeepsEntries, entry_view};
 ghost use Rattle.goblin_pe_import.specs.ImportReadings as reading;
 ghost use Rattle.goblin_pe_sect.specs.AddressReadings.{name_at};
-ghost use Rattle.goblin_pe_import.specs.ImportReadings.{lookup_if};
+ghost use Rattle.goblin_pe_import.specs.ImportReadings.{first_record, lookup_if};
 
 use crate::import::address_table::{ImportAddressTable, address_table};
 use crate::import::bitfield::Bitfield;
@@ -111,16 +111,14 @@ pub(super) fn library_name<'a, 'e>(
     Ok(name.unwrap_or(no_text(bytes)))
 }
 
-// The offset of the directory at an address: permissive mode treats an address without an offset as
-// one that leads to the front of the file.
+// The offset of the first record of a directory that has this offset, where it has one: permissive
+// mode treats a directory at the front of the file as empty.
 #[inline(always)]
-pub(super) fn directory_offset(rva: u32, finder: &mut Finder<'_>) -> Option<usize>
-    ensures value { let m = map_of finder.old in
-        result ≡ in_its_place (reads_strictly m) 0 (offset_of m rva) }
-    ensures same { finder.new ≡ finder.old }
+pub(crate) fn first_record(offset: Option<usize>, strictly: bool) -> Option<usize>
+    ensures { result ≡ first_record strictly offset }
 {
-    match finder.offset_of(rva) {
-        None if finder.is_permissive() => Some(0),
+    match offset {
+        Some(0) if !strictly => None,
         offset => offset,
     }
 }

@@ -144,8 +144,8 @@ impl<'a> SyntheticImportLookupTableEntry<'a> {
         };
         match HintNameTableEntry::parse_with_opts(bytes, offset, finder.opts()) {
             Ok(named) => Ok(Some(SyntheticImportLookupTableEntry::HintNameTableRVA((rva, named)))),
-            Err(_) if finder.is_permissive() => Ok(None),
-            Err(error) => Err(error),
+            Err(error) if finder.reads_strictly() => Err(error),
+            Err(_) => Ok(None),
         }
     }
 

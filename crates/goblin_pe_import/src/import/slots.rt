@@ -1,6 +1,6 @@
 //! What stands in a slot of a lookup table or of a directory.
 
-ghost use Rattle.std.specs.Prelude.{◌≡◌, ◌||◌};
+ghost use Rattle.std.specs.Prelude.{◌≡◌, ◌||◌, not};
 ghost use Rattle.std.specs.Option.{is_some};
 ghost use Rattle.goblin_base.specs.Bytes.{slice_at};
 ghost use Rattle.goblin_pe_import.specs.ImportEntries.{GivesSlot, entry_slots};
@@ -32,11 +32,11 @@ pub(crate) fn next_record(bytes: &[u8], offset: usize) -> Option<ImportDirectory
     }
 }
 
-// Whether a table may end in the slot of `width` bytes at an offset. In strict mode that slot must be
+// Whether a table may end in the slot of `width` bytes at an offset. Read strictly, that slot must be
 // in the file.
 #[inline(always)]
-pub(crate) fn may_end(bytes: &[u8], offset: usize, width: usize, permissive: bool) -> bool
-    ensures { result ≡ (permissive || is_some (slice_at bytes.now offset width)) }
+pub(crate) fn may_end(bytes: &[u8], offset: usize, width: usize, strictly: bool) -> bool
+    ensures { result ≡ (not strictly || is_some (slice_at bytes.now offset width)) }
 {
-    permissive || (offset < bytes.len() && width <= bytes.len() - offset)
+    !strictly || (offset < bytes.len() && width <= bytes.len() - offset)
 }

@@ -1,8 +1,7 @@
 //! Where addresses lie in the file, for callers that ask for many.
 
-ghost use Rattle.std.specs.Prelude.{◌≡◌, ◌↔◌, IfSome, IsTrue, Some, option_map};
+ghost use Rattle.std.specs.Prelude.{◌≡◌, IfSome, Some, option_map};
 ghost use Rattle.goblin_base.specs.Reading.{Reads};
-ghost use Rattle.goblin_base.specs.declared.permissive.ParseMode.TheVariants.{Permissive};
 ghost use Rattle.goblin_pe_sect.specs.AddressReadings.{name_or_none};
 ghost use Rattle.goblin_pe_sect.specs.Addresses.{map_of, offset_of, reads_strictly};
 
@@ -77,12 +76,12 @@ impl<'m> Finder<'m> {
         self.address_map.opts()
     }
 
-    /// Whether damaged parts are passed over.
+    /// Whether damaged parts are refused; else they are passed over.
     #[inline(always)]
-    pub fn is_permissive(&self) -> bool
-        ensures { IsTrue result ↔ ((map_of self.now).opts.parse_mode ≡ Permissive) }
+    pub fn reads_strictly(&self) -> bool
+        ensures { result ≡ reads_strictly (map_of self.now) }
     {
-        self.address_map.is_permissive()
+        self.address_map.reads_strictly()
     }
 
     /// The file offset of an address, as [`AddressMap::offset_of`].
@@ -99,7 +98,7 @@ impl<'m> Finder<'m> {
             return Some(offset);
         }
         let mut run = self.run;
-        let offset = self.address_map.find_run(rva, &mut run);
+        let offset = self.address_map.find_run(rva as usize, &mut run);
         self.run = run;
         offset
     }
@@ -119,7 +118,7 @@ impl<'m> Finder<'m> {
             return Some(offset);
         }
         let mut names = self.names;
-        let offset = self.address_map.find_run(rva, &mut names);
+        let offset = self.address_map.find_run(rva as usize, &mut names);
         self.names = names;
         offset
     }

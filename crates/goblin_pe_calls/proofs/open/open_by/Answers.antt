@@ -7,7 +7,7 @@ use Rattle.goblin_pe_sect.specs.SectionTable.{unnamed}
 use Rattle.goblin_pe_head.specs.PeHeader.{header_value}
 use Rattle.goblin_base.specs.Answers.{IsMemory}
 use Rattle.goblin_pe.proofs.Layouts.{sections-refused}
-use Rattle.goblin_pe.proofs.SectionRoom.{has_room, sections_counted}
+use Rattle.goblin_pe.proofs.SectionRoom.{sections_counted}
 use Rattle.goblin_pe.specs.Whole.{whole_file}
 use Rattle.goblin_pe_calls.specs.Growth.{FileBegins, HasRecords}
 use Rattle.goblin_pe_calls.specs.Opened.{records_view}
@@ -27,7 +27,7 @@ returns-in_err-layout c =
     rw (error.1, error.2) (
       λ other. (let refused = c.in_err-layout.ensures.value other in unopened opts bytes _ (sections-refused opts bytes h found _ (unmapped _ _ refused.0, refused.1))),
       λ memory. takes-records opts bytes h found
-          (has_room h.coff_header.number_of_sections bytes _ c.in_err-layout.ensures.first memory)
+          (c.in_err-layout.ensures.grown memory).2
           (either-way ((whole_file opts).value bytes) HasRecords (FileBegins opts bytes h)
           (sections-kept opts bytes h found (counted_some memory))
           (inl (counted_some memory))),

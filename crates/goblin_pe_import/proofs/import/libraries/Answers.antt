@@ -1,4 +1,4 @@
-use Rattle.std.proofs.Common.{lit≤, refl, sym, ◌∙◌}
+use Rattle.std.proofs.Common.{lit≤, refl}
 use Rattle.std.proofs.lemmas.Result.{err_from_is_err_and}
 use Rattle.goblin_base.specs.declared.endian.Endian.TheVariants.{Little}
 use Rattle.goblin_base.specs.declared.error.ErrorOf.TheVariants.{Malformed}
@@ -33,9 +33,9 @@ records-preserved g c =
 pub returns-then-may_end-clause-value : goal.returns-then-may_end-clause-value
 returns-then-may_end-clause-value g c =
     read-end _ _ _ _ _ _ c.records.invariant _ import_record_at _ refl c.in_default.ensures
-    (ends _ _ c.is_permissive.ensures _ _ (sym c.may_end.ensures ∙ c.if-may_end.true))
+    (ends _ _ (import_record Little) _ (rw c.reads_strictly.ensures at c.may_end.ensures) c.if-may_end.true)
 
 pub returns-clause-value : goal.returns-clause-value
 returns-clause-value g c = λ _.
-    let lacks = lacks_end _ _ c.is_permissive.ensures (import_record Little) _ (sym c.may_end.ensures ∙ c.if-may_end.false) in
+    let lacks = lacks_end _ _ (import_record Little) _ (rw c.reads_strictly.ensures at c.may_end.ensures) c.if-may_end.false in
     read-missing _ _ _ _ _ _ c.records.invariant _ import_record_at (Malformed (ImportRecordEnd c.records.place)) lacks.1 lacks.0 refl

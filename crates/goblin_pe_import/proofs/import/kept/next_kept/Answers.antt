@@ -1,4 +1,4 @@
-use Rattle.std.proofs.Common.{◌≤◌, sym, ◌∙◌, arith, refl}
+use Rattle.std.proofs.Common.{◌≤◌, ◌∙◌, arith, refl}
 use Rattle.goblin_base.specs.declared.error.ErrorOf.TheVariants.{Malformed}
 use Rattle.goblin_base.specs.declared.error.CauseOf.TheVariants.{LookupEnd}
 use Rattle.goblin_pe_import.proofs.LookupWalk.{none-left, refused-strictly, rest-end, rest-kept}
@@ -15,14 +15,14 @@ slots-init g c = (rest-start _ _ _ _ _ _ _ c.in_ok-place.was, refl)
 pub returns-then-may_end-clause-steps : goal.returns-then-may_end-clause-steps
 returns-then-may_end-clause-steps g c =
     let wide : 1 ≤ g.T.Bitfield.format.width = omega (arith, c.size_of-size.ensures.width, c.size_of-size.ensures.positive) in
-    let may = sym (rw c.size_of-size.ensures.width at c.may_end.ensures) ∙ c.if-may_end.true in
-    rest-end _ _ _ _ _ _ _ c.slots.invariant.0 wide _ refl c.in_default.ensures (ends _ _ (rw c.slots.invariant.1 at c.is_permissive.ensures) _ _ may)
+    let may = rw (c.reads_strictly.ensures, c.slots.invariant.1, c.size_of-size.ensures.width) at c.may_end.ensures in
+    rest-end _ _ _ _ _ _ _ c.slots.invariant.0 wide _ refl c.in_default.ensures (ends _ _ g.T.Bitfield.format.value_of _ may c.if-may_end.true)
 
 pub returns-in_default-clause-steps : goal.returns-in_default-clause-steps
 returns-in_default-clause-steps g c =
     let wide : 1 ≤ g.T.Bitfield.format.width = omega (arith, c.size_of-size.ensures.width, c.size_of-size.ensures.positive) in
-    let not = sym (rw c.size_of-size.ensures.width at c.may_end.ensures) ∙ c.if-may_end.false in
-    let lacks = lacks_end _ _ (rw c.slots.invariant.1 at c.is_permissive.ensures) g.T.Bitfield.format.value_of _ not in
+    let may = rw (c.reads_strictly.ensures, c.slots.invariant.1, c.size_of-size.ensures.width) at c.may_end.ensures in
+    let lacks = lacks_end _ _ g.T.Bitfield.format.value_of _ may c.if-may_end.false in
     rest-missing _ _ _ _ _ _ _ c.slots.invariant.0 wide (Malformed (LookupEnd c.slots.place)) lacks.1 lacks.0 refl
 
 pub returns-in-Ok-Some-clause-steps : goal.returns-in-Ok-Some-clause-steps
@@ -42,8 +42,8 @@ slots-preserved g c =
 
 pub returns-in_default-clause-strictly : goal.returns-in_default-clause-strictly
 returns-in_default-clause-strictly g c =
-    let not = sym (rw c.size_of-size.ensures.width at c.may_end.ensures) ∙ c.if-may_end.false in
-    (lacks_end _ _ (rw c.slots.invariant.1 at c.is_permissive.ensures) g.T.Bitfield.format.value_of _ not).0
+    let may = rw (c.reads_strictly.ensures, c.slots.invariant.1, c.size_of-size.ensures.width) at c.may_end.ensures in
+    (lacks_end _ _ g.T.Bitfield.format.value_of _ may c.if-may_end.false).0
 
 pub returns-in-Err-clause-strictly : goal.returns-in-Err-clause-strictly
 returns-in-Err-clause-strictly g c = refused-strictly _ _ _ _ (rw c.slots.invariant.1 at c.in-Err.ensures.value).0

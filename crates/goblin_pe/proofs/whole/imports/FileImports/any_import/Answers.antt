@@ -1,7 +1,7 @@
 use Rattle.std.proofs.Common.{Bool, false, ◌||◌, ap, refl}
 use Rattle.std.proofs.lemmas.Result.{err_from_is_err_and}
 use Rattle.std.proofs.lemmas.Fn.{says_at}
-use Rattle.goblin_pe.specs.Callers.{has_any}
+use Rattle.readings.specs.Tests.{has_any}
 use Rattle.goblin_pe.proofs.Folds.{any_more, gathers_all, gathers_fault, gathers_start}
 use Rattle.goblin_pe.proofs.whole.imports.FileImports.any_import.Goals as goal
 

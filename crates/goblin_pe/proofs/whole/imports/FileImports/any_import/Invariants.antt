@@ -1,11 +1,12 @@
 use Rattle.std.proofs.Common.{Bool}
 use Rattle.std.specs.Fn.{FnReturnsAt}
 use Rattle.goblin_pe_import.specs.Imports.{ImportValue}
-use Rattle.goblin_pe.specs.Callers.{IsTest, has_any}
+use Rattle.goblin_pe_import.specs.ImportWalks.{walked_value}
+use Rattle.readings.specs.Tests.{IsTest, has_any}
 use Rattle.goblin_pe.proofs.Folds.{Gathers}
 use Rattle.goblin_pe.proofs.whole.imports.FileImports.any_import.Given as goal
 
 abbrev pub invariant-imports : goal.invariant-imports
 invariant-imports g l =
-    (p : ImportValue → Bool) → IsTest (FnReturnsAt g.F.Fn l.fn.test) p
+    (p : ImportValue → Bool) → IsTest walked_value (FnReturnsAt g.F.Fn l.fn.test) p
     → Gathers (has_any p) l.fn.self l.import-iterator l.found

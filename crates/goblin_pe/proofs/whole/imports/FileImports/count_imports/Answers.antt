@@ -2,7 +2,7 @@ use Rattle.std.proofs.Common.{◌≡◌, ℕ, ◌+◌, ◌-◌, ◌^◌, Bool, t
 use Rattle.std.specs.Prelude.{count_by, min}
 use Rattle.std.proofs.lemmas.Result.{err_from_is_err_and}
 use Rattle.std.proofs.lemmas.Fn.{says_at}
-use Rattle.goblin_pe.specs.Callers.{counted}
+use Rattle.readings.specs.Tests.{counted}
 use Rattle.goblin_pe.proofs.Folds.{count_more, gathers_all, gathers_fault, gathers_start}
 use Rattle.goblin_pe.proofs.whole.imports.FileImports.count_imports.Goals as goal
 

@@ -3,11 +3,11 @@ use Rattle.std.specs.Prelude.{find, option_map}
 use Rattle.std.specs.Fn.{FnReturnsAt}
 use Rattle.goblin_pe_import.specs.Imports.{ImportValue}
 use Rattle.goblin_pe_import.specs.ImportWalks.{walked_value}
-use Rattle.goblin_pe.specs.Callers.{IsTest}
+use Rattle.readings.specs.Tests.{IsTest}
 use Rattle.goblin_pe.proofs.Folds.{Gathers}
 use Rattle.goblin_pe.proofs.whole.imports.FileImports.find_import.Given as goal
 
 abbrev pub invariant-imports : goal.invariant-imports
 invariant-imports g l =
-    (p : ImportValue → Bool) → IsTest (FnReturnsAt g.F.Fn l.fn.test) p
+    (p : ImportValue → Bool) → IsTest walked_value (FnReturnsAt g.F.Fn l.fn.test) p
     → Gathers (find p) l.fn.self l.import-iterator (option_map walked_value l.found)

@@ -1,4 +1,4 @@
-use Rattle.std.proofs.Common.{◌≡◌, Option, Some, true, sym, subst, refl, ◌∙◌}
+use Rattle.std.proofs.Common.{◌≡◌, Option, Some, true, sym, subst, refl}
 use Rattle.goblin_base.specs.declared.endian.Endian.TheVariants.{Little}
 use Rattle.goblin_base.specs.declared.error.ErrorOf.TheVariants.{Malformed}
 use Rattle.goblin_base.specs.declared.error.CauseOf.TheVariants.{ImportRecordEnd}
@@ -25,12 +25,12 @@ returns-in_default-next-clause-gives g c =
 
 pub returns-then-may_end-clause-gives : goal.returns-then-may_end-clause-gives
 returns-then-may_end-clause-gives g c =
-    let may = ends _ _ (rw c.test_untested.ensures.same at c.is_permissive.ensures) (import_record Little) _ (sym c.may_end.ensures ∙ c.if-may_end.true) in
+    let may = ends _ _ (import_record Little) _ (rw (c.reads_strictly.ensures, c.test_untested.ensures.same) at c.may_end.ensures) c.if-may_end.true in
     rw c.in-Some.is (later-end _ g.T.Bitfield.format _ _ _ c.in_default.ensures.value c.test_untested.ensures.wide c.in-Some.at _ refl c.in_default-next_record.ensures may)
 
 pub returns-in_default-next_record-clause-gives : goal.returns-in_default-next_record-clause-gives
 returns-in_default-next_record-clause-gives g c =
-    let lacks = lacks_end _ _ (rw c.test_untested.ensures.same at c.is_permissive.ensures) (import_record Little) _ (sym c.may_end.ensures ∙ c.if-may_end.false) in
+    let lacks = lacks_end _ _ (import_record Little) _ (rw (c.reads_strictly.ensures, c.test_untested.ensures.same) at c.may_end.ensures) c.if-may_end.false in
     let all = later-missing _ g.T.Bitfield.format _ _ _ c.in_default.ensures.value c.test_untested.ensures.wide c.in-Some.at (Malformed (ImportRecordEnd c.in-Some.at.record_offset)) lacks.1 lacks.0 refl in
     rw c.in-Some.is (all.0, (all.1, all.2))
 
