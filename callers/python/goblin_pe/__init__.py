@@ -46,6 +46,7 @@ import hashlib as _hashlib
 import itertools as _itertools
 import operator as _operator
 import os as _os
+import struct as _struct
 import types as _types
 import typing as _t
 

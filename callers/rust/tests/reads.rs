@@ -467,7 +467,10 @@ fn libraries_have_records() {
             )
         })
         .collect();
-    assert_eq!(found, [(Text(b"KERNEL32.dll"), 0, record, 1, 2, &b"KERN"[..])]);
+    assert_eq!(
+        found,
+        [(Text(b"KERNEL32.dll"), 0, record, 1, 2, &b"KERN"[..])]
+    );
     let bytes = sample("forwarders_x64.dll");
     assert_eq!(Pe::parse(&bytes).unwrap().walk_libraries().count(), 0);
 }
