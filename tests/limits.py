@@ -52,6 +52,31 @@ def object_with_symbols(count):
     return header + symbols + struct.pack("<I", len(strings) + 4) + strings
 
 
+def in_one_section(directories, make, size):
+    """The small image of this size instead, with these directories and one section, which make has for an address and a size."""
+    base, begin = 0x1000, 0x200
+    data = make(base, size - begin)
+    section = struct.pack("<4I", len(data), base, len(data), begin)
+    return images.sample((0xB8, struct.pack("<4I", *directories)), (0x140, section), (begin, data))
+
+
+def imports_in_one_text(base, size):
+    """A library, the names of whose imports begin two bytes apart in one text, of characters that have two bytes."""
+    count = (size - 72) // 6
+    table, text = base + 56, base + 56 + 4 * (count + 1)
+    record = struct.pack("<5I", table, 0, 0, base + 40, table).ljust(40, b"\0") + b"a.dll".ljust(16, b"\0")
+    entries = struct.pack("<%dI" % (count + 1), *range(text, text + 2 * count, 2), 0)
+    return record + entries + "\u00E9".encode() * (count + 2) + b"\0"
+
+
+def exports_in_one_text(base, size):
+    """Exports of one address, the names of which begin so, too."""
+    count = (size - 56) // 8
+    pointers, ordinals, text = base + 48, base + 48 + 4 * count, base + 48 + 6 * count
+    record = struct.pack("<IIHHIIIIIII", 0, 0, 0, 0, text, 1, 1, count, base + 40, pointers, ordinals) + struct.pack("<II", 0x9000, 0)
+    return record + struct.pack("<%dI" % count, *range(text, text + 2 * count, 2)) + bytes(2 * count) + "\u00E9".encode() * count + b"\0"
+
+
 def read_object(file):
     found = records.Object()
     room = (records.Section * 65535)()
@@ -90,6 +115,28 @@ def next_symbols(file):
     return fault.status, found
 
 
+def read_damage(file):
+    damage = records.Damage()
+    fault = LIB.goblin_pe_raw_read_damage(file, len(file), c.byref(STRICT), c.byref(damage))
+    return fault.status, damage.imports.status
+
+
+def open_without_imports(file):
+    found, directories, tables = records.File(), (records.Directory * 16)(), records.Tables()
+    options = records.Options(False, True, 0, False)
+    fault = LIB.goblin_pe_raw_open(file, len(file), c.byref(options), c.byref(found), directories, 16, c.byref(tables))
+    return fault.status, tables.count("exports")
+
+
+def next_imports(file):
+    layout, directories = records.Layout(), (records.Directory * 16)()
+    LIB.goblin_pe_raw_read_layout(file, len(file), c.byref(STRICT), c.byref(layout), directories, 16, (records.Section * 1)(), 0)
+    position, room, count = records.ImportPosition(), (records.Import * 256)(), c.c_size_t()
+    fault = LIB.goblin_pe_raw_next_imports(
+        file, len(file), c.byref(STRICT), c.byref(layout.places), c.byref(position), room, 256, c.byref(count))
+    return fault.status, count.value
+
+
 # A call and its file.
 ROWS = {
     "an object of one long name": (read_object, lambda: object_of_one_name(MIB)),
@@ -97,6 +144,9 @@ ROWS = {
     "a layout of one long name": (read_layout, lambda: image_of_one_name(MIB)),
     "a footprint of one long name": (footprint, lambda: image_of_one_name(MIB)),
     "many symbols": (next_symbols, lambda: object_with_symbols(320000)),
+    "damage of imports in one text": (read_damage, lambda: in_one_section((0, 0, 0x1000, 40), imports_in_one_text, MIB // 2)),
+    "exports in one text": (open_without_imports, lambda: in_one_section((0x1000, 40, 0, 0), exports_in_one_text, MIB // 2)),
+    "a batch of many sections": (next_imports, lambda: bytes(images.hostile_image(64 * (65535 + 16)))),
 }
 
 if __name__ == "__main__":

@@ -130,6 +130,9 @@ class Programs(Case):
         succeed([CC, "-std=c11", *FLAGS, *STRICT, "-I", library(), "-o", made, source, library() / "libgoblin_pe.a"])
         self.assertEqual(succeed([made], cwd=self.folder), "GetTickCount from KERNEL32.dll\n")
 
+    def test_ten_idioms_of_a_newcomer(self):
+        self.assertEqual(succeed([built("idioms"), BY_NAME]), "10 of 10\n")
+
     def test_calls_answer_alike(self):
         succeed([built("calls"), *IMAGES, *OBJECTS, *TERSE])
 

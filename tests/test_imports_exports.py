@@ -229,6 +229,7 @@ class Exports(Read):
                 pe = read(images.library(b"a.dll", [(b"f", text)]))
                 self.assertEqual((pe.exports, [it.forwards for it in pe.export_addresses]), ([], [True]))
                 self.assertEqual((pe.damage.left_out_exports, pe.forwarder_at(pe.export_addresses[0].rva)), (1, None))
+                self.assertEqual([it[2:] for it in pe.walk_export_addresses()], [(True, None)])
 
 
 class Damage(Read):
@@ -271,6 +272,7 @@ class WholeFiles(Read):
         pe = read(sample())
         self.assertEqual(pe.export_directory, (b"a.dll", (0, 0, 0, 0, 0x1080, 1, 2, 2, 0x10C8, 0x10D0, 0x10D8)))
         self.assertEqual(pe.export_addresses, [(1, 0x1010, False), (2, 0x10E0, True)])
+        self.assertEqual(list(pe.walk_export_addresses()), [(1, 0x1010, False, None), (2, 0x10E0, True, (b"b", 12))])
 
     def test_a_raw_pointer_that_is_no_multiple_of_512_is_rounded_where_that_is_asked_for(self):
         data = sample((0x14C, b"\x10"))

@@ -7,14 +7,17 @@ from tests.programs import CALLERS, TOP, library, need, run, with_memory
 
 # Kibibytes of address space, most of it for Python and the file.
 ROOM = 400 << 10
-# The rows of limits.py: milliseconds of processor time, ten times what was measured; and how many sections or symbols there
-# are, or 1 where there are ranges.
+# The rows of limits.py: milliseconds of processor time, ten times what was measured; and how many sections, symbols, exports or
+# imports there are, 1 where there are ranges, and 0 where there is no damage.
 ROWS = [
     ("an object of one long name", 4500, 13107),
     ("a Terse Executable of one long name", 5000, 255),
     ("a layout of one long name", 4500, 13107),
     ("a footprint of one long name", 35000, 1),
     ("many symbols", 200, 320000),
+    ("damage of imports in one text", 120000, 0),
+    ("exports in one text", 75000, 65465),
+    ("a batch of many sections", 250, 256),
 ]
 
 

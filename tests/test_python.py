@@ -1,4 +1,5 @@
 """The package for callers in Python."""
+import importlib.util
 import json
 import os
 import pathlib
@@ -181,6 +182,13 @@ class Triage(Case):
         self.assertEqual({name: triaged_by_pefile(pefile, data) for name, data in triaged_images().items()},
                          json.loads(TOLD_BY_PEFILE.read_text("utf-8")))
 
+    def test_all_of_the_images_beside_pefile(self):
+        if not importlib.util.find_spec("pefile"):
+            self.skipTest("no pefile")
+        files = [self.written(name, data) for name, data in triaged_images().items()]
+        told = succeed([sys.executable, CALLERS / "beside_pefile.py", *files], env=self.env)
+        self.assertEqual(told, f"{len(files)} of {len(files)} files are alike\n")
+
     def test_what_is_no_image_and_what_is_damaged(self):
         self.written("damaged.dll", images.with_directory(BY_NAME.read_bytes(), 0, 0x9000, 40))
         self.written("empty.dll", b"")
@@ -291,6 +299,11 @@ class Package(Case):
 
     def test_its_own_tests(self):
         succeed([*PYTHON, "-m", "unittest", "-q", "test_goblin_pe"], env=self.env)
+
+    def test_fifteen_idioms_of_a_newcomer(self):
+        status, _, said = run([*PYTHON, "-m", "unittest", "-q", "test_idioms"], env=self.env, cwd=CALLERS / "python")
+        self.assertEqual(status, 0, said.decode())
+        self.assertIn(b"\nRan 15 tests ", said)
 
     def test_too_little_memory_is_told(self):
         """Of an image that asks for more than there is: in JSON, which lists it. Its lines come one by one."""

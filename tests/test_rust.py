@@ -1,13 +1,14 @@
 """The crate for callers in Rust, and goblin beside it."""
 import functools
 import hashlib
+import json
 import pathlib
 import re
 import shutil
 
 from tests import images
 from tests.programs import BY_NAME, CALLERS, IMAGES, SAMPLES, TOP, Case, beside, environment, folder, library, need, package, run, succeed, with_memory
-from tests.test_python import HASHES
+from tests.test_python import HASHES, TOLD_BY_PEFILE, triaged_images
 
 REGISTRY = pathlib.Path("/usr/share/cargo/registry")
 # What stands around the programs of a README.
@@ -85,6 +86,17 @@ class Crate(Case):
             told = HASHES.get(it.name, pe.imphash())
             self.assertEqual(hashlib.md5(text).hexdigest() if text else "", told, it)
 
+    def test_its_recipes_have_what_pefile_tells(self):
+        """The hash of the Rich header, and where the overlay begins."""
+        wanted = json.loads(TOLD_BY_PEFILE.read_text("utf-8"))
+        for name, data in triaged_images().items():
+            with self.subTest(name):
+                file = self.written(name, data)
+                (_, text, _), (_, overlay, _) = (run([example("fingerprint"), word, file]) for word in ("--rich", "--overlay"))
+                begin = wanted[name]["overlay"]
+                self.assertEqual((hashlib.md5(text).hexdigest() if text else None, overlay),
+                                 (wanted[name]["rich_hash"], b"" if begin is None else data[begin:]))
+
     def test_the_programs_of_the_readmes(self):
         """That of the repository has the crate's program, and one in Rattle."""
         user, env = self.folder / "user", environment(GOBLIN_PE_LIB=str(library()), CARGO_TARGET_DIR=str(folder() / "target"))
@@ -99,6 +111,17 @@ class Crate(Case):
                 (user / "src/main.rs").write_text(README % "".join(programs), "utf-8")
                 command = ["cargo", "run", "-q", "--offline", "--manifest-path", user / "Cargo.toml", image.name]
                 self.assertEqual(succeed(command, env=env, cwd=self.folder), wanted)
+
+    def test_fifteen_idioms_of_a_newcomer(self):
+        """In the crate of a user, by the edition before the crate's own."""
+        user, env = self.folder / "user", environment(GOBLIN_PE_LIB=str(library()), GOBLIN_PE_SAMPLES=str(SAMPLES),
+                                                      CARGO_TARGET_DIR=str(folder() / "target"))
+        succeed(["cargo", "new", "-q", "--lib", "--vcs", "none", "--edition", "2021", user])
+        succeed(["cargo", "add", "-q", "--offline", "--manifest-path", user / "Cargo.toml", "--path", CALLERS / "rust"], env=env)
+        (user / "tests").mkdir()
+        shutil.copy(CALLERS / "rust/tests/newcomer.rs", user / "tests")
+        told = succeed(["cargo", "test", "-q", "--offline", "--manifest-path", user / "Cargo.toml", "--test", "newcomer"], env=env)
+        self.assertIn("test result: ok. 15 passed", told)
 
     def test_its_documentation(self):
         cargo("doc", RUSTDOCFLAGS="-D warnings")

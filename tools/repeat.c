@@ -39,9 +39,13 @@ static bool are_imports_walked_over(size_t *imports)
 {
     struct goblin_pe_import_position position = { 0 };
     struct goblin_pe_import records[BATCH];
+    struct goblin_pe_layout layout;
     size_t count = 1;
+    if (goblin_pe_read_layout(bytes, length, NULL, &layout, NULL, 0, NULL, 0).status != GOBLIN_PE_STATUS_OK)
+        return false;
     for (*imports = 0; count; *imports += count)
-        if (goblin_pe_next_imports(bytes, length, NULL, &position, records, BATCH, &count).status != GOBLIN_PE_STATUS_OK)
+        if (goblin_pe_next_imports(bytes, length, NULL, &layout.places, &position, records, BATCH, &count).status !=
+            GOBLIN_PE_STATUS_OK)
             return false;
     return true;
 }
@@ -49,9 +53,13 @@ static bool are_imports_walked_over(size_t *imports)
 static bool are_exports_walked_over(size_t *exports)
 {
     struct goblin_pe_export records[BATCH];
+    struct goblin_pe_layout layout;
     size_t position = 0, count = 1;
+    if (goblin_pe_read_layout(bytes, length, NULL, &layout, NULL, 0, NULL, 0).status != GOBLIN_PE_STATUS_OK)
+        return false;
     for (*exports = 0; count; *exports += count)
-        if (goblin_pe_next_exports(bytes, length, NULL, &position, records, BATCH, &count).status != GOBLIN_PE_STATUS_OK)
+        if (goblin_pe_next_exports(bytes, length, NULL, &layout.places, &position, records, BATCH, &count).status !=
+            GOBLIN_PE_STATUS_OK)
             return false;
     return true;
 }

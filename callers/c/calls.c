@@ -198,7 +198,42 @@ static bool is_laid_out(const struct goblin_pe_file *file, const struct goblin_p
     struct goblin_pe_image image = goblin_pe_image_of_layout(bytes, length, NULL, &layout, sections);
     return are_mapped(&image, 0x1000) && layout.sections == file->sections && layout.directories == file->directories &&
            layout.dos_stub.bytes == tables->dos_stub.bytes && layout.dos_stub.length == tables->dos_stub.length &&
-           !memcmp(&layout.coff_header, &file->coff_header, sizeof layout.coff_header);
+           !memcmp(&layout.coff_header, &file->coff_header, sizeof layout.coff_header) &&
+           layout.places.section_table == goblin_pe_section_table(file) &&
+           file->places.section_table == layout.places.section_table;
+}
+
+/* Whether walks over imports and exports by places that are not those of the image answer what these lead to. */
+static bool goes_by_places(const struct goblin_pe_places *own)
+{
+    struct goblin_pe_import_position first = { 0, 0 };
+    struct goblin_pe_import import;
+    struct goblin_pe_export export;
+    struct goblin_pe_places places = *own;
+    size_t index = 0, count = 77;
+    places.number_of_sections = 1;
+    places.section_table = length;
+    if (!is_fault(goblin_pe_next_imports(bytes, length, NULL, &places, &first, &import, 1, &count),
+                  GOBLIN_PE_STATUS_READ, GOBLIN_PE_READ_FAULT_BAD_OFFSET))
+        return false;
+    places.section_table = length - 39;
+    if (!is_fault(goblin_pe_next_exports(bytes, length, NULL, &places, &index, &export, 1, &count),
+                  GOBLIN_PE_STATUS_READ, GOBLIN_PE_READ_FAULT_TOO_BIG) ||
+        count != 77)
+        return false;
+    places.number_of_sections = 0;
+    places.section_table = SIZE_MAX;
+    places.has_imports = places.has_exports = true;
+    places.imports.virtual_address = places.exports.virtual_address = 0xFFFFFFFF;
+    if (!is_fault(goblin_pe_next_imports(bytes, length, NULL, &places, &first, &import, 1, &count),
+                  GOBLIN_PE_STATUS_MALFORMED, GOBLIN_PE_CAUSE_UNMAPPED) ||
+        !is_fault(goblin_pe_next_exports(bytes, length, NULL, &places, &index, &export, 1, &count),
+                  GOBLIN_PE_STATUS_MALFORMED, GOBLIN_PE_CAUSE_UNMAPPED) ||
+        count != 77)
+        return false;
+    places.has_imports = places.has_exports = false;
+    return is_ok(goblin_pe_next_imports(bytes, length, NULL, &places, &first, &import, 1, &count)) && !count &&
+           is_ok(goblin_pe_next_exports(bytes, length, NULL, &places, &index, &export, 1, &count)) && !count;
 }
 
 static bool is_image(void)
@@ -210,7 +245,7 @@ static bool is_image(void)
         return false;
     struct goblin_pe_image image = goblin_pe_image_of(bytes, length, NULL, &file, &tables);
     bool is_right = is_laid_out(&file, &tables) && has_symbols(&file.coff_header) && are_mapped(&image, 0) &&
-                    are_mapped(&image, SIZE_MAX);
+                    are_mapped(&image, SIZE_MAX) && goes_by_places(&file.places);
     for (size_t i = 0; i < tables.section_count; i++)
         is_right &= are_mapped(&image, tables.sections[i].virtual_address) &&
                     are_mapped(&image, tables.sections[i].virtual_address + tables.sections[i].virtual_size);

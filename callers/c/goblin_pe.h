@@ -37,7 +37,8 @@
 
    call                              memory at most                        time at most
    kind_of, read_section_data,
-     bytes_at, write_*, set_*        none                                  what the records say
+     bytes_at, import_record_at,
+     write_*, set_*                  none                                  what the records say
    read_layout                       none                                  n, and a name for each section with room
    read_object, read_te              none                                  a name for each section with room
    read_symbol_table, checksum       none                                  n
@@ -48,8 +49,9 @@
      memory_at, forwarder_at         none                                  the sections, and one text
    find_rva                          none                                  the sections, and these once more for each
                                                                            whose data holds the offset
-   next_imports, next_exports        none, or for more than 96 sections    n once a batch, and a name for each record
-                                     an index of some 300 bytes for each
+   next_imports, next_exports,       none, or for more than 96 sections    the sections, and a name for each record
+     next_export_addresses,          an index of some 300 bytes for each
+     next_blocks
    read_damage                       the same                              a name for each import and each export
    open                              its tables, which no n bounds: see    what these take
                                      below
@@ -202,29 +204,66 @@ static inline void goblin_pe_free_ranges(struct goblin_pe_ranges *ranges)
    without a refusal is the end, where there is room; so it is of a file without imports, where these are not
    asked for, and in permissive mode where their directory has no file offset, or the offset 0. In strict mode the
    walk ends with a refusal where goblin_pe_open has one for its imports; what comes before it is given first, and
-   no law says on which bytes that depends. Each call reads the header and the sections anew, so room for some
-   hundreds is better than for one. Memory is taken only for an index of more than 96 sections, which Windows does
-   not load, and given back: each call makes it anew, of 65,535 sections in some 25 milliseconds, so give room
-   for thousands then. */
+   no law says on which bytes that depends. The sections and the tables lie at `places`, which goblin_pe_read_layout
+   and goblin_pe_open say, so no call reads the header again; other places lead to other tables, and harm nothing.
+   Refused is also a file that is too short for the records of its sections. Memory is taken only for an index of
+   more than 96 sections, which Windows does not load, and given back: each call makes it anew, of 65,535 sections
+   in some 25 milliseconds, so give room for thousands then. */
 static inline struct goblin_pe_fault goblin_pe_next_imports(
-    const uint8_t *bytes, size_t length, const struct goblin_pe_options *options,
+    const uint8_t *bytes, size_t length, const struct goblin_pe_options *options, const struct goblin_pe_places *places,
     struct goblin_pe_import_position *position, struct goblin_pe_import *imports, size_t room, size_t *count)
 {
     return goblin_pe_raw_next_imports(
-        GOBLIN_PE_BYTES(bytes), length, goblin_pe_options_or_default(options), position,
+        GOBLIN_PE_BYTES(bytes), length, goblin_pe_options_or_default(options), places, position,
         GOBLIN_PE_SOME(struct goblin_pe_import, imports), room, count);
+}
+
+/* Puts the record of a library in the import directory into `record`, and answers whether the file has it at this
+   offset, as the position of a walk says it after an import: its time stamp, its forwarder chain, and the address of
+   its name, at which goblin_pe_bytes_at reads a name that is not UTF-8. */
+static inline bool goblin_pe_import_record_at(
+    const uint8_t *bytes, size_t length, size_t offset, struct goblin_pe_import_directory_entry *record)
+{
+    return goblin_pe_raw_import_record_at(GOBLIN_PE_BYTES(bytes), length, offset, record);
 }
 
 /* Goes on with the walk over the exports of an image, as goblin_pe_next_imports does over imports. The
    position is the index of a name pointer, 0 at the beginning. There are none where permissive mode passes over
    a refused directory; strict mode refuses it at once. */
 static inline struct goblin_pe_fault goblin_pe_next_exports(
-    const uint8_t *bytes, size_t length, const struct goblin_pe_options *options, size_t *position,
-    struct goblin_pe_export *exports, size_t room, size_t *count)
+    const uint8_t *bytes, size_t length, const struct goblin_pe_options *options, const struct goblin_pe_places *places,
+    size_t *position, struct goblin_pe_export *exports, size_t room, size_t *count)
 {
     return goblin_pe_raw_next_exports(
-        GOBLIN_PE_BYTES(bytes), length, goblin_pe_options_or_default(options), position,
+        GOBLIN_PE_BYTES(bytes), length, goblin_pe_options_or_default(options), places, position,
         GOBLIN_PE_SOME(struct goblin_pe_export, exports), room, count);
+}
+
+/* Goes on with the walk over the entries of the export address table of an image, as goblin_pe_next_exports does over
+   exports: the records that goblin_pe_open puts into a table. The position is the index of an entry, 0 at the
+   beginning; with the ordinal base it is the ordinal that the entry stands for. goblin_pe_forwarder_at reads the
+   forwarder of one. */
+static inline struct goblin_pe_fault goblin_pe_next_export_addresses(
+    const uint8_t *bytes, size_t length, const struct goblin_pe_options *options, const struct goblin_pe_places *places,
+    size_t *position, struct goblin_pe_export_address *addresses, size_t room, size_t *count)
+{
+    return goblin_pe_raw_next_export_addresses(
+        GOBLIN_PE_BYTES(bytes), length, goblin_pe_options_or_default(options), places, position,
+        GOBLIN_PE_SOME(struct goblin_pe_export_address, addresses), room, count);
+}
+
+/* Goes on with the walk over the blocks of base relocations of an image, as goblin_pe_next_imports does over imports;
+   goblin_pe_next_words walks over the words of one. The position is the offset in the directory at which the next block
+   begins, 0 at the beginning. There are none where permissive mode passes over a refused directory; strict mode refuses
+   it at once. In both modes the walk ends with a refusal where a rest of the directory is no block: with the one that
+   goblin_pe_open says of the rest. */
+static inline struct goblin_pe_fault goblin_pe_next_blocks(
+    const uint8_t *bytes, size_t length, const struct goblin_pe_options *options, const struct goblin_pe_places *places,
+    size_t *position, struct goblin_pe_block *blocks, size_t room, size_t *count)
+{
+    return goblin_pe_raw_next_blocks(
+        GOBLIN_PE_BYTES(bytes), length, goblin_pe_options_or_default(options), places, position,
+        GOBLIN_PE_SOME(struct goblin_pe_block, blocks), room, count);
 }
 
 /* Reads an object, which begins with a COFF header: says in `object` how many sections there are, and fills
@@ -511,7 +550,8 @@ static inline size_t goblin_pe_header_size(const struct goblin_pe_file *file, si
    file, as patch.c does. The signature follows the stub, whatever pe_pointer says: where permissive mode replaced
    the stub, the headers after it do not stand at their places. The stub may not lie in `out`. Refused are a magic
    that is neither of the two, a field that does not fit an optional header for 32 bits, and too little room;
-   nothing is written then. */
+   nothing is written then, `written` neither: unlike other calls, one without room does not tell how much is
+   needed, but goblin_pe_header_size does. */
 static inline struct goblin_pe_fault goblin_pe_write_header(
     const struct goblin_pe_file *file, const struct goblin_pe_directory *directories, size_t directory_count,
     struct goblin_pe_text stub, uint8_t *out, size_t room, size_t *written)

@@ -324,6 +324,39 @@ struct goblin_pe_fault {
     uint64_t second;
 };
 
+/* A section, as its record describes it.
+
+   Source: PE Format, "Section Table (Section Headers)". */
+struct goblin_pe_section {
+    /* The name from the string table, where there is one; a name of more than eight bytes stands
+       there. */
+    struct goblin_pe_text real_name;
+    /* The eight bytes of the name, padded with NULs. */
+    uint8_t name[8];
+    /* The section's size in memory, in bytes: what the raw data lacks of it is zeros. */
+    uint32_t virtual_size;
+    /* The section's address in memory, relative to the image's base. */
+    uint32_t virtual_address;
+    /* The size of the section's data in the file, in bytes; in an image rounded up, so it may be
+       above the virtual size. */
+    uint32_t size_of_raw_data;
+    /* The file offset of the section's data, as stored. */
+    uint32_t pointer_to_raw_data;
+    /* The file offset of the section's relocations, 0 where it has none. */
+    uint32_t pointer_to_relocations;
+    /* The file offset of the section's line numbers, 0 where it has none. */
+    uint32_t pointer_to_linenumbers;
+    /* How many relocations the section has, as its record says. */
+    uint16_t number_of_relocations;
+    /* How many line numbers the section has. */
+    uint16_t number_of_linenumbers;
+    /* What the section holds and how it may be used, as bits `IMAGE_SCN_*`; the loader protects its
+       pages by them. */
+    uint32_t characteristics;
+    /* Whether the section has a name from the string table. */
+    bool has_real_name;
+};
+
 /* What a call does and leaves out. */
 struct goblin_pe_options {
     /* Whether damaged parts are passed over, in permissive mode; an import directory at file offset
@@ -336,6 +369,343 @@ struct goblin_pe_options {
     uint8_t raw_pointer_rule;
     /* Whether the imports are read; where not, their table is absent. */
     bool parse_imports;
+};
+
+/* An image, by what maps its addresses. */
+struct goblin_pe_image {
+    /* The file's bytes. */
+    struct goblin_pe_text bytes;
+    /* The records of its sections, in the order of the section table. No call looks at more of them
+       than their `virtual_address`, `virtual_size`, `pointer_to_raw_data` and `size_of_raw_data`;
+       all else may be zeros, a null pointer of their texts, too. */
+    const struct goblin_pe_section *sections;
+    size_t section_count;
+    /* Its file alignment, in bytes. */
+    uint32_t file_alignment;
+    /* Whether addresses are mapped, and by which rule for raw pointers; all else is not looked at. */
+    struct goblin_pe_options options;
+};
+
+/* What a forwarder stands for: an export of another library. */
+struct goblin_pe_forwarder {
+    /* The library, without its ending. */
+    struct goblin_pe_text lib;
+    /* Of a forwarder by name the export's name in that library. */
+    struct goblin_pe_text name;
+    /* Of a forwarder by ordinal the export's ordinal in that library. */
+    size_t ordinal;
+    /* Which of the two it is, by the numbers of `goblin_pe_forwards`. */
+    uint32_t forwards;
+    /* Zero. It stands where padding would be, so that each byte of the record is defined. */
+    uint32_t reserved;
+};
+
+/* The data of a section, as it is in memory. */
+struct goblin_pe_section_data {
+    /* The bytes that the file has of it. */
+    struct goblin_pe_text bytes;
+    /* How many zeros follow them. */
+    size_t zeros;
+};
+
+/* A record of an import directory: where the imports from a library are.
+
+   Source: PE Format, "Import Directory Table". Numbers are as stored; the record has 20 bytes, and
+   `at` gives a field's offset in it. Addresses are relative to the image's base. */
+struct goblin_pe_import_directory_entry {
+    /* The address of the lookup table, which says what is imported, at 0. Where it has no file
+       offset, the address table is read instead, as images of some old linkers ask for. */
+    uint32_t import_lookup_table_rva;
+    /* 0 until the imports are bound, at 4; then the time stamp of the library to which they were
+       bound, or 2^32 - 1 if the bound imports say it. */
+    uint32_t time_date_stamp;
+    /* The index of the first forwarder, at 8. */
+    uint32_t forwarder_chain;
+    /* The address of the library's name, at 12. The record with 0 here is the directory's last. */
+    uint32_t name_rva;
+    /* The address of the address table, at 16: a copy of the lookup table, whose entries the loader
+       replaces with addresses. The record with 0 here is the directory's last. */
+    uint32_t import_address_table_rva;
+};
+
+/* The header of a COFF file, or of the COFF part of an image.
+
+   Source: PE Format, "COFF File Header (Object and Image)". Numbers are as stored; the record has
+   20 bytes, and `at` gives a field's offset in it. An object begins with it; in an image it follows
+   the PE signature. */
+struct goblin_pe_coff_header {
+    /* The machine that the file is for, a `COFF_MACHINE_*`, at 0. No reader looks at it: the width
+       of an image is what the magic of its optional header says. */
+    uint16_t machine;
+    /* How many section records follow the optional header, at 2. The Windows loader takes at most
+       96. */
+    uint16_t number_of_sections;
+    /* When the file was made, in seconds since the start of 1970, at 4; or what its maker put
+       there, such as a hash. */
+    uint32_t time_date_stamp;
+    /* The file offset of the symbol table, at 8; 0 where there is none, as in most images. The
+       string table follows the symbol table. */
+    uint32_t pointer_to_symbol_table;
+    /* How many records the symbol table has, the auxiliary ones too, at 12. */
+    uint32_t number_of_symbol_table;
+    /* The size of the optional header, in bytes, at 16; 0 where there is none, as in an object.
+       Only this says where the section table begins; it says nothing about the optional header's
+       own layout. */
+    uint16_t size_of_optional_header;
+    /* What kind of file it is, as bits `IMAGE_FILE_*` (PE Format, "Characteristics"), at 18. */
+    uint16_t characteristics;
+};
+
+/* An object as a whole. */
+struct goblin_pe_object {
+    /* How many sections there are, whatever the room. */
+    size_t sections;
+    /* The COFF header. */
+    struct goblin_pe_coff_header coff_header;
+};
+
+/* Where the symbol table and the string table of an image or an object lie. An offset of 0 says
+   that there are none. */
+struct goblin_pe_symbol_table {
+    /* The file offset of the first record of the symbol table, in bytes; 0 where there is none. */
+    uint32_t offset;
+    /* How many records it has, the auxiliary ones too. */
+    uint32_t record_count;
+    /* The file offset of the texts of the string table, in bytes: after the four of its length. */
+    size_t strings_offset;
+    /* How many bytes these texts have. */
+    size_t strings_length;
+};
+
+/* A symbol, as its record describes it.
+
+   Source: PE Format, "COFF Symbol Table". Numbers are as stored; a record has 18 bytes, and `at`
+   gives a field's offset in it. */
+struct goblin_pe_symbol {
+    /* The eight bytes of the name, padded with NULs, at 0. Where the first is 0, the name is in the
+       string table, at the number in the last four, which counts from the table's length field. */
+    uint8_t name[8];
+    /* What the symbol stands for, by its section and class, at 8: mostly an offset in its section,
+       in bytes. */
+    uint32_t value;
+    /* The number of its section, counted from 1, at 12; or `IMAGE_SYM_UNDEFINED` (0),
+       `IMAGE_SYM_ABSOLUTE` (-1) or `IMAGE_SYM_DEBUG` (-2). */
+    int16_t section_number;
+    /* Its type, at 14: an `IMAGE_SYM_TYPE_*` in the low four bits, an `IMAGE_SYM_DTYPE_*` above
+       them. Microsoft's tools store 0x20 of a function, else 0. */
+    uint16_t typ;
+    /* Its class, an `IMAGE_SYM_CLASS_*`, at 16. */
+    uint8_t storage_class;
+    /* How many auxiliary records follow it, at 17. The next symbol follows these. */
+    uint8_t number_of_aux_symbols;
+};
+
+/* A symbol with its name and the bytes of its auxiliary records. */
+struct goblin_pe_named_symbol {
+    /* The name, from the record or the string table, where it can be read. */
+    struct goblin_pe_text name;
+    /* The records that follow it and say more, 18 bytes each: as many as it says, or fewer where
+       the table ends before. */
+    struct goblin_pe_text auxiliary;
+    /* The index of its record in the symbol table, which also counts auxiliary records. */
+    size_t index;
+    /* The symbol, as its record describes it. */
+    struct goblin_pe_symbol symbol;
+    /* Whether the name can be read. */
+    bool has_name;
+};
+
+/* A relocation of a COFF object: which bytes of a section a linker changes, and how.
+
+   Source: PE Format, "COFF Relocations (Object Only)". Numbers are as stored; the record has 10
+   bytes, and `at` gives a field's offset in it. */
+struct goblin_pe_relocation {
+    /* Where the bytes that are changed begin, at 0: their offset in the section, in bytes, plus the
+       section's own address, which is mostly 0. Of the first relocation of a section with
+       `IMAGE_SCN_LNK_NRELOC_OVFL` it is the number of all. */
+    uint32_t virtual_address;
+    /* The index in the symbol table of the symbol whose address is put there, at 4. */
+    uint32_t symbol_table_index;
+    /* How it is put there, at 8: an `IMAGE_REL_*` of the machine that the COFF header names. */
+    uint16_t typ;
+};
+
+/* Where a table of an image lies.
+
+   Source: PE Format, "Optional Header Data Directories (Image Only)". Numbers are as stored; the
+   record has 8 bytes, and `at` gives a field's offset in it. */
+struct goblin_pe_data_directory {
+    /* The table's address, relative to the image's base, at 0. That of the certificates is a file
+       offset, since they are not loaded. */
+    uint32_t virtual_address;
+    /* The table's size in bytes, at 4. An import directory ends at its own last record, and a value
+       at an address by its own type, whatever the size; of an export directory the size says which
+       addresses are forwarders, of base relocations where the blocks end. */
+    uint32_t size;
+};
+
+/* The header of a Terse Executable.
+
+   Source: UEFI Platform Initialization Specification, volume 1, "TE Image". Numbers are as stored,
+   but for the four that are adjusted when it is read; the record has 40 bytes, and `at` gives a
+   field's offset in it. It replaces the headers of a PE file and keeps what a loader of firmware
+   needs of them; its addresses still count the bytes that were stripped. */
+struct goblin_pe_te_header {
+    /* `VZ`, at 0. No reader tests it. */
+    uint16_t signature;
+    /* The machine that the file is for, a `COFF_MACHINE_*`, at 2. */
+    uint16_t machine;
+    /* How many section records follow, at 4. */
+    uint8_t number_of_sections;
+    /* The subsystem that runs the image, at 5. */
+    uint8_t subsystem;
+    /* How many bytes were stripped from the front of the PE file, at 6. This header replaces them,
+       so everything after it moved forward by this minus 40. */
+    uint16_t stripped_size;
+    /* The address of the entry point, relative to the image's base, at 8; in a header that was
+       parsed, adjusted. */
+    uint32_t entry_point;
+    /* The address at which the code begins, relative to the image's base, at 12; in a header that
+       was parsed, adjusted. */
+    uint32_t base_of_code;
+    /* The address at which the image is best loaded, at 16; as stored. */
+    uint64_t image_base;
+    /* Where the base relocations lie, at 24; in a header that was parsed, with the address
+       adjusted. */
+    struct goblin_pe_data_directory reloc_dir;
+    /* Where the debug data lies, at 32; in a header that was parsed, with the address adjusted. */
+    struct goblin_pe_data_directory debug_dir;
+};
+
+/* Where the sections and the tables of an image lie, and how the tables are read, as its header
+   says: what walks over the tables take, so that none reads the header again.
+
+   Source: PE Format, "Optional Header (Image Only)". */
+struct goblin_pe_places {
+    /* The file offset of the section table. */
+    size_t section_table;
+    /* The export directory; zeros where there is none. */
+    struct goblin_pe_data_directory exports;
+    /* The import directory; zeros where there is none. */
+    struct goblin_pe_data_directory imports;
+    /* The directory of base relocations; zeros where there is none. */
+    struct goblin_pe_data_directory relocations;
+    /* The file alignment of the sections' raw data, in bytes; 0 where there is no optional header. */
+    uint32_t file_alignment;
+    /* How many records the section table has. */
+    uint16_t number_of_sections;
+    /* The magic of the optional header: by 0x10B the entries of import tables have four bytes, else
+       eight; 0 where there is no optional header. */
+    uint16_t magic;
+    /* Whether there is an export directory. */
+    bool has_exports;
+    /* Whether there is an import directory. */
+    bool has_imports;
+    /* Whether there is a directory of base relocations. */
+    bool has_relocations;
+};
+
+/* Where a walk over imports goes on; zeros are the beginning. It may be kept, and copied. */
+struct goblin_pe_import_position {
+    /* The file offset of a library's record; the greatest number once the end has been reached,
+       also of a file without imports. */
+    size_t record_offset;
+    /* The file offset of the slot that is read next, or 0 before the library's first. */
+    size_t slot_offset;
+};
+
+/* An import. */
+struct goblin_pe_import {
+    /* The name that is imported, where the import is by name. */
+    struct goblin_pe_text name;
+    /* The name of the library; empty where permissive mode could not read it. */
+    struct goblin_pe_text dll;
+    /* The address (not the file offset) of its own entry in the address table, where the loader
+       puts the address of what is imported. */
+    size_t slot_rva;
+    /* The address of the hint and the name; 0 of an import by ordinal. */
+    size_t rva;
+    /* The index of its entry, in the file, in the lookup table and in the address table. Entries
+       that are left out count. */
+    size_t slot;
+    /* The ordinal; of an import by name, the hint, at which index of the library's names the loader
+       looks first. */
+    uint16_t ordinal;
+    /* Whether the import is by name. */
+    bool is_by_name;
+    /* Zero. With `reserved2` it stands where padding would be, so that each byte of the record is
+       defined. */
+    uint8_t reserved;
+    /* Zero. */
+    uint32_t reserved2;
+};
+
+/* An export. */
+struct goblin_pe_export {
+    /* The export's name, where it can be read. */
+    struct goblin_pe_text name;
+    /* Of a forwarder the library, without its ending. */
+    struct goblin_pe_text forward_lib;
+    /* Of a forwarder by name the name in that library. */
+    struct goblin_pe_text forward_name;
+    /* Of a forwarder by ordinal the ordinal in that library. */
+    size_t forward_ordinal;
+    /* Its own ordinal: the index of its address, and the ordinal base added. */
+    size_t ordinal;
+    /* The index of its name pointer: what imports by name give as a hint. */
+    size_t hint;
+    /* The file offset of `rva`, where it has one; else 0. Where the options say that addresses are
+       offsets, `rva` itself. */
+    size_t offset;
+    /* The export's address, relative to the image's base; of a forwarder that of its text. */
+    size_t rva;
+    /* Whether the name can be read. */
+    bool has_name;
+    /* Whether `rva` has a file offset: a section maps it and the file alignment is a power of two,
+       or the options say that addresses are offsets. */
+    bool has_offset;
+    /* What it forwards to, by the numbers of `goblin_pe_forwards`. */
+    uint8_t forwards;
+    /* Zero. With `reserved2` it stands where padding would be, so that each byte of the record is
+       defined. */
+    uint8_t reserved;
+    /* Zero. */
+    uint32_t reserved2;
+};
+
+/* An entry of the export address table. Its index and the ordinal base are the ordinal that it
+   stands for. */
+struct goblin_pe_export_address {
+    /* The address, relative to the image's base; of a forwarder that of its text; 0 where the
+       ordinal is not used. */
+    uint32_t rva;
+    /* Whether it is a forwarder: its address lies in the export directory. */
+    bool forwards;
+};
+
+/* A block of base relocations, for one page of the image in memory.
+
+   Source: PE Format, "Base Relocation Block". */
+struct goblin_pe_block {
+    /* The words, of two bytes each: the type, an `IMAGE_REL_BASED_*`, in the high four bits, and in
+       the low twelve the offset in the page, in bytes. A byte that is left is no word. */
+    struct goblin_pe_text words;
+    /* The page's address, relative to the image's base, to which each offset is added. */
+    uint32_t rva;
+    /* The size of the block with its head, in bytes. */
+    uint32_t size;
+};
+
+/* A word of a block of base relocations: which bytes a loader changes, and how.
+
+   Source: PE Format, "Base Relocation Block". */
+struct goblin_pe_word {
+    /* Where the bytes begin: their address, relative to the image's base. */
+    size_t rva;
+    /* How they are changed, an `IMAGE_REL_BASED_*`. Type 0 changes nothing and fills up a block. */
+    uint32_t typ;
+    /* Zero. It stands where padding would be, so that each byte of the record is defined. */
+    uint32_t reserved;
 };
 
 /* The standard fields of an optional header of either width.
@@ -515,34 +885,6 @@ struct goblin_pe_dos_header {
     uint32_t pe_pointer;
 };
 
-/* The header of a COFF file, or of the COFF part of an image.
-
-   Source: PE Format, "COFF File Header (Object and Image)". Numbers are as stored; the record has
-   20 bytes, and `at` gives a field's offset in it. An object begins with it; in an image it follows
-   the PE signature. */
-struct goblin_pe_coff_header {
-    /* The machine that the file is for, a `COFF_MACHINE_*`, at 0. No reader looks at it: the width
-       of an image is what the magic of its optional header says. */
-    uint16_t machine;
-    /* How many section records follow the optional header, at 2. The Windows loader takes at most
-       96. */
-    uint16_t number_of_sections;
-    /* When the file was made, in seconds since the start of 1970, at 4; or what its maker put
-       there, such as a hash. */
-    uint32_t time_date_stamp;
-    /* The file offset of the symbol table, at 8; 0 where there is none, as in most images. The
-       string table follows the symbol table. */
-    uint32_t pointer_to_symbol_table;
-    /* How many records the symbol table has, the auxiliary ones too, at 12. */
-    uint32_t number_of_symbol_table;
-    /* The size of the optional header, in bytes, at 16; 0 where there is none, as in an object.
-       Only this says where the section table begins; it says nothing about the optional header's
-       own layout. */
-    uint16_t size_of_optional_header;
-    /* What kind of file it is, as bits `IMAGE_FILE_*` (PE Format, "Characteristics"), at 18. */
-    uint16_t characteristics;
-};
-
 /* The file as a whole. */
 struct goblin_pe_file {
     /* The optional header. */
@@ -552,6 +894,8 @@ struct goblin_pe_file {
     size_t directories;
     /* How many sections there are. */
     size_t sections;
+    /* Where the sections and the tables lie, for walks over these. */
+    struct goblin_pe_places places;
     /* The imports. */
     struct goblin_pe_table imports;
     /* The exports. */
@@ -564,20 +908,6 @@ struct goblin_pe_file {
     struct goblin_pe_dos_header dos_header;
     /* The COFF header. */
     struct goblin_pe_coff_header coff_header;
-};
-
-/* Where a table of an image lies.
-
-   Source: PE Format, "Optional Header Data Directories (Image Only)". Numbers are as stored; the
-   record has 8 bytes, and `at` gives a field's offset in it. */
-struct goblin_pe_data_directory {
-    /* The table's address, relative to the image's base, at 0. That of the certificates is a file
-       offset, since they are not loaded. */
-    uint32_t virtual_address;
-    /* The table's size in bytes, at 4. An import directory ends at its own last record, and a value
-       at an address by its own type, whatever the size; of an export directory the size says which
-       addresses are forwarders, of base relocations where the blocks end. */
-    uint32_t size;
 };
 
 /* An entry of the table of data directories. */
@@ -603,121 +933,6 @@ struct goblin_pe_rich_metadata {
     uint16_t product;
     /* How many files it made, at 4. */
     uint32_t use_count;
-};
-
-/* A section, as its record describes it.
-
-   Source: PE Format, "Section Table (Section Headers)". */
-struct goblin_pe_section {
-    /* The name from the string table, where there is one; a name of more than eight bytes stands
-       there. */
-    struct goblin_pe_text real_name;
-    /* The eight bytes of the name, padded with NULs. */
-    uint8_t name[8];
-    /* The section's size in memory, in bytes: what the raw data lacks of it is zeros. */
-    uint32_t virtual_size;
-    /* The section's address in memory, relative to the image's base. */
-    uint32_t virtual_address;
-    /* The size of the section's data in the file, in bytes; in an image rounded up, so it may be
-       above the virtual size. */
-    uint32_t size_of_raw_data;
-    /* The file offset of the section's data, as stored. */
-    uint32_t pointer_to_raw_data;
-    /* The file offset of the section's relocations, 0 where it has none. */
-    uint32_t pointer_to_relocations;
-    /* The file offset of the section's line numbers, 0 where it has none. */
-    uint32_t pointer_to_linenumbers;
-    /* How many relocations the section has, as its record says. */
-    uint16_t number_of_relocations;
-    /* How many line numbers the section has. */
-    uint16_t number_of_linenumbers;
-    /* What the section holds and how it may be used, as bits `IMAGE_SCN_*`; the loader protects its
-       pages by them. */
-    uint32_t characteristics;
-    /* Whether the section has a name from the string table. */
-    bool has_real_name;
-};
-
-/* An import. */
-struct goblin_pe_import {
-    /* The name that is imported, where the import is by name. */
-    struct goblin_pe_text name;
-    /* The name of the library; empty where permissive mode could not read it. */
-    struct goblin_pe_text dll;
-    /* The address (not the file offset) of its own entry in the address table, where the loader
-       puts the address of what is imported. */
-    size_t slot_rva;
-    /* The address of the hint and the name; 0 of an import by ordinal. */
-    size_t rva;
-    /* The index of its entry, in the file, in the lookup table and in the address table. Entries
-       that are left out count. */
-    size_t slot;
-    /* The ordinal; of an import by name, the hint, at which index of the library's names the loader
-       looks first. */
-    uint16_t ordinal;
-    /* Whether the import is by name. */
-    bool is_by_name;
-    /* Zero. With `reserved2` it stands where padding would be, so that each byte of the record is
-       defined. */
-    uint8_t reserved;
-    /* Zero. */
-    uint32_t reserved2;
-};
-
-/* An export. */
-struct goblin_pe_export {
-    /* The export's name, where it can be read. */
-    struct goblin_pe_text name;
-    /* Of a forwarder the library, without its ending. */
-    struct goblin_pe_text forward_lib;
-    /* Of a forwarder by name the name in that library. */
-    struct goblin_pe_text forward_name;
-    /* Of a forwarder by ordinal the ordinal in that library. */
-    size_t forward_ordinal;
-    /* Its own ordinal: the index of its address, and the ordinal base added. */
-    size_t ordinal;
-    /* The index of its name pointer: what imports by name give as a hint. */
-    size_t hint;
-    /* The file offset of `rva`, where it has one; else 0. Where the options say that addresses are
-       offsets, `rva` itself. */
-    size_t offset;
-    /* The export's address, relative to the image's base; of a forwarder that of its text. */
-    size_t rva;
-    /* Whether the name can be read. */
-    bool has_name;
-    /* Whether `rva` has a file offset: a section maps it and the file alignment is a power of two,
-       or the options say that addresses are offsets. */
-    bool has_offset;
-    /* What it forwards to, by the numbers of `goblin_pe_forwards`. */
-    uint8_t forwards;
-    /* Zero. With `reserved2` it stands where padding would be, so that each byte of the record is
-       defined. */
-    uint8_t reserved;
-    /* Zero. */
-    uint32_t reserved2;
-};
-
-/* An entry of the export address table. Its index and the ordinal base are the ordinal that it
-   stands for. */
-struct goblin_pe_export_address {
-    /* The address, relative to the image's base; of a forwarder that of its text; 0 where the
-       ordinal is not used. */
-    uint32_t rva;
-    /* Whether it is a forwarder: its address lies in the export directory. */
-    bool forwards;
-};
-
-/* A block of base relocations, for one page of the image in memory.
-
-   Source: PE Format, "Base Relocation Block". */
-struct goblin_pe_block {
-    /* The words, of two bytes each: the type, an `IMAGE_REL_BASED_*`, in the high four bits, and in
-       the low twelve the offset in the page, in bytes. A byte that is left is no word. */
-    struct goblin_pe_text words;
-    /* The page's address, relative to the image's base, to which each offset is added. */
-    uint32_t rva;
-    /* The size of the block with its head, in bytes. */
-    uint32_t size;
 };
 
 /* The record that an image's exports begin with.
@@ -798,6 +1013,8 @@ struct goblin_pe_layout {
     size_t directories;
     /* How many sections there are, whatever the room. */
     size_t sections;
+    /* Where the sections and the tables lie, for walks over these. */
+    struct goblin_pe_places places;
     /* The DOS header. */
     struct goblin_pe_dos_header dos_header;
     /* The COFF header. */
@@ -805,15 +1022,6 @@ struct goblin_pe_layout {
     /* The DOS stub, which is written with a header: bytes of the file, or where permissive mode
        could not read them a stub of the library's own. */
     struct goblin_pe_text dos_stub;
-};
-
-/* Where a walk over imports goes on; zeros are the beginning. It may be kept, and copied. */
-struct goblin_pe_import_position {
-    /* The file offset of a library's record; the greatest number once the end has been reached,
-       also of a file without imports. */
-    size_t record_offset;
-    /* The file offset of the slot that is read next, or 0 before the library's first. */
-    size_t slot_offset;
 };
 
 /* What strict mode would refuse of a file, part by part: for each part a fault of the status 0
@@ -855,162 +1063,6 @@ struct goblin_pe_ranges {
     size_t range_count;
 };
 
-/* An image, by what maps its addresses. */
-struct goblin_pe_image {
-    /* The file's bytes. */
-    struct goblin_pe_text bytes;
-    /* The records of its sections, in the order of the section table. No call looks at more of them
-       than their `virtual_address`, `virtual_size`, `pointer_to_raw_data` and `size_of_raw_data`;
-       all else may be zeros, a null pointer of their texts, too. */
-    const struct goblin_pe_section *sections;
-    size_t section_count;
-    /* Its file alignment, in bytes. */
-    uint32_t file_alignment;
-    /* Whether addresses are mapped, and by which rule for raw pointers; all else is not looked at. */
-    struct goblin_pe_options options;
-};
-
-/* What a forwarder stands for: an export of another library. */
-struct goblin_pe_forwarder {
-    /* The library, without its ending. */
-    struct goblin_pe_text lib;
-    /* Of a forwarder by name the export's name in that library. */
-    struct goblin_pe_text name;
-    /* Of a forwarder by ordinal the export's ordinal in that library. */
-    size_t ordinal;
-    /* Which of the two it is, by the numbers of `goblin_pe_forwards`. */
-    uint32_t forwards;
-    /* Zero. It stands where padding would be, so that each byte of the record is defined. */
-    uint32_t reserved;
-};
-
-/* The data of a section, as it is in memory. */
-struct goblin_pe_section_data {
-    /* The bytes that the file has of it. */
-    struct goblin_pe_text bytes;
-    /* How many zeros follow them. */
-    size_t zeros;
-};
-
-/* An object as a whole. */
-struct goblin_pe_object {
-    /* How many sections there are, whatever the room. */
-    size_t sections;
-    /* The COFF header. */
-    struct goblin_pe_coff_header coff_header;
-};
-
-/* Where the symbol table and the string table of an image or an object lie. An offset of 0 says
-   that there are none. */
-struct goblin_pe_symbol_table {
-    /* The file offset of the first record of the symbol table, in bytes; 0 where there is none. */
-    uint32_t offset;
-    /* How many records it has, the auxiliary ones too. */
-    uint32_t record_count;
-    /* The file offset of the texts of the string table, in bytes: after the four of its length. */
-    size_t strings_offset;
-    /* How many bytes these texts have. */
-    size_t strings_length;
-};
-
-/* A symbol, as its record describes it.
-
-   Source: PE Format, "COFF Symbol Table". Numbers are as stored; a record has 18 bytes, and `at`
-   gives a field's offset in it. */
-struct goblin_pe_symbol {
-    /* The eight bytes of the name, padded with NULs, at 0. Where the first is 0, the name is in the
-       string table, at the number in the last four, which counts from the table's length field. */
-    uint8_t name[8];
-    /* What the symbol stands for, by its section and class, at 8: mostly an offset in its section,
-       in bytes. */
-    uint32_t value;
-    /* The number of its section, counted from 1, at 12; or `IMAGE_SYM_UNDEFINED` (0),
-       `IMAGE_SYM_ABSOLUTE` (-1) or `IMAGE_SYM_DEBUG` (-2). */
-    int16_t section_number;
-    /* Its type, at 14: an `IMAGE_SYM_TYPE_*` in the low four bits, an `IMAGE_SYM_DTYPE_*` above
-       them. Microsoft's tools store 0x20 of a function, else 0. */
-    uint16_t typ;
-    /* Its class, an `IMAGE_SYM_CLASS_*`, at 16. */
-    uint8_t storage_class;
-    /* How many auxiliary records follow it, at 17. The next symbol follows these. */
-    uint8_t number_of_aux_symbols;
-};
-
-/* A symbol with its name and the bytes of its auxiliary records. */
-struct goblin_pe_named_symbol {
-    /* The name, from the record or the string table, where it can be read. */
-    struct goblin_pe_text name;
-    /* The records that follow it and say more, 18 bytes each: as many as it says, or fewer where
-       the table ends before. */
-    struct goblin_pe_text auxiliary;
-    /* The index of its record in the symbol table, which also counts auxiliary records. */
-    size_t index;
-    /* The symbol, as its record describes it. */
-    struct goblin_pe_symbol symbol;
-    /* Whether the name can be read. */
-    bool has_name;
-};
-
-/* A relocation of a COFF object: which bytes of a section a linker changes, and how.
-
-   Source: PE Format, "COFF Relocations (Object Only)". Numbers are as stored; the record has 10
-   bytes, and `at` gives a field's offset in it. */
-struct goblin_pe_relocation {
-    /* Where the bytes that are changed begin, at 0: their offset in the section, in bytes, plus the
-       section's own address, which is mostly 0. Of the first relocation of a section with
-       `IMAGE_SCN_LNK_NRELOC_OVFL` it is the number of all. */
-    uint32_t virtual_address;
-    /* The index in the symbol table of the symbol whose address is put there, at 4. */
-    uint32_t symbol_table_index;
-    /* How it is put there, at 8: an `IMAGE_REL_*` of the machine that the COFF header names. */
-    uint16_t typ;
-};
-
-/* The header of a Terse Executable.
-
-   Source: UEFI Platform Initialization Specification, volume 1, "TE Image". Numbers are as stored,
-   but for the four that are adjusted when it is read; the record has 40 bytes, and `at` gives a
-   field's offset in it. It replaces the headers of a PE file and keeps what a loader of firmware
-   needs of them; its addresses still count the bytes that were stripped. */
-struct goblin_pe_te_header {
-    /* `VZ`, at 0. No reader tests it. */
-    uint16_t signature;
-    /* The machine that the file is for, a `COFF_MACHINE_*`, at 2. */
-    uint16_t machine;
-    /* How many section records follow, at 4. */
-    uint8_t number_of_sections;
-    /* The subsystem that runs the image, at 5. */
-    uint8_t subsystem;
-    /* How many bytes were stripped from the front of the PE file, at 6. This header replaces them,
-       so everything after it moved forward by this minus 40. */
-    uint16_t stripped_size;
-    /* The address of the entry point, relative to the image's base, at 8; in a header that was
-       parsed, adjusted. */
-    uint32_t entry_point;
-    /* The address at which the code begins, relative to the image's base, at 12; in a header that
-       was parsed, adjusted. */
-    uint32_t base_of_code;
-    /* The address at which the image is best loaded, at 16; as stored. */
-    uint64_t image_base;
-    /* Where the base relocations lie, at 24; in a header that was parsed, with the address
-       adjusted. */
-    struct goblin_pe_data_directory reloc_dir;
-    /* Where the debug data lies, at 32; in a header that was parsed, with the address adjusted. */
-    struct goblin_pe_data_directory debug_dir;
-};
-
-/* A word of a block of base relocations: which bytes a loader changes, and how.
-
-   Source: PE Format, "Base Relocation Block". */
-struct goblin_pe_word {
-    /* Where the bytes begin: their address, relative to the image's base. */
-    size_t rva;
-    /* How they are changed, an `IMAGE_REL_BASED_*`. Type 0 changes nothing and fills up a block. */
-    uint32_t typ;
-    /* Zero. It stands where padding would be, so that each byte of the record is defined. */
-    uint32_t reserved;
-};
-
 /* The library's own calls, for those who declare them in another language. As the calls of goblin_pe.h, which are made
    of them, but none of their pointers may be null. */
 bool goblin_pe_raw_read_aux_function_definition(
@@ -1026,29 +1078,6 @@ bool goblin_pe_raw_read_aux_file(
 uint32_t goblin_pe_raw_checksum(const uint8_t *bytes, size_t byte_count, size_t field);
 size_t goblin_pe_raw_fault_text(
     const struct goblin_pe_fault *fault, uint8_t *text, size_t text_room);
-uint32_t goblin_pe_interface(void);
-uint32_t goblin_pe_raw_kind_of(const uint8_t *bytes, size_t byte_count);
-struct goblin_pe_fault goblin_pe_raw_open(
-    const uint8_t *bytes, size_t byte_count, const struct goblin_pe_options *options,
-    struct goblin_pe_file *file, struct goblin_pe_directory *directories, size_t directory_room,
-    struct goblin_pe_tables *tables);
-struct goblin_pe_fault goblin_pe_raw_read_layout(
-    const uint8_t *bytes, size_t byte_count, const struct goblin_pe_options *options,
-    struct goblin_pe_layout *layout, struct goblin_pe_directory *directories, size_t directory_room,
-    struct goblin_pe_section *sections, size_t section_room);
-struct goblin_pe_fault goblin_pe_raw_next_imports(
-    const uint8_t *bytes, size_t byte_count, const struct goblin_pe_options *options,
-    struct goblin_pe_import_position *position, struct goblin_pe_import *records,
-    size_t record_room, size_t *count);
-struct goblin_pe_fault goblin_pe_raw_next_exports(
-    const uint8_t *bytes, size_t byte_count, const struct goblin_pe_options *options,
-    size_t *position, struct goblin_pe_export *records, size_t record_room, size_t *count);
-struct goblin_pe_fault goblin_pe_raw_read_damage(
-    const uint8_t *bytes, size_t byte_count, const struct goblin_pe_options *options,
-    struct goblin_pe_damage *damage);
-struct goblin_pe_fault goblin_pe_raw_footprint(
-    const uint8_t *bytes, size_t byte_count, const struct goblin_pe_options *options,
-    struct goblin_pe_ranges *ranges);
 struct goblin_pe_fault goblin_pe_raw_forwarder_at(
     const struct goblin_pe_image *image, size_t rva, struct goblin_pe_forwarder *forwarder);
 bool goblin_pe_raw_find_offset(const struct goblin_pe_image *image, size_t rva, size_t *offset);
@@ -1059,6 +1088,9 @@ struct goblin_pe_fault goblin_pe_raw_bytes_at(
 struct goblin_pe_fault goblin_pe_raw_read_section_data(
     const struct goblin_pe_image *image, const struct goblin_pe_section *section,
     struct goblin_pe_section_data *contents);
+bool goblin_pe_raw_import_record_at(
+    const uint8_t *bytes, size_t byte_count, size_t offset,
+    struct goblin_pe_import_directory_entry *record);
 bool goblin_pe_raw_section_at(const struct goblin_pe_image *image, size_t rva, size_t *index);
 bool goblin_pe_raw_find_rva(const struct goblin_pe_image *image, size_t offset, size_t *rva);
 struct goblin_pe_fault goblin_pe_raw_memory_at(
@@ -1082,12 +1114,44 @@ struct goblin_pe_fault goblin_pe_raw_read_relocations(
 struct goblin_pe_fault goblin_pe_raw_read_te(
     const uint8_t *bytes, size_t byte_count, struct goblin_pe_te_header *header,
     struct goblin_pe_section *sections, size_t section_room);
+struct goblin_pe_fault goblin_pe_raw_next_imports(
+    const uint8_t *bytes, size_t byte_count, const struct goblin_pe_options *options,
+    const struct goblin_pe_places *places, struct goblin_pe_import_position *position,
+    struct goblin_pe_import *records, size_t record_room, size_t *count);
+struct goblin_pe_fault goblin_pe_raw_next_exports(
+    const uint8_t *bytes, size_t byte_count, const struct goblin_pe_options *options,
+    const struct goblin_pe_places *places, size_t *position, struct goblin_pe_export *records,
+    size_t record_room, size_t *count);
+struct goblin_pe_fault goblin_pe_raw_next_export_addresses(
+    const uint8_t *bytes, size_t byte_count, const struct goblin_pe_options *options,
+    const struct goblin_pe_places *places, size_t *position,
+    struct goblin_pe_export_address *records, size_t record_room, size_t *count);
+struct goblin_pe_fault goblin_pe_raw_next_blocks(
+    const uint8_t *bytes, size_t byte_count, const struct goblin_pe_options *options,
+    const struct goblin_pe_places *places, size_t *position, struct goblin_pe_block *records,
+    size_t record_room, size_t *count);
 struct goblin_pe_fault goblin_pe_raw_next_relocations(
     const uint8_t *bytes, size_t byte_count, const struct goblin_pe_section *section,
     size_t *position, struct goblin_pe_relocation *records, size_t record_room, size_t *count);
 size_t goblin_pe_raw_next_words(
     const struct goblin_pe_block *block, size_t *position, struct goblin_pe_word *words,
     size_t word_room);
+uint32_t goblin_pe_interface(void);
+uint32_t goblin_pe_raw_kind_of(const uint8_t *bytes, size_t byte_count);
+struct goblin_pe_fault goblin_pe_raw_open(
+    const uint8_t *bytes, size_t byte_count, const struct goblin_pe_options *options,
+    struct goblin_pe_file *file, struct goblin_pe_directory *directories, size_t directory_room,
+    struct goblin_pe_tables *tables);
+struct goblin_pe_fault goblin_pe_raw_read_layout(
+    const uint8_t *bytes, size_t byte_count, const struct goblin_pe_options *options,
+    struct goblin_pe_layout *layout, struct goblin_pe_directory *directories, size_t directory_room,
+    struct goblin_pe_section *sections, size_t section_room);
+struct goblin_pe_fault goblin_pe_raw_read_damage(
+    const uint8_t *bytes, size_t byte_count, const struct goblin_pe_options *options,
+    struct goblin_pe_damage *damage);
+struct goblin_pe_fault goblin_pe_raw_footprint(
+    const uint8_t *bytes, size_t byte_count, const struct goblin_pe_options *options,
+    struct goblin_pe_ranges *ranges);
 struct goblin_pe_fault goblin_pe_raw_write_header(
     const struct goblin_pe_file *file, const struct goblin_pe_directory *directories,
     size_t directory_count, const uint8_t *stub, size_t stub_count, uint8_t *out, size_t out_room,
@@ -1152,11 +1216,161 @@ GOBLIN_PE_IS_AT(fault, cause, 4);
 GOBLIN_PE_IS_AT(fault, first, 8);
 GOBLIN_PE_IS_AT(fault, second, 16);
 
+GOBLIN_PE_HAS_SIZE(section, 64, 8);
+GOBLIN_PE_IS_AT(section, real_name, 0);
+GOBLIN_PE_IS_AT(section, name, 16);
+GOBLIN_PE_IS_AT(section, virtual_size, 24);
+GOBLIN_PE_IS_AT(section, virtual_address, 28);
+GOBLIN_PE_IS_AT(section, size_of_raw_data, 32);
+GOBLIN_PE_IS_AT(section, pointer_to_raw_data, 36);
+GOBLIN_PE_IS_AT(section, pointer_to_relocations, 40);
+GOBLIN_PE_IS_AT(section, pointer_to_linenumbers, 44);
+GOBLIN_PE_IS_AT(section, number_of_relocations, 48);
+GOBLIN_PE_IS_AT(section, number_of_linenumbers, 50);
+GOBLIN_PE_IS_AT(section, characteristics, 52);
+GOBLIN_PE_IS_AT(section, has_real_name, 56);
+
 GOBLIN_PE_HAS_SIZE(options, 4, 1);
 GOBLIN_PE_IS_AT(options, is_permissive, 0);
 GOBLIN_PE_IS_AT(options, resolve_rva, 1);
 GOBLIN_PE_IS_AT(options, raw_pointer_rule, 2);
 GOBLIN_PE_IS_AT(options, parse_imports, 3);
+
+GOBLIN_PE_HAS_SIZE(image, 40, 8);
+GOBLIN_PE_IS_AT(image, bytes, 0);
+GOBLIN_PE_IS_AT(image, sections, 16);
+GOBLIN_PE_IS_AT(image, section_count, 24);
+GOBLIN_PE_IS_AT(image, file_alignment, 32);
+GOBLIN_PE_IS_AT(image, options, 36);
+
+GOBLIN_PE_HAS_SIZE(forwarder, 48, 8);
+GOBLIN_PE_IS_AT(forwarder, lib, 0);
+GOBLIN_PE_IS_AT(forwarder, name, 16);
+GOBLIN_PE_IS_AT(forwarder, ordinal, 32);
+GOBLIN_PE_IS_AT(forwarder, forwards, 40);
+GOBLIN_PE_IS_AT(forwarder, reserved, 44);
+
+GOBLIN_PE_HAS_SIZE(section_data, 24, 8);
+GOBLIN_PE_IS_AT(section_data, bytes, 0);
+GOBLIN_PE_IS_AT(section_data, zeros, 16);
+
+GOBLIN_PE_HAS_SIZE(import_directory_entry, 20, 4);
+GOBLIN_PE_IS_AT(import_directory_entry, import_lookup_table_rva, 0);
+GOBLIN_PE_IS_AT(import_directory_entry, time_date_stamp, 4);
+GOBLIN_PE_IS_AT(import_directory_entry, forwarder_chain, 8);
+GOBLIN_PE_IS_AT(import_directory_entry, name_rva, 12);
+GOBLIN_PE_IS_AT(import_directory_entry, import_address_table_rva, 16);
+
+GOBLIN_PE_HAS_SIZE(coff_header, 20, 4);
+GOBLIN_PE_IS_AT(coff_header, machine, 0);
+GOBLIN_PE_IS_AT(coff_header, number_of_sections, 2);
+GOBLIN_PE_IS_AT(coff_header, time_date_stamp, 4);
+GOBLIN_PE_IS_AT(coff_header, pointer_to_symbol_table, 8);
+GOBLIN_PE_IS_AT(coff_header, number_of_symbol_table, 12);
+GOBLIN_PE_IS_AT(coff_header, size_of_optional_header, 16);
+GOBLIN_PE_IS_AT(coff_header, characteristics, 18);
+
+GOBLIN_PE_HAS_SIZE(object, 32, 8);
+GOBLIN_PE_IS_AT(object, sections, 0);
+GOBLIN_PE_IS_AT(object, coff_header, 8);
+
+GOBLIN_PE_HAS_SIZE(symbol_table, 24, 8);
+GOBLIN_PE_IS_AT(symbol_table, offset, 0);
+GOBLIN_PE_IS_AT(symbol_table, record_count, 4);
+GOBLIN_PE_IS_AT(symbol_table, strings_offset, 8);
+GOBLIN_PE_IS_AT(symbol_table, strings_length, 16);
+
+GOBLIN_PE_HAS_SIZE(symbol, 20, 4);
+GOBLIN_PE_IS_AT(symbol, name, 0);
+GOBLIN_PE_IS_AT(symbol, value, 8);
+GOBLIN_PE_IS_AT(symbol, section_number, 12);
+GOBLIN_PE_IS_AT(symbol, typ, 14);
+GOBLIN_PE_IS_AT(symbol, storage_class, 16);
+GOBLIN_PE_IS_AT(symbol, number_of_aux_symbols, 17);
+
+GOBLIN_PE_HAS_SIZE(named_symbol, 64, 8);
+GOBLIN_PE_IS_AT(named_symbol, name, 0);
+GOBLIN_PE_IS_AT(named_symbol, auxiliary, 16);
+GOBLIN_PE_IS_AT(named_symbol, index, 32);
+GOBLIN_PE_IS_AT(named_symbol, symbol, 40);
+GOBLIN_PE_IS_AT(named_symbol, has_name, 60);
+
+GOBLIN_PE_HAS_SIZE(relocation, 12, 4);
+GOBLIN_PE_IS_AT(relocation, virtual_address, 0);
+GOBLIN_PE_IS_AT(relocation, symbol_table_index, 4);
+GOBLIN_PE_IS_AT(relocation, typ, 8);
+
+GOBLIN_PE_HAS_SIZE(data_directory, 8, 4);
+GOBLIN_PE_IS_AT(data_directory, virtual_address, 0);
+GOBLIN_PE_IS_AT(data_directory, size, 4);
+
+GOBLIN_PE_HAS_SIZE(te_header, 40, 8);
+GOBLIN_PE_IS_AT(te_header, signature, 0);
+GOBLIN_PE_IS_AT(te_header, machine, 2);
+GOBLIN_PE_IS_AT(te_header, number_of_sections, 4);
+GOBLIN_PE_IS_AT(te_header, subsystem, 5);
+GOBLIN_PE_IS_AT(te_header, stripped_size, 6);
+GOBLIN_PE_IS_AT(te_header, entry_point, 8);
+GOBLIN_PE_IS_AT(te_header, base_of_code, 12);
+GOBLIN_PE_IS_AT(te_header, image_base, 16);
+GOBLIN_PE_IS_AT(te_header, reloc_dir, 24);
+GOBLIN_PE_IS_AT(te_header, debug_dir, 32);
+
+GOBLIN_PE_HAS_SIZE(places, 48, 8);
+GOBLIN_PE_IS_AT(places, section_table, 0);
+GOBLIN_PE_IS_AT(places, exports, 8);
+GOBLIN_PE_IS_AT(places, imports, 16);
+GOBLIN_PE_IS_AT(places, relocations, 24);
+GOBLIN_PE_IS_AT(places, file_alignment, 32);
+GOBLIN_PE_IS_AT(places, number_of_sections, 36);
+GOBLIN_PE_IS_AT(places, magic, 38);
+GOBLIN_PE_IS_AT(places, has_exports, 40);
+GOBLIN_PE_IS_AT(places, has_imports, 41);
+GOBLIN_PE_IS_AT(places, has_relocations, 42);
+
+GOBLIN_PE_HAS_SIZE(import_position, 16, 8);
+GOBLIN_PE_IS_AT(import_position, record_offset, 0);
+GOBLIN_PE_IS_AT(import_position, slot_offset, 8);
+
+GOBLIN_PE_HAS_SIZE(import, 64, 8);
+GOBLIN_PE_IS_AT(import, name, 0);
+GOBLIN_PE_IS_AT(import, dll, 16);
+GOBLIN_PE_IS_AT(import, slot_rva, 32);
+GOBLIN_PE_IS_AT(import, rva, 40);
+GOBLIN_PE_IS_AT(import, slot, 48);
+GOBLIN_PE_IS_AT(import, ordinal, 56);
+GOBLIN_PE_IS_AT(import, is_by_name, 58);
+GOBLIN_PE_IS_AT(import, reserved, 59);
+GOBLIN_PE_IS_AT(import, reserved2, 60);
+
+GOBLIN_PE_HAS_SIZE(export, 96, 8);
+GOBLIN_PE_IS_AT(export, name, 0);
+GOBLIN_PE_IS_AT(export, forward_lib, 16);
+GOBLIN_PE_IS_AT(export, forward_name, 32);
+GOBLIN_PE_IS_AT(export, forward_ordinal, 48);
+GOBLIN_PE_IS_AT(export, ordinal, 56);
+GOBLIN_PE_IS_AT(export, hint, 64);
+GOBLIN_PE_IS_AT(export, offset, 72);
+GOBLIN_PE_IS_AT(export, rva, 80);
+GOBLIN_PE_IS_AT(export, has_name, 88);
+GOBLIN_PE_IS_AT(export, has_offset, 89);
+GOBLIN_PE_IS_AT(export, forwards, 90);
+GOBLIN_PE_IS_AT(export, reserved, 91);
+GOBLIN_PE_IS_AT(export, reserved2, 92);
+
+GOBLIN_PE_HAS_SIZE(export_address, 8, 4);
+GOBLIN_PE_IS_AT(export_address, rva, 0);
+GOBLIN_PE_IS_AT(export_address, forwards, 4);
+
+GOBLIN_PE_HAS_SIZE(block, 24, 8);
+GOBLIN_PE_IS_AT(block, words, 0);
+GOBLIN_PE_IS_AT(block, rva, 16);
+GOBLIN_PE_IS_AT(block, size, 20);
+
+GOBLIN_PE_HAS_SIZE(word, 16, 8);
+GOBLIN_PE_IS_AT(word, rva, 0);
+GOBLIN_PE_IS_AT(word, typ, 8);
+GOBLIN_PE_IS_AT(word, reserved, 12);
 
 GOBLIN_PE_HAS_SIZE(standard_fields, 56, 8);
 GOBLIN_PE_IS_AT(standard_fields, magic, 0);
@@ -1234,29 +1448,17 @@ GOBLIN_PE_IS_AT(dos_header, oem_info, 38);
 GOBLIN_PE_IS_AT(dos_header, reserved2, 40);
 GOBLIN_PE_IS_AT(dos_header, pe_pointer, 60);
 
-GOBLIN_PE_HAS_SIZE(coff_header, 20, 4);
-GOBLIN_PE_IS_AT(coff_header, machine, 0);
-GOBLIN_PE_IS_AT(coff_header, number_of_sections, 2);
-GOBLIN_PE_IS_AT(coff_header, time_date_stamp, 4);
-GOBLIN_PE_IS_AT(coff_header, pointer_to_symbol_table, 8);
-GOBLIN_PE_IS_AT(coff_header, number_of_symbol_table, 12);
-GOBLIN_PE_IS_AT(coff_header, size_of_optional_header, 16);
-GOBLIN_PE_IS_AT(coff_header, characteristics, 18);
-
-GOBLIN_PE_HAS_SIZE(file, 376, 8);
+GOBLIN_PE_HAS_SIZE(file, 424, 8);
 GOBLIN_PE_IS_AT(file, optional_header, 0);
 GOBLIN_PE_IS_AT(file, directories, 144);
 GOBLIN_PE_IS_AT(file, sections, 152);
-GOBLIN_PE_IS_AT(file, imports, 160);
-GOBLIN_PE_IS_AT(file, exports, 176);
-GOBLIN_PE_IS_AT(file, relocations, 192);
-GOBLIN_PE_IS_AT(file, rich_header, 232);
-GOBLIN_PE_IS_AT(file, dos_header, 288);
-GOBLIN_PE_IS_AT(file, coff_header, 352);
-
-GOBLIN_PE_HAS_SIZE(data_directory, 8, 4);
-GOBLIN_PE_IS_AT(data_directory, virtual_address, 0);
-GOBLIN_PE_IS_AT(data_directory, size, 4);
+GOBLIN_PE_IS_AT(file, places, 160);
+GOBLIN_PE_IS_AT(file, imports, 208);
+GOBLIN_PE_IS_AT(file, exports, 224);
+GOBLIN_PE_IS_AT(file, relocations, 240);
+GOBLIN_PE_IS_AT(file, rich_header, 280);
+GOBLIN_PE_IS_AT(file, dos_header, 336);
+GOBLIN_PE_IS_AT(file, coff_header, 400);
 
 GOBLIN_PE_HAS_SIZE(directory, 24, 8);
 GOBLIN_PE_IS_AT(directory, end, 0);
@@ -1267,55 +1469,6 @@ GOBLIN_PE_HAS_SIZE(rich_metadata, 8, 4);
 GOBLIN_PE_IS_AT(rich_metadata, build, 0);
 GOBLIN_PE_IS_AT(rich_metadata, product, 2);
 GOBLIN_PE_IS_AT(rich_metadata, use_count, 4);
-
-GOBLIN_PE_HAS_SIZE(section, 64, 8);
-GOBLIN_PE_IS_AT(section, real_name, 0);
-GOBLIN_PE_IS_AT(section, name, 16);
-GOBLIN_PE_IS_AT(section, virtual_size, 24);
-GOBLIN_PE_IS_AT(section, virtual_address, 28);
-GOBLIN_PE_IS_AT(section, size_of_raw_data, 32);
-GOBLIN_PE_IS_AT(section, pointer_to_raw_data, 36);
-GOBLIN_PE_IS_AT(section, pointer_to_relocations, 40);
-GOBLIN_PE_IS_AT(section, pointer_to_linenumbers, 44);
-GOBLIN_PE_IS_AT(section, number_of_relocations, 48);
-GOBLIN_PE_IS_AT(section, number_of_linenumbers, 50);
-GOBLIN_PE_IS_AT(section, characteristics, 52);
-GOBLIN_PE_IS_AT(section, has_real_name, 56);
-
-GOBLIN_PE_HAS_SIZE(import, 64, 8);
-GOBLIN_PE_IS_AT(import, name, 0);
-GOBLIN_PE_IS_AT(import, dll, 16);
-GOBLIN_PE_IS_AT(import, slot_rva, 32);
-GOBLIN_PE_IS_AT(import, rva, 40);
-GOBLIN_PE_IS_AT(import, slot, 48);
-GOBLIN_PE_IS_AT(import, ordinal, 56);
-GOBLIN_PE_IS_AT(import, is_by_name, 58);
-GOBLIN_PE_IS_AT(import, reserved, 59);
-GOBLIN_PE_IS_AT(import, reserved2, 60);
-
-GOBLIN_PE_HAS_SIZE(export, 96, 8);
-GOBLIN_PE_IS_AT(export, name, 0);
-GOBLIN_PE_IS_AT(export, forward_lib, 16);
-GOBLIN_PE_IS_AT(export, forward_name, 32);
-GOBLIN_PE_IS_AT(export, forward_ordinal, 48);
-GOBLIN_PE_IS_AT(export, ordinal, 56);
-GOBLIN_PE_IS_AT(export, hint, 64);
-GOBLIN_PE_IS_AT(export, offset, 72);
-GOBLIN_PE_IS_AT(export, rva, 80);
-GOBLIN_PE_IS_AT(export, has_name, 88);
-GOBLIN_PE_IS_AT(export, has_offset, 89);
-GOBLIN_PE_IS_AT(export, forwards, 90);
-GOBLIN_PE_IS_AT(export, reserved, 91);
-GOBLIN_PE_IS_AT(export, reserved2, 92);
-
-GOBLIN_PE_HAS_SIZE(export_address, 8, 4);
-GOBLIN_PE_IS_AT(export_address, rva, 0);
-GOBLIN_PE_IS_AT(export_address, forwards, 4);
-
-GOBLIN_PE_HAS_SIZE(block, 24, 8);
-GOBLIN_PE_IS_AT(block, words, 0);
-GOBLIN_PE_IS_AT(block, rva, 16);
-GOBLIN_PE_IS_AT(block, size, 20);
 
 GOBLIN_PE_HAS_SIZE(export_directory_table, 40, 4);
 GOBLIN_PE_IS_AT(export_directory_table, export_flags, 0);
@@ -1351,17 +1504,14 @@ GOBLIN_PE_IS_AT(tables, block_count, 88);
 GOBLIN_PE_IS_AT(tables, export_directory, 96);
 GOBLIN_PE_IS_AT(tables, dos_stub, 160);
 
-GOBLIN_PE_HAS_SIZE(layout, 264, 8);
+GOBLIN_PE_HAS_SIZE(layout, 312, 8);
 GOBLIN_PE_IS_AT(layout, optional_header, 0);
 GOBLIN_PE_IS_AT(layout, directories, 144);
 GOBLIN_PE_IS_AT(layout, sections, 152);
-GOBLIN_PE_IS_AT(layout, dos_header, 160);
-GOBLIN_PE_IS_AT(layout, coff_header, 224);
-GOBLIN_PE_IS_AT(layout, dos_stub, 248);
-
-GOBLIN_PE_HAS_SIZE(import_position, 16, 8);
-GOBLIN_PE_IS_AT(import_position, record_offset, 0);
-GOBLIN_PE_IS_AT(import_position, slot_offset, 8);
+GOBLIN_PE_IS_AT(layout, places, 160);
+GOBLIN_PE_IS_AT(layout, dos_header, 208);
+GOBLIN_PE_IS_AT(layout, coff_header, 272);
+GOBLIN_PE_IS_AT(layout, dos_stub, 296);
 
 GOBLIN_PE_HAS_SIZE(damage, 144, 8);
 GOBLIN_PE_IS_AT(damage, dos_stub, 0);
@@ -1380,71 +1530,6 @@ GOBLIN_PE_IS_AT(range, length, 8);
 GOBLIN_PE_HAS_SIZE(ranges, 16, 8);
 GOBLIN_PE_IS_AT(ranges, ranges, 0);
 GOBLIN_PE_IS_AT(ranges, range_count, 8);
-
-GOBLIN_PE_HAS_SIZE(image, 40, 8);
-GOBLIN_PE_IS_AT(image, bytes, 0);
-GOBLIN_PE_IS_AT(image, sections, 16);
-GOBLIN_PE_IS_AT(image, section_count, 24);
-GOBLIN_PE_IS_AT(image, file_alignment, 32);
-GOBLIN_PE_IS_AT(image, options, 36);
-
-GOBLIN_PE_HAS_SIZE(forwarder, 48, 8);
-GOBLIN_PE_IS_AT(forwarder, lib, 0);
-GOBLIN_PE_IS_AT(forwarder, name, 16);
-GOBLIN_PE_IS_AT(forwarder, ordinal, 32);
-GOBLIN_PE_IS_AT(forwarder, forwards, 40);
-GOBLIN_PE_IS_AT(forwarder, reserved, 44);
-
-GOBLIN_PE_HAS_SIZE(section_data, 24, 8);
-GOBLIN_PE_IS_AT(section_data, bytes, 0);
-GOBLIN_PE_IS_AT(section_data, zeros, 16);
-
-GOBLIN_PE_HAS_SIZE(object, 32, 8);
-GOBLIN_PE_IS_AT(object, sections, 0);
-GOBLIN_PE_IS_AT(object, coff_header, 8);
-
-GOBLIN_PE_HAS_SIZE(symbol_table, 24, 8);
-GOBLIN_PE_IS_AT(symbol_table, offset, 0);
-GOBLIN_PE_IS_AT(symbol_table, record_count, 4);
-GOBLIN_PE_IS_AT(symbol_table, strings_offset, 8);
-GOBLIN_PE_IS_AT(symbol_table, strings_length, 16);
-
-GOBLIN_PE_HAS_SIZE(symbol, 20, 4);
-GOBLIN_PE_IS_AT(symbol, name, 0);
-GOBLIN_PE_IS_AT(symbol, value, 8);
-GOBLIN_PE_IS_AT(symbol, section_number, 12);
-GOBLIN_PE_IS_AT(symbol, typ, 14);
-GOBLIN_PE_IS_AT(symbol, storage_class, 16);
-GOBLIN_PE_IS_AT(symbol, number_of_aux_symbols, 17);
-
-GOBLIN_PE_HAS_SIZE(named_symbol, 64, 8);
-GOBLIN_PE_IS_AT(named_symbol, name, 0);
-GOBLIN_PE_IS_AT(named_symbol, auxiliary, 16);
-GOBLIN_PE_IS_AT(named_symbol, index, 32);
-GOBLIN_PE_IS_AT(named_symbol, symbol, 40);
-GOBLIN_PE_IS_AT(named_symbol, has_name, 60);
-
-GOBLIN_PE_HAS_SIZE(relocation, 12, 4);
-GOBLIN_PE_IS_AT(relocation, virtual_address, 0);
-GOBLIN_PE_IS_AT(relocation, symbol_table_index, 4);
-GOBLIN_PE_IS_AT(relocation, typ, 8);
-
-GOBLIN_PE_HAS_SIZE(te_header, 40, 8);
-GOBLIN_PE_IS_AT(te_header, signature, 0);
-GOBLIN_PE_IS_AT(te_header, machine, 2);
-GOBLIN_PE_IS_AT(te_header, number_of_sections, 4);
-GOBLIN_PE_IS_AT(te_header, subsystem, 5);
-GOBLIN_PE_IS_AT(te_header, stripped_size, 6);
-GOBLIN_PE_IS_AT(te_header, entry_point, 8);
-GOBLIN_PE_IS_AT(te_header, base_of_code, 12);
-GOBLIN_PE_IS_AT(te_header, image_base, 16);
-GOBLIN_PE_IS_AT(te_header, reloc_dir, 24);
-GOBLIN_PE_IS_AT(te_header, debug_dir, 32);
-
-GOBLIN_PE_HAS_SIZE(word, 16, 8);
-GOBLIN_PE_IS_AT(word, rva, 0);
-GOBLIN_PE_IS_AT(word, typ, 8);
-GOBLIN_PE_IS_AT(word, reserved, 12);
 
 #undef GOBLIN_PE_TEST
 #undef GOBLIN_PE_ALIGNMENT

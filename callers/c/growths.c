@@ -14,6 +14,8 @@ void __libc_free(void *block);
 
 static uint8_t bytes[1 << 20];
 static size_t length;
+/* Where the tables of an image lie, for the walks. */
+static struct goblin_pe_layout layout;
 /* (volatile, since a compiler takes free to read none of these) */
 static volatile bool is_called, was_refused;
 static size_t left;
@@ -89,9 +91,9 @@ static struct goblin_pe_fault called(const char *name, struct records *r)
     if (!strcmp(name, "footprint"))
         return goblin_pe_footprint(bytes, length, NULL, &r->ranges);
     if (!strcmp(name, "imports"))
-        return goblin_pe_next_imports(bytes, length, NULL, &r->place, r->imports, 4, &r->count);
+        return goblin_pe_next_imports(bytes, length, NULL, &layout.places, &r->place, r->imports, 4, &r->count);
     if (!strcmp(name, "exports"))
-        return goblin_pe_next_exports(bytes, length, NULL, &r->position, r->exports, 4, &r->count);
+        return goblin_pe_next_exports(bytes, length, NULL, &layout.places, &r->position, r->exports, 4, &r->count);
     if (!strcmp(name, "symbols"))
         return read_symbols(r);
     if (!strcmp(name, "object"))
@@ -107,6 +109,7 @@ int main(int argc, char **argv)
         return 3;
     length = fread(bytes, 1, sizeof bytes, from);
     fclose(from);
+    goblin_pe_read_layout(bytes, length, NULL, &layout, NULL, 0, NULL, 0);
     old.file.sections = old.directories[15].end = old.damage.left_out_entries = old.object.sections = old.count = 7;
     old.te_header.machine = old.sections[3].number_of_relocations = 7;
     for (size_t growth = 1;; growth++) {

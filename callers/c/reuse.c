@@ -87,13 +87,14 @@ static bool is_import(const struct goblin_pe_import *x, const struct goblin_pe_i
            x->rva == y->rva && x->slot == y->slot && x->ordinal == y->ordinal && x->is_by_name == y->is_by_name;
 }
 
-static bool walks_over_imports(const struct goblin_pe_tables *tables)
+static bool walks_over_imports(const struct goblin_pe_places *places, const struct goblin_pe_tables *tables)
 {
     struct goblin_pe_import_position position = { 0, 0 };
     struct goblin_pe_import imports[2];
     size_t found = 0, count = 0;
     do {
-        if (goblin_pe_next_imports(bytes, length, NULL, &position, imports, 2, &count).status != GOBLIN_PE_STATUS_OK)
+        if (goblin_pe_next_imports(bytes, length, NULL, places, &position, imports, 2, &count).status !=
+            GOBLIN_PE_STATUS_OK)
             return false;
         for (size_t i = 0; i < count; i++, found++)
             if (found >= tables->import_count || !is_import(&imports[i], &tables->imports[found]))
@@ -102,12 +103,13 @@ static bool walks_over_imports(const struct goblin_pe_tables *tables)
     return found == tables->import_count;
 }
 
-static bool walks_over_exports(const struct goblin_pe_tables *tables)
+static bool walks_over_exports(const struct goblin_pe_places *places, const struct goblin_pe_tables *tables)
 {
     struct goblin_pe_export exports[2];
     size_t position = 0, found = 0, count = 0;
     do {
-        if (goblin_pe_next_exports(bytes, length, NULL, &position, exports, 2, &count).status != GOBLIN_PE_STATUS_OK)
+        if (goblin_pe_next_exports(bytes, length, NULL, places, &position, exports, 2, &count).status !=
+            GOBLIN_PE_STATUS_OK)
             return false;
         for (size_t i = 0; i < count; i++, found++)
             if (found >= tables->export_count || exports[i].ordinal != tables->exports[found].ordinal ||
@@ -115,6 +117,43 @@ static bool walks_over_exports(const struct goblin_pe_tables *tables)
                 return false;
     } while (count);
     return found == tables->export_count;
+}
+
+static bool walks_over_addresses(const struct goblin_pe_places *places, const struct goblin_pe_tables *tables)
+{
+    struct goblin_pe_export_address found[2];
+    size_t position = 0, count = 0;
+    do {
+        size_t from = position;
+        if (goblin_pe_next_export_addresses(bytes, length, NULL, places, &position, found, 2, &count).status !=
+                GOBLIN_PE_STATUS_OK ||
+            position != from + count || position > tables->export_address_count)
+            return false;
+        for (size_t i = 0; i < count; i++)
+            if (found[i].rva != tables->export_addresses[from + i].rva ||
+                found[i].forwards != tables->export_addresses[from + i].forwards)
+                return false;
+    } while (count);
+    return position == tables->export_address_count;
+}
+
+/* Whether a walk gives the blocks that are listed, and then the refusal of a rest, where there is one. */
+static bool walks_over_blocks(const struct goblin_pe_file *file, const struct goblin_pe_tables *tables)
+{
+    struct goblin_pe_block blocks[2];
+    struct goblin_pe_fault fault;
+    size_t position = 0, found = 0, count = 0;
+    for (;;) {
+        fault = goblin_pe_next_blocks(bytes, length, NULL, &file->places, &position, blocks, 2, &count);
+        if (fault.status != GOBLIN_PE_STATUS_OK || !count)
+            break;
+        for (size_t i = 0; i < count; i++, found++)
+            if (found >= tables->block_count || blocks[i].rva != tables->blocks[found].rva ||
+                blocks[i].size != tables->blocks[found].size ||
+                blocks[i].words.bytes != tables->blocks[found].words.bytes)
+                return false;
+    }
+    return found == tables->block_count && !memcmp(&fault, &file->relocations.rest, sizeof fault);
 }
 
 /* Whether the address of each export is that of its ordinal in the address table. */
@@ -170,7 +209,8 @@ int main(int argc, char **argv)
             return 4;
         if (!are_in_file(&tables) || !has_footprint() || !has_addresses(&tables))
             return 5;
-        if (!walks_over_imports(&tables) || !walks_over_exports(&tables))
+        if (!walks_over_imports(&file.places, &tables) || !walks_over_exports(&file.places, &tables) ||
+            !walks_over_addresses(&file.places, &tables) || !walks_over_blocks(&file, &tables))
             return 6;
         if (has_header && !is_written(&file, directories, &tables))
             return 7;

@@ -16,6 +16,7 @@ static struct contents image, object, te;
 /* The calls that take memory, but for the one that opens: whether each is granted. */
 static bool makes_the_other_calls(void)
 {
+    struct goblin_pe_layout layout;
     struct goblin_pe_damage damage;
     struct goblin_pe_ranges ranges = { 0 };
     struct goblin_pe_import_position position = { 0, 0 };
@@ -28,10 +29,12 @@ static bool makes_the_other_calls(void)
     bool is_granted = goblin_pe_read_damage(image.bytes, image.length, NULL, &damage).status == GOBLIN_PE_STATUS_OK;
     is_granted &= goblin_pe_footprint(image.bytes, image.length, NULL, &ranges).status == GOBLIN_PE_STATUS_OK;
     goblin_pe_free_ranges(&ranges);
-    is_granted &= goblin_pe_next_imports(image.bytes, image.length, NULL, &position, &import, 1, &count).status ==
+    is_granted &= goblin_pe_read_layout(image.bytes, image.length, NULL, &layout, NULL, 0, NULL, 0).status ==
                   GOBLIN_PE_STATUS_OK;
-    is_granted &= goblin_pe_next_exports(image.bytes, image.length, NULL, &place, &export, 1, &count).status ==
-                  GOBLIN_PE_STATUS_OK;
+    is_granted &= goblin_pe_next_imports(image.bytes, image.length, NULL, &layout.places, &position, &import, 1, &count)
+                      .status == GOBLIN_PE_STATUS_OK;
+    is_granted &= goblin_pe_next_exports(image.bytes, image.length, NULL, &layout.places, &place, &export, 1, &count)
+                      .status == GOBLIN_PE_STATUS_OK;
     is_granted &=
         goblin_pe_read_object(object.bytes, object.length, NULL, &parts, &section, 1).status == GOBLIN_PE_STATUS_OK;
     is_granted &= goblin_pe_read_te(te.bytes, te.length, &header, &section, 1).status == GOBLIN_PE_STATUS_OK;

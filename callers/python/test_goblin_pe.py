@@ -456,7 +456,9 @@ class Files(unittest.TestCase):
         data = bytearray(sample("imports_by_name_x64.dll"))
         record = Pe(data).find_offset(Pe(data).data_directories[DirectoryType.IMPORT_TABLE].virtual_address)
         struct.pack_into("<II", data, record + 4, 1, 2)
-        self.assertEqual(list(Pe(data, Options(parse_imports=False)).walk_libraries()), [(b"KERNEL32.dll", record, 1, 2)])
+        library, = Pe(data, Options(parse_imports=False)).walk_libraries()
+        self.assertEqual(library[:4] + library[5:], (b"KERNEL32.dll", record, 1, 2, 0))
+        self.assertEqual(Pe(data).text_at(library.name_rva), library.name)
         self.assertEqual(list(Pe(sample("forwarders_x64.dll")).walk_libraries()), [])
 
     def test_libraries_without_imports_are_left_out(self):
@@ -464,7 +466,8 @@ class Files(unittest.TestCase):
         data = sample("forwarders_x64.dll")
         layout = Layout(with_libraries(data, [b"a.dll", b"b.dll", b"c.dll"], [1, 0, 1]), Options(resolve_rva=False))
         begin = len(data)
-        self.assertEqual(list(layout.walk_libraries()), [(b"a.dll", begin, 0, 0), (b"c.dll", begin + 40, 2, 0)])
+        libraries = [(*x[:4], layout.text_at(x.name_rva), x.index) for x in layout.walk_libraries()]
+        self.assertEqual(libraries, [(b"a.dll", begin, 0, 0, b"a.dll", 0), (b"c.dll", begin + 40, 2, 0, b"c.dll", 2)])
         self.assertEqual([(x.dll, x.name, x.ordinal) for x in layout.walk_imports()], [(b"a.dll", None, 7), (b"c.dll", None, 7)])
 
     def test_a_call_gives_more_where_it_makes_an_index(self):

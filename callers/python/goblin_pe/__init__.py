@@ -45,7 +45,6 @@ import hashlib as _hashlib
 import itertools as _itertools
 import operator as _operator
 import os as _os
-import struct as _struct
 import types as _types
 import typing as _t
 
@@ -67,7 +66,8 @@ from .records import (
     StandardFields as StandardFields, TeHeader as TeHeader, WindowsFields as WindowsFields)
 from .rows import (
     NO_TEXT as _NO_TEXT, Block as Block, Export as Export, ExportAddress as ExportAddress,
-    ExportDirectory as ExportDirectory, Import as Import, Library as Library, Range as Range, RichHeader as RichHeader, Rows as _Rows,
+    ExportDirectory as ExportDirectory, ExportEntry as ExportEntry, Import as Import, Library as Library, Range as Range,
+    RichHeader as RichHeader, Rows as _Rows,
     Section as Section, SectionData as SectionData, Symbol as Symbol, batches as _batches, data_of as _data_of,
     record_of as _section_record, room as _room)
 
@@ -231,7 +231,7 @@ class Layout:
     """An image by its header and its sections: Layout(data, options), where `data` are the file's bytes and `options` are
     Options. A file whose header or sections are refused raises Refused. Nothing of it is listed, so it takes memory for the
     records of its sections alone, however much its tables list: these are walked over, or looked up. Of the sections rows are
-    made where `sections` is asked for.
+    made where `sections` is asked for. The Rich header is no part of it: Pe has it.
 
     It keeps `data`, or the copy of a buffer that could be written, until close() or the end of a `with`. Sections that were not
     asked for before, symbols, damage and the methods raise ValueError then, but find_offset needs the bytes no longer. A copy, as
@@ -258,6 +258,7 @@ class Layout:
 
     def _take_headers(self, file: _t.Union[records.File, records.Layout], directories: _t.List[records.Directory]) -> None:
         self._dos_header, self._coff_header, self._header = file.dos_header, file.coff_header, file.optional_header
+        self._places = file.places
         self._directories = {_named(DirectoryType, index): d.directory for index, d in enumerate(directories) if d.is_present}
         self._has_directories = bool(directories)
 
@@ -445,7 +446,8 @@ class Layout:
         # the call of walks over imports, by the options, but with imports
         how = self._options
         asked = records.Options(how.is_permissive, how.resolve_rva, how.raw_pointer_rule, True)
-        return lambda address, length, *to: _LIB.goblin_pe_raw_next_imports(address, length, _c.byref(asked), *to)
+        return lambda address, length, *to: _LIB.goblin_pe_raw_next_imports(
+            address, length, _c.byref(asked), _c.byref(self._places), *to)
 
     def _count_imports(self) -> _t.Optional[int]:
         # how many the walk over imports gives, of which none becomes a row; None where the file has no table of them
@@ -468,15 +470,19 @@ class Layout:
     def _libraries(self, data: _Kept, call: _t.Callable[..., records.Fault]) -> _t.Iterator[Library]:
         # of each library the first import is read, and then the next record
         position, first = records.ImportPosition(), _room(records.Import, 1)
+        begin = self.find_offset(self._places.imports.virtual_address) or 0
         for address, _ in _batches(data, first, call, position):
-            stamp, chain = _struct.unpack_from("<II", data, position.record_offset + 4)
-            yield Library(_Rows(data, address).text(first[0].dll), position.record_offset, stamp, chain)
-            position.record_offset, position.slot_offset = position.record_offset + 20, 0
+            offset, record = position.record_offset, _laid_out.laid_out(records.ImportDirectoryEntry)()
+            with _held(data) as (here, length):
+                _LIB.goblin_pe_raw_import_record_at(here, length, offset, _c.byref(record))
+            yield Library(_Rows(data, address).text(first[0].dll), offset, record.time_date_stamp, record.forwarder_chain,
+                          record.name_rva, (offset - begin) // 20)
+            position.record_offset, position.slot_offset = offset + 20, 0
 
     def walk_exports(self) -> _t.Iterator[Export]:
         """The exports one by one, of which none is kept."""
         return _walk(self._bytes(), records.Export, "exported", lambda address, length, *to: _LIB.goblin_pe_raw_next_exports(
-            address, length, _c.byref(self._options), *to), _c.c_size_t(), self._batch())
+            address, length, _c.byref(self._options), _c.byref(self._places), *to), _c.c_size_t(), self._batch())
 
     @property
     def symbols(self) -> _t.List[Symbol]:
@@ -616,6 +622,14 @@ class Pe(Layout):
     def export_addresses(self) -> _t.List[ExportAddress]:
         """The entries of the export address table, by rising ordinals, also those without a name."""
         return self._rows("export_addresses")
+
+    def walk_export_addresses(self) -> _t.Iterator[ExportEntry]:
+        """The entries of the export address table one by one, by rising ordinals, also those without a name, each with its
+        forwarder, which is read as the walk goes on. None is kept."""
+        return map(self._export_entry, self._each("export_addresses"))
+
+    def _export_entry(self, it: ExportAddress) -> ExportEntry:
+        return ExportEntry(it.ordinal, it.rva, it.forwards, self.forwarder_at(it.rva) if it.forwards else None)
 
     @property
     def relocation_table(self) -> State:

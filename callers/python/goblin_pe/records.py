@@ -130,6 +130,43 @@ class Fault(Record):
 
 
 @record
+class Section(Record):
+    """A section, as its record describes it.
+
+    Source: PE Format, "Section Table (Section Headers)".
+
+    real_name: The name from the string table, where there is one; a name of more than eight bytes
+        stands there.
+    name: The eight bytes of the name, padded with NULs.
+    virtual_size: The section's size in memory, in bytes: what the raw data lacks of it is zeros.
+    virtual_address: The section's address in memory, relative to the image's base.
+    size_of_raw_data: The size of the section's data in the file, in bytes; in an image rounded up,
+        so it may be above the virtual size.
+    pointer_to_raw_data: The file offset of the section's data, as stored.
+    pointer_to_relocations: The file offset of the section's relocations, 0 where it has none.
+    pointer_to_linenumbers: The file offset of the section's line numbers, 0 where it has none.
+    number_of_relocations: How many relocations the section has, as its record says.
+    number_of_linenumbers: How many line numbers the section has.
+    characteristics: What the section holds and how it may be used, as bits `IMAGE_SCN_*`; the
+        loader protects its pages by them.
+    has_real_name: Whether the section has a name from the string table.
+    """
+
+    real_name: Text
+    name: Annotated[Tuple[int, ...], c.c_uint8 * 8]
+    virtual_size: Annotated[int, c.c_uint32]
+    virtual_address: Annotated[int, c.c_uint32]
+    size_of_raw_data: Annotated[int, c.c_uint32]
+    pointer_to_raw_data: Annotated[int, c.c_uint32]
+    pointer_to_relocations: Annotated[int, c.c_uint32]
+    pointer_to_linenumbers: Annotated[int, c.c_uint32]
+    number_of_relocations: Annotated[int, c.c_uint16]
+    number_of_linenumbers: Annotated[int, c.c_uint16]
+    characteristics: Annotated[int, c.c_uint32]
+    has_real_name: Annotated[bool, c.c_bool]
+
+
+@record
 class Options(Record):
     """What a call does and leaves out.
 
@@ -146,6 +183,431 @@ class Options(Record):
     resolve_rva: Annotated[bool, c.c_bool]
     raw_pointer_rule: Annotated[int, c.c_uint8]
     parse_imports: Annotated[bool, c.c_bool]
+
+
+@record
+class Image(Record):
+    """An image, by what maps its addresses.
+
+    bytes: The file's bytes.
+    sections: The records of its sections, in the order of the section table. No call looks at more
+        of them than their `virtual_address`, `virtual_size`, `pointer_to_raw_data` and
+        `size_of_raw_data`; all else may be zeros, a null pointer of their texts, too.
+    file_alignment: Its file alignment, in bytes.
+    options: Whether addresses are mapped, and by which rule for raw pointers; all else is not
+        looked at.
+    """
+
+    bytes: Text
+    sections: Address
+    section_count: Annotated[int, c.c_size_t]
+    file_alignment: Annotated[int, c.c_uint32]
+    options: Options
+
+
+@record
+class Forwarder(Record):
+    """What a forwarder stands for: an export of another library.
+
+    lib: The library, without its ending.
+    name: Of a forwarder by name the export's name in that library.
+    ordinal: Of a forwarder by ordinal the export's ordinal in that library.
+    forwards: Which of the two it is, by the numbers of `Forwards`.
+    reserved: Zero. It stands where padding would be, so that each byte of the record is defined.
+    """
+
+    lib: Text
+    name: Text
+    ordinal: Annotated[int, c.c_size_t]
+    forwards: Annotated[int, c.c_uint32]
+    reserved: Annotated[int, c.c_uint32]
+
+
+@record
+class SectionData(Record):
+    """The data of a section, as it is in memory.
+
+    bytes: The bytes that the file has of it.
+    zeros: How many zeros follow them.
+    """
+
+    bytes: Text
+    zeros: Annotated[int, c.c_size_t]
+
+
+@header
+class ImportDirectoryEntry(NamedTuple):
+    """A record of an import directory: where the imports from a library are.
+
+    Source: PE Format, "Import Directory Table". Numbers are as stored; the record has 20 bytes, and
+    `at` gives a field's offset in it. Addresses are relative to the image's base.
+
+    import_lookup_table_rva: The address of the lookup table, which says what is imported, at 0.
+        Where it has no file offset, the address table is read instead, as images of some old
+        linkers ask for.
+    time_date_stamp: 0 until the imports are bound, at 4; then the time stamp of the library to
+        which they were bound, or 2^32 - 1 if the bound imports say it.
+    forwarder_chain: The index of the first forwarder, at 8.
+    name_rva: The address of the library's name, at 12. The record with 0 here is the directory's
+        last.
+    import_address_table_rva: The address of the address table, at 16: a copy of the lookup table,
+        whose entries the loader replaces with addresses. The record with 0 here is the directory's
+        last.
+    """
+
+    import_lookup_table_rva: Annotated[int, c.c_uint32]
+    time_date_stamp: Annotated[int, c.c_uint32]
+    forwarder_chain: Annotated[int, c.c_uint32]
+    name_rva: Annotated[int, c.c_uint32]
+    import_address_table_rva: Annotated[int, c.c_uint32]
+
+
+@header
+class CoffHeader(NamedTuple):
+    """The header of a COFF file, or of the COFF part of an image.
+
+    Source: PE Format, "COFF File Header (Object and Image)". Numbers are as stored; the record has
+    20 bytes, and `at` gives a field's offset in it. An object begins with it; in an image it
+    follows the PE signature.
+
+    machine: The machine that the file is for, a `COFF_MACHINE_*`, at 0. No reader looks at it: the
+        width of an image is what the magic of its optional header says.
+    number_of_sections: How many section records follow the optional header, at 2. The Windows
+        loader takes at most 96.
+    time_date_stamp: When the file was made, in seconds since the start of 1970, at 4; or what its
+        maker put there, such as a hash.
+    pointer_to_symbol_table: The file offset of the symbol table, at 8; 0 where there is none, as in
+        most images. The string table follows the symbol table.
+    number_of_symbol_table: How many records the symbol table has, the auxiliary ones too, at 12.
+    size_of_optional_header: The size of the optional header, in bytes, at 16; 0 where there is
+        none, as in an object. Only this says where the section table begins; it says nothing about
+        the optional header's own layout.
+    characteristics: What kind of file it is, as bits `IMAGE_FILE_*` (PE Format, "Characteristics"),
+        at 18.
+    """
+
+    machine: Annotated[int, c.c_uint16]
+    number_of_sections: Annotated[int, c.c_uint16]
+    time_date_stamp: Annotated[int, c.c_uint32]
+    pointer_to_symbol_table: Annotated[int, c.c_uint32]
+    number_of_symbol_table: Annotated[int, c.c_uint32]
+    size_of_optional_header: Annotated[int, c.c_uint16]
+    characteristics: Annotated[int, c.c_uint16]
+
+
+@record
+class Object(Record):
+    """An object as a whole.
+
+    sections: How many sections there are, whatever the room.
+    coff_header: The COFF header.
+    """
+
+    sections: Annotated[int, c.c_size_t]
+    coff_header: CoffHeader
+
+
+@record
+class SymbolTable(Record):
+    """Where the symbol table and the string table of an image or an object lie. An offset of 0 says
+    that there are none.
+
+    offset: The file offset of the first record of the symbol table, in bytes; 0 where there is
+        none.
+    record_count: How many records it has, the auxiliary ones too.
+    strings_offset: The file offset of the texts of the string table, in bytes: after the four of
+        its length.
+    strings_length: How many bytes these texts have.
+    """
+
+    offset: Annotated[int, c.c_uint32]
+    record_count: Annotated[int, c.c_uint32]
+    strings_offset: Annotated[int, c.c_size_t]
+    strings_length: Annotated[int, c.c_size_t]
+
+
+@header
+class Symbol(NamedTuple):
+    """A symbol, as its record describes it.
+
+    Source: PE Format, "COFF Symbol Table". Numbers are as stored; a record has 18 bytes, and `at`
+    gives a field's offset in it.
+
+    name: The eight bytes of the name, padded with NULs, at 0. Where the first is 0, the name is in
+        the string table, at the number in the last four, which counts from the table's length
+        field.
+    value: What the symbol stands for, by its section and class, at 8: mostly an offset in its
+        section, in bytes.
+    section_number: The number of its section, counted from 1, at 12; or `IMAGE_SYM_UNDEFINED` (0),
+        `IMAGE_SYM_ABSOLUTE` (-1) or `IMAGE_SYM_DEBUG` (-2).
+    typ: Its type, at 14: an `IMAGE_SYM_TYPE_*` in the low four bits, an `IMAGE_SYM_DTYPE_*` above
+        them. Microsoft's tools store 0x20 of a function, else 0.
+    storage_class: Its class, an `IMAGE_SYM_CLASS_*`, at 16.
+    number_of_aux_symbols: How many auxiliary records follow it, at 17. The next symbol follows
+        these.
+    """
+
+    name: Annotated[Tuple[int, ...], c.c_uint8 * 8]
+    value: Annotated[int, c.c_uint32]
+    section_number: Annotated[int, c.c_int16]
+    typ: Annotated[int, c.c_uint16]
+    storage_class: Annotated[int, c.c_uint8]
+    number_of_aux_symbols: Annotated[int, c.c_uint8]
+
+
+@record
+class NamedSymbol(Record):
+    """A symbol with its name and the bytes of its auxiliary records.
+
+    name: The name, from the record or the string table, where it can be read.
+    auxiliary: The records that follow it and say more, 18 bytes each: as many as it says, or fewer
+        where the table ends before.
+    index: The index of its record in the symbol table, which also counts auxiliary records.
+    symbol: The symbol, as its record describes it.
+    has_name: Whether the name can be read.
+    """
+
+    name: Text
+    auxiliary: Text
+    index: Annotated[int, c.c_size_t]
+    symbol: Symbol
+    has_name: Annotated[bool, c.c_bool]
+
+
+@header
+class Relocation(NamedTuple):
+    """A relocation of a COFF object: which bytes of a section a linker changes, and how.
+
+    Source: PE Format, "COFF Relocations (Object Only)". Numbers are as stored; the record has 10
+    bytes, and `at` gives a field's offset in it.
+
+    virtual_address: Where the bytes that are changed begin, at 0: their offset in the section, in
+        bytes, plus the section's own address, which is mostly 0. Of the first relocation of a
+        section with `IMAGE_SCN_LNK_NRELOC_OVFL` it is the number of all.
+    symbol_table_index: The index in the symbol table of the symbol whose address is put there, at
+        4.
+    typ: How it is put there, at 8: an `IMAGE_REL_*` of the machine that the COFF header names.
+    """
+
+    virtual_address: Annotated[int, c.c_uint32]
+    symbol_table_index: Annotated[int, c.c_uint32]
+    typ: Annotated[int, c.c_uint16]
+
+
+@header
+class DataDirectory(NamedTuple):
+    """Where a table of an image lies.
+
+    Source: PE Format, "Optional Header Data Directories (Image Only)". Numbers are as stored; the
+    record has 8 bytes, and `at` gives a field's offset in it.
+
+    virtual_address: The table's address, relative to the image's base, at 0. That of the
+        certificates is a file offset, since they are not loaded.
+    size: The table's size in bytes, at 4. An import directory ends at its own last record, and a
+        value at an address by its own type, whatever the size; of an export directory the size says
+        which addresses are forwarders, of base relocations where the blocks end.
+    """
+
+    virtual_address: Annotated[int, c.c_uint32]
+    size: Annotated[int, c.c_uint32]
+
+
+@header
+class TeHeader(NamedTuple):
+    """The header of a Terse Executable.
+
+    Source: UEFI Platform Initialization Specification, volume 1, "TE Image". Numbers are as stored,
+    but for the four that are adjusted when it is read; the record has 40 bytes, and `at` gives a
+    field's offset in it. It replaces the headers of a PE file and keeps what a loader of firmware
+    needs of them; its addresses still count the bytes that were stripped.
+
+    signature: `VZ`, at 0. No reader tests it.
+    machine: The machine that the file is for, a `COFF_MACHINE_*`, at 2.
+    number_of_sections: How many section records follow, at 4.
+    subsystem: The subsystem that runs the image, at 5.
+    stripped_size: How many bytes were stripped from the front of the PE file, at 6. This header
+        replaces them, so everything after it moved forward by this minus 40.
+    entry_point: The address of the entry point, relative to the image's base, at 8; in a header
+        that was parsed, adjusted.
+    base_of_code: The address at which the code begins, relative to the image's base, at 12; in a
+        header that was parsed, adjusted.
+    image_base: The address at which the image is best loaded, at 16; as stored.
+    reloc_dir: Where the base relocations lie, at 24; in a header that was parsed, with the address
+        adjusted.
+    debug_dir: Where the debug data lies, at 32; in a header that was parsed, with the address
+        adjusted.
+    """
+
+    signature: Annotated[int, c.c_uint16]
+    machine: Annotated[int, c.c_uint16]
+    number_of_sections: Annotated[int, c.c_uint8]
+    subsystem: Annotated[int, c.c_uint8]
+    stripped_size: Annotated[int, c.c_uint16]
+    entry_point: Annotated[int, c.c_uint32]
+    base_of_code: Annotated[int, c.c_uint32]
+    image_base: Annotated[int, c.c_uint64]
+    reloc_dir: DataDirectory
+    debug_dir: DataDirectory
+
+
+@record
+class Places(Record):
+    """Where the sections and the tables of an image lie, and how the tables are read, as its header
+    says: what walks over the tables take, so that none reads the header again.
+
+    Source: PE Format, "Optional Header (Image Only)".
+
+    section_table: The file offset of the section table.
+    exports: The export directory; zeros where there is none.
+    imports: The import directory; zeros where there is none.
+    relocations: The directory of base relocations; zeros where there is none.
+    file_alignment: The file alignment of the sections' raw data, in bytes; 0 where there is no
+        optional header.
+    number_of_sections: How many records the section table has.
+    magic: The magic of the optional header: by 0x10B the entries of import tables have four bytes,
+        else eight; 0 where there is no optional header.
+    has_exports: Whether there is an export directory.
+    has_imports: Whether there is an import directory.
+    has_relocations: Whether there is a directory of base relocations.
+    """
+
+    section_table: Annotated[int, c.c_size_t]
+    exports: DataDirectory
+    imports: DataDirectory
+    relocations: DataDirectory
+    file_alignment: Annotated[int, c.c_uint32]
+    number_of_sections: Annotated[int, c.c_uint16]
+    magic: Annotated[int, c.c_uint16]
+    has_exports: Annotated[bool, c.c_bool]
+    has_imports: Annotated[bool, c.c_bool]
+    has_relocations: Annotated[bool, c.c_bool]
+
+
+@record
+class ImportPosition(Record):
+    """Where a walk over imports goes on; zeros are the beginning. It may be kept, and copied.
+
+    record_offset: The file offset of a library's record; the greatest number once the end has been
+        reached, also of a file without imports.
+    slot_offset: The file offset of the slot that is read next, or 0 before the library's first.
+    """
+
+    record_offset: Annotated[int, c.c_size_t]
+    slot_offset: Annotated[int, c.c_size_t]
+
+
+@record
+class Import(Record):
+    """An import.
+
+    name: The name that is imported, where the import is by name.
+    dll: The name of the library; empty where permissive mode could not read it.
+    slot_rva: The address (not the file offset) of its own entry in the address table, where the
+        loader puts the address of what is imported.
+    rva: The address of the hint and the name; 0 of an import by ordinal.
+    slot: The index of its entry, in the file, in the lookup table and in the address table. Entries
+        that are left out count.
+    ordinal: The ordinal; of an import by name, the hint, at which index of the library's names the
+        loader looks first.
+    is_by_name: Whether the import is by name.
+    reserved: Zero. With `reserved2` it stands where padding would be, so that each byte of the
+        record is defined.
+    reserved2: Zero.
+    """
+
+    name: Text
+    dll: Text
+    slot_rva: Annotated[int, c.c_size_t]
+    rva: Annotated[int, c.c_size_t]
+    slot: Annotated[int, c.c_size_t]
+    ordinal: Annotated[int, c.c_uint16]
+    is_by_name: Annotated[bool, c.c_bool]
+    reserved: Annotated[int, c.c_uint8]
+    reserved2: Annotated[int, c.c_uint32]
+
+
+@record
+class Export(Record):
+    """An export.
+
+    name: The export's name, where it can be read.
+    forward_lib: Of a forwarder the library, without its ending.
+    forward_name: Of a forwarder by name the name in that library.
+    forward_ordinal: Of a forwarder by ordinal the ordinal in that library.
+    ordinal: Its own ordinal: the index of its address, and the ordinal base added.
+    hint: The index of its name pointer: what imports by name give as a hint.
+    offset: The file offset of `rva`, where it has one; else 0. Where the options say that addresses
+        are offsets, `rva` itself.
+    rva: The export's address, relative to the image's base; of a forwarder that of its text.
+    has_name: Whether the name can be read.
+    has_offset: Whether `rva` has a file offset: a section maps it and the file alignment is a power
+        of two, or the options say that addresses are offsets.
+    forwards: What it forwards to, by the numbers of `Forwards`.
+    reserved: Zero. With `reserved2` it stands where padding would be, so that each byte of the
+        record is defined.
+    reserved2: Zero.
+    """
+
+    name: Text
+    forward_lib: Text
+    forward_name: Text
+    forward_ordinal: Annotated[int, c.c_size_t]
+    ordinal: Annotated[int, c.c_size_t]
+    hint: Annotated[int, c.c_size_t]
+    offset: Annotated[int, c.c_size_t]
+    rva: Annotated[int, c.c_size_t]
+    has_name: Annotated[bool, c.c_bool]
+    has_offset: Annotated[bool, c.c_bool]
+    forwards: Annotated[int, c.c_uint8]
+    reserved: Annotated[int, c.c_uint8]
+    reserved2: Annotated[int, c.c_uint32]
+
+
+@record
+class ExportAddress(Record):
+    """An entry of the export address table. Its index and the ordinal base are the ordinal that it
+    stands for.
+
+    rva: The address, relative to the image's base; of a forwarder that of its text; 0 where the
+        ordinal is not used.
+    forwards: Whether it is a forwarder: its address lies in the export directory.
+    """
+
+    rva: Annotated[int, c.c_uint32]
+    forwards: Annotated[bool, c.c_bool]
+
+
+@record
+class Block(Record):
+    """A block of base relocations, for one page of the image in memory.
+
+    Source: PE Format, "Base Relocation Block".
+
+    words: The words, of two bytes each: the type, an `IMAGE_REL_BASED_*`, in the high four bits,
+        and in the low twelve the offset in the page, in bytes. A byte that is left is no word.
+    rva: The page's address, relative to the image's base, to which each offset is added.
+    size: The size of the block with its head, in bytes.
+    """
+
+    words: Text
+    rva: Annotated[int, c.c_uint32]
+    size: Annotated[int, c.c_uint32]
+
+
+@record
+class Word(Record):
+    """A word of a block of base relocations: which bytes a loader changes, and how.
+
+    Source: PE Format, "Base Relocation Block".
+
+    rva: Where the bytes begin: their address, relative to the image's base.
+    typ: How they are changed, an `IMAGE_REL_BASED_*`. Type 0 changes nothing and fills up a block.
+    reserved: Zero. It stands where padding would be, so that each byte of the record is defined.
+    """
+
+    rva: Annotated[int, c.c_size_t]
+    typ: Annotated[int, c.c_uint32]
+    reserved: Annotated[int, c.c_uint32]
 
 
 @header
@@ -361,39 +823,6 @@ class DosHeader(NamedTuple):
     pe_pointer: Annotated[int, c.c_uint32]
 
 
-@header
-class CoffHeader(NamedTuple):
-    """The header of a COFF file, or of the COFF part of an image.
-
-    Source: PE Format, "COFF File Header (Object and Image)". Numbers are as stored; the record has
-    20 bytes, and `at` gives a field's offset in it. An object begins with it; in an image it
-    follows the PE signature.
-
-    machine: The machine that the file is for, a `COFF_MACHINE_*`, at 0. No reader looks at it: the
-        width of an image is what the magic of its optional header says.
-    number_of_sections: How many section records follow the optional header, at 2. The Windows
-        loader takes at most 96.
-    time_date_stamp: When the file was made, in seconds since the start of 1970, at 4; or what its
-        maker put there, such as a hash.
-    pointer_to_symbol_table: The file offset of the symbol table, at 8; 0 where there is none, as in
-        most images. The string table follows the symbol table.
-    number_of_symbol_table: How many records the symbol table has, the auxiliary ones too, at 12.
-    size_of_optional_header: The size of the optional header, in bytes, at 16; 0 where there is
-        none, as in an object. Only this says where the section table begins; it says nothing about
-        the optional header's own layout.
-    characteristics: What kind of file it is, as bits `IMAGE_FILE_*` (PE Format, "Characteristics"),
-        at 18.
-    """
-
-    machine: Annotated[int, c.c_uint16]
-    number_of_sections: Annotated[int, c.c_uint16]
-    time_date_stamp: Annotated[int, c.c_uint32]
-    pointer_to_symbol_table: Annotated[int, c.c_uint32]
-    number_of_symbol_table: Annotated[int, c.c_uint32]
-    size_of_optional_header: Annotated[int, c.c_uint16]
-    characteristics: Annotated[int, c.c_uint16]
-
-
 @record
 class File(Record):
     """The file as a whole.
@@ -402,6 +831,7 @@ class File(Record):
     directories: How many data directories there are, whatever the room: sixteen, or none where
         there is no optional header. Records past them are not filled.
     sections: How many sections there are.
+    places: Where the sections and the tables lie, for walks over these.
     imports: The imports.
     exports: The exports.
     relocations: The base relocations.
@@ -413,30 +843,13 @@ class File(Record):
     optional_header: OptionalHeader
     directories: Annotated[int, c.c_size_t]
     sections: Annotated[int, c.c_size_t]
+    places: Places
     imports: Table
     exports: Table
     relocations: BaseRelocations
     rich_header: RichHeader
     dos_header: DosHeader
     coff_header: CoffHeader
-
-
-@header
-class DataDirectory(NamedTuple):
-    """Where a table of an image lies.
-
-    Source: PE Format, "Optional Header Data Directories (Image Only)". Numbers are as stored; the
-    record has 8 bytes, and `at` gives a field's offset in it.
-
-    virtual_address: The table's address, relative to the image's base, at 0. That of the
-        certificates is a file offset, since they are not loaded.
-    size: The table's size in bytes, at 4. An import directory ends at its own last record, and a
-        value at an address by its own type, whatever the size; of an export directory the size says
-        which addresses are forwarders, of base relocations where the blocks end.
-    """
-
-    virtual_address: Annotated[int, c.c_uint32]
-    size: Annotated[int, c.c_uint32]
 
 
 @record
@@ -470,141 +883,6 @@ class RichMetadata(NamedTuple):
     build: Annotated[int, c.c_uint16]
     product: Annotated[int, c.c_uint16]
     use_count: Annotated[int, c.c_uint32]
-
-
-@record
-class Section(Record):
-    """A section, as its record describes it.
-
-    Source: PE Format, "Section Table (Section Headers)".
-
-    real_name: The name from the string table, where there is one; a name of more than eight bytes
-        stands there.
-    name: The eight bytes of the name, padded with NULs.
-    virtual_size: The section's size in memory, in bytes: what the raw data lacks of it is zeros.
-    virtual_address: The section's address in memory, relative to the image's base.
-    size_of_raw_data: The size of the section's data in the file, in bytes; in an image rounded up,
-        so it may be above the virtual size.
-    pointer_to_raw_data: The file offset of the section's data, as stored.
-    pointer_to_relocations: The file offset of the section's relocations, 0 where it has none.
-    pointer_to_linenumbers: The file offset of the section's line numbers, 0 where it has none.
-    number_of_relocations: How many relocations the section has, as its record says.
-    number_of_linenumbers: How many line numbers the section has.
-    characteristics: What the section holds and how it may be used, as bits `IMAGE_SCN_*`; the
-        loader protects its pages by them.
-    has_real_name: Whether the section has a name from the string table.
-    """
-
-    real_name: Text
-    name: Annotated[Tuple[int, ...], c.c_uint8 * 8]
-    virtual_size: Annotated[int, c.c_uint32]
-    virtual_address: Annotated[int, c.c_uint32]
-    size_of_raw_data: Annotated[int, c.c_uint32]
-    pointer_to_raw_data: Annotated[int, c.c_uint32]
-    pointer_to_relocations: Annotated[int, c.c_uint32]
-    pointer_to_linenumbers: Annotated[int, c.c_uint32]
-    number_of_relocations: Annotated[int, c.c_uint16]
-    number_of_linenumbers: Annotated[int, c.c_uint16]
-    characteristics: Annotated[int, c.c_uint32]
-    has_real_name: Annotated[bool, c.c_bool]
-
-
-@record
-class Import(Record):
-    """An import.
-
-    name: The name that is imported, where the import is by name.
-    dll: The name of the library; empty where permissive mode could not read it.
-    slot_rva: The address (not the file offset) of its own entry in the address table, where the
-        loader puts the address of what is imported.
-    rva: The address of the hint and the name; 0 of an import by ordinal.
-    slot: The index of its entry, in the file, in the lookup table and in the address table. Entries
-        that are left out count.
-    ordinal: The ordinal; of an import by name, the hint, at which index of the library's names the
-        loader looks first.
-    is_by_name: Whether the import is by name.
-    reserved: Zero. With `reserved2` it stands where padding would be, so that each byte of the
-        record is defined.
-    reserved2: Zero.
-    """
-
-    name: Text
-    dll: Text
-    slot_rva: Annotated[int, c.c_size_t]
-    rva: Annotated[int, c.c_size_t]
-    slot: Annotated[int, c.c_size_t]
-    ordinal: Annotated[int, c.c_uint16]
-    is_by_name: Annotated[bool, c.c_bool]
-    reserved: Annotated[int, c.c_uint8]
-    reserved2: Annotated[int, c.c_uint32]
-
-
-@record
-class Export(Record):
-    """An export.
-
-    name: The export's name, where it can be read.
-    forward_lib: Of a forwarder the library, without its ending.
-    forward_name: Of a forwarder by name the name in that library.
-    forward_ordinal: Of a forwarder by ordinal the ordinal in that library.
-    ordinal: Its own ordinal: the index of its address, and the ordinal base added.
-    hint: The index of its name pointer: what imports by name give as a hint.
-    offset: The file offset of `rva`, where it has one; else 0. Where the options say that addresses
-        are offsets, `rva` itself.
-    rva: The export's address, relative to the image's base; of a forwarder that of its text.
-    has_name: Whether the name can be read.
-    has_offset: Whether `rva` has a file offset: a section maps it and the file alignment is a power
-        of two, or the options say that addresses are offsets.
-    forwards: What it forwards to, by the numbers of `Forwards`.
-    reserved: Zero. With `reserved2` it stands where padding would be, so that each byte of the
-        record is defined.
-    reserved2: Zero.
-    """
-
-    name: Text
-    forward_lib: Text
-    forward_name: Text
-    forward_ordinal: Annotated[int, c.c_size_t]
-    ordinal: Annotated[int, c.c_size_t]
-    hint: Annotated[int, c.c_size_t]
-    offset: Annotated[int, c.c_size_t]
-    rva: Annotated[int, c.c_size_t]
-    has_name: Annotated[bool, c.c_bool]
-    has_offset: Annotated[bool, c.c_bool]
-    forwards: Annotated[int, c.c_uint8]
-    reserved: Annotated[int, c.c_uint8]
-    reserved2: Annotated[int, c.c_uint32]
-
-
-@record
-class ExportAddress(Record):
-    """An entry of the export address table. Its index and the ordinal base are the ordinal that it
-    stands for.
-
-    rva: The address, relative to the image's base; of a forwarder that of its text; 0 where the
-        ordinal is not used.
-    forwards: Whether it is a forwarder: its address lies in the export directory.
-    """
-
-    rva: Annotated[int, c.c_uint32]
-    forwards: Annotated[bool, c.c_bool]
-
-
-@record
-class Block(Record):
-    """A block of base relocations, for one page of the image in memory.
-
-    Source: PE Format, "Base Relocation Block".
-
-    words: The words, of two bytes each: the type, an `IMAGE_REL_BASED_*`, in the high four bits,
-        and in the low twelve the offset in the page, in bytes. A byte that is left is no word.
-    rva: The page's address, relative to the image's base, to which each offset is added.
-    size: The size of the block with its head, in bytes.
-    """
-
-    words: Text
-    rva: Annotated[int, c.c_uint32]
-    size: Annotated[int, c.c_uint32]
 
 
 @header
@@ -685,6 +963,7 @@ class Layout(Record):
     directories: How many data directories there are, whatever the room: sixteen, or none where
         there is no optional header. Records past them are not filled.
     sections: How many sections there are, whatever the room.
+    places: Where the sections and the tables lie, for walks over these.
     dos_header: The DOS header.
     coff_header: The COFF header.
     dos_stub: The DOS stub, which is written with a header: bytes of the file, or where permissive
@@ -694,22 +973,10 @@ class Layout(Record):
     optional_header: OptionalHeader
     directories: Annotated[int, c.c_size_t]
     sections: Annotated[int, c.c_size_t]
+    places: Places
     dos_header: DosHeader
     coff_header: CoffHeader
     dos_stub: Text
-
-
-@record
-class ImportPosition(Record):
-    """Where a walk over imports goes on; zeros are the beginning. It may be kept, and copied.
-
-    record_offset: The file offset of a library's record; the greatest number once the end has been
-        reached, also of a file without imports.
-    slot_offset: The file offset of the slot that is read next, or 0 before the library's first.
-    """
-
-    record_offset: Annotated[int, c.c_size_t]
-    slot_offset: Annotated[int, c.c_size_t]
 
 
 @record
@@ -763,209 +1030,6 @@ class Ranges(HandedOver):
     _fields_ = [*tables(KINDS)]
 
 
-@record
-class Image(Record):
-    """An image, by what maps its addresses.
-
-    bytes: The file's bytes.
-    sections: The records of its sections, in the order of the section table. No call looks at more
-        of them than their `virtual_address`, `virtual_size`, `pointer_to_raw_data` and
-        `size_of_raw_data`; all else may be zeros, a null pointer of their texts, too.
-    file_alignment: Its file alignment, in bytes.
-    options: Whether addresses are mapped, and by which rule for raw pointers; all else is not
-        looked at.
-    """
-
-    bytes: Text
-    sections: Address
-    section_count: Annotated[int, c.c_size_t]
-    file_alignment: Annotated[int, c.c_uint32]
-    options: Options
-
-
-@record
-class Forwarder(Record):
-    """What a forwarder stands for: an export of another library.
-
-    lib: The library, without its ending.
-    name: Of a forwarder by name the export's name in that library.
-    ordinal: Of a forwarder by ordinal the export's ordinal in that library.
-    forwards: Which of the two it is, by the numbers of `Forwards`.
-    reserved: Zero. It stands where padding would be, so that each byte of the record is defined.
-    """
-
-    lib: Text
-    name: Text
-    ordinal: Annotated[int, c.c_size_t]
-    forwards: Annotated[int, c.c_uint32]
-    reserved: Annotated[int, c.c_uint32]
-
-
-@record
-class SectionData(Record):
-    """The data of a section, as it is in memory.
-
-    bytes: The bytes that the file has of it.
-    zeros: How many zeros follow them.
-    """
-
-    bytes: Text
-    zeros: Annotated[int, c.c_size_t]
-
-
-@record
-class Object(Record):
-    """An object as a whole.
-
-    sections: How many sections there are, whatever the room.
-    coff_header: The COFF header.
-    """
-
-    sections: Annotated[int, c.c_size_t]
-    coff_header: CoffHeader
-
-
-@record
-class SymbolTable(Record):
-    """Where the symbol table and the string table of an image or an object lie. An offset of 0 says
-    that there are none.
-
-    offset: The file offset of the first record of the symbol table, in bytes; 0 where there is
-        none.
-    record_count: How many records it has, the auxiliary ones too.
-    strings_offset: The file offset of the texts of the string table, in bytes: after the four of
-        its length.
-    strings_length: How many bytes these texts have.
-    """
-
-    offset: Annotated[int, c.c_uint32]
-    record_count: Annotated[int, c.c_uint32]
-    strings_offset: Annotated[int, c.c_size_t]
-    strings_length: Annotated[int, c.c_size_t]
-
-
-@header
-class Symbol(NamedTuple):
-    """A symbol, as its record describes it.
-
-    Source: PE Format, "COFF Symbol Table". Numbers are as stored; a record has 18 bytes, and `at`
-    gives a field's offset in it.
-
-    name: The eight bytes of the name, padded with NULs, at 0. Where the first is 0, the name is in
-        the string table, at the number in the last four, which counts from the table's length
-        field.
-    value: What the symbol stands for, by its section and class, at 8: mostly an offset in its
-        section, in bytes.
-    section_number: The number of its section, counted from 1, at 12; or `IMAGE_SYM_UNDEFINED` (0),
-        `IMAGE_SYM_ABSOLUTE` (-1) or `IMAGE_SYM_DEBUG` (-2).
-    typ: Its type, at 14: an `IMAGE_SYM_TYPE_*` in the low four bits, an `IMAGE_SYM_DTYPE_*` above
-        them. Microsoft's tools store 0x20 of a function, else 0.
-    storage_class: Its class, an `IMAGE_SYM_CLASS_*`, at 16.
-    number_of_aux_symbols: How many auxiliary records follow it, at 17. The next symbol follows
-        these.
-    """
-
-    name: Annotated[Tuple[int, ...], c.c_uint8 * 8]
-    value: Annotated[int, c.c_uint32]
-    section_number: Annotated[int, c.c_int16]
-    typ: Annotated[int, c.c_uint16]
-    storage_class: Annotated[int, c.c_uint8]
-    number_of_aux_symbols: Annotated[int, c.c_uint8]
-
-
-@record
-class NamedSymbol(Record):
-    """A symbol with its name and the bytes of its auxiliary records.
-
-    name: The name, from the record or the string table, where it can be read.
-    auxiliary: The records that follow it and say more, 18 bytes each: as many as it says, or fewer
-        where the table ends before.
-    index: The index of its record in the symbol table, which also counts auxiliary records.
-    symbol: The symbol, as its record describes it.
-    has_name: Whether the name can be read.
-    """
-
-    name: Text
-    auxiliary: Text
-    index: Annotated[int, c.c_size_t]
-    symbol: Symbol
-    has_name: Annotated[bool, c.c_bool]
-
-
-@header
-class Relocation(NamedTuple):
-    """A relocation of a COFF object: which bytes of a section a linker changes, and how.
-
-    Source: PE Format, "COFF Relocations (Object Only)". Numbers are as stored; the record has 10
-    bytes, and `at` gives a field's offset in it.
-
-    virtual_address: Where the bytes that are changed begin, at 0: their offset in the section, in
-        bytes, plus the section's own address, which is mostly 0. Of the first relocation of a
-        section with `IMAGE_SCN_LNK_NRELOC_OVFL` it is the number of all.
-    symbol_table_index: The index in the symbol table of the symbol whose address is put there, at
-        4.
-    typ: How it is put there, at 8: an `IMAGE_REL_*` of the machine that the COFF header names.
-    """
-
-    virtual_address: Annotated[int, c.c_uint32]
-    symbol_table_index: Annotated[int, c.c_uint32]
-    typ: Annotated[int, c.c_uint16]
-
-
-@header
-class TeHeader(NamedTuple):
-    """The header of a Terse Executable.
-
-    Source: UEFI Platform Initialization Specification, volume 1, "TE Image". Numbers are as stored,
-    but for the four that are adjusted when it is read; the record has 40 bytes, and `at` gives a
-    field's offset in it. It replaces the headers of a PE file and keeps what a loader of firmware
-    needs of them; its addresses still count the bytes that were stripped.
-
-    signature: `VZ`, at 0. No reader tests it.
-    machine: The machine that the file is for, a `COFF_MACHINE_*`, at 2.
-    number_of_sections: How many section records follow, at 4.
-    subsystem: The subsystem that runs the image, at 5.
-    stripped_size: How many bytes were stripped from the front of the PE file, at 6. This header
-        replaces them, so everything after it moved forward by this minus 40.
-    entry_point: The address of the entry point, relative to the image's base, at 8; in a header
-        that was parsed, adjusted.
-    base_of_code: The address at which the code begins, relative to the image's base, at 12; in a
-        header that was parsed, adjusted.
-    image_base: The address at which the image is best loaded, at 16; as stored.
-    reloc_dir: Where the base relocations lie, at 24; in a header that was parsed, with the address
-        adjusted.
-    debug_dir: Where the debug data lies, at 32; in a header that was parsed, with the address
-        adjusted.
-    """
-
-    signature: Annotated[int, c.c_uint16]
-    machine: Annotated[int, c.c_uint16]
-    number_of_sections: Annotated[int, c.c_uint8]
-    subsystem: Annotated[int, c.c_uint8]
-    stripped_size: Annotated[int, c.c_uint16]
-    entry_point: Annotated[int, c.c_uint32]
-    base_of_code: Annotated[int, c.c_uint32]
-    image_base: Annotated[int, c.c_uint64]
-    reloc_dir: DataDirectory
-    debug_dir: DataDirectory
-
-
-@record
-class Word(Record):
-    """A word of a block of base relocations: which bytes a loader changes, and how.
-
-    Source: PE Format, "Base Relocation Block".
-
-    rva: Where the bytes begin: their address, relative to the image's base.
-    typ: How they are changed, an `IMAGE_REL_BASED_*`. Type 0 changes nothing and fills up a block.
-    reserved: Zero. It stands where padding would be, so that each byte of the record is defined.
-    """
-
-    rva: Annotated[int, c.c_size_t]
-    typ: Annotated[int, c.c_uint32]
-    reserved: Annotated[int, c.c_uint32]
-
-
 # The calls: what each answers and takes.
 CALLS: Dict[str, Tuple[Any, List[Any]]] = {
     "goblin_pe_raw_read_aux_function_definition":
@@ -982,22 +1046,6 @@ CALLS: Dict[str, Tuple[Any, List[Any]]] = {
         (c.c_uint32, [c.c_void_p, c.c_size_t, c.c_size_t]),
     "goblin_pe_raw_fault_text":
         (c.c_size_t, [to(Fault), c.c_void_p, c.c_size_t]),
-    "goblin_pe_interface":
-        (c.c_uint32, []),
-    "goblin_pe_raw_kind_of":
-        (c.c_uint32, [c.c_void_p, c.c_size_t]),
-    "goblin_pe_raw_open":
-        (Fault, [c.c_void_p, c.c_size_t, to(Options), to(File), to(Directory), c.c_size_t, to(Tables)]),
-    "goblin_pe_raw_read_layout":
-        (Fault, [c.c_void_p, c.c_size_t, to(Options), to(Layout), to(Directory), c.c_size_t, to(Section), c.c_size_t]),
-    "goblin_pe_raw_next_imports":
-        (Fault, [c.c_void_p, c.c_size_t, to(Options), to(ImportPosition), to(Import), c.c_size_t, to(c.c_size_t)]),
-    "goblin_pe_raw_next_exports":
-        (Fault, [c.c_void_p, c.c_size_t, to(Options), to(c.c_size_t), to(Export), c.c_size_t, to(c.c_size_t)]),
-    "goblin_pe_raw_read_damage":
-        (Fault, [c.c_void_p, c.c_size_t, to(Options), to(Damage)]),
-    "goblin_pe_raw_footprint":
-        (Fault, [c.c_void_p, c.c_size_t, to(Options), to(Ranges)]),
     "goblin_pe_raw_forwarder_at":
         (Fault, [to(Image), c.c_size_t, to(Forwarder)]),
     "goblin_pe_raw_find_offset":
@@ -1008,6 +1056,8 @@ CALLS: Dict[str, Tuple[Any, List[Any]]] = {
         (Fault, [to(Image), c.c_size_t, c.c_size_t, to(Text)]),
     "goblin_pe_raw_read_section_data":
         (Fault, [to(Image), to(Section), to(SectionData)]),
+    "goblin_pe_raw_import_record_at":
+        (c.c_bool, [c.c_void_p, c.c_size_t, c.c_size_t, to(ImportDirectoryEntry)]),
     "goblin_pe_raw_section_at":
         (c.c_bool, [to(Image), c.c_size_t, to(c.c_size_t)]),
     "goblin_pe_raw_find_rva":
@@ -1026,10 +1076,30 @@ CALLS: Dict[str, Tuple[Any, List[Any]]] = {
         (Fault, [c.c_void_p, c.c_size_t, to(Section), to(Relocation), c.c_size_t, to(c.c_size_t)]),
     "goblin_pe_raw_read_te":
         (Fault, [c.c_void_p, c.c_size_t, to(TeHeader), to(Section), c.c_size_t]),
+    "goblin_pe_raw_next_imports":
+        (Fault, [c.c_void_p, c.c_size_t, to(Options), to(Places), to(ImportPosition), to(Import), c.c_size_t, to(c.c_size_t)]),
+    "goblin_pe_raw_next_exports":
+        (Fault, [c.c_void_p, c.c_size_t, to(Options), to(Places), to(c.c_size_t), to(Export), c.c_size_t, to(c.c_size_t)]),
+    "goblin_pe_raw_next_export_addresses":
+        (Fault, [c.c_void_p, c.c_size_t, to(Options), to(Places), to(c.c_size_t), to(ExportAddress), c.c_size_t, to(c.c_size_t)]),
+    "goblin_pe_raw_next_blocks":
+        (Fault, [c.c_void_p, c.c_size_t, to(Options), to(Places), to(c.c_size_t), to(Block), c.c_size_t, to(c.c_size_t)]),
     "goblin_pe_raw_next_relocations":
         (Fault, [c.c_void_p, c.c_size_t, to(Section), to(c.c_size_t), to(Relocation), c.c_size_t, to(c.c_size_t)]),
     "goblin_pe_raw_next_words":
         (c.c_size_t, [to(Block), to(c.c_size_t), to(Word), c.c_size_t]),
+    "goblin_pe_interface":
+        (c.c_uint32, []),
+    "goblin_pe_raw_kind_of":
+        (c.c_uint32, [c.c_void_p, c.c_size_t]),
+    "goblin_pe_raw_open":
+        (Fault, [c.c_void_p, c.c_size_t, to(Options), to(File), to(Directory), c.c_size_t, to(Tables)]),
+    "goblin_pe_raw_read_layout":
+        (Fault, [c.c_void_p, c.c_size_t, to(Options), to(Layout), to(Directory), c.c_size_t, to(Section), c.c_size_t]),
+    "goblin_pe_raw_read_damage":
+        (Fault, [c.c_void_p, c.c_size_t, to(Options), to(Damage)]),
+    "goblin_pe_raw_footprint":
+        (Fault, [c.c_void_p, c.c_size_t, to(Options), to(Ranges)]),
     "goblin_pe_raw_write_header":
         (Fault, [to(File), to(Directory), c.c_size_t, c.c_void_p, c.c_size_t, c.c_void_p, c.c_size_t, to(c.c_size_t)]),
     "goblin_pe_raw_write_section":

@@ -92,14 +92,17 @@ class Import(NamedTuple):
 
 
 class Library(NamedTuple):
-    """A library of which something is imported: its name, the file offset of its record, and two numbers of that: the time
-    stamp, which is 0 where its imports are not bound, and the index of the first import that it forwards, where they are
-    bound in the old way. The name is empty where permissive mode could not read it."""
+    """A library of which something is imported: its name, the file offset of its record, three numbers of that, and the index of
+    the record in the import directory. The numbers are the time stamp, which is 0 where its imports are not bound, the index of
+    the first import that it forwards, where they are bound in the old way, and the address of its name, where bytes_at reads one
+    that is not UTF-8. The name is empty where permissive mode could not read it; records that are left out count."""
 
     name: bytes
     record_offset: int
     time_date_stamp: int
     forwarder_chain: int
+    name_rva: int
+    index: int  # type: ignore[assignment]  # (it takes the place of the method of that name)
 
 
 class Export(NamedTuple):
@@ -122,6 +125,17 @@ class ExportAddress(NamedTuple):
     ordinal: int
     rva: int
     forwards: bool
+
+
+class ExportEntry(NamedTuple):
+    """An entry of the export address table, with or without a name, and what it stands for in another library: its ordinal,
+    its address (0 where the ordinal is not used), whether it is a forwarder, and that as the pair (library, name or ordinal),
+    which is None where it is no forwarder, and where its text is none."""
+
+    ordinal: int
+    rva: int
+    forwards: bool
+    forwarder: Optional[Tuple[bytes, Union[bytes, int]]]
 
 
 class ExportDirectory(NamedTuple):

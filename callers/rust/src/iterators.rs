@@ -7,9 +7,10 @@ use std::ops::Range;
 use std::slice::{ChunksExact, Iter};
 
 use crate::error::Error;
+use crate::layout::Layout;
 use crate::memory::grown;
 use crate::raw::{self, CoffHeader, Fault, Options, Relocation};
-use crate::rows::{Block, Export, ExportAddress, Import, Library, Section, Symbol};
+use crate::rows::{Block, Export, ExportAddress, ExportEntry, Import, Library, Section, Symbol};
 use crate::text::Text;
 
 // Iterators that make a row of each item of another one.
@@ -105,6 +106,65 @@ fn footprint_range(it: &raw::Range) -> Range<usize> {
 fn word(bytes: &[u8]) -> (u8, u16) {
     let word = u16::from_le_bytes([bytes[0], bytes[1]]);
     ((word >> 12) as u8, word & 0xFFF)
+}
+
+/// A walk over the entries of the export address table of an image, each with its forwarder, which is read as the walk
+/// goes on.
+#[derive(Clone)]
+pub struct WalkExportAddresses<'p, 'a> {
+    layout: &'p Layout<'a>,
+    entries: ExportAddresses<'p>,
+}
+
+impl<'p, 'a> WalkExportAddresses<'p, 'a> {
+    pub(crate) fn of(layout: &'p Layout<'a>, entries: ExportAddresses<'p>) -> Self {
+        WalkExportAddresses { layout, entries }
+    }
+
+    // The entry with its forwarder.
+    fn read(layout: &Layout<'a>, entry: ExportAddress) -> ExportEntry<'a> {
+        let ExportAddress {
+            ordinal,
+            rva,
+            forwards,
+        } = entry;
+        let forwarder = forwards.then(|| layout.forwarder_at(rva as usize).ok());
+        ExportEntry {
+            ordinal,
+            rva,
+            forwards,
+            forwarder: forwarder.flatten(),
+        }
+    }
+}
+
+impl<'a> Iterator for WalkExportAddresses<'_, 'a> {
+    type Item = ExportEntry<'a>;
+
+    fn next(&mut self) -> Option<ExportEntry<'a>> {
+        self.entries.next().map(|it| Self::read(self.layout, it))
+    }
+
+    fn size_hint(&self) -> (usize, Option<usize>) {
+        self.entries.size_hint()
+    }
+
+    fn nth(&mut self, count: usize) -> Option<ExportEntry<'a>> {
+        self.entries
+            .nth(count)
+            .map(|it| Self::read(self.layout, it))
+    }
+}
+
+impl ExactSizeIterator for WalkExportAddresses<'_, '_> {}
+
+impl FusedIterator for WalkExportAddresses<'_, '_> {}
+
+impl fmt::Debug for WalkExportAddresses<'_, '_> {
+    fn fmt(&self, f: &mut fmt::Formatter<'_>) -> fmt::Result {
+        f.debug_struct("WalkExportAddresses")
+            .finish_non_exhaustive()
+    }
 }
 
 /// The imports of an image, which the image was given up for. A copy has records of its own; where memory for them
@@ -290,14 +350,15 @@ macro_rules! walks {
         pub struct $name<'a> {
             bytes: &'a [u8],
             options: Options,
+            places: raw::Places,
             batches: Batches<raw::$record<'a>, $position>,
         }
 
         impl<'a> $name<'a> {
-            // From the beginning, in a file with so many sections.
-            pub(crate) fn of(bytes: &'a [u8], options: Options, sections: usize) -> Self {
-                let batches = Batches::by_sections(sections);
-                $name { bytes, options, batches }
+            // From the beginning, in a file whose sections and tables lie there.
+            pub(crate) fn of(bytes: &'a [u8], options: Options, places: raw::Places) -> Self {
+                let batches = Batches::by_sections(usize::from(places.number_of_sections));
+                $name { bytes, options, places, batches }
             }
         }
 
@@ -306,7 +367,7 @@ macro_rules! walks {
 
             fn next(&mut self) -> Option<Result<$item, Error>> {
                 let found = self.batches.next(|position, records, count| {
-                    $call(self.bytes, &self.options, position, records, count)
+                    $call(self.bytes, &self.options, &self.places, position, records, count)
                 })?;
                 Some(found.map(<$item>::from))
             }
@@ -337,16 +398,26 @@ walks! {
 pub struct WalkLibraries<'a> {
     bytes: &'a [u8],
     options: Options,
+    places: raw::Places,
+    // The file offset of the import directory.
+    directory: usize,
     position: Option<raw::ImportPosition>,
 }
 
 impl<'a> WalkLibraries<'a> {
-    pub(crate) fn of(bytes: &'a [u8], options: Options) -> Self {
-        let position = Some(raw::ImportPosition::default());
+    // From the beginning, of a file whose tables lie at these places, and whose import directory at this offset.
+    pub(crate) fn of(
+        bytes: &'a [u8],
+        options: Options,
+        places: raw::Places,
+        directory: usize,
+    ) -> Self {
         WalkLibraries {
             bytes,
             options,
-            position,
+            places,
+            directory,
+            position: Some(raw::ImportPosition::default()),
         }
     }
 
@@ -360,6 +431,7 @@ impl<'a> WalkLibraries<'a> {
         let fault = raw::next_imports(
             self.bytes,
             &self.options,
+            &self.places,
             &mut position,
             &mut first,
             &mut count,
@@ -369,23 +441,21 @@ impl<'a> WalkLibraries<'a> {
             return Ok(None);
         }
         let record_offset = position.record_offset;
+        // (it was read for the import)
+        let record = raw::import_record_at(self.bytes, record_offset).unwrap_or_default();
         let library = Library {
             name: Text(first[0].dll.get()),
+            name_rva: record.name_rva,
+            index: (record_offset - self.directory) / IMPORT_RECORD,
             record_offset,
-            time_date_stamp: self.number_at(record_offset + 4),
-            forwarder_chain: self.number_at(record_offset + 8),
+            time_date_stamp: record.time_date_stamp,
+            forwarder_chain: record.forwarder_chain,
         };
         let next = raw::ImportPosition {
             record_offset: record_offset + IMPORT_RECORD,
             slot_offset: 0,
         };
         Ok(Some((library, next)))
-    }
-
-    // A number of a record that was read.
-    fn number_at(&self, offset: usize) -> u32 {
-        let stored = self.bytes.get(offset..).and_then(<[u8]>::first_chunk);
-        stored.map_or(0, |it| u32::from_le_bytes(*it))
     }
 }
 

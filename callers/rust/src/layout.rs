@@ -3,10 +3,19 @@
 use std::fmt;
 use std::io::{self, Write};
 
+use crate::constants::{IMAGE_FILE_DLL, MAGIC_64};
 use crate::error::Error;
+use crate::footprint::Footprint;
 use crate::imphash;
+use crate::iterators::{
+    DataDirectories, Sections, Symbols, WalkExports, WalkImports, WalkLibraries,
+};
 use crate::memory::records;
-use crate::raw::{self, Options};
+use crate::numbers::DirectoryType;
+use crate::pe::Pe;
+use crate::raw::{self, CoffHeader, DataDirectory, DosHeader, OptionalHeader, Options};
+use crate::rows::{Damage, Header, Section, section_table};
+use crate::text::Text;
 
 /// An image by its header and its sections. Nothing of it is listed, so it takes memory for its sections alone,
 /// however much its tables list; these are walked over, or looked up. A copy has records of its own; where memory
@@ -22,13 +31,47 @@ use crate::raw::{self, Options};
 /// }
 /// # Ok::<(), std::io::Error>(())
 /// ```
+///
+/// A [`Pe`] is a layout with its lists, so what takes a layout takes a `Pe`:
+///
+/// ```no_run
+/// use goblin_pe::{Layout, Pe};
+///
+/// fn code<'a>(layout: &Layout<'a>) -> Option<&'a [u8]> {
+///     let section = layout.section_at(layout.entry() as usize)?;
+///     Some(layout.section_data(&section).ok()?.0)
+/// }
+///
+/// let bytes = std::fs::read("some.exe")?;
+/// let pe = Pe::parse(&bytes)?;
+/// println!("{:?}", code(&pe).map(<[u8]>::len));
+/// # Ok::<(), std::io::Error>(())
+/// ```
+///
+/// The Rich header is no part of a layout: [`Pe::rich_header`] has it.
 #[derive(Clone)]
 pub struct Layout<'a> {
     pub(crate) bytes: &'a [u8],
     pub(crate) options: Options,
     pub(crate) file: raw::Layout<'a>,
     pub(crate) directories: [raw::Directory; 16],
-    sections: Vec<raw::Section<'a>>,
+    pub(crate) sections: SectionRecords<'a>,
+}
+
+// The records of its sections: memory of this crate's, or a block that the library listed.
+#[derive(Clone)]
+pub(crate) enum SectionRecords<'a> {
+    Filled(Vec<raw::Section<'a>>),
+    Listed(raw::List<'a, raw::Section<'a>>),
+}
+
+impl<'a> SectionRecords<'a> {
+    pub(crate) fn get(&self) -> &[raw::Section<'a>] {
+        match self {
+            SectionRecords::Filled(records) => records,
+            SectionRecords::Listed(records) => records.get(),
+        }
+    }
 }
 
 impl<'a> Layout<'a> {
@@ -56,13 +99,302 @@ impl<'a> Layout<'a> {
             options: *options,
             file,
             directories,
-            sections,
+            sections: SectionRecords::Filled(sections),
         })
     }
 
-    // The records of its sections.
-    pub(crate) fn section_records(&self) -> &[raw::Section<'a>] {
-        &self.sections
+    /// Whether the optional header is one for 64 bits.
+    ///
+    /// ```no_run
+    /// # let bytes = [];
+    /// # let layout = goblin_pe::Layout::read(&bytes, &goblin_pe::Options::permissive())?;
+    /// let width = if layout.is_64() { 8 } else { 4 };
+    /// # Ok::<(), goblin_pe::Error>(())
+    /// ```
+    #[must_use]
+    pub fn is_64(&self) -> bool {
+        self.optional_header()
+            .is_some_and(|it| it.standard_fields.magic == MAGIC_64)
+    }
+
+    /// Whether the file says that it is a dynamic-link library.
+    ///
+    /// ```no_run
+    /// # let bytes = [];
+    /// # let layout = goblin_pe::Layout::read(&bytes, &goblin_pe::Options::permissive())?;
+    /// println!("{}", if layout.is_lib() { "library" } else { "program" });
+    /// # Ok::<(), goblin_pe::Error>(())
+    /// ```
+    #[must_use]
+    pub fn is_lib(&self) -> bool {
+        self.coff_header().characteristics & IMAGE_FILE_DLL != 0
+    }
+
+    /// The address of the entry point, relative to the image's base; 0 where there is none.
+    ///
+    /// ```no_run
+    /// # let bytes = [];
+    /// # let layout = goblin_pe::Layout::read(&bytes, &goblin_pe::Options::permissive())?;
+    /// let offset = layout.find_offset(layout.entry() as usize);
+    /// # Ok::<(), goblin_pe::Error>(())
+    /// ```
+    #[must_use]
+    pub fn entry(&self) -> u32 {
+        self.optional_header()
+            .map_or(0, |it| it.standard_fields.address_of_entry_point)
+    }
+
+    /// The address at which the image is best loaded; 0 where it has no optional header.
+    ///
+    /// ```no_run
+    /// # let bytes = [];
+    /// # let layout = goblin_pe::Layout::read(&bytes, &goblin_pe::Options::permissive())?;
+    /// println!("it begins at {:#x}", layout.image_base() + u64::from(layout.entry()));
+    /// # Ok::<(), goblin_pe::Error>(())
+    /// ```
+    #[must_use]
+    pub fn image_base(&self) -> u64 {
+        self.optional_header()
+            .map_or(0, |it| it.windows_fields.image_base)
+    }
+
+    /// The DOS header.
+    ///
+    /// ```no_run
+    /// # let bytes = [];
+    /// # let layout = goblin_pe::Layout::read(&bytes, &goblin_pe::Options::permissive())?;
+    /// println!("the PE signature stands at {:#x}", layout.dos_header().pe_pointer);
+    /// # Ok::<(), goblin_pe::Error>(())
+    /// ```
+    #[must_use]
+    pub fn dos_header(&self) -> &DosHeader {
+        &self.file.dos_header
+    }
+
+    /// The COFF header.
+    ///
+    /// ```no_run
+    /// # let bytes = [];
+    /// # let layout = goblin_pe::Layout::read(&bytes, &goblin_pe::Options::permissive())?;
+    /// let is_library = layout.coff_header().characteristics & goblin_pe::constants::IMAGE_FILE_DLL != 0;
+    /// # Ok::<(), goblin_pe::Error>(())
+    /// ```
+    #[must_use]
+    pub fn coff_header(&self) -> &CoffHeader {
+        &self.file.coff_header
+    }
+
+    /// The optional header; `None` where the file has none, and then it has no tables.
+    ///
+    /// ```no_run
+    /// # let bytes = [];
+    /// # let layout = goblin_pe::Layout::read(&bytes, &goblin_pe::Options::permissive())?;
+    /// let subsystem = layout.optional_header().map(|it| it.windows_fields.subsystem);
+    /// # Ok::<(), goblin_pe::Error>(())
+    /// ```
+    #[must_use]
+    pub fn optional_header(&self) -> Option<&OptionalHeader> {
+        (self.file.directories != 0).then_some(&self.file.optional_header)
+    }
+
+    /// The data directory of a kind; `None` where the file has none, or one of zeros.
+    ///
+    /// ```no_run
+    /// # use goblin_pe::DirectoryType;
+    /// # let bytes = [];
+    /// # let layout = goblin_pe::Layout::read(&bytes, &goblin_pe::Options::permissive())?;
+    /// let is_managed = layout.data_directory(DirectoryType::ClrRuntimeHeader).is_some();
+    /// # Ok::<(), goblin_pe::Error>(())
+    /// ```
+    #[must_use]
+    pub fn data_directory(&self, kind: DirectoryType) -> Option<DataDirectory> {
+        let mut directories = self.data_directories();
+        let found = directories.find(|(index, _)| *index == kind as usize);
+        found.map(|(_, directory)| directory)
+    }
+
+    /// The data directories that are there, as pairs (index, directory), by rising index; an index
+    /// below 15 is that of a [`DirectoryType`].
+    ///
+    /// ```no_run
+    /// # let bytes = [];
+    /// # let layout = goblin_pe::Layout::read(&bytes, &goblin_pe::Options::permissive())?;
+    /// for (index, directory) in layout.data_directories() {
+    ///     println!("{index}: {} bytes at {:#x}", directory.size, directory.virtual_address);
+    /// }
+    /// # Ok::<(), goblin_pe::Error>(())
+    /// ```
+    #[must_use]
+    pub fn data_directories(&self) -> DataDirectories<'_> {
+        let count = self.file.directories.min(self.directories.len());
+        DataDirectories(self.directories[..count].iter().enumerate())
+    }
+
+    /// The sections. What follows the data of all of them in the file is its overlay.
+    ///
+    /// ```no_run
+    /// # let bytes = [];
+    /// # let layout = goblin_pe::Layout::read(&bytes, &goblin_pe::Options::permissive())?;
+    /// let with_data = layout.sections().filter(|s| s.size_of_raw_data > 0);
+    /// let ends = with_data.map(|s| s.pointer_to_raw_data as usize + s.size_of_raw_data as usize);
+    /// let last = ends.filter(|&end| end <= bytes.len()).max();
+    /// let overlay = &bytes[last.unwrap_or(bytes.len())..];
+    /// # Ok::<(), goblin_pe::Error>(())
+    /// ```
+    #[must_use]
+    pub fn sections(&self) -> Sections<'_, 'a> {
+        let table = section_table(&self.file.dos_header, &self.file.coff_header);
+        Sections::at(self.bytes, table, self.sections.get())
+    }
+
+    /// The first section of this name; `None` where there is none.
+    ///
+    /// ```no_run
+    /// # let bytes = [];
+    /// # let layout = goblin_pe::Layout::read(&bytes, &goblin_pe::Options::permissive())?;
+    /// let is_packed = layout.section_by_name("UPX0").is_some();
+    /// # Ok::<(), goblin_pe::Error>(())
+    /// ```
+    #[must_use]
+    pub fn section_by_name(&self, name: impl AsRef<[u8]>) -> Option<Section<'a>> {
+        self.sections().find(|s| s.name == *name.as_ref())
+    }
+
+    /// The header, to be changed and written.
+    ///
+    /// ```no_run
+    /// # let bytes = [];
+    /// let layout = goblin_pe::Layout::read(&bytes, &goblin_pe::Options::default())?;
+    /// let mut header = layout.header();
+    /// header.coff_header.time_date_stamp = 0;
+    /// # Ok::<(), goblin_pe::Error>(())
+    /// ```
+    #[must_use]
+    pub fn header(&self) -> Header<'a> {
+        let mut data_directories = [None; 16];
+        for (index, directory) in self.data_directories() {
+            data_directories[index] = Some(directory);
+        }
+        Header {
+            dos_header: self.file.dos_header,
+            dos_stub: Text(self.file.dos_stub.get()),
+            coff_header: self.file.coff_header,
+            optional_header: self.optional_header().copied(),
+            data_directories,
+        }
+    }
+
+    /// Writes the header as it was read; see [`Header::write`].
+    ///
+    /// # Errors
+    /// Too little room; nothing is written then.
+    ///
+    /// ```no_run
+    /// # let bytes = [];
+    /// let layout = goblin_pe::Layout::read(&bytes, &goblin_pe::Options::default())?;
+    /// let mut out = vec![0; layout.header().size()];
+    /// let size = layout.write_header(&mut out)?;
+    /// # Ok::<(), goblin_pe::Error>(())
+    /// ```
+    pub fn write_header(&self, out: &mut [u8]) -> Result<usize, Error> {
+        self.header().write(out)
+    }
+
+    /// The data of one of its sections, and how many zeros follow it in memory. It begins at the raw
+    /// pointer, which the options may round down to 512, as they do for [`find_offset`](Self::find_offset).
+    ///
+    /// # Errors
+    /// Where the data passes the file, and where it begins past the end, even if there is none.
+    ///
+    /// ```no_run
+    /// # let bytes = [];
+    /// # let layout = goblin_pe::Layout::read(&bytes, &goblin_pe::Options::permissive())?;
+    /// let resources = layout.section_by_name(".rsrc").map(|s| layout.section_data(&s)).transpose()?;
+    /// # Ok::<(), goblin_pe::Error>(())
+    /// ```
+    pub fn section_data(&self, section: &Section) -> Result<(&'a [u8], usize), Error> {
+        section.data_in(&self.image())
+    }
+
+    /// A walk over the imports, in constant memory, which reads the file as it goes on: also where the
+    /// options of the read left them out. A file of 256 KiB can have more than 800 million imports, more
+    /// than may be listed. In strict mode it ends with the error for which a read is refused; no law says
+    /// on which bytes what comes before it depends.
+    ///
+    /// ```no_run
+    /// # let bytes = [];
+    /// # let layout = goblin_pe::Layout::read(&bytes, &goblin_pe::Options::permissive())?;
+    /// for import in layout.walk_imports().take(1_000_000) {
+    ///     println!("{}", import?.name);
+    /// }
+    /// # Ok::<(), goblin_pe::Error>(())
+    /// ```
+    #[must_use]
+    pub fn walk_imports(&self) -> WalkImports<'a> {
+        WalkImports::of(
+            self.bytes,
+            self.options.with_parse_imports(true),
+            self.file.places,
+        )
+    }
+
+    /// A walk over the libraries of which something is imported, in the order of their records, as
+    /// [`walk_imports`](Self::walk_imports) is over imports. One library may have several records. Each library
+    /// is a call of its own; of more than 96 sections each makes an index, in some 25 milliseconds.
+    ///
+    /// ```no_run
+    /// # let bytes = [];
+    /// # let layout = goblin_pe::Layout::read(&bytes, &goblin_pe::Options::permissive())?;
+    /// for library in layout.walk_libraries() {
+    ///     let library = library?;
+    ///     println!("{} {}", library.name, library.time_date_stamp);
+    /// }
+    /// # Ok::<(), goblin_pe::Error>(())
+    /// ```
+    #[must_use]
+    pub fn walk_libraries(&self) -> WalkLibraries<'a> {
+        let directory = self.file.places.imports.virtual_address;
+        // (without an offset there are no libraries)
+        let offset = self.find_offset(directory as usize);
+        WalkLibraries::of(
+            self.bytes,
+            self.options.with_parse_imports(true),
+            self.file.places,
+            offset.unwrap_or(0),
+        )
+    }
+
+    /// A walk over the exports, in constant memory, which reads the file as it goes on.
+    ///
+    /// ```no_run
+    /// # let bytes = [];
+    /// # let layout = goblin_pe::Layout::read(&bytes, &goblin_pe::Options::permissive())?;
+    /// for export in layout.walk_exports() {
+    ///     println!("{}", export?.name.unwrap_or_default());
+    /// }
+    /// # Ok::<(), goblin_pe::Error>(())
+    /// ```
+    #[must_use]
+    pub fn walk_exports(&self) -> WalkExports<'a> {
+        WalkExports::of(self.bytes, self.options, self.file.places)
+    }
+
+    /// The symbols, which few images have; they are read as the walk goes on.
+    ///
+    /// # Errors
+    /// A file that is too short for the symbol table or its string table, and a string table that is not
+    /// UTF-8, or says a length below 4.
+    ///
+    /// ```no_run
+    /// # let bytes = [];
+    /// # let layout = goblin_pe::Layout::read(&bytes, &goblin_pe::Options::permissive())?;
+    /// for symbol in layout.symbols()? {
+    ///     println!("{:#x} {}", symbol.value, symbol.name.unwrap_or_default());
+    /// }
+    /// # Ok::<(), goblin_pe::Error>(())
+    /// ```
+    pub fn symbols(&self) -> Result<Symbols<'a>, Error> {
+        Symbols::of(self.bytes, self.coff_header())
     }
 
     /// Writes the text whose MD5 is the hash of the imports that analysts compare, as
@@ -81,6 +413,64 @@ impl<'a> Layout<'a> {
     pub fn write_imphash_text(&self, to: &mut impl Write) -> io::Result<()> {
         imphash::write_text(self.walk_imports(), to)
     }
+
+    /// What strict mode would refuse of the file, part by part, by the options of the read.
+    ///
+    /// # Errors
+    /// [`ErrorKind::Memory`](crate::ErrorKind::Memory) alone.
+    ///
+    /// ```no_run
+    /// # let bytes = [];
+    /// # let layout = goblin_pe::Layout::read(&bytes, &goblin_pe::Options::permissive())?;
+    /// for (part, error) in layout.damage()?.parts() {
+    ///     println!("{part}: {error}");
+    /// }
+    /// # Ok::<(), goblin_pe::Error>(())
+    /// ```
+    pub fn damage(&self) -> Result<Damage, Error> {
+        let mut damage = raw::Damage::default();
+        Error::test(raw::damage(self.bytes, &self.options, &mut damage))?;
+        Ok(Damage::from(damage))
+    }
+
+    /// The bytes of the file on which what [`Pe::read`] lists depends: a file of the same length that has
+    /// the same bytes in these ranges is read alike, by the same options. It does not cover what is read
+    /// later: [`walk_imports`](Self::walk_imports) where the options leave the imports out,
+    /// [`damage`](Self::damage) of an import directory at file offset 0, [`symbols`](Self::symbols), texts and
+    /// bytes at addresses, and the data of sections.
+    ///
+    /// # Errors
+    /// [`ErrorKind::Memory`](crate::ErrorKind::Memory) alone.
+    ///
+    /// ```no_run
+    /// # let bytes = [];
+    /// # let layout = goblin_pe::Layout::read(&bytes, &goblin_pe::Options::permissive())?;
+    /// let count: usize = layout.footprint()?.iter().map(|range| range.len()).sum();
+    /// println!("it depends on {count} bytes");
+    /// # Ok::<(), goblin_pe::Error>(())
+    /// ```
+    pub fn footprint(&self) -> Result<Footprint, Error> {
+        Footprint::of(self.bytes, self.options)
+    }
+
+    /// Writes a key of what [`Pe::read`] lists, for one choice of options: the length of the file, and its
+    /// footprint, the ranges and their bytes. Files that have the same are read alike by the same options. It
+    /// covers what the footprint does. Its SHA-256, for which a hash of the crate `sha2` is such a writer, is
+    /// the fingerprint of the package for Python.
+    ///
+    /// # Errors
+    /// [`io::ErrorKind::OutOfMemory`], and as of the writer.
+    ///
+    /// ```no_run
+    /// # let bytes = [];
+    /// # let layout = goblin_pe::Layout::read(&bytes, &goblin_pe::Options::permissive())?;
+    /// let mut key = Vec::new();
+    /// layout.write_fingerprint_text(&mut key)?;
+    /// # Ok::<(), std::io::Error>(())
+    /// ```
+    pub fn write_fingerprint_text(&self, to: &mut impl Write) -> io::Result<()> {
+        self.footprint()?.write_text(self.bytes, to)
+    }
 }
 
 impl fmt::Debug for Layout<'_> {
@@ -88,7 +478,14 @@ impl fmt::Debug for Layout<'_> {
     fn fmt(&self, f: &mut fmt::Formatter<'_>) -> fmt::Result {
         f.debug_struct("Layout")
             .field("machine", &self.coff_header().machine)
-            .field("sections", &self.sections.len())
+            .field("sections", &self.file.sections)
             .finish_non_exhaustive()
+    }
+}
+
+impl<'a> From<Pe<'a>> for Layout<'a> {
+    /// The image without its lists, whose memory is given back.
+    fn from(pe: Pe<'a>) -> Layout<'a> {
+        pe.layout
     }
 }

@@ -25,13 +25,14 @@
 //! |---|---|---|
 //! | [`Pe::read`] | as long as what it lists, some microseconds for a small file | a record for each row, of 8 to 96 bytes |
 //! | [`Layout::read`] | as long as the file, and the names of the sections | a record for each section |
-//! | [`Pe::walk_imports`], [`Pe::walk_exports`] | as they go on | room for 256 rows; of more than 96 sections for 4,096, and an index |
-//! | [`Pe::walk_libraries`] | a call for each library | an index of more than 96 sections |
-//! | [`Pe::symbols`], [`Section::walk_relocations`] | as they go on | room for 256 rows |
-//! | [`Pe::damage`] | as a read | an index of more than 96 sections |
-//! | [`Pe::footprint`], [`Pe::write_fingerprint_text`] | as two reads | a bit for each byte of the file, and the ranges; an index of more than 96 sections |
-//! | [`Pe::find_offset`] and what is at an address | a walk over the sections | none |
-//! | [`Pe::find_rva`] | a walk over the sections, and one more for each whose data holds the offset | none |
+//! | [`Layout::walk_imports`], [`Layout::walk_exports`] | as they go on | room for 256 rows; of more than 96 sections for 4,096, and an index |
+//! | [`Layout::walk_libraries`] | a call for each library | an index of more than 96 sections |
+//! | [`Pe::walk_export_addresses`] | as it goes on, a walk over the sections for each forwarder | none |
+//! | [`Layout::symbols`], [`Section::walk_relocations`] | as they go on | room for 256 rows |
+//! | [`Layout::damage`] | as a read | an index of more than 96 sections |
+//! | [`Layout::footprint`], [`Layout::write_fingerprint_text`] | as two reads | a bit for each byte of the file, and the ranges; an index of more than 96 sections |
+//! | [`Layout::find_offset`] and what is at an address | a walk over the sections | none |
+//! | [`Layout::find_rva`] | a walk over the sections, and one more for each whose data holds the offset | none |
 //! | [`Object::read`], [`Te::read`] | as many sections as there are | a record for each section |
 //! | rows, names and texts | none: they are places in the bytes | none |
 //!
@@ -58,11 +59,11 @@
 #![deny(unsafe_code)]
 #![warn(missing_docs)]
 
+mod addresses;
 #[allow(clippy::doc_markdown)] // (processors are called PowerPC and the like)
 pub mod constants;
 mod error;
 mod footprint;
-mod image;
 mod imphash;
 mod iterators;
 mod layout;
@@ -84,7 +85,8 @@ pub use error::Error;
 pub use footprint::Footprint;
 pub use iterators::{
     Blocks, DataDirectories, ExportAddresses, Exports, FootprintRanges, Imports, IntoImports,
-    Sections, Symbols, WalkExports, WalkImports, WalkLibraries, WalkRelocations, Words,
+    Sections, Symbols, WalkExportAddresses, WalkExports, WalkImports, WalkLibraries,
+    WalkRelocations, Words,
 };
 pub use layout::Layout;
 pub use names::{DllFlags, FileFlags, Machine, SectionFlags, Subsystem};
@@ -99,8 +101,8 @@ pub use records::{
     Relocation, RichMetadata, StandardFields, TeHeader, WindowsFields,
 };
 pub use rows::{
-    Block, Damage, Export, ExportAddress, ExportDirectory, Forwarder, Header, Import, Imported,
-    Library, RichHeader, Section, Symbol,
+    Block, Damage, Export, ExportAddress, ExportDirectory, ExportEntry, Forwarder, Header, Import,
+    Imported, Library, RichHeader, Section, Symbol,
 };
 pub use te::Te;
 pub use text::Text;

@@ -2,13 +2,18 @@
 
 use std::fmt;
 use std::io::{self, Write};
+use std::mem;
+use std::ops::Deref;
 
 use crate::error::Error;
 use crate::imphash;
-use crate::iterators::{Blocks, ExportAddresses, Exports, Imports, IntoImports};
+use crate::iterators::{
+    Blocks, ExportAddresses, Exports, Imports, IntoImports, WalkExportAddresses,
+};
+use crate::layout::{Layout, SectionRecords};
 use crate::numbers::Part;
 use crate::raw::{self, Options, RichMetadata};
-use crate::rows::{Export, ExportAddress, ExportDirectory, Header, RichHeader};
+use crate::rows::{Export, ExportAddress, ExportDirectory, RichHeader};
 use crate::text::Text;
 
 impl From<raw::Table> for Part {
@@ -17,8 +22,8 @@ impl From<raw::Table> for Part {
     }
 }
 
-/// An image that was read. A copy has tables of its own; where memory for them is refused, the process ends
-/// as it does for a [`Vec`].
+/// An image that was read, with its lists: a [`Layout`], all of whose methods it has, and what its tables list. A
+/// copy has tables of its own; where memory for them is refused, the process ends as it does for a [`Vec`].
 ///
 /// ```no_run
 /// use goblin_pe::{Options, Part, Pe};
@@ -46,10 +51,12 @@ impl From<raw::Table> for Part {
 /// ```
 #[derive(Clone)]
 pub struct Pe<'a> {
-    pub(crate) bytes: &'a [u8],
-    pub(crate) options: Options,
-    pub(crate) file: raw::File,
-    pub(crate) directories: [raw::Directory; 16],
+    pub(crate) layout: Layout<'a>,
+    rich_header: raw::RichHeader,
+    imports: raw::Table,
+    exports: raw::Table,
+    relocations: raw::BaseRelocations,
+    // (without the sections, which the layout has)
     tables: raw::Tables<'a>,
 }
 
@@ -67,21 +74,34 @@ impl<'a> Pe<'a> {
     /// # Ok::<(), goblin_pe::Error>(())
     /// ```
     pub fn read(bytes: &'a [u8], options: &Options) -> Result<Pe<'a>, Error> {
-        let mut pe = Pe {
+        let mut file = raw::File::default();
+        let mut directories = [raw::Directory::default(); 16];
+        let mut tables = raw::Tables::default();
+        let fault = raw::open(bytes, options, &mut file, &mut directories, &mut tables);
+        Error::test(fault)?;
+        let layout = Layout {
             bytes,
             options: *options,
-            file: raw::File::default(),
-            directories: [raw::Directory::default(); 16],
-            tables: raw::Tables::default(),
+            file: raw::Layout {
+                optional_header: file.optional_header,
+                directories: file.directories,
+                sections: file.sections,
+                places: file.places,
+                dos_header: file.dos_header,
+                coff_header: file.coff_header,
+                dos_stub: tables.dos_stub,
+            },
+            directories,
+            sections: SectionRecords::Listed(mem::take(&mut tables.sections)),
         };
-        Error::test(raw::open(
-            bytes,
-            options,
-            &mut pe.file,
-            &mut pe.directories,
-            &mut pe.tables,
-        ))?;
-        Ok(pe)
+        Ok(Pe {
+            layout,
+            rich_header: file.rich_header,
+            imports: file.imports,
+            exports: file.exports,
+            relocations: file.relocations,
+            tables,
+        })
     }
 
     /// Reads an image that lies in memory, by the default options: strictly, with all its tables.
@@ -137,17 +157,22 @@ impl<'a> Pe<'a> {
         Ok(libraries)
     }
 
-    /// The Rich header; `None` where the file has none.
+    /// The Rich header; `None` where the file has none. The MD5 by which analysts compare it is that of its bytes between
+    /// the markers, without the key:
     ///
     /// ```no_run
     /// # let bytes = [];
     /// let pe = goblin_pe::Pe::read(&bytes, &goblin_pe::Options::default())?;
-    /// let key = pe.rich_header().map(|it| it.key);
+    /// let hashed = pe.rich_header().map(|rich| {
+    ///     let stored = &bytes[rich.start_offset as usize..rich.end_offset as usize];
+    ///     let key = rich.key.to_le_bytes().into_iter().cycle();
+    ///     stored.iter().zip(key).map(|(byte, key)| byte ^ key).collect::<Vec<u8>>()
+    /// });
     /// # Ok::<(), goblin_pe::Error>(())
     /// ```
     #[must_use]
     pub fn rich_header(&self) -> Option<RichHeader> {
-        let rich = &self.file.rich_header;
+        let rich = &self.rich_header;
         rich.is_present.then_some(RichHeader {
             key: rich.key,
             padding_size: rich.padding_size,
@@ -185,12 +210,7 @@ impl<'a> Pe<'a> {
     /// ```
     #[must_use]
     pub fn rich_rest(&self) -> Option<Error> {
-        Error::of(self.file.rich_header.rest)
-    }
-
-    // The records of its sections.
-    pub(crate) fn section_records(&self) -> &[raw::Section<'a>] {
-        self.tables.sections.get()
+        Error::of(self.rich_header.rest)
     }
 
     /// How the imports stand.
@@ -203,7 +223,7 @@ impl<'a> Pe<'a> {
     /// ```
     #[must_use]
     pub fn import_table(&self) -> Part {
-        Part::from(self.file.imports)
+        Part::from(self.imports)
     }
 
     /// The imports.
@@ -241,7 +261,7 @@ impl<'a> Pe<'a> {
     /// out, it walks over them. A hash of the crate `md-5` is such a writer.
     ///
     /// # Errors
-    /// As of [`Pe::walk_imports`], where the options left the imports out; and as of the writer.
+    /// As of [`Layout::walk_imports`], where the options left the imports out; and as of the writer.
     ///
     /// ```no_run
     /// # let bytes = [];
@@ -268,7 +288,7 @@ impl<'a> Pe<'a> {
     /// ```
     #[must_use]
     pub fn export_table(&self) -> Part {
-        Part::from(self.file.exports)
+        Part::from(self.exports)
     }
 
     /// The exports.
@@ -336,6 +356,22 @@ impl<'a> Pe<'a> {
         ExportAddresses((base..base + records.len()).zip(records.iter()))
     }
 
+    /// The entries of the export address table, by rising ordinals, also those without a name, each with its forwarder,
+    /// which is read as the walk goes on.
+    ///
+    /// ```no_run
+    /// # let bytes = [];
+    /// let pe = goblin_pe::Pe::read(&bytes, &goblin_pe::Options::default())?;
+    /// for entry in pe.walk_export_addresses().filter(|it| it.rva != 0) {
+    ///     println!("{} {:#x} {:?}", entry.ordinal, entry.rva, entry.forwarder);
+    /// }
+    /// # Ok::<(), goblin_pe::Error>(())
+    /// ```
+    #[must_use]
+    pub fn walk_export_addresses(&self) -> WalkExportAddresses<'_, 'a> {
+        WalkExportAddresses::of(&self.layout, self.export_addresses())
+    }
+
     fn ordinal_base(&self) -> usize {
         self.tables.export_directory.table.ordinal_base as usize
     }
@@ -367,7 +403,7 @@ impl<'a> Pe<'a> {
     /// ```
     #[must_use]
     pub fn relocation_table(&self) -> Part {
-        Part::from(self.file.relocations.blocks)
+        Part::from(self.relocations.blocks)
     }
 
     /// The blocks of base relocations.
@@ -398,47 +434,16 @@ impl<'a> Pe<'a> {
     /// ```
     #[must_use]
     pub fn block_rest(&self) -> Option<Error> {
-        Error::of(self.file.relocations.rest)
+        Error::of(self.relocations.rest)
     }
+}
 
-    /// The header, to be changed and written.
-    ///
-    /// ```no_run
-    /// # let bytes = [];
-    /// let pe = goblin_pe::Pe::read(&bytes, &goblin_pe::Options::default())?;
-    /// let mut header = pe.header();
-    /// header.coff_header.time_date_stamp = 0;
-    /// # Ok::<(), goblin_pe::Error>(())
-    /// ```
-    #[must_use]
-    pub fn header(&self) -> Header<'a> {
-        let mut data_directories = [None; 16];
-        for (index, directory) in self.data_directories() {
-            data_directories[index] = Some(directory);
-        }
-        Header {
-            dos_header: self.file.dos_header,
-            dos_stub: Text(self.tables.dos_stub.get()),
-            coff_header: self.file.coff_header,
-            optional_header: self.optional_header().copied(),
-            data_directories,
-        }
-    }
+impl<'a> Deref for Pe<'a> {
+    type Target = Layout<'a>;
 
-    /// Writes the header as it was read; see [`Header::write`].
-    ///
-    /// # Errors
-    /// Too little room; nothing is written then.
-    ///
-    /// ```no_run
-    /// # let bytes = [];
-    /// let pe = goblin_pe::Pe::read(&bytes, &goblin_pe::Options::default())?;
-    /// let mut out = vec![0; pe.header().size()];
-    /// let size = pe.write_header(&mut out)?;
-    /// # Ok::<(), goblin_pe::Error>(())
-    /// ```
-    pub fn write_header(&self, out: &mut [u8]) -> Result<usize, Error> {
-        self.header().write(out)
+    /// The image without its lists.
+    fn deref(&self) -> &Layout<'a> {
+        &self.layout
     }
 }
 

@@ -317,6 +317,7 @@ pub fn footprint(bytes: &[u8], options: &Options, ranges: &mut Ranges<'_>) -> Fa
 pub fn next_imports<'a>(
     bytes: &'a [u8],
     options: &Options,
+    places: &Places,
     position: &mut ImportPosition,
     imports: &mut [Import<'a>],
     count: &mut usize,
@@ -328,6 +329,7 @@ pub fn next_imports<'a>(
             bytes.as_ptr(),
             bytes.len(),
             options,
+            places,
             position,
             imports.as_mut_ptr(),
             imports.len(),
@@ -336,10 +338,21 @@ pub fn next_imports<'a>(
     }
 }
 
+/// The record of a library in the import directory, at a file offset.
+pub fn import_record_at(bytes: &[u8], offset: usize) -> Option<ImportDirectoryEntry> {
+    test_interface();
+    let mut record = ImportDirectoryEntry::default();
+    // SAFETY: as in `kind`.
+    let is_there =
+        unsafe { goblin_pe_raw_import_record_at(bytes.as_ptr(), bytes.len(), offset, &mut record) };
+    is_there.then_some(record)
+}
+
 /// Goes on with the walk over exports; fills the records as far as there is room, and says how many.
 pub fn next_exports<'a>(
     bytes: &'a [u8],
     options: &Options,
+    places: &Places,
     position: &mut usize,
     exports: &mut [Export<'a>],
     count: &mut usize,
@@ -351,6 +364,7 @@ pub fn next_exports<'a>(
             bytes.as_ptr(),
             bytes.len(),
             options,
+            places,
             position,
             exports.as_mut_ptr(),
             exports.len(),

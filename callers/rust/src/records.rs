@@ -101,6 +101,41 @@ pub struct Fault {
     pub second: u64,
 }
 
+/// A section, as its record describes it.
+///
+/// Source: PE Format, "Section Table (Section Headers)".
+#[repr(C)]
+#[derive(Clone, Copy, Default)]
+pub struct Section<'a> {
+    /// The name from the string table, where there is one; a name of more than eight bytes stands
+    /// there.
+    pub real_name: Slice<'a>,
+    /// The eight bytes of the name, padded with NULs.
+    pub name: [u8; 8],
+    /// The section's size in memory, in bytes: what the raw data lacks of it is zeros.
+    pub virtual_size: u32,
+    /// The section's address in memory, relative to the image's base.
+    pub virtual_address: u32,
+    /// The size of the section's data in the file, in bytes; in an image rounded up, so it may be
+    /// above the virtual size.
+    pub size_of_raw_data: u32,
+    /// The file offset of the section's data, as stored.
+    pub pointer_to_raw_data: u32,
+    /// The file offset of the section's relocations, 0 where it has none.
+    pub pointer_to_relocations: u32,
+    /// The file offset of the section's line numbers, 0 where it has none.
+    pub pointer_to_linenumbers: u32,
+    /// How many relocations the section has, as its record says.
+    pub number_of_relocations: u16,
+    /// How many line numbers the section has.
+    pub number_of_linenumbers: u16,
+    /// What the section holds and how it may be used, as bits `IMAGE_SCN_*`; the loader protects
+    /// its pages by them.
+    pub characteristics: u32,
+    /// Whether the section has a name from the string table.
+    pub has_real_name: bool,
+}
+
 /// What a call does and leaves out.
 #[repr(C)]
 #[derive(Clone, Copy, Debug, PartialEq, Eq, PartialOrd, Ord, Hash)]
@@ -116,6 +151,381 @@ pub struct Options {
     pub raw_pointer_rule: u8,
     /// Whether the imports are read; where not, their table is absent.
     pub parse_imports: bool,
+}
+
+/// An image, by what maps its addresses.
+#[repr(C)]
+#[derive(Clone, Copy, Default)]
+pub struct Image<'p, 'a> {
+    /// The file's bytes.
+    pub bytes: Slice<'a>,
+    /// The records of its sections, in the order of the section table. No call looks at more of
+    /// them than their `virtual_address`, `virtual_size`, `pointer_to_raw_data` and
+    /// `size_of_raw_data`; all else may be zeros, a null pointer of their texts, too.
+    pub sections: Shared<'p, Section<'a>>,
+    /// Its file alignment, in bytes.
+    pub file_alignment: u32,
+    /// Whether addresses are mapped, and by which rule for raw pointers; all else is not looked at.
+    pub options: Options,
+}
+
+/// What a forwarder stands for: an export of another library.
+#[repr(C)]
+#[derive(Clone, Copy, Default)]
+pub struct Forwarder<'a> {
+    /// The library, without its ending.
+    pub lib: Slice<'a>,
+    /// Of a forwarder by name the export's name in that library.
+    pub name: Slice<'a>,
+    /// Of a forwarder by ordinal the export's ordinal in that library.
+    pub ordinal: usize,
+    /// Which of the two it is, by the numbers of `Forwards`.
+    pub forwards: u32,
+    /// Zero. It stands where padding would be, so that each byte of the record is defined.
+    pub reserved: u32,
+}
+
+/// The data of a section, as it is in memory.
+#[repr(C)]
+#[derive(Clone, Copy, Default)]
+pub struct SectionData<'a> {
+    /// The bytes that the file has of it.
+    pub bytes: Slice<'a>,
+    /// How many zeros follow them.
+    pub zeros: usize,
+}
+
+/// A record of an import directory: where the imports from a library are.
+///
+/// Source: PE Format, "Import Directory Table". Numbers are as stored; the record has 20 bytes, and
+/// `at` gives a field's offset in it. Addresses are relative to the image's base.
+#[repr(C)]
+#[derive(Clone, Copy, Default, Debug, PartialEq, Eq, PartialOrd, Ord, Hash)]
+pub struct ImportDirectoryEntry {
+    /// The address of the lookup table, which says what is imported, at 0. Where it has no file
+    /// offset, the address table is read instead, as images of some old linkers ask for.
+    pub import_lookup_table_rva: u32,
+    /// 0 until the imports are bound, at 4; then the time stamp of the library to which they were
+    /// bound, or 2^32 - 1 if the bound imports say it.
+    pub time_date_stamp: u32,
+    /// The index of the first forwarder, at 8.
+    pub forwarder_chain: u32,
+    /// The address of the library's name, at 12. The record with 0 here is the directory's last.
+    pub name_rva: u32,
+    /// The address of the address table, at 16: a copy of the lookup table, whose entries the
+    /// loader replaces with addresses. The record with 0 here is the directory's last.
+    pub import_address_table_rva: u32,
+}
+
+/// The header of a COFF file, or of the COFF part of an image.
+///
+/// Source: PE Format, "COFF File Header (Object and Image)". Numbers are as stored; the record has
+/// 20 bytes, and `at` gives a field's offset in it. An object begins with it; in an image it
+/// follows the PE signature.
+#[repr(C)]
+#[derive(Clone, Copy, Default, Debug, PartialEq, Eq, PartialOrd, Ord, Hash)]
+pub struct CoffHeader {
+    /// The machine that the file is for, a `COFF_MACHINE_*`, at 0. No reader looks at it: the width
+    /// of an image is what the magic of its optional header says.
+    pub machine: u16,
+    /// How many section records follow the optional header, at 2. The Windows loader takes at most
+    /// 96.
+    pub number_of_sections: u16,
+    /// When the file was made, in seconds since the start of 1970, at 4; or what its maker put
+    /// there, such as a hash.
+    pub time_date_stamp: u32,
+    /// The file offset of the symbol table, at 8; 0 where there is none, as in most images. The
+    /// string table follows the symbol table.
+    pub pointer_to_symbol_table: u32,
+    /// How many records the symbol table has, the auxiliary ones too, at 12.
+    pub number_of_symbol_table: u32,
+    /// The size of the optional header, in bytes, at 16; 0 where there is none, as in an object.
+    /// Only this says where the section table begins; it says nothing about the optional header's
+    /// own layout.
+    pub size_of_optional_header: u16,
+    /// What kind of file it is, as bits `IMAGE_FILE_*` (PE Format, "Characteristics"), at 18.
+    pub characteristics: u16,
+}
+
+/// An object as a whole.
+#[repr(C)]
+#[derive(Clone, Copy, Default, Debug, PartialEq, Eq, PartialOrd, Ord, Hash)]
+pub struct Object {
+    /// How many sections there are, whatever the room.
+    pub sections: usize,
+    /// The COFF header.
+    pub coff_header: CoffHeader,
+}
+
+/// Where the symbol table and the string table of an image or an object lie. An offset of 0 says
+/// that there are none.
+#[repr(C)]
+#[derive(Clone, Copy, Default, Debug, PartialEq, Eq, PartialOrd, Ord, Hash)]
+pub struct SymbolTable {
+    /// The file offset of the first record of the symbol table, in bytes; 0 where there is none.
+    pub offset: u32,
+    /// How many records it has, the auxiliary ones too.
+    pub record_count: u32,
+    /// The file offset of the texts of the string table, in bytes: after the four of its length.
+    pub strings_offset: usize,
+    /// How many bytes these texts have.
+    pub strings_length: usize,
+}
+
+/// A symbol, as its record describes it.
+///
+/// Source: PE Format, "COFF Symbol Table". Numbers are as stored; a record has 18 bytes, and `at`
+/// gives a field's offset in it.
+#[repr(C)]
+#[derive(Clone, Copy, Default, Debug, PartialEq, Eq, PartialOrd, Ord, Hash)]
+pub struct Symbol {
+    /// The eight bytes of the name, padded with NULs, at 0. Where the first is 0, the name is in
+    /// the string table, at the number in the last four, which counts from the table's length
+    /// field.
+    pub name: [u8; 8],
+    /// What the symbol stands for, by its section and class, at 8: mostly an offset in its section,
+    /// in bytes.
+    pub value: u32,
+    /// The number of its section, counted from 1, at 12; or `IMAGE_SYM_UNDEFINED` (0),
+    /// `IMAGE_SYM_ABSOLUTE` (-1) or `IMAGE_SYM_DEBUG` (-2).
+    pub section_number: i16,
+    /// Its type, at 14: an `IMAGE_SYM_TYPE_*` in the low four bits, an `IMAGE_SYM_DTYPE_*` above
+    /// them. Microsoft's tools store 0x20 of a function, else 0.
+    pub typ: u16,
+    /// Its class, an `IMAGE_SYM_CLASS_*`, at 16.
+    pub storage_class: u8,
+    /// How many auxiliary records follow it, at 17. The next symbol follows these.
+    pub number_of_aux_symbols: u8,
+}
+
+/// A symbol with its name and the bytes of its auxiliary records.
+#[repr(C)]
+#[derive(Clone, Copy, Default)]
+pub struct NamedSymbol<'a> {
+    /// The name, from the record or the string table, where it can be read.
+    pub name: Slice<'a>,
+    /// The records that follow it and say more, 18 bytes each: as many as it says, or fewer where
+    /// the table ends before.
+    pub auxiliary: Slice<'a>,
+    /// The index of its record in the symbol table, which also counts auxiliary records.
+    pub index: usize,
+    /// The symbol, as its record describes it.
+    pub symbol: Symbol,
+    /// Whether the name can be read.
+    pub has_name: bool,
+}
+
+/// A relocation of a COFF object: which bytes of a section a linker changes, and how.
+///
+/// Source: PE Format, "COFF Relocations (Object Only)". Numbers are as stored; the record has 10
+/// bytes, and `at` gives a field's offset in it.
+#[repr(C)]
+#[derive(Clone, Copy, Default, Debug, PartialEq, Eq, PartialOrd, Ord, Hash)]
+pub struct Relocation {
+    /// Where the bytes that are changed begin, at 0: their offset in the section, in bytes, plus
+    /// the section's own address, which is mostly 0. Of the first relocation of a section with
+    /// `IMAGE_SCN_LNK_NRELOC_OVFL` it is the number of all.
+    pub virtual_address: u32,
+    /// The index in the symbol table of the symbol whose address is put there, at 4.
+    pub symbol_table_index: u32,
+    /// How it is put there, at 8: an `IMAGE_REL_*` of the machine that the COFF header names.
+    pub typ: u16,
+}
+
+/// Where a table of an image lies.
+///
+/// Source: PE Format, "Optional Header Data Directories (Image Only)". Numbers are as stored; the
+/// record has 8 bytes, and `at` gives a field's offset in it.
+#[repr(C)]
+#[derive(Clone, Copy, Default, Debug, PartialEq, Eq, PartialOrd, Ord, Hash)]
+pub struct DataDirectory {
+    /// The table's address, relative to the image's base, at 0. That of the certificates is a file
+    /// offset, since they are not loaded.
+    pub virtual_address: u32,
+    /// The table's size in bytes, at 4. An import directory ends at its own last record, and a
+    /// value at an address by its own type, whatever the size; of an export directory the size says
+    /// which addresses are forwarders, of base relocations where the blocks end.
+    pub size: u32,
+}
+
+/// The header of a Terse Executable.
+///
+/// Source: UEFI Platform Initialization Specification, volume 1, "TE Image". Numbers are as stored,
+/// but for the four that are adjusted when it is read; the record has 40 bytes, and `at` gives a
+/// field's offset in it. It replaces the headers of a PE file and keeps what a loader of firmware
+/// needs of them; its addresses still count the bytes that were stripped.
+#[repr(C)]
+#[derive(Clone, Copy, Default, Debug, PartialEq, Eq, PartialOrd, Ord, Hash)]
+pub struct TeHeader {
+    /// `VZ`, at 0. No reader tests it.
+    pub signature: u16,
+    /// The machine that the file is for, a `COFF_MACHINE_*`, at 2.
+    pub machine: u16,
+    /// How many section records follow, at 4.
+    pub number_of_sections: u8,
+    /// The subsystem that runs the image, at 5.
+    pub subsystem: u8,
+    /// How many bytes were stripped from the front of the PE file, at 6. This header replaces them,
+    /// so everything after it moved forward by this minus 40.
+    pub stripped_size: u16,
+    /// The address of the entry point, relative to the image's base, at 8; in a header that was
+    /// parsed, adjusted.
+    pub entry_point: u32,
+    /// The address at which the code begins, relative to the image's base, at 12; in a header that
+    /// was parsed, adjusted.
+    pub base_of_code: u32,
+    /// The address at which the image is best loaded, at 16; as stored.
+    pub image_base: u64,
+    /// Where the base relocations lie, at 24; in a header that was parsed, with the address
+    /// adjusted.
+    pub reloc_dir: DataDirectory,
+    /// Where the debug data lies, at 32; in a header that was parsed, with the address adjusted.
+    pub debug_dir: DataDirectory,
+}
+
+/// Where the sections and the tables of an image lie, and how the tables are read, as its header
+/// says: what walks over the tables take, so that none reads the header again.
+///
+/// Source: PE Format, "Optional Header (Image Only)".
+#[repr(C)]
+#[derive(Clone, Copy, Default, Debug, PartialEq, Eq, PartialOrd, Ord, Hash)]
+pub struct Places {
+    /// The file offset of the section table.
+    pub section_table: usize,
+    /// The export directory; zeros where there is none.
+    pub exports: DataDirectory,
+    /// The import directory; zeros where there is none.
+    pub imports: DataDirectory,
+    /// The directory of base relocations; zeros where there is none.
+    pub relocations: DataDirectory,
+    /// The file alignment of the sections' raw data, in bytes; 0 where there is no optional header.
+    pub file_alignment: u32,
+    /// How many records the section table has.
+    pub number_of_sections: u16,
+    /// The magic of the optional header: by 0x10B the entries of import tables have four bytes,
+    /// else eight; 0 where there is no optional header.
+    pub magic: u16,
+    /// Whether there is an export directory.
+    pub has_exports: bool,
+    /// Whether there is an import directory.
+    pub has_imports: bool,
+    /// Whether there is a directory of base relocations.
+    pub has_relocations: bool,
+}
+
+/// Where a walk over imports goes on; zeros are the beginning. It may be kept, and copied.
+#[repr(C)]
+#[derive(Clone, Copy, Default, Debug, PartialEq, Eq, PartialOrd, Ord, Hash)]
+pub struct ImportPosition {
+    /// The file offset of a library's record; the greatest number once the end has been reached,
+    /// also of a file without imports.
+    pub record_offset: usize,
+    /// The file offset of the slot that is read next, or 0 before the library's first.
+    pub slot_offset: usize,
+}
+
+/// An import.
+#[repr(C)]
+#[derive(Clone, Copy, Default)]
+pub struct Import<'a> {
+    /// The name that is imported, where the import is by name.
+    pub name: Slice<'a>,
+    /// The name of the library; empty where permissive mode could not read it.
+    pub dll: Slice<'a>,
+    /// The address (not the file offset) of its own entry in the address table, where the loader
+    /// puts the address of what is imported.
+    pub slot_rva: usize,
+    /// The address of the hint and the name; 0 of an import by ordinal.
+    pub rva: usize,
+    /// The index of its entry, in the file, in the lookup table and in the address table. Entries
+    /// that are left out count.
+    pub slot: usize,
+    /// The ordinal; of an import by name, the hint, at which index of the library's names the
+    /// loader looks first.
+    pub ordinal: u16,
+    /// Whether the import is by name.
+    pub is_by_name: bool,
+    /// Zero. With `reserved2` it stands where padding would be, so that each byte of the record is
+    /// defined.
+    pub reserved: u8,
+    /// Zero.
+    pub reserved2: u32,
+}
+
+/// An export.
+#[repr(C)]
+#[derive(Clone, Copy, Default)]
+pub struct Export<'a> {
+    /// The export's name, where it can be read.
+    pub name: Slice<'a>,
+    /// Of a forwarder the library, without its ending.
+    pub forward_lib: Slice<'a>,
+    /// Of a forwarder by name the name in that library.
+    pub forward_name: Slice<'a>,
+    /// Of a forwarder by ordinal the ordinal in that library.
+    pub forward_ordinal: usize,
+    /// Its own ordinal: the index of its address, and the ordinal base added.
+    pub ordinal: usize,
+    /// The index of its name pointer: what imports by name give as a hint.
+    pub hint: usize,
+    /// The file offset of `rva`, where it has one; else 0. Where the options say that addresses are
+    /// offsets, `rva` itself.
+    pub offset: usize,
+    /// The export's address, relative to the image's base; of a forwarder that of its text.
+    pub rva: usize,
+    /// Whether the name can be read.
+    pub has_name: bool,
+    /// Whether `rva` has a file offset: a section maps it and the file alignment is a power of two,
+    /// or the options say that addresses are offsets.
+    pub has_offset: bool,
+    /// What it forwards to, by the numbers of `Forwards`.
+    pub forwards: u8,
+    /// Zero. With `reserved2` it stands where padding would be, so that each byte of the record is
+    /// defined.
+    pub reserved: u8,
+    /// Zero.
+    pub reserved2: u32,
+}
+
+/// An entry of the export address table. Its index and the ordinal base are the ordinal that it
+/// stands for.
+#[repr(C)]
+#[derive(Clone, Copy, Default, Debug, PartialEq, Eq, PartialOrd, Ord, Hash)]
+pub struct ExportAddress {
+    /// The address, relative to the image's base; of a forwarder that of its text; 0 where the
+    /// ordinal is not used.
+    pub rva: u32,
+    /// Whether it is a forwarder: its address lies in the export directory.
+    pub forwards: bool,
+}
+
+/// A block of base relocations, for one page of the image in memory.
+///
+/// Source: PE Format, "Base Relocation Block".
+#[repr(C)]
+#[derive(Clone, Copy, Default)]
+pub struct Block<'a> {
+    /// The words, of two bytes each: the type, an `IMAGE_REL_BASED_*`, in the high four bits, and
+    /// in the low twelve the offset in the page, in bytes. A byte that is left is no word.
+    pub words: Slice<'a>,
+    /// The page's address, relative to the image's base, to which each offset is added.
+    pub rva: u32,
+    /// The size of the block with its head, in bytes.
+    pub size: u32,
+}
+
+/// A word of a block of base relocations: which bytes a loader changes, and how.
+///
+/// Source: PE Format, "Base Relocation Block".
+#[repr(C)]
+#[derive(Clone, Copy, Default, Debug, PartialEq, Eq, PartialOrd, Ord, Hash)]
+pub struct Word {
+    /// Where the bytes begin: their address, relative to the image's base.
+    pub rva: usize,
+    /// How they are changed, an `IMAGE_REL_BASED_*`. Type 0 changes nothing and fills up a block.
+    pub typ: u32,
+    /// Zero. It stands where padding would be, so that each byte of the record is defined.
+    pub reserved: u32,
 }
 
 /// The standard fields of an optional header of either width.
@@ -309,36 +719,6 @@ pub struct DosHeader {
     pub pe_pointer: u32,
 }
 
-/// The header of a COFF file, or of the COFF part of an image.
-///
-/// Source: PE Format, "COFF File Header (Object and Image)". Numbers are as stored; the record has
-/// 20 bytes, and `at` gives a field's offset in it. An object begins with it; in an image it
-/// follows the PE signature.
-#[repr(C)]
-#[derive(Clone, Copy, Default, Debug, PartialEq, Eq, PartialOrd, Ord, Hash)]
-pub struct CoffHeader {
-    /// The machine that the file is for, a `COFF_MACHINE_*`, at 0. No reader looks at it: the width
-    /// of an image is what the magic of its optional header says.
-    pub machine: u16,
-    /// How many section records follow the optional header, at 2. The Windows loader takes at most
-    /// 96.
-    pub number_of_sections: u16,
-    /// When the file was made, in seconds since the start of 1970, at 4; or what its maker put
-    /// there, such as a hash.
-    pub time_date_stamp: u32,
-    /// The file offset of the symbol table, at 8; 0 where there is none, as in most images. The
-    /// string table follows the symbol table.
-    pub pointer_to_symbol_table: u32,
-    /// How many records the symbol table has, the auxiliary ones too, at 12.
-    pub number_of_symbol_table: u32,
-    /// The size of the optional header, in bytes, at 16; 0 where there is none, as in an object.
-    /// Only this says where the section table begins; it says nothing about the optional header's
-    /// own layout.
-    pub size_of_optional_header: u16,
-    /// What kind of file it is, as bits `IMAGE_FILE_*` (PE Format, "Characteristics"), at 18.
-    pub characteristics: u16,
-}
-
 /// The file as a whole.
 #[repr(C)]
 #[derive(Clone, Copy, Default, Debug, PartialEq, Eq, PartialOrd, Ord, Hash)]
@@ -350,6 +730,8 @@ pub struct File {
     pub directories: usize,
     /// How many sections there are.
     pub sections: usize,
+    /// Where the sections and the tables lie, for walks over these.
+    pub places: Places,
     /// The imports.
     pub imports: Table,
     /// The exports.
@@ -362,22 +744,6 @@ pub struct File {
     pub dos_header: DosHeader,
     /// The COFF header.
     pub coff_header: CoffHeader,
-}
-
-/// Where a table of an image lies.
-///
-/// Source: PE Format, "Optional Header Data Directories (Image Only)". Numbers are as stored; the
-/// record has 8 bytes, and `at` gives a field's offset in it.
-#[repr(C)]
-#[derive(Clone, Copy, Default, Debug, PartialEq, Eq, PartialOrd, Ord, Hash)]
-pub struct DataDirectory {
-    /// The table's address, relative to the image's base, at 0. That of the certificates is a file
-    /// offset, since they are not loaded.
-    pub virtual_address: u32,
-    /// The table's size in bytes, at 4. An import directory ends at its own last record, and a
-    /// value at an address by its own type, whatever the size; of an export directory the size says
-    /// which addresses are forwarders, of base relocations where the blocks end.
-    pub size: u32,
 }
 
 /// An entry of the table of data directories.
@@ -407,131 +773,6 @@ pub struct RichMetadata {
     pub product: u16,
     /// How many files it made, at 4.
     pub use_count: u32,
-}
-
-/// A section, as its record describes it.
-///
-/// Source: PE Format, "Section Table (Section Headers)".
-#[repr(C)]
-#[derive(Clone, Copy, Default)]
-pub struct Section<'a> {
-    /// The name from the string table, where there is one; a name of more than eight bytes stands
-    /// there.
-    pub real_name: Slice<'a>,
-    /// The eight bytes of the name, padded with NULs.
-    pub name: [u8; 8],
-    /// The section's size in memory, in bytes: what the raw data lacks of it is zeros.
-    pub virtual_size: u32,
-    /// The section's address in memory, relative to the image's base.
-    pub virtual_address: u32,
-    /// The size of the section's data in the file, in bytes; in an image rounded up, so it may be
-    /// above the virtual size.
-    pub size_of_raw_data: u32,
-    /// The file offset of the section's data, as stored.
-    pub pointer_to_raw_data: u32,
-    /// The file offset of the section's relocations, 0 where it has none.
-    pub pointer_to_relocations: u32,
-    /// The file offset of the section's line numbers, 0 where it has none.
-    pub pointer_to_linenumbers: u32,
-    /// How many relocations the section has, as its record says.
-    pub number_of_relocations: u16,
-    /// How many line numbers the section has.
-    pub number_of_linenumbers: u16,
-    /// What the section holds and how it may be used, as bits `IMAGE_SCN_*`; the loader protects
-    /// its pages by them.
-    pub characteristics: u32,
-    /// Whether the section has a name from the string table.
-    pub has_real_name: bool,
-}
-
-/// An import.
-#[repr(C)]
-#[derive(Clone, Copy, Default)]
-pub struct Import<'a> {
-    /// The name that is imported, where the import is by name.
-    pub name: Slice<'a>,
-    /// The name of the library; empty where permissive mode could not read it.
-    pub dll: Slice<'a>,
-    /// The address (not the file offset) of its own entry in the address table, where the loader
-    /// puts the address of what is imported.
-    pub slot_rva: usize,
-    /// The address of the hint and the name; 0 of an import by ordinal.
-    pub rva: usize,
-    /// The index of its entry, in the file, in the lookup table and in the address table. Entries
-    /// that are left out count.
-    pub slot: usize,
-    /// The ordinal; of an import by name, the hint, at which index of the library's names the
-    /// loader looks first.
-    pub ordinal: u16,
-    /// Whether the import is by name.
-    pub is_by_name: bool,
-    /// Zero. With `reserved2` it stands where padding would be, so that each byte of the record is
-    /// defined.
-    pub reserved: u8,
-    /// Zero.
-    pub reserved2: u32,
-}
-
-/// An export.
-#[repr(C)]
-#[derive(Clone, Copy, Default)]
-pub struct Export<'a> {
-    /// The export's name, where it can be read.
-    pub name: Slice<'a>,
-    /// Of a forwarder the library, without its ending.
-    pub forward_lib: Slice<'a>,
-    /// Of a forwarder by name the name in that library.
-    pub forward_name: Slice<'a>,
-    /// Of a forwarder by ordinal the ordinal in that library.
-    pub forward_ordinal: usize,
-    /// Its own ordinal: the index of its address, and the ordinal base added.
-    pub ordinal: usize,
-    /// The index of its name pointer: what imports by name give as a hint.
-    pub hint: usize,
-    /// The file offset of `rva`, where it has one; else 0. Where the options say that addresses are
-    /// offsets, `rva` itself.
-    pub offset: usize,
-    /// The export's address, relative to the image's base; of a forwarder that of its text.
-    pub rva: usize,
-    /// Whether the name can be read.
-    pub has_name: bool,
-    /// Whether `rva` has a file offset: a section maps it and the file alignment is a power of two,
-    /// or the options say that addresses are offsets.
-    pub has_offset: bool,
-    /// What it forwards to, by the numbers of `Forwards`.
-    pub forwards: u8,
-    /// Zero. With `reserved2` it stands where padding would be, so that each byte of the record is
-    /// defined.
-    pub reserved: u8,
-    /// Zero.
-    pub reserved2: u32,
-}
-
-/// An entry of the export address table. Its index and the ordinal base are the ordinal that it
-/// stands for.
-#[repr(C)]
-#[derive(Clone, Copy, Default, Debug, PartialEq, Eq, PartialOrd, Ord, Hash)]
-pub struct ExportAddress {
-    /// The address, relative to the image's base; of a forwarder that of its text; 0 where the
-    /// ordinal is not used.
-    pub rva: u32,
-    /// Whether it is a forwarder: its address lies in the export directory.
-    pub forwards: bool,
-}
-
-/// A block of base relocations, for one page of the image in memory.
-///
-/// Source: PE Format, "Base Relocation Block".
-#[repr(C)]
-#[derive(Clone, Copy, Default)]
-pub struct Block<'a> {
-    /// The words, of two bytes each: the type, an `IMAGE_REL_BASED_*`, in the high four bits, and
-    /// in the low twelve the offset in the page, in bytes. A byte that is left is no word.
-    pub words: Slice<'a>,
-    /// The page's address, relative to the image's base, to which each offset is added.
-    pub rva: u32,
-    /// The size of the block with its head, in bytes.
-    pub size: u32,
 }
 
 /// The record that an image's exports begin with.
@@ -614,6 +855,8 @@ pub struct Layout<'a> {
     pub directories: usize,
     /// How many sections there are, whatever the room.
     pub sections: usize,
+    /// Where the sections and the tables lie, for walks over these.
+    pub places: Places,
     /// The DOS header.
     pub dos_header: DosHeader,
     /// The COFF header.
@@ -621,17 +864,6 @@ pub struct Layout<'a> {
     /// The DOS stub, which is written with a header: bytes of the file, or where permissive mode
     /// could not read them a stub of the library's own.
     pub dos_stub: Slice<'a>,
-}
-
-/// Where a walk over imports goes on; zeros are the beginning. It may be kept, and copied.
-#[repr(C)]
-#[derive(Clone, Copy, Default, Debug, PartialEq, Eq, PartialOrd, Ord, Hash)]
-pub struct ImportPosition {
-    /// The file offset of a library's record; the greatest number once the end has been reached,
-    /// also of a file without imports.
-    pub record_offset: usize,
-    /// The file offset of the slot that is read next, or 0 before the library's first.
-    pub slot_offset: usize,
 }
 
 /// What strict mode would refuse of a file, part by part: for each part a fault of the status 0
@@ -679,182 +911,6 @@ pub struct Ranges<'a> {
     pub ranges: List<'a, Range>,
 }
 
-/// An image, by what maps its addresses.
-#[repr(C)]
-#[derive(Clone, Copy, Default)]
-pub struct Image<'p, 'a> {
-    /// The file's bytes.
-    pub bytes: Slice<'a>,
-    /// The records of its sections, in the order of the section table. No call looks at more of
-    /// them than their `virtual_address`, `virtual_size`, `pointer_to_raw_data` and
-    /// `size_of_raw_data`; all else may be zeros, a null pointer of their texts, too.
-    pub sections: Shared<'p, Section<'a>>,
-    /// Its file alignment, in bytes.
-    pub file_alignment: u32,
-    /// Whether addresses are mapped, and by which rule for raw pointers; all else is not looked at.
-    pub options: Options,
-}
-
-/// What a forwarder stands for: an export of another library.
-#[repr(C)]
-#[derive(Clone, Copy, Default)]
-pub struct Forwarder<'a> {
-    /// The library, without its ending.
-    pub lib: Slice<'a>,
-    /// Of a forwarder by name the export's name in that library.
-    pub name: Slice<'a>,
-    /// Of a forwarder by ordinal the export's ordinal in that library.
-    pub ordinal: usize,
-    /// Which of the two it is, by the numbers of `Forwards`.
-    pub forwards: u32,
-    /// Zero. It stands where padding would be, so that each byte of the record is defined.
-    pub reserved: u32,
-}
-
-/// The data of a section, as it is in memory.
-#[repr(C)]
-#[derive(Clone, Copy, Default)]
-pub struct SectionData<'a> {
-    /// The bytes that the file has of it.
-    pub bytes: Slice<'a>,
-    /// How many zeros follow them.
-    pub zeros: usize,
-}
-
-/// An object as a whole.
-#[repr(C)]
-#[derive(Clone, Copy, Default, Debug, PartialEq, Eq, PartialOrd, Ord, Hash)]
-pub struct Object {
-    /// How many sections there are, whatever the room.
-    pub sections: usize,
-    /// The COFF header.
-    pub coff_header: CoffHeader,
-}
-
-/// Where the symbol table and the string table of an image or an object lie. An offset of 0 says
-/// that there are none.
-#[repr(C)]
-#[derive(Clone, Copy, Default, Debug, PartialEq, Eq, PartialOrd, Ord, Hash)]
-pub struct SymbolTable {
-    /// The file offset of the first record of the symbol table, in bytes; 0 where there is none.
-    pub offset: u32,
-    /// How many records it has, the auxiliary ones too.
-    pub record_count: u32,
-    /// The file offset of the texts of the string table, in bytes: after the four of its length.
-    pub strings_offset: usize,
-    /// How many bytes these texts have.
-    pub strings_length: usize,
-}
-
-/// A symbol, as its record describes it.
-///
-/// Source: PE Format, "COFF Symbol Table". Numbers are as stored; a record has 18 bytes, and `at`
-/// gives a field's offset in it.
-#[repr(C)]
-#[derive(Clone, Copy, Default, Debug, PartialEq, Eq, PartialOrd, Ord, Hash)]
-pub struct Symbol {
-    /// The eight bytes of the name, padded with NULs, at 0. Where the first is 0, the name is in
-    /// the string table, at the number in the last four, which counts from the table's length
-    /// field.
-    pub name: [u8; 8],
-    /// What the symbol stands for, by its section and class, at 8: mostly an offset in its section,
-    /// in bytes.
-    pub value: u32,
-    /// The number of its section, counted from 1, at 12; or `IMAGE_SYM_UNDEFINED` (0),
-    /// `IMAGE_SYM_ABSOLUTE` (-1) or `IMAGE_SYM_DEBUG` (-2).
-    pub section_number: i16,
-    /// Its type, at 14: an `IMAGE_SYM_TYPE_*` in the low four bits, an `IMAGE_SYM_DTYPE_*` above
-    /// them. Microsoft's tools store 0x20 of a function, else 0.
-    pub typ: u16,
-    /// Its class, an `IMAGE_SYM_CLASS_*`, at 16.
-    pub storage_class: u8,
-    /// How many auxiliary records follow it, at 17. The next symbol follows these.
-    pub number_of_aux_symbols: u8,
-}
-
-/// A symbol with its name and the bytes of its auxiliary records.
-#[repr(C)]
-#[derive(Clone, Copy, Default)]
-pub struct NamedSymbol<'a> {
-    /// The name, from the record or the string table, where it can be read.
-    pub name: Slice<'a>,
-    /// The records that follow it and say more, 18 bytes each: as many as it says, or fewer where
-    /// the table ends before.
-    pub auxiliary: Slice<'a>,
-    /// The index of its record in the symbol table, which also counts auxiliary records.
-    pub index: usize,
-    /// The symbol, as its record describes it.
-    pub symbol: Symbol,
-    /// Whether the name can be read.
-    pub has_name: bool,
-}
-
-/// A relocation of a COFF object: which bytes of a section a linker changes, and how.
-///
-/// Source: PE Format, "COFF Relocations (Object Only)". Numbers are as stored; the record has 10
-/// bytes, and `at` gives a field's offset in it.
-#[repr(C)]
-#[derive(Clone, Copy, Default, Debug, PartialEq, Eq, PartialOrd, Ord, Hash)]
-pub struct Relocation {
-    /// Where the bytes that are changed begin, at 0: their offset in the section, in bytes, plus
-    /// the section's own address, which is mostly 0. Of the first relocation of a section with
-    /// `IMAGE_SCN_LNK_NRELOC_OVFL` it is the number of all.
-    pub virtual_address: u32,
-    /// The index in the symbol table of the symbol whose address is put there, at 4.
-    pub symbol_table_index: u32,
-    /// How it is put there, at 8: an `IMAGE_REL_*` of the machine that the COFF header names.
-    pub typ: u16,
-}
-
-/// The header of a Terse Executable.
-///
-/// Source: UEFI Platform Initialization Specification, volume 1, "TE Image". Numbers are as stored,
-/// but for the four that are adjusted when it is read; the record has 40 bytes, and `at` gives a
-/// field's offset in it. It replaces the headers of a PE file and keeps what a loader of firmware
-/// needs of them; its addresses still count the bytes that were stripped.
-#[repr(C)]
-#[derive(Clone, Copy, Default, Debug, PartialEq, Eq, PartialOrd, Ord, Hash)]
-pub struct TeHeader {
-    /// `VZ`, at 0. No reader tests it.
-    pub signature: u16,
-    /// The machine that the file is for, a `COFF_MACHINE_*`, at 2.
-    pub machine: u16,
-    /// How many section records follow, at 4.
-    pub number_of_sections: u8,
-    /// The subsystem that runs the image, at 5.
-    pub subsystem: u8,
-    /// How many bytes were stripped from the front of the PE file, at 6. This header replaces them,
-    /// so everything after it moved forward by this minus 40.
-    pub stripped_size: u16,
-    /// The address of the entry point, relative to the image's base, at 8; in a header that was
-    /// parsed, adjusted.
-    pub entry_point: u32,
-    /// The address at which the code begins, relative to the image's base, at 12; in a header that
-    /// was parsed, adjusted.
-    pub base_of_code: u32,
-    /// The address at which the image is best loaded, at 16; as stored.
-    pub image_base: u64,
-    /// Where the base relocations lie, at 24; in a header that was parsed, with the address
-    /// adjusted.
-    pub reloc_dir: DataDirectory,
-    /// Where the debug data lies, at 32; in a header that was parsed, with the address adjusted.
-    pub debug_dir: DataDirectory,
-}
-
-/// A word of a block of base relocations: which bytes a loader changes, and how.
-///
-/// Source: PE Format, "Base Relocation Block".
-#[repr(C)]
-#[derive(Clone, Copy, Default, Debug, PartialEq, Eq, PartialOrd, Ord, Hash)]
-pub struct Word {
-    /// Where the bytes begin: their address, relative to the image's base.
-    pub rva: usize,
-    /// How they are changed, an `IMAGE_REL_BASED_*`. Type 0 changes nothing and fills up a block.
-    pub typ: u32,
-    /// Zero. It stands where padding would be, so that each byte of the record is defined.
-    pub reserved: u32,
-}
-
 impl Options {
     // Strictly, with addresses mapped by the sections from their raw pointers as stored, and imports.
     pub(crate) const DEFAULT: Options = Options {
@@ -896,11 +952,140 @@ const _: () = {
     assert!(offset_of!(Fault, cause) == 4);
     assert!(offset_of!(Fault, first) == 8);
     assert!(offset_of!(Fault, second) == 16);
+    assert!(size_of::<Section>() == 64 && align_of::<Section>() == 8);
+    assert!(offset_of!(Section, real_name) == 0);
+    assert!(offset_of!(Section, name) == 16);
+    assert!(offset_of!(Section, virtual_size) == 24);
+    assert!(offset_of!(Section, virtual_address) == 28);
+    assert!(offset_of!(Section, size_of_raw_data) == 32);
+    assert!(offset_of!(Section, pointer_to_raw_data) == 36);
+    assert!(offset_of!(Section, pointer_to_relocations) == 40);
+    assert!(offset_of!(Section, pointer_to_linenumbers) == 44);
+    assert!(offset_of!(Section, number_of_relocations) == 48);
+    assert!(offset_of!(Section, number_of_linenumbers) == 50);
+    assert!(offset_of!(Section, characteristics) == 52);
+    assert!(offset_of!(Section, has_real_name) == 56);
     assert!(size_of::<Options>() == 4 && align_of::<Options>() == 1);
     assert!(offset_of!(Options, is_permissive) == 0);
     assert!(offset_of!(Options, resolve_rva) == 1);
     assert!(offset_of!(Options, raw_pointer_rule) == 2);
     assert!(offset_of!(Options, parse_imports) == 3);
+    assert!(size_of::<Image>() == 40 && align_of::<Image>() == 8);
+    assert!(offset_of!(Image, bytes) == 0);
+    assert!(offset_of!(Image, sections) == 16);
+    assert!(offset_of!(Image, file_alignment) == 32);
+    assert!(offset_of!(Image, options) == 36);
+    assert!(size_of::<Forwarder>() == 48 && align_of::<Forwarder>() == 8);
+    assert!(offset_of!(Forwarder, lib) == 0);
+    assert!(offset_of!(Forwarder, name) == 16);
+    assert!(offset_of!(Forwarder, ordinal) == 32);
+    assert!(offset_of!(Forwarder, forwards) == 40);
+    assert!(offset_of!(Forwarder, reserved) == 44);
+    assert!(size_of::<SectionData>() == 24 && align_of::<SectionData>() == 8);
+    assert!(offset_of!(SectionData, bytes) == 0);
+    assert!(offset_of!(SectionData, zeros) == 16);
+    assert!(size_of::<ImportDirectoryEntry>() == 20 && align_of::<ImportDirectoryEntry>() == 4);
+    assert!(offset_of!(ImportDirectoryEntry, import_lookup_table_rva) == 0);
+    assert!(offset_of!(ImportDirectoryEntry, time_date_stamp) == 4);
+    assert!(offset_of!(ImportDirectoryEntry, forwarder_chain) == 8);
+    assert!(offset_of!(ImportDirectoryEntry, name_rva) == 12);
+    assert!(offset_of!(ImportDirectoryEntry, import_address_table_rva) == 16);
+    assert!(size_of::<CoffHeader>() == 20 && align_of::<CoffHeader>() == 4);
+    assert!(offset_of!(CoffHeader, machine) == 0);
+    assert!(offset_of!(CoffHeader, number_of_sections) == 2);
+    assert!(offset_of!(CoffHeader, time_date_stamp) == 4);
+    assert!(offset_of!(CoffHeader, pointer_to_symbol_table) == 8);
+    assert!(offset_of!(CoffHeader, number_of_symbol_table) == 12);
+    assert!(offset_of!(CoffHeader, size_of_optional_header) == 16);
+    assert!(offset_of!(CoffHeader, characteristics) == 18);
+    assert!(size_of::<Object>() == 32 && align_of::<Object>() == 8);
+    assert!(offset_of!(Object, sections) == 0);
+    assert!(offset_of!(Object, coff_header) == 8);
+    assert!(size_of::<SymbolTable>() == 24 && align_of::<SymbolTable>() == 8);
+    assert!(offset_of!(SymbolTable, offset) == 0);
+    assert!(offset_of!(SymbolTable, record_count) == 4);
+    assert!(offset_of!(SymbolTable, strings_offset) == 8);
+    assert!(offset_of!(SymbolTable, strings_length) == 16);
+    assert!(size_of::<Symbol>() == 20 && align_of::<Symbol>() == 4);
+    assert!(offset_of!(Symbol, name) == 0);
+    assert!(offset_of!(Symbol, value) == 8);
+    assert!(offset_of!(Symbol, section_number) == 12);
+    assert!(offset_of!(Symbol, typ) == 14);
+    assert!(offset_of!(Symbol, storage_class) == 16);
+    assert!(offset_of!(Symbol, number_of_aux_symbols) == 17);
+    assert!(size_of::<NamedSymbol>() == 64 && align_of::<NamedSymbol>() == 8);
+    assert!(offset_of!(NamedSymbol, name) == 0);
+    assert!(offset_of!(NamedSymbol, auxiliary) == 16);
+    assert!(offset_of!(NamedSymbol, index) == 32);
+    assert!(offset_of!(NamedSymbol, symbol) == 40);
+    assert!(offset_of!(NamedSymbol, has_name) == 60);
+    assert!(size_of::<Relocation>() == 12 && align_of::<Relocation>() == 4);
+    assert!(offset_of!(Relocation, virtual_address) == 0);
+    assert!(offset_of!(Relocation, symbol_table_index) == 4);
+    assert!(offset_of!(Relocation, typ) == 8);
+    assert!(size_of::<DataDirectory>() == 8 && align_of::<DataDirectory>() == 4);
+    assert!(offset_of!(DataDirectory, virtual_address) == 0);
+    assert!(offset_of!(DataDirectory, size) == 4);
+    assert!(size_of::<TeHeader>() == 40 && align_of::<TeHeader>() == 8);
+    assert!(offset_of!(TeHeader, signature) == 0);
+    assert!(offset_of!(TeHeader, machine) == 2);
+    assert!(offset_of!(TeHeader, number_of_sections) == 4);
+    assert!(offset_of!(TeHeader, subsystem) == 5);
+    assert!(offset_of!(TeHeader, stripped_size) == 6);
+    assert!(offset_of!(TeHeader, entry_point) == 8);
+    assert!(offset_of!(TeHeader, base_of_code) == 12);
+    assert!(offset_of!(TeHeader, image_base) == 16);
+    assert!(offset_of!(TeHeader, reloc_dir) == 24);
+    assert!(offset_of!(TeHeader, debug_dir) == 32);
+    assert!(size_of::<Places>() == 48 && align_of::<Places>() == 8);
+    assert!(offset_of!(Places, section_table) == 0);
+    assert!(offset_of!(Places, exports) == 8);
+    assert!(offset_of!(Places, imports) == 16);
+    assert!(offset_of!(Places, relocations) == 24);
+    assert!(offset_of!(Places, file_alignment) == 32);
+    assert!(offset_of!(Places, number_of_sections) == 36);
+    assert!(offset_of!(Places, magic) == 38);
+    assert!(offset_of!(Places, has_exports) == 40);
+    assert!(offset_of!(Places, has_imports) == 41);
+    assert!(offset_of!(Places, has_relocations) == 42);
+    assert!(size_of::<ImportPosition>() == 16 && align_of::<ImportPosition>() == 8);
+    assert!(offset_of!(ImportPosition, record_offset) == 0);
+    assert!(offset_of!(ImportPosition, slot_offset) == 8);
+    assert!(size_of::<Import>() == 64 && align_of::<Import>() == 8);
+    assert!(offset_of!(Import, name) == 0);
+    assert!(offset_of!(Import, dll) == 16);
+    assert!(offset_of!(Import, slot_rva) == 32);
+    assert!(offset_of!(Import, rva) == 40);
+    assert!(offset_of!(Import, slot) == 48);
+    assert!(offset_of!(Import, ordinal) == 56);
+    assert!(offset_of!(Import, is_by_name) == 58);
+    assert!(offset_of!(Import, reserved) == 59);
+    assert!(offset_of!(Import, reserved2) == 60);
+    assert!(size_of::<Export>() == 96 && align_of::<Export>() == 8);
+    assert!(offset_of!(Export, name) == 0);
+    assert!(offset_of!(Export, forward_lib) == 16);
+    assert!(offset_of!(Export, forward_name) == 32);
+    assert!(offset_of!(Export, forward_ordinal) == 48);
+    assert!(offset_of!(Export, ordinal) == 56);
+    assert!(offset_of!(Export, hint) == 64);
+    assert!(offset_of!(Export, offset) == 72);
+    assert!(offset_of!(Export, rva) == 80);
+    assert!(offset_of!(Export, has_name) == 88);
+    assert!(offset_of!(Export, has_offset) == 89);
+    assert!(offset_of!(Export, forwards) == 90);
+    assert!(offset_of!(Export, reserved) == 91);
+    assert!(offset_of!(Export, reserved2) == 92);
+    assert!(size_of::<ExportAddress>() == 8 && align_of::<ExportAddress>() == 4);
+    assert!(offset_of!(ExportAddress, rva) == 0);
+    assert!(offset_of!(ExportAddress, forwards) == 4);
+    assert!(size_of::<Block>() == 24 && align_of::<Block>() == 8);
+    assert!(offset_of!(Block, words) == 0);
+    assert!(offset_of!(Block, rva) == 16);
+    assert!(offset_of!(Block, size) == 20);
+    assert!(size_of::<Word>() == 16 && align_of::<Word>() == 8);
+    assert!(offset_of!(Word, rva) == 0);
+    assert!(offset_of!(Word, typ) == 8);
+    assert!(offset_of!(Word, reserved) == 12);
     assert!(size_of::<StandardFields>() == 56 && align_of::<StandardFields>() == 8);
     assert!(offset_of!(StandardFields, magic) == 0);
     assert!(offset_of!(StandardFields, major_linker_version) == 2);
@@ -970,27 +1155,17 @@ const _: () = {
     assert!(offset_of!(DosHeader, oem_info) == 38);
     assert!(offset_of!(DosHeader, reserved2) == 40);
     assert!(offset_of!(DosHeader, pe_pointer) == 60);
-    assert!(size_of::<CoffHeader>() == 20 && align_of::<CoffHeader>() == 4);
-    assert!(offset_of!(CoffHeader, machine) == 0);
-    assert!(offset_of!(CoffHeader, number_of_sections) == 2);
-    assert!(offset_of!(CoffHeader, time_date_stamp) == 4);
-    assert!(offset_of!(CoffHeader, pointer_to_symbol_table) == 8);
-    assert!(offset_of!(CoffHeader, number_of_symbol_table) == 12);
-    assert!(offset_of!(CoffHeader, size_of_optional_header) == 16);
-    assert!(offset_of!(CoffHeader, characteristics) == 18);
-    assert!(size_of::<File>() == 376 && align_of::<File>() == 8);
+    assert!(size_of::<File>() == 424 && align_of::<File>() == 8);
     assert!(offset_of!(File, optional_header) == 0);
     assert!(offset_of!(File, directories) == 144);
     assert!(offset_of!(File, sections) == 152);
-    assert!(offset_of!(File, imports) == 160);
-    assert!(offset_of!(File, exports) == 176);
-    assert!(offset_of!(File, relocations) == 192);
-    assert!(offset_of!(File, rich_header) == 232);
-    assert!(offset_of!(File, dos_header) == 288);
-    assert!(offset_of!(File, coff_header) == 352);
-    assert!(size_of::<DataDirectory>() == 8 && align_of::<DataDirectory>() == 4);
-    assert!(offset_of!(DataDirectory, virtual_address) == 0);
-    assert!(offset_of!(DataDirectory, size) == 4);
+    assert!(offset_of!(File, places) == 160);
+    assert!(offset_of!(File, imports) == 208);
+    assert!(offset_of!(File, exports) == 224);
+    assert!(offset_of!(File, relocations) == 240);
+    assert!(offset_of!(File, rich_header) == 280);
+    assert!(offset_of!(File, dos_header) == 336);
+    assert!(offset_of!(File, coff_header) == 400);
     assert!(size_of::<Directory>() == 24 && align_of::<Directory>() == 8);
     assert!(offset_of!(Directory, end) == 0);
     assert!(offset_of!(Directory, directory) == 8);
@@ -999,50 +1174,6 @@ const _: () = {
     assert!(offset_of!(RichMetadata, build) == 0);
     assert!(offset_of!(RichMetadata, product) == 2);
     assert!(offset_of!(RichMetadata, use_count) == 4);
-    assert!(size_of::<Section>() == 64 && align_of::<Section>() == 8);
-    assert!(offset_of!(Section, real_name) == 0);
-    assert!(offset_of!(Section, name) == 16);
-    assert!(offset_of!(Section, virtual_size) == 24);
-    assert!(offset_of!(Section, virtual_address) == 28);
-    assert!(offset_of!(Section, size_of_raw_data) == 32);
-    assert!(offset_of!(Section, pointer_to_raw_data) == 36);
-    assert!(offset_of!(Section, pointer_to_relocations) == 40);
-    assert!(offset_of!(Section, pointer_to_linenumbers) == 44);
-    assert!(offset_of!(Section, number_of_relocations) == 48);
-    assert!(offset_of!(Section, number_of_linenumbers) == 50);
-    assert!(offset_of!(Section, characteristics) == 52);
-    assert!(offset_of!(Section, has_real_name) == 56);
-    assert!(size_of::<Import>() == 64 && align_of::<Import>() == 8);
-    assert!(offset_of!(Import, name) == 0);
-    assert!(offset_of!(Import, dll) == 16);
-    assert!(offset_of!(Import, slot_rva) == 32);
-    assert!(offset_of!(Import, rva) == 40);
-    assert!(offset_of!(Import, slot) == 48);
-    assert!(offset_of!(Import, ordinal) == 56);
-    assert!(offset_of!(Import, is_by_name) == 58);
-    assert!(offset_of!(Import, reserved) == 59);
-    assert!(offset_of!(Import, reserved2) == 60);
-    assert!(size_of::<Export>() == 96 && align_of::<Export>() == 8);
-    assert!(offset_of!(Export, name) == 0);
-    assert!(offset_of!(Export, forward_lib) == 16);
-    assert!(offset_of!(Export, forward_name) == 32);
-    assert!(offset_of!(Export, forward_ordinal) == 48);
-    assert!(offset_of!(Export, ordinal) == 56);
-    assert!(offset_of!(Export, hint) == 64);
-    assert!(offset_of!(Export, offset) == 72);
-    assert!(offset_of!(Export, rva) == 80);
-    assert!(offset_of!(Export, has_name) == 88);
-    assert!(offset_of!(Export, has_offset) == 89);
-    assert!(offset_of!(Export, forwards) == 90);
-    assert!(offset_of!(Export, reserved) == 91);
-    assert!(offset_of!(Export, reserved2) == 92);
-    assert!(size_of::<ExportAddress>() == 8 && align_of::<ExportAddress>() == 4);
-    assert!(offset_of!(ExportAddress, rva) == 0);
-    assert!(offset_of!(ExportAddress, forwards) == 4);
-    assert!(size_of::<Block>() == 24 && align_of::<Block>() == 8);
-    assert!(offset_of!(Block, words) == 0);
-    assert!(offset_of!(Block, rva) == 16);
-    assert!(offset_of!(Block, size) == 20);
     assert!(size_of::<ExportDirectoryTable>() == 40 && align_of::<ExportDirectoryTable>() == 4);
     assert!(offset_of!(ExportDirectoryTable, export_flags) == 0);
     assert!(offset_of!(ExportDirectoryTable, time_date_stamp) == 4);
@@ -1068,16 +1199,14 @@ const _: () = {
     assert!(offset_of!(Tables, blocks) == 80);
     assert!(offset_of!(Tables, export_directory) == 96);
     assert!(offset_of!(Tables, dos_stub) == 160);
-    assert!(size_of::<Layout>() == 264 && align_of::<Layout>() == 8);
+    assert!(size_of::<Layout>() == 312 && align_of::<Layout>() == 8);
     assert!(offset_of!(Layout, optional_header) == 0);
     assert!(offset_of!(Layout, directories) == 144);
     assert!(offset_of!(Layout, sections) == 152);
-    assert!(offset_of!(Layout, dos_header) == 160);
-    assert!(offset_of!(Layout, coff_header) == 224);
-    assert!(offset_of!(Layout, dos_stub) == 248);
-    assert!(size_of::<ImportPosition>() == 16 && align_of::<ImportPosition>() == 8);
-    assert!(offset_of!(ImportPosition, record_offset) == 0);
-    assert!(offset_of!(ImportPosition, slot_offset) == 8);
+    assert!(offset_of!(Layout, places) == 160);
+    assert!(offset_of!(Layout, dos_header) == 208);
+    assert!(offset_of!(Layout, coff_header) == 272);
+    assert!(offset_of!(Layout, dos_stub) == 296);
     assert!(size_of::<Damage>() == 144 && align_of::<Damage>() == 8);
     assert!(offset_of!(Damage, dos_stub) == 0);
     assert!(offset_of!(Damage, section_names) == 24);
@@ -1092,60 +1221,6 @@ const _: () = {
     assert!(offset_of!(Range, length) == 8);
     assert!(size_of::<Ranges>() == 16 && align_of::<Ranges>() == 8);
     assert!(offset_of!(Ranges, ranges) == 0);
-    assert!(size_of::<Image>() == 40 && align_of::<Image>() == 8);
-    assert!(offset_of!(Image, bytes) == 0);
-    assert!(offset_of!(Image, sections) == 16);
-    assert!(offset_of!(Image, file_alignment) == 32);
-    assert!(offset_of!(Image, options) == 36);
-    assert!(size_of::<Forwarder>() == 48 && align_of::<Forwarder>() == 8);
-    assert!(offset_of!(Forwarder, lib) == 0);
-    assert!(offset_of!(Forwarder, name) == 16);
-    assert!(offset_of!(Forwarder, ordinal) == 32);
-    assert!(offset_of!(Forwarder, forwards) == 40);
-    assert!(offset_of!(Forwarder, reserved) == 44);
-    assert!(size_of::<SectionData>() == 24 && align_of::<SectionData>() == 8);
-    assert!(offset_of!(SectionData, bytes) == 0);
-    assert!(offset_of!(SectionData, zeros) == 16);
-    assert!(size_of::<Object>() == 32 && align_of::<Object>() == 8);
-    assert!(offset_of!(Object, sections) == 0);
-    assert!(offset_of!(Object, coff_header) == 8);
-    assert!(size_of::<SymbolTable>() == 24 && align_of::<SymbolTable>() == 8);
-    assert!(offset_of!(SymbolTable, offset) == 0);
-    assert!(offset_of!(SymbolTable, record_count) == 4);
-    assert!(offset_of!(SymbolTable, strings_offset) == 8);
-    assert!(offset_of!(SymbolTable, strings_length) == 16);
-    assert!(size_of::<Symbol>() == 20 && align_of::<Symbol>() == 4);
-    assert!(offset_of!(Symbol, name) == 0);
-    assert!(offset_of!(Symbol, value) == 8);
-    assert!(offset_of!(Symbol, section_number) == 12);
-    assert!(offset_of!(Symbol, typ) == 14);
-    assert!(offset_of!(Symbol, storage_class) == 16);
-    assert!(offset_of!(Symbol, number_of_aux_symbols) == 17);
-    assert!(size_of::<NamedSymbol>() == 64 && align_of::<NamedSymbol>() == 8);
-    assert!(offset_of!(NamedSymbol, name) == 0);
-    assert!(offset_of!(NamedSymbol, auxiliary) == 16);
-    assert!(offset_of!(NamedSymbol, index) == 32);
-    assert!(offset_of!(NamedSymbol, symbol) == 40);
-    assert!(offset_of!(NamedSymbol, has_name) == 60);
-    assert!(size_of::<Relocation>() == 12 && align_of::<Relocation>() == 4);
-    assert!(offset_of!(Relocation, virtual_address) == 0);
-    assert!(offset_of!(Relocation, symbol_table_index) == 4);
-    assert!(offset_of!(Relocation, typ) == 8);
-    assert!(size_of::<TeHeader>() == 40 && align_of::<TeHeader>() == 8);
-    assert!(offset_of!(TeHeader, signature) == 0);
-    assert!(offset_of!(TeHeader, machine) == 2);
-    assert!(offset_of!(TeHeader, number_of_sections) == 4);
-    assert!(offset_of!(TeHeader, subsystem) == 5);
-    assert!(offset_of!(TeHeader, stripped_size) == 6);
-    assert!(offset_of!(TeHeader, entry_point) == 8);
-    assert!(offset_of!(TeHeader, base_of_code) == 12);
-    assert!(offset_of!(TeHeader, image_base) == 16);
-    assert!(offset_of!(TeHeader, reloc_dir) == 24);
-    assert!(offset_of!(TeHeader, debug_dir) == 32);
-    assert!(size_of::<Word>() == 16 && align_of::<Word>() == 8);
-    assert!(offset_of!(Word, rva) == 0);
-    assert!(offset_of!(Word, typ) == 8);
-    assert!(offset_of!(Word, reserved) == 12);
 };
 
 #[rustfmt::skip]
@@ -1185,65 +1260,6 @@ unsafe extern "C" {
 
     pub fn goblin_pe_raw_fault_text(fault: &Fault, text: *mut u8, text_room: usize) -> usize;
 
-    pub safe fn goblin_pe_interface() -> u32;
-
-    pub fn goblin_pe_raw_kind_of(bytes: *const u8, byte_count: usize) -> u32;
-
-    pub fn goblin_pe_raw_open(
-        bytes: *const u8,
-        byte_count: usize,
-        options: &Options,
-        file: &mut File,
-        directories: *mut Directory,
-        directory_room: usize,
-        tables: &mut Tables<'_>,
-    ) -> Fault;
-
-    pub fn goblin_pe_raw_read_layout<'a>(
-        bytes: *const u8,
-        byte_count: usize,
-        options: &Options,
-        layout: &mut Layout<'a>,
-        directories: *mut Directory,
-        directory_room: usize,
-        sections: *mut Section<'a>,
-        section_room: usize,
-    ) -> Fault;
-
-    pub fn goblin_pe_raw_next_imports(
-        bytes: *const u8,
-        byte_count: usize,
-        options: &Options,
-        position: &mut ImportPosition,
-        records: *mut Import<'_>,
-        record_room: usize,
-        count: &mut usize,
-    ) -> Fault;
-
-    pub fn goblin_pe_raw_next_exports(
-        bytes: *const u8,
-        byte_count: usize,
-        options: &Options,
-        position: &mut usize,
-        records: *mut Export<'_>,
-        record_room: usize,
-        count: &mut usize,
-    ) -> Fault;
-
-    pub fn goblin_pe_raw_read_damage(
-        bytes: *const u8,
-        byte_count: usize,
-        options: &Options,
-        damage: &mut Damage,
-    ) -> Fault;
-
-    pub fn goblin_pe_raw_footprint(
-        bytes: *const u8,
-        byte_count: usize,
-        options: &Options,
-        ranges: &mut Ranges<'_>,
-    ) -> Fault;
-
     pub fn goblin_pe_raw_forwarder_at<'a>(
         image: &Image<'_, 'a>,
         rva: usize,
@@ -1274,6 +1290,13 @@ unsafe extern "C" {
         section: &Section<'_>,
         contents: &mut SectionData<'a>,
     ) -> Fault;
+
+    pub fn goblin_pe_raw_import_record_at(
+        bytes: *const u8,
+        byte_count: usize,
+        offset: usize,
+        record: &mut ImportDirectoryEntry,
+    ) -> bool;
 
     pub fn goblin_pe_raw_section_at(image: &Image<'_, '_>, rva: usize, index: &mut usize) -> bool;
 
@@ -1337,6 +1360,50 @@ unsafe extern "C" {
         section_room: usize,
     ) -> Fault;
 
+    pub fn goblin_pe_raw_next_imports(
+        bytes: *const u8,
+        byte_count: usize,
+        options: &Options,
+        places: &Places,
+        position: &mut ImportPosition,
+        records: *mut Import<'_>,
+        record_room: usize,
+        count: &mut usize,
+    ) -> Fault;
+
+    pub fn goblin_pe_raw_next_exports(
+        bytes: *const u8,
+        byte_count: usize,
+        options: &Options,
+        places: &Places,
+        position: &mut usize,
+        records: *mut Export<'_>,
+        record_room: usize,
+        count: &mut usize,
+    ) -> Fault;
+
+    pub fn goblin_pe_raw_next_export_addresses(
+        bytes: *const u8,
+        byte_count: usize,
+        options: &Options,
+        places: &Places,
+        position: &mut usize,
+        records: *mut ExportAddress,
+        record_room: usize,
+        count: &mut usize,
+    ) -> Fault;
+
+    pub fn goblin_pe_raw_next_blocks(
+        bytes: *const u8,
+        byte_count: usize,
+        options: &Options,
+        places: &Places,
+        position: &mut usize,
+        records: *mut Block<'_>,
+        record_room: usize,
+        count: &mut usize,
+    ) -> Fault;
+
     pub fn goblin_pe_raw_next_relocations(
         bytes: *const u8,
         byte_count: usize,
@@ -1353,6 +1420,45 @@ unsafe extern "C" {
         words: *mut Word,
         word_room: usize,
     ) -> usize;
+
+    pub safe fn goblin_pe_interface() -> u32;
+
+    pub fn goblin_pe_raw_kind_of(bytes: *const u8, byte_count: usize) -> u32;
+
+    pub fn goblin_pe_raw_open(
+        bytes: *const u8,
+        byte_count: usize,
+        options: &Options,
+        file: &mut File,
+        directories: *mut Directory,
+        directory_room: usize,
+        tables: &mut Tables<'_>,
+    ) -> Fault;
+
+    pub fn goblin_pe_raw_read_layout<'a>(
+        bytes: *const u8,
+        byte_count: usize,
+        options: &Options,
+        layout: &mut Layout<'a>,
+        directories: *mut Directory,
+        directory_room: usize,
+        sections: *mut Section<'a>,
+        section_room: usize,
+    ) -> Fault;
+
+    pub fn goblin_pe_raw_read_damage(
+        bytes: *const u8,
+        byte_count: usize,
+        options: &Options,
+        damage: &mut Damage,
+    ) -> Fault;
+
+    pub fn goblin_pe_raw_footprint(
+        bytes: *const u8,
+        byte_count: usize,
+        options: &Options,
+        ranges: &mut Ranges<'_>,
+    ) -> Fault;
 
     pub fn goblin_pe_raw_write_header(
         file: &File,

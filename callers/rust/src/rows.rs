@@ -84,8 +84,8 @@ impl Header<'_> {
     /// stub, the headers after it do not stand at their places.
     ///
     /// # Errors
-    /// Too little room, or a field that does not fit the width of the optional header; nothing is
-    /// written then.
+    /// Too little room, of which [`Header::size`] tells how much is needed, or a field that does not fit the width of
+    /// the optional header; nothing is written then.
     ///
     /// ```no_run
     /// # let bytes = [];
@@ -284,7 +284,7 @@ impl<'a> Section<'a> {
     }
 
     /// The pair (data in the file `bytes`, how many zeros follow it in memory). The data begins at the
-    /// raw pointer as stored. [`Pe::section_data`](crate::Pe::section_data) takes the bytes that were read,
+    /// raw pointer as stored. [`Layout::section_data`](crate::Layout::section_data) takes the bytes that were read,
     /// and begins where the options say.
     ///
     /// # Errors
@@ -452,6 +452,20 @@ impl<'a> Imported<'a> {
     }
 }
 
+impl PartialEq<str> for Imported<'_> {
+    /// Whether it is imported by this name.
+    fn eq(&self, name: &str) -> bool {
+        self.name().is_some_and(|its| its == *name)
+    }
+}
+
+impl PartialEq<&str> for Imported<'_> {
+    /// Whether it is imported by this name.
+    fn eq(&self, name: &&str) -> bool {
+        *self == **name
+    }
+}
+
 impl fmt::Display for Imported<'_> {
     /// The name, or the word `ORDINAL` and the ordinal.
     fn fmt(&self, f: &mut fmt::Formatter<'_>) -> fmt::Result {
@@ -511,6 +525,10 @@ impl<'a> From<&raw::Import<'a>> for Import<'a> {
 pub struct Library<'a> {
     /// The name; empty where permissive mode could not read it.
     pub name: Text<'a>,
+    /// The address of its name, where [`Layout::bytes_at`](crate::Layout::bytes_at) reads one that is not UTF-8.
+    pub name_rva: u32,
+    /// The index of its record in the import directory. Records that are left out count.
+    pub index: usize,
     /// The file offset of its record, of 20 bytes.
     pub record_offset: usize,
     /// 0 where its imports are not bound; else when it was linked, or all ones where its own table says so.
@@ -558,7 +576,7 @@ pub struct Export<'a> {
     pub ordinal: usize,
     /// The index of its name pointer, by which others name it as a hint.
     pub hint: usize,
-    /// The file offset of `rva`, as [`Pe::find_offset`](crate::Pe::find_offset) gives it.
+    /// The file offset of `rva`, as [`Layout::find_offset`](crate::Layout::find_offset) gives it.
     pub offset: Option<usize>,
     /// The address, relative to the image's base; of a forwarder that of its text.
     pub rva: usize,
@@ -593,10 +611,24 @@ pub struct ExportAddress {
     /// The ordinal.
     pub ordinal: usize,
     /// The address, relative to the image's base; of a forwarder that of its text, which
-    /// [`Pe::forwarder_at`](crate::Pe::forwarder_at) reads.
+    /// [`Layout::forwarder_at`](crate::Layout::forwarder_at) reads.
+    pub rva: u32,
+    /// Whether it is a forwarder: [`Pe::walk_export_addresses`](crate::Pe::walk_export_addresses) reads which.
+    pub forwards: bool,
+}
+
+/// An entry of the export address table, with or without a name, and what it stands for in another library.
+#[derive(Clone, Copy, Debug, PartialEq, Eq, PartialOrd, Ord, Hash)]
+#[non_exhaustive]
+pub struct ExportEntry<'a> {
+    /// The ordinal.
+    pub ordinal: usize,
+    /// The address, relative to the image's base; of a forwarder that of its text; 0 where the ordinal is not used.
     pub rva: u32,
     /// Whether it is a forwarder.
     pub forwards: bool,
+    /// What it stands for in another library; `None` where it is no forwarder, and where its text is none.
+    pub forwarder: Option<Forwarder<'a>>,
 }
 
 /// The record of the exports.

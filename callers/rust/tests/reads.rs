@@ -457,13 +457,15 @@ fn libraries_have_records() {
         .map(|it| {
             (
                 it.name,
+                it.index,
                 it.record_offset,
                 it.time_date_stamp,
                 it.forwarder_chain,
+                pe.bytes_at(it.name_rva as usize, 4).unwrap(),
             )
         })
         .collect();
-    assert_eq!(found, [(Text(b"KERNEL32.dll"), record, 1, 2)]);
+    assert_eq!(found, [(Text(b"KERNEL32.dll"), 0, record, 1, 2, &b"KERN"[..])]);
     let bytes = sample("forwarders_x64.dll");
     assert_eq!(Pe::parse(&bytes).unwrap().walk_libraries().count(), 0);
 }
@@ -747,7 +749,31 @@ fn each_forwarder_is_at_its_address() {
     for x in pe.exports() {
         let found = pe.forwarder_at(x.rva).ok();
         assert!(x.forwarder.is_none() || found == x.forwarder);
+        let entry = pe
+            .walk_export_addresses()
+            .find(|it| it.ordinal == x.ordinal);
+        let told = entry.map(|it| (it.rva as usize, it.forwards, it.forwarder));
+        assert_eq!(told, Some((x.rva, x.forwarder.is_some(), x.forwarder)));
     }
+    let addresses = pe.walk_export_addresses().map(|it| (it.ordinal, it.rva));
+    assert!(addresses.eq(pe.export_addresses().map(|it| (it.ordinal, it.rva))));
+}
+
+// What takes a layout takes an image, and what has its lists can give them up.
+#[test]
+fn an_image_is_a_layout_with_its_lists() {
+    fn names<'a>(layout: &Layout<'a>) -> Vec<Text<'a>> {
+        layout.sections().map(|s| s.name).collect()
+    }
+    let bytes = sample("imports_by_name_x64.dll");
+    let pe = Pe::parse(&bytes).unwrap();
+    let layout = Layout::read(&bytes, &Options::default()).unwrap();
+    assert_eq!(names(&pe), names(&layout));
+    assert_eq!(pe.header(), layout.header());
+    let lists_are_gone = Layout::from(pe.clone());
+    drop(pe);
+    assert_eq!(names(&lists_are_gone), names(&layout));
+    assert_eq!(lists_are_gone.clone().find_offset(0x1020), Some(0x420));
 }
 
 #[test]

@@ -6,7 +6,7 @@ use Rattle.std.proofs.lemmas.List.{get_or-take, get_or-drop, get_or-map, length-
 use Rattle.goblin_base.specs.Footprints.{Agree, Covers, Range, slice_footprint}
 use Rattle.goblin_base.specs.Reading.{IsInFile}
 use Rattle.goblin_base.proofs.Footprints.{same-bytes, slice-covers}
-use Rattle.goblin_pe.specs.Callers.{HasPiece, piece_at}
+use Rattle.goblin_pe.specs.Keys.{HasPiece, piece_at}
 
 -- those of two lists of ranges
 pub covers-append : (xs ys : List Range) (p : ℕ) → Covers (xs ++ ys) p → Covers xs p ⊎ Covers ys p

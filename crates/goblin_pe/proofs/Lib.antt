@@ -18,6 +18,7 @@ pub mod Collected
 pub mod ImportParts
 pub mod ImportStarts
 pub mod KeptImports
+pub mod Keys
 pub mod Layouts
 pub mod ListedImports
 pub mod NumberedExports

@@ -27,7 +27,7 @@ use Rattle.goblin_pe.specs.declared.whole.layout.Layout.{Layout}
 use Rattle.goblin_pe_import.proofs.ImportBound.{all_of-length}
 use Rattle.goblin_pe.specs.Damages.{IsDamage, IsDamaged, TellsDamage}
 use Rattle.goblin_pe.specs.Layouts.{IsLayoutOf, layout_map, layout_places}
-use Rattle.goblin_pe.specs.SectionRoom.{TakesIndex}
+use Rattle.goblin_pe.specs.TakenMemory.{TakesIndex}
 use Rattle.goblin_pe.specs.Whole.{TablePlaces, layout, places_in, section_table_offset, sections_after}
 
 -- ---- what is made of a value

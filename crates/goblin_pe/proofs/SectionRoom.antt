@@ -1,4 +1,4 @@
--- Too many sections for a file are told before memory is asked for, so want of memory tells that there is room.
+-- Want of memory for sections tells that there are some, and that the file has room for them.
 use Rattle.std.proofs.Common.{◌≡◌, ◌∙◌, ◌<◌, ◌+◌, ◌*◌, List, [], ℕ, zero, suc, Bool, ap, arith, length, sym}
 use Rattle.std.specs.Prelude.{◌/◌, codes, IfErr, IsErrAnd, IsSomeAnd, Some, Result, Ok, Err}
 use Rattle.goblin_base.specs.declared.error.ErrorOf.{ErrorOf}
@@ -16,30 +16,11 @@ use Rattle.goblin_pe_sect.specs.SectionTable.{Section}
 use Rattle.goblin_pe_head.specs.CoffHeader.{symbols_end}
 use Rattle.goblin_pe_head.specs.CoffReadings.{sections_at, with_room}
 use Rattle.goblin_pe.specs.Whole.{section_table_offset, sections_after}
-use Rattle.goblin_pe.specs.SectionRoom.{HasRoomFor, TakesSections}
-
-short_none : (n room : ℕ) (kind : List ℕ) (e : ErrorOf) → IsMemory e → IsTooShort n kind room e → ⊥
-short_none n room kind (Memory m) h fault = fault
-short_none n room kind e h fault = h
-
-pub has_room : (n : ℕ) (bytes : List ℕ) (e : ErrorOf) → (length bytes / 40 < n → IsTooManySections n bytes e) → IsMemory e → HasRoomFor n bytes
-has_room n bytes e first memory =
-    let enough : ¬ (length bytes / 40 < n) = λ h. short_none n (length bytes / 40) (codes "sections") e memory (first h) in
-    omega arith
-
-pub sections_take : (n : ℕ) (bytes : List ℕ) (e : ErrorOf) → (length bytes / 40 < n → IsTooManySections n bytes e) → (IsMemory e → 0 < n) → IsMemory e → TakesSections n bytes
-sections_take n bytes e first grown memory = (grown memory, has_room n bytes e first memory)
+use Rattle.goblin_pe_head.specs.SectionRoom.{HasRoomFor, TakesSections}
 
 pub te_sections_take : (bytes : List ℕ) (p : ℕ) (h : TeHeader) (e : ErrorOf) → (te_header p).value bytes ≡ Some h
-    → (length bytes / 40 < h.number_of_sections → IsTooManySections h.number_of_sections bytes e)
-    → (IsMemory e → 0 < h.number_of_sections) → IsMemory e → IsSomeAnd ((te_header p).value bytes) (λ header. TakesSections header.number_of_sections bytes)
-te_sections_take bytes p h e is first grown memory = rw is (sections_take h.number_of_sections bytes e first grown memory)
-
--- the same of answers
-pub sections_answer_takes : {A : Type 0} (n : ℕ) (bytes : List ℕ) (result : Result A ErrorOf) → (length bytes / 40 < n → IsErrAnd result (IsTooManySections n bytes))
-    → IfErr result (λ e. IsMemory e → 0 < n) → IfErr result (λ e. IsMemory e → TakesSections n bytes)
-sections_answer_takes n bytes (Ok x) first grown = tt
-sections_answer_takes n bytes (Err e) first grown = sections_take n bytes e first grown
+    → (IsMemory e → TakesSections h.number_of_sections bytes) → IsMemory e → IsSomeAnd ((te_header p).value bytes) (λ header. TakesSections header.number_of_sections bytes)
+te_sections_take bytes p h e is grown memory = rw is (grown memory)
 
 -- a table that has sections has a count of them
 counted : (n : ℕ) (read : ℕ → Reading Section) (bytes : List ℕ) (s : List Section) → (with_room n (each read n)).value bytes ≡ Some s → 0 < length s → 0 < n

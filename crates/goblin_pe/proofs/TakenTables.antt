@@ -18,7 +18,7 @@ use Rattle.goblin_pe_import.proofs.TakenLibraries.{libraries-taken}
 use Rattle.goblin_pe.specs.declared.whole.Part.{Part}
 use Rattle.goblin_pe.specs.declared.whole.Part.TheVariants.{Absent, Refused}
 use Rattle.goblin_pe.specs.declared.whole.Part.TheVariants as part
-use Rattle.goblin_pe.specs.SectionRoom.{TakesImports}
+use Rattle.goblin_pe.specs.TakenMemory.{TakesImports}
 use Rattle.goblin_pe.specs.Whole.{BecomesPart, IsReadAnd, TablePlaces, entry_format, import_data_part}
 use Rattle.goblin_pe.specs.Whole.{part_at, part_of}
 

@@ -14,7 +14,7 @@ use Rattle.goblin_pe_head.specs.HeaderReadings.{header_without_dos}
 use Rattle.goblin_pe_head.specs.PeHeader.{header_value}
 use Rattle.goblin_pe_head.specs.TeReadings.{te_header, te_image}
 use Rattle.goblin_pe.specs.declared.laws.parts.PartsOf.{PartsOf}
-use Rattle.goblin_pe.specs.SectionRoom.{TakesSections}
+use Rattle.goblin_pe_head.specs.SectionRoom.{TakesSections}
 use Rattle.goblin_pe.specs.TwinParts.{AreParts, AreTwinParts, PartsAsked, sections_asked, te_view}
 
 -- a Terse Executable's header is never refused for want of memory

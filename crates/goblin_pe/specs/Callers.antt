@@ -1,8 +1,7 @@
--- Words for callers: one table of a file, a refusal, and pieces of a file.
-use Rattle.std.specs.Prelude.{◌≡◌, ◌≤◌, ℕ, List, Option, None, length, slice_range}
+-- Words for callers: one table of a file, and a refusal.
+use Rattle.std.specs.Prelude.{◌≡◌, ℕ, List, Option, None}
 use Rattle.goblin_base.specs.declared.error.ErrorOf.{ErrorOf}
 use Rattle.goblin_base.specs.ErrorText.{error_text}
-use Rattle.goblin_base.specs.Footprints.{Range}
 use Rattle.goblin_base.specs.Reading.{Reading}
 use Rattle.readings.specs.Reads.{◌>>=◌}
 use Rattle.goblin_pe_sect.specs.declared.options.ParseOptions.{ParseOptions}
@@ -53,16 +52,3 @@ IsRefused reading bytes e = (reading.value bytes ≡ None) × reading.IsCause by
 abbrev pub IsOnlyCause : {A : Type 0} → Reading A → List ℕ → ErrorOf → Type 0
 IsOnlyCause reading bytes e =
     (f : ErrorOf) → reading.IsCause bytes f → error_text f ≡ error_text e
-
--- a piece of a file: its bytes in a range
-abbrev pub Piece : Type 0
-Piece = Range × List ℕ
-
-abbrev pub piece_at : List ℕ → Range → Piece
-piece_at file range = (range, slice_range file range.0 range.1)
-
--- the file has this piece
-abbrev pub HasPiece : List ℕ → Piece → Type 0
-HasPiece file piece =
-    (piece.0.0 ≤ piece.0.1) × (piece.0.1 ≤ length file)
-    × (slice_range file piece.0.0 piece.0.1 ≡ piece.1)

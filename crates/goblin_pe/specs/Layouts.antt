@@ -30,10 +30,6 @@ use Rattle.goblin_pe.specs.Whole.{TablePlaces, places_in, sections_after, table_
 abbrev pub layout_bytes : Layout → List ℕ
 layout_bytes l = l.bytes.now
 
--- its header
-abbrev pub layout_header : Layout → Header
-layout_header l = l.header.now
-
 -- its sections, without their names from the string table
 abbrev pub layout_sections : Layout → List Section
 layout_sections l = recorded_sections l.records
@@ -51,7 +47,6 @@ layout_map l = map_of l.address_map
 pub record IsLayoutOf (opts : ParseOptions) (bytes : List ℕ) (header : Header) (l : Layout) : Type 0
   where
     pub over : layout_bytes l ≡ bytes
-    pub after : layout_header l ≡ header
     pub by : (layout_map l).opts ≡ opts
     pub placed : layout_places l ≡ places_in header.optional_header
     pub mapped : (sections : List Section)

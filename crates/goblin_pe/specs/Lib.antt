@@ -1,11 +1,12 @@
 pub mod Callers
 pub mod Checksums
 pub mod Damages
+pub mod Keys
 pub mod LayoutPositions
 pub mod Layouts
 pub mod Modes
-pub mod SectionRoom
 pub mod TableRuns
+pub mod TakenMemory
 pub mod TwinParts
 pub mod Whole
 -- The definitions of the crates below, so that a caller's clauses name only this crate.
@@ -55,6 +56,7 @@ pub use Rattle.goblin_pe_head.specs.PeHeader
 pub use Rattle.goblin_pe_head.specs.RichHeader
 pub use Rattle.goblin_pe_head.specs.RichMetadata
 pub use Rattle.goblin_pe_head.specs.RichReadings
+pub use Rattle.goblin_pe_head.specs.SectionRoom
 pub use Rattle.goblin_pe_head.specs.TeHeader
 pub use Rattle.goblin_pe_head.specs.TeReadings
 pub use Rattle.goblin_pe_import.specs.ImportBound

@@ -19,7 +19,7 @@ use Rattle.goblin_pe_head.specs.HeaderReadings.{header_without_dos}
 use Rattle.goblin_pe_head.specs.PeHeader.{header_value}
 use Rattle.goblin_pe_head.specs.TeReadings.{te_header, te_image}
 use Rattle.goblin_pe.specs.declared.laws.parts.PartsOf.{PartsOf}
-use Rattle.goblin_pe.specs.SectionRoom.{TakesSections}
+use Rattle.goblin_pe_head.specs.SectionRoom.{TakesSections}
 
 -- what contracts see of a Terse Executable's header and its sections
 abbrev pub te_view : TeHeader × Vec Section Global → TeHeader × List Section

@@ -12,7 +12,8 @@
 //! neither is `Error::Memory`. Nothing is said about equal causes.
 //!
 //! The calls whose names begin with `footprint` list the footprint of a read, as ranges in order that
-//! do not touch; [`mark_whole`] gives the marks from which these of a whole file come.
+//! do not touch; [`mark_whole`] gives the marks from which these of a whole file come, and [`FileKey`]
+//! keeps the bytes there.
 //!
 //! The calls whose names begin with `mode` read one file in both modes, and
 //! [`reorder_whole_tables`] reads it under two tables of sections. Permissive mode repeats what
@@ -21,6 +22,7 @@
 
 mod footprint;
 mod header;
+mod key;
 mod modes;
 mod order;
 mod parts;
@@ -31,6 +33,7 @@ pub use goblin_pe_export::laws::{ExportRead, footprint_exports, twin_exports};
 pub use goblin_pe_head::laws::footprint_header;
 pub use goblin_pe_import::laws::{footprint_imports, twin_imports, twin_lookup};
 pub use header::twin_header;
+pub use key::{FileKey, Piece};
 pub use modes::{mode_header, mode_tables, mode_whole};
 pub use order::{Request, Tables, TablesOf, reorder_whole_tables};
 pub use parts::{Parts, PartsOf, twin_parts};

@@ -20,4 +20,7 @@ pub use goblin_pe_sect::{
 };
 pub use goblin_pe_symbol::symbol;
 pub use image_checksum::checksum;
-pub use whole::{Damage, FileImports, Layout, Part, Whole, section_records_of};
+pub use whole::{
+    Damage, FileImports, Layout, Part, Places, Whole, section_records_of, section_table_offset,
+    sections_of,
+};

@@ -9,7 +9,7 @@ ghost use Rattle.goblin_pe_head.specs.HeaderReadings.{pe_header};
 ghost use Rattle.goblin_pe_head.specs.CoffHeader.{IsTooManySections};
 ghost use Rattle.goblin_pe_sect.specs.Addresses.{map_by, offset_of};
 ghost use Rattle.goblin_pe.specs.Callers.{IsOnlyCause};
-ghost use Rattle.goblin_pe.specs.SectionRoom.{TakesLists};
+ghost use Rattle.goblin_pe.specs.TakenMemory.{TakesLists};
 ghost use Rattle.goblin_pe.specs.Whole.{places_in, whole_file};
 
 use crate::export::{Export, ExportData};
@@ -32,10 +32,9 @@ mod reached;
 
 pub use damage::Damage;
 pub use imports::FileImports;
-use layout::sections_of;
-pub use layout::{Layout, section_records_of};
+pub use layout::{Layout, section_records_of, section_table_offset, sections_of};
 use listed::{ListedTables, export_parts};
-use places::Places;
+pub use places::Places;
 
 /// A table of a file, as [`Whole::read`] found it.
 #[derive(Debug, Drop)]

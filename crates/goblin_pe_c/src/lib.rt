@@ -11,11 +11,12 @@
 mod auxiliary;
 mod checksum;
 mod fault;
-mod file;
 mod forwarder;
 mod image;
+mod import;
 mod look_up;
 mod object;
 mod te;
 mod walk;
-mod write;
+mod whole_file;
+mod writers;

@@ -1,19 +1,172 @@
-//! The calls that walk over the relocations of a section and over the words of a block, from any of
-//! them on. They take no memory.
+//! The calls that walk over a table, from any position on: as many records as there is room for. They
+//! take no memory, but for an index where a file has more than 96 sections.
 
 ghost use Rattle.std.specs.Prelude.{◌≡◌};
+ghost use Rattle.goblin_pe_calls.specs.Batches.{AddressBatch, BlockBatch, ExportBatch, GivesAddresses};
+ghost use Rattle.goblin_pe_calls.specs.Batches.{GivesBatch, GivesBlocks, GivesExports, GivesImports};
+ghost use Rattle.goblin_pe_calls.specs.Batches.{ImportBatch, IsBlocksFault, IsExportsFault};
+ghost use Rattle.goblin_pe_calls.specs.Batches.{IsImportsFault};
 ghost use Rattle.goblin_pe_records.specs.Calls.{ReadsWithout, Reported};
 ghost use Rattle.goblin_pe_records.specs.Onward.{GivesOnward};
+ghost use Rattle.goblin_pe_records.specs.Options.{options_of};
 ghost use Rattle.goblin_pe_records.specs.Relocations.{all_relocations};
 ghost use Rattle.goblin_pe_records.specs.Sections.{section_view};
 ghost use Rattle.goblin_pe_records.specs.Words.{block_words};
 
+use goblin_pe_calls::block::give_blocks;
+use goblin_pe_calls::export::PeExport;
+use goblin_pe_calls::export_directory::{PeExportAddress, give_addresses};
+use goblin_pe_calls::import::PeImport;
+use goblin_pe_calls::next::{PeImportPosition, give_exports, give_imports};
 use goblin_pe_records::block::PeBlock;
 use goblin_pe_records::fault::{PeFault, status_of};
+use goblin_pe_records::options::{PeOptions, options_of};
+use goblin_pe_records::places::PePlaces;
 use goblin_pe_records::relocation::next_relocations;
 use goblin_pe_records::section::PeSection;
 use goblin_pe_records::word::{PeWord, next_words};
 use goblin_pe_sect::relocation::Relocation;
+use std::alloc::Global;
+
+/// Fills `records` with the imports of a file from a position on, as many as there is room for,
+/// says in `count` how many, and leaves in `position` where the next call goes on. With room for
+/// any, a `count` of 0 is the end. Zeros are the position of the first import; a file without an
+/// import directory, or imports that are not asked for, have none, and in permissive mode neither
+/// has a directory without a file offset, or at the offset 0. Where nothing is left, and there
+/// is room for more, the position's `record_offset` is then the greatest number, and its
+/// `slot_offset` 0; without room the position stays.
+///
+/// The sections and the import directory lie where `places` says, as
+/// [`goblin_pe_raw_read_layout`](crate::whole_file::goblin_pe_raw_read_layout) and
+/// [`goblin_pe_raw_open`](crate::whole_file::goblin_pe_raw_open) say of the file; the header is not read
+/// again. Any other places are gone by alike: what they lead to are the records and the directory.
+///
+/// Refused, with nothing changed, is a file that is too short for the records of its sections, where
+/// there are any (the status 4); in strict mode an import directory whose address has no offset, if
+/// the position is the first; and in strict mode the very next import, if there is room for it.
+/// Imports that come before a refusal are given, and the next call is refused; no law says on which
+/// bytes those before a refusal depend. Memory (the status 5) is refused only of a file that has more
+/// than 96 sections, by whose windows addresses are mapped: it is taken for an index of them, and
+/// given back before the call returns.
+#[unsafe(no_mangle)]
+pub extern "C" fn goblin_pe_raw_next_imports<'a>(
+    alloc: Global,
+    bytes: &'a [u8],
+    options: &PeOptions,
+    places: &PePlaces,
+    position: &mut PeImportPosition,
+    records: &mut [PeImport<'a>],
+    count: &mut usize,
+) -> PeFault
+    ensures { let opts = options_of options.now in
+        let old : ImportBatch = record { position = position.old; records = records.old } in
+        let new : ImportBatch = record { position = position.new; records = records.new } in
+        Reported result
+        (GivesBatch opts places.now bytes.now
+        (λ m places. GivesImports m places bytes.now old new count.new)
+        (λ m places. IsImportsFault m places bytes.now old)
+        ((new ≡ old) × (count.new ≡ count.old))) }
+{
+    let opts = options_of(options);
+    status_of(give_imports(alloc, bytes, &opts, places, position, records, count))
+}
+
+/// Fills `records` with the exports of a file from a position on, as many as there is room for,
+/// says in `count` how many, and leaves in `position` where the next call goes on: the index of the
+/// name pointer that is read next, at first 0. With room for any, a `count` of 0 is the end; the
+/// position then stays. A file without an export directory, and in permissive mode one whose
+/// directory is refused, has none. The sections and the directory lie where `places` says, as for
+/// [`goblin_pe_raw_next_imports`].
+///
+/// Refused, with nothing changed, are sections as by that call, and in strict mode the export
+/// directory. Memory as there.
+#[unsafe(no_mangle)]
+pub extern "C" fn goblin_pe_raw_next_exports<'a>(
+    alloc: Global,
+    bytes: &'a [u8],
+    options: &PeOptions,
+    places: &PePlaces,
+    position: &mut usize,
+    records: &mut [PeExport<'a>],
+    count: &mut usize,
+) -> PeFault
+    ensures { let opts = options_of options.now in
+        let old : ExportBatch = record { position = position.old; records = records.old } in
+        let new : ExportBatch = record { position = position.new; records = records.new } in
+        Reported result
+        (GivesBatch opts places.now bytes.now
+        (λ m places. GivesExports m places bytes.now old new count.new)
+        (λ m places. IsExportsFault m places bytes.now)
+        ((new ≡ old) × (count.new ≡ count.old))) }
+{
+    let opts = options_of(options);
+    status_of(give_exports(alloc, bytes, &opts, places, position, records, count))
+}
+
+/// Fills `records` with the entries of the export address table of a file from the index `position` on,
+/// as many as there is room for, says in `count` how many, and moves `position` past them. With room
+/// for any, a `count` of 0 is the end. The index and the ordinal base are the ordinal that an entry
+/// stands for. A file without an export directory, and in permissive mode one whose directory is
+/// refused, has none. The sections and the directory lie where `places` says, as for
+/// [`goblin_pe_raw_next_imports`].
+///
+/// Refused, with nothing changed, are sections as by that call, and in strict mode the export
+/// directory. Memory as there.
+#[unsafe(no_mangle)]
+pub extern "C" fn goblin_pe_raw_next_export_addresses(
+    alloc: Global,
+    bytes: &[u8],
+    options: &PeOptions,
+    places: &PePlaces,
+    position: &mut usize,
+    records: &mut [PeExportAddress],
+    count: &mut usize,
+) -> PeFault
+    ensures { let opts = options_of options.now in
+        let old : AddressBatch = record { position = position.old; records = records.old } in
+        let new : AddressBatch = record { position = position.new; records = records.new } in
+        Reported result
+        (GivesBatch opts places.now bytes.now
+        (λ m places. GivesAddresses m places bytes.now old new count.new)
+        (λ m places. IsExportsFault m places bytes.now)
+        ((new ≡ old) × (count.new ≡ count.old))) }
+{
+    let opts = options_of(options);
+    status_of(give_addresses(alloc, bytes, &opts, places, position, records, count))
+}
+
+/// Fills `records` with the blocks of base relocations of a file from a position on, as many as there is
+/// room for, says in `count` how many, and leaves in `position` where the next call goes on: the offset
+/// in the directory at which the next block begins, at first 0. With room for any, a `count` of 0 is the
+/// end. A file without a directory of base relocations, and in permissive mode one whose directory is
+/// refused, has none. The sections and the directory lie where `places` says, as for
+/// [`goblin_pe_raw_next_imports`].
+///
+/// Refused, with nothing changed, are sections as by that call; in strict mode the directory; and in both
+/// modes a rest that is no block, if it comes next and there is room for a block, by the cause that
+/// [`goblin_pe_raw_open`](crate::whole_file::goblin_pe_raw_open) says of the rest. Memory as there.
+#[unsafe(no_mangle)]
+pub extern "C" fn goblin_pe_raw_next_blocks<'a>(
+    alloc: Global,
+    bytes: &'a [u8],
+    options: &PeOptions,
+    places: &PePlaces,
+    position: &mut usize,
+    records: &mut [PeBlock<'a>],
+    count: &mut usize,
+) -> PeFault
+    ensures { let opts = options_of options.now in
+        let old : BlockBatch = record { position = position.old; records = records.old } in
+        let new : BlockBatch = record { position = position.new; records = records.new } in
+        Reported result
+        (GivesBatch opts places.now bytes.now
+        (λ m places. GivesBlocks m places bytes.now old new count.new)
+        (λ m places. IsBlocksFault m places bytes.now old)
+        ((new ≡ old) × (count.new ≡ count.old))) }
+{
+    let opts = options_of(options);
+    status_of(give_blocks(alloc, bytes, &opts, places, position, records, count))
+}
 
 /// Fills `records` with all relocations of a section of an object from the index `position` on, as
 /// many as there is room for, says in `count` how many these are, and moves `position` past them. Where

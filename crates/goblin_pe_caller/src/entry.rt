@@ -10,7 +10,7 @@ use goblin_pe::header::Header;
 use goblin_pe::optional_header::OptionalHeader;
 use goblin_pe::options::ParseOptions;
 use goblin_pe::section_table::{IMAGE_SCN_MEM_EXECUTE, SectionTable};
-use goblin_pe::{Layout, Result, section_at};
+use goblin_pe::{Result, section_at, sections_of};
 use std::alloc::Global;
 
 /// Whether the entry point of a file lies in a section that may be executed; not where it lies in
@@ -25,8 +25,7 @@ pub fn enters_code(alloc: Global, bytes: &[u8]) -> Result<bool>
 {
     let opts = ParseOptions::default();
     let header = Header::parse(bytes)?;
-    let layout = Layout::of(alloc, bytes, &header, &opts)?;
-    let sections = layout.sections(alloc)?;
+    let sections = sections_of(alloc, bytes, &header, &opts)?;
     Ok(is_entered_in_code(&header.optional_header, &sections))
 }
 

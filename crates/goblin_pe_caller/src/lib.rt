@@ -3,10 +3,10 @@
 #![tactic(auto)]
 
 pub mod entry;
-pub mod footprint;
 pub mod forwarders;
 pub mod imports;
 pub mod report;
 pub mod stamp;
 pub mod tables;
+pub mod verdict;
 pub mod write_execute;

@@ -9,7 +9,7 @@ ghost use Rattle.goblin_pe_caller.specs.Audits.{is_writable_code, writable_code}
 use goblin_pe::header::Header;
 use goblin_pe::options::ParseOptions;
 use goblin_pe::section_table::{IMAGE_SCN_MEM_EXECUTE, IMAGE_SCN_MEM_WRITE, SectionTable};
-use goblin_pe::{Layout, Result};
+use goblin_pe::{Result, sections_of};
 use std::alloc::Global;
 
 /// The sections of a file that may be written and executed, in the order of their records.
@@ -23,8 +23,7 @@ pub fn writable_code(alloc: Global, bytes: &[u8]) -> Result<Vec<SectionTable>>
 {
     let opts = ParseOptions::default();
     let header = Header::parse(bytes)?;
-    let layout = Layout::of(alloc, bytes, &header, &opts)?;
-    let sections = layout.sections(alloc)?;
+    let sections = sections_of(alloc, bytes, &header, &opts)?;
     Ok(kept(sections))
 }
 

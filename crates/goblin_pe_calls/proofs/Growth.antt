@@ -24,7 +24,7 @@ use Rattle.goblin_pe.specs.declared.whole.imports.FileImports.{FileImports}
 use Rattle.goblin_pe.specs.declared.whole.Part.TheVariants.{Absent, Refused}
 use Rattle.goblin_pe_import.specs.declared.import.imports.ImportPosition.{ImportPosition}
 use Rattle.goblin_pe.proofs.SectionRoom.{sections_counted}
-use Rattle.goblin_pe.specs.SectionRoom.{HasRoom}
+use Rattle.goblin_pe_head.specs.SectionRoom.{HasRoom}
 use Rattle.goblin_pe.specs.declared.whole.Part.{Part}
 use Rattle.goblin_pe.specs.declared.whole.Part.TheVariants as part
 use Rattle.goblin_pe.specs.Imports.{ImportValue}

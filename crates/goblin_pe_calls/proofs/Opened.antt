@@ -1,5 +1,5 @@
 -- The records that were collected of a file are those of its imports and its exports.
-use Rattle.std.proofs.Common.{◌≡◌, ◌∙◌, ℕ, List, map, Option, Some, None, refl, sym, ap, subst}
+use Rattle.std.proofs.Common.{◌≡◌, ◌∙◌, ℕ, List, map, Option, Some, None, refl, ap, subst}
 use Rattle.std.specs.Global.{Global}
 use Rattle.std.specs.Prelude.{option_map, Result, Ok, Err, Vec}
 use Rattle.std.proofs.lemmas.List.{length-map}
@@ -9,7 +9,6 @@ use Rattle.goblin_base.specs.Reading.{ReadsOrMemory}
 use Rattle.goblin_base.proofs.Steps as steps
 use Rattle.readings.specs.Reads.{mapped}
 use Rattle.goblin_pe_sect.specs.declared.options.ParseOptions.{ParseOptions}
-use Rattle.goblin_pe_sect.specs.BaseRelocations.{relocation_bytes}
 use Rattle.goblin_pe_sect.specs.Options.{is_strict}
 use Rattle.goblin_pe_sect.specs.SectionTable.{Section, recorded_sections, unnamed}
 use Rattle.goblin_pe_head.specs.declared.header.pe_header.Header.{Header}
@@ -31,10 +30,10 @@ use Rattle.goblin_pe.proofs.Collected.{file_read}
 use Rattle.goblin_pe.proofs.Layouts.{tables-cause, tables-value}
 use Rattle.goblin_pe.proofs.NumberedExports.{rows_of_file}
 use Rattle.goblin_pe_calls.specs.declared.records.FileRecords.{FileRecords}
-use Rattle.goblin_pe_calls.specs.Exports.{ExportsSaid, export_said, exports_said, exports_view}
+use Rattle.goblin_pe_calls.specs.Exports.{ExportsSaid, export_said, exports_said}
 use Rattle.goblin_pe_calls.specs.Exports.{file_exports}
 use Rattle.goblin_pe_calls.specs.Files.{entries_of, table_of}
-use Rattle.goblin_pe_calls.specs.Imports.{import_said, import_views}
+use Rattle.goblin_pe_calls.specs.Imports.{import_said}
 use Rattle.goblin_pe_calls.specs.Opened.{RecordsOfFile, opened_file, records_of_file, records_view, tables_view}
 
 -- ---- tables by what is made of each entry
@@ -161,20 +160,13 @@ module _ (opts : ParseOptions) (bytes : List ℕ) (h : Header)
   pub records-read : map unnamed s ≡ recorded_sections l.records → (r : FileRecords)
       → MakesTables (Ok r) (layout_map l) (layout_places l) l.bytes.now
       → option_map (records_of_file opts bytes) ((whole_file opts).value bytes)
-      ≡ Some (records_view l r)
+      ≡ Some (records_view h l r)
   unfolding whole_with
   records-read names r made =
       ap (option_map (records_of_file opts bytes)) (tables-value opts bytes (header_value h) header s sections)
       ∙ collected-whole opts bytes (header_value h) s _
       ∙ ap (option_map without_names) (file_read import_said (exports_said (offset_by opts s places) bytes) opts (header_value h) s bytes (tables_view r) (makes (Ok r) made))
-      ∙ ap (λ (x : Header). Some (record {
-        header = header_value x;
-        sections = map unnamed s;
-        imports = part_map import_views r.imports;
-        exports = exports_view r.exports;
-        relocations = part_map relocation_bytes r.relocations;
-      })) (sym of.after)
-      ∙ ap (λ (x : List Section). Some (record (records_view l r) { sections = x })) names
+      ∙ ap (λ (x : List Section). Some (record (records_view h l r) { sections = x })) names
 
   -- and a file is refused as they are
   pub records-refused : (e : ErrorOf)

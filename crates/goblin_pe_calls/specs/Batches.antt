@@ -8,8 +8,7 @@ use Rattle.goblin_base.specs.declared.error.ErrorOf.{ErrorOf}
 use Rattle.goblin_base.specs.Answers.{FirstFault, IsMemory}
 use Rattle.goblin_base.specs.Tables.{Format}
 use Rattle.goblin_pe_sect.specs.declared.options.ParseOptions.{ParseOptions}
-use Rattle.goblin_pe_sect.specs.Options.{is_strict}
-use Rattle.goblin_pe_sect.specs.SectionTable.{Section}
+use Rattle.goblin_pe_sect.specs.BaseRelocations.{Block, block_items}
 use Rattle.goblin_pe_import.specs.ImportEntries.{EntryValue}
 use Rattle.goblin_pe_import.specs.ImportLookup.{entries_32, entries_64}
 use Rattle.goblin_pe_import.specs.ImportWalks.{AreImportsOver, HasPosition, IsImportsCause}
@@ -18,28 +17,33 @@ use Rattle.goblin_pe_import.specs.ImportWalks.{imports_bytes, imports_left, impo
 use Rattle.goblin_pe_import.specs.ImportWalks.{position_of}
 use Rattle.goblin_pe_import.specs.declared.import.imports.ImportPosition.{ImportPosition}
 use Rattle.goblin_pe_import.specs.declared.import.imports.Imports.{Imports}
-use Rattle.goblin_pe.specs.Addresses.{MapOfAddresses, map_by, offset_of}
+use Rattle.goblin_pe.specs.Addresses.{MapOfAddresses, offset_of}
 use Rattle.goblin_pe.specs.ExportRecords.{ExportRow, ExportTables}
 use Rattle.goblin_pe.specs.ExportWalks.{NumberedExport, numbered_from}
-use Rattle.goblin_pe.specs.HeaderReadings.{pe_header}
 use Rattle.goblin_pe.specs.Imports.{ImportValue}
 use Rattle.goblin_pe.specs.LayoutPositions.{IsFileFaultAt, IsImportWalk, file_imports_at}
 use Rattle.goblin_pe.specs.LayoutPositions.{import_start}
 use Rattle.goblin_pe.specs.Layouts.{file_imports_left}
-use Rattle.goblin_pe.specs.PeHeader.{PeHeader}
-use Rattle.goblin_pe.specs.Whole.{TablePlaces, export_part, layout, places_in}
+use Rattle.goblin_pe.specs.Whole.{TablePlaces, export_part, relocation_part}
 use Rattle.goblin_pe.specs.declared.whole.Part.{Part}
 use Rattle.goblin_pe.specs.declared.whole.Part.TheVariants.{Absent, Refused}
 use Rattle.goblin_pe.specs.declared.whole.Part.TheVariants as part
 use Rattle.goblin_pe.specs.declared.whole.imports.FileImports.{FileImports}
 use Rattle.goblin_pe.specs.declared.whole.imports.FileImports.TheVariants.{Narrow, Wide}
 use Rattle.goblin_pe_calls.specs.declared.export.PeExport.{PeExport}
+use Rattle.goblin_pe_calls.specs.declared.export_directory.PeExportAddress.{PeExportAddress}
 use Rattle.goblin_pe_calls.specs.declared.import.PeImport.{PeImport}
 use Rattle.goblin_pe_calls.specs.declared.next.PeImportPosition.{PeImportPosition}
-use Rattle.goblin_pe.specs.SectionRoom.{TakesIndex}
+use Rattle.goblin_pe_calls.specs.ExportDirectories.{address_said}
 use Rattle.goblin_pe_calls.specs.Exports.{export_said, export_view}
-use Rattle.goblin_pe_records.specs.Filled.{Filled}
 use Rattle.goblin_pe_calls.specs.Imports.{import_said, import_view}
+use Rattle.goblin_pe_calls.specs.Places.{TakesIndexAt, map_at, placed_sections, places_said}
+use Rattle.goblin_pe_records.specs.Blocks.{block_view}
+use Rattle.goblin_pe_records.specs.Filled.{Filled}
+use Rattle.goblin_pe_records.specs.Items.{values_of}
+use Rattle.goblin_pe_records.specs.Onward.{GivesOnward}
+use Rattle.goblin_pe_records.specs.declared.block.PeBlock.{PeBlock}
+use Rattle.goblin_pe_records.specs.declared.places.PePlaces.{PePlaces}
 
 -- ---- what a batch holds
 
@@ -72,10 +76,6 @@ pub record AtBatch {R A B : Type 0} (view : R → B) (said : A → B) (old : Lis
   pub filled : Filled view (map said values) old records
   pub same : length records ≡ length old
   pub fits : count ≤ length old
-
--- the map of addresses of a file with this header and these sections
-abbrev pub map_in : ParseOptions → PeHeader × List Section → MapOfAddresses
-map_in opts l = map_by opts l.1 (places_in l.0.optional_header).file_alignment
 
 -- ---- imports
 
@@ -211,18 +211,78 @@ IsExportsFault m places bytes e =
     let read = export_part m.opts (offset_of m) places in
     (read.value bytes ≡ None) × read.IsCause bytes e
 
+-- ---- entries of the export address table
+
+-- their records, none where the exports are not read
+abbrev pub addresses_in : Part (ExportTables × List ExportRow) → List PeExportAddress
+addresses_in Absent = []
+addresses_in (part.Read read) = map address_said read.0.export_address_table
+addresses_in Refused = []
+
+-- what a caller passes, to be gone on with
+pub record AddressBatch : Type 0 where
+  pub position : ℕ
+  pub records : List PeExportAddress
+
+-- The records hold the entries from the old index on, and from the new one on come the others.
+abbrev pub GivesAddresses : MapOfAddresses → TablePlaces → List ℕ → AddressBatch → AddressBatch → ℕ
+    → Type 0
+GivesAddresses m places bytes old new count =
+    IsSomeAnd ((export_part m.opts (offset_of m) places).value bytes) (λ p.
+    GivesOnward (addresses_in p) old.position old.records new.position new.records count)
+
+-- ---- blocks of base relocations
+
+-- what a directory has from an offset on: blocks, and at last perhaps a refusal
+abbrev pub items_from : ℕ → Part (List ℕ) → List (Result Block ErrorOf)
+items_from x Absent = []
+items_from x (part.Read directory) = block_items directory x
+items_from x Refused = []
+
+-- the very next is this refusal
+abbrev pub IsNextRefusal : {A : Type 0} → List (Result A ErrorOf) → ErrorOf → Type 0
+IsNextRefusal [] e = ⊥
+IsNextRefusal (Ok a ∷ items) e = ⊥
+IsNextRefusal (Err f ∷ items) e = e ≡ f
+
+-- what a caller passes, to be gone on with
+pub record BlockBatch : Type 0 where
+  pub position : ℕ
+  pub records : List PeBlock
+
+-- Of what comes next, the records hold the blocks up to a refusal, and from the new position on come the
+-- others; the very next is no refusal, if there is room for any. Without a block the position stays.
+pub record FillsBlocks (left later : List (Result Block ErrorOf)) (old new : BlockBatch) (count : ℕ)
+    : Type 0 where
+  pub batch : IsBatch block_view (λ b. b) (values_of left) old.records new.records count
+  pub rest : later ≡ drop count left
+  pub next : (e : ErrorOf) → IsNextRefusal left e → length old.records ≡ 0
+  pub stays : count ≡ 0 → new.position ≡ old.position
+
+abbrev pub GivesBlocks : MapOfAddresses → TablePlaces → List ℕ → BlockBatch → BlockBatch → ℕ → Type 0
+GivesBlocks m places bytes old new count =
+    IsSomeAnd ((relocation_part m.opts (offset_of m) places).value bytes) (λ p.
+    FillsBlocks (items_from old.position p) (items_from new.position p) old new count)
+
+-- The directory is refused, or else the very next item, and there is room for it.
+abbrev pub IsBlocksFault : MapOfAddresses → TablePlaces → List ℕ → BlockBatch → ErrorOf → Type 0
+IsBlocksFault m places bytes old e =
+    let read = relocation_part m.opts (offset_of m) places in
+    FirstFault (read.value bytes) (read.IsCause bytes)
+    (λ p e. (0 < length old.records) × IsNextRefusal (items_from old.position p) e) e
+
 -- ---- a call
 
--- A call has given what comes next in a file; or its header or sections are refused, or what comes
--- next, or memory for an index of many sections, and everything is unchanged.
-abbrev pub GivesBatch : ParseOptions → List ℕ → (MapOfAddresses → TablePlaces → Type 0)
+-- A call has given what comes next by these places; or the records of the sections are not there, or
+-- what comes next is refused, or memory for an index of many sections, and everything is unchanged.
+abbrev pub GivesBatch : ParseOptions → PePlaces → List ℕ
+    → (MapOfAddresses → TablePlaces → Type 0)
     → (MapOfAddresses → TablePlaces → ErrorOf → Type 0) → Type 0 → Result Unit ErrorOf → Type 0
-GivesBatch opts bytes Gives IsFault Left (Ok x) =
-    IsSomeAnd ((layout opts).value bytes)
-    (λ l. Gives (map_in opts l) (places_in l.0.optional_header))
-GivesBatch opts bytes Gives IsFault Left (Err e) =
-    (¬ IsMemory e → FirstFault ((layout opts).value bytes) ((layout opts).IsCause bytes)
-    (λ l. IsFault (map_in opts l) (places_in l.0.optional_header)) e)
-    × (IsMemory e → IsSomeAnd ((pe_header (is_strict opts.parse_mode)).value bytes)
-    (TakesIndex opts bytes))
+GivesBatch opts p bytes Gives IsFault Left (Ok x) =
+    IsSomeAnd ((placed_sections p).value bytes)
+    (λ sections. Gives (map_at opts p sections) (places_said p))
+GivesBatch opts p bytes Gives IsFault Left (Err e) =
+    (¬ IsMemory e → FirstFault ((placed_sections p).value bytes) ((placed_sections p).IsCause bytes)
+    (λ sections. IsFault (map_at opts p sections) (places_said p)) e)
+    × (IsMemory e → TakesIndexAt opts p bytes)
     × Left

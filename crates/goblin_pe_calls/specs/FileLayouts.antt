@@ -6,18 +6,21 @@ use Rattle.goblin_pe_head.specs.declared.header.dos.DosHeader.{DosHeader}
 use Rattle.goblin_pe_head.specs.PeHeader.{PeHeader}
 use Rattle.goblin_pe_records.specs.declared.directory.PeDirectory.{PeDirectory}
 use Rattle.goblin_pe_records.specs.declared.headers.PeOptionalHeader.{PeOptionalHeader}
+use Rattle.goblin_pe_records.specs.declared.places.PePlaces.{PePlaces}
 use Rattle.goblin_pe_records.specs.declared.section.PeSection.{PeSection}
 use Rattle.goblin_pe_records.specs.Directories.{directories_of, entry_record}
 use Rattle.goblin_pe_records.specs.Filled.{Filled, without_text}
 use Rattle.goblin_pe_records.specs.Headers.{optional_record}
 use Rattle.goblin_pe_records.specs.Sections.{section_said}
 use Rattle.goblin_pe_calls.specs.declared.layout.PeLayout.{PeLayout}
+use Rattle.goblin_pe_calls.specs.Places.{places_record}
 
 -- an image as a whole: its header, by how many directories and sections it has
 pub record LayoutSaid : Type 0 where
   pub optional_header : PeOptionalHeader
   pub directories : ℕ
   pub sections : ℕ
+  pub places : PePlaces
   pub dos_header : DosHeader
   pub coff_header : CoffHeader
   pub dos_stub : List ℕ
@@ -27,6 +30,7 @@ layout_said header sections = record {
   optional_header = optional_record header.optional_header;
   directories = length (directories_of header.optional_header);
   sections = sections;
+  places = places_record header;
   dos_header = header.dos_header;
   coff_header = header.coff_header;
   dos_stub = header.dos_stub;
@@ -38,6 +42,7 @@ layout_view l = record {
   optional_header = l.optional_header;
   directories = l.directories;
   sections = l.sections;
+  places = l.places;
   dos_header = l.dos_header;
   coff_header = l.coff_header;
   dos_stub = l.dos_stub.now;

@@ -9,6 +9,7 @@ use Rattle.goblin_pe_records.specs.declared.file.PeTable.{PeTable}
 use Rattle.goblin_pe_records.specs.declared.file.PeFile.{PeFile}
 use Rattle.goblin_pe_records.specs.declared.file.State.TheVariants as state
 use Rattle.goblin_pe_calls.specs.Blocks.{base_relocations_of}
+use Rattle.goblin_pe_calls.specs.Places.{places_record}
 use Rattle.goblin_pe_records.specs.Directories.{directories_of}
 use Rattle.goblin_pe_records.specs.Headers.{optional_record}
 use Rattle.goblin_pe_records.specs.RichHeaders.{rich_of}
@@ -32,6 +33,7 @@ summary header sections imports exports relocations = record {
   optional_header = optional_record header.optional_header;
   directories = length (directories_of header.optional_header);
   sections = sections;
+  places = places_record header;
   imports = imports;
   exports = exports;
   relocations = base_relocations_of relocations;

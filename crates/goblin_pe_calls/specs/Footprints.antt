@@ -4,8 +4,8 @@ use Rattle.goblin_base.specs.declared.error.ErrorOf.{ErrorOf}
 use Rattle.goblin_base.specs.Answers.{IsMemory}
 use Rattle.goblin_base.specs.Footprints.{Range}
 use Rattle.goblin_base.specs.Marks.{joined}
-use Rattle.goblin_pe_calls.specs.declared.footprint.PeRange.{PeRange}
-use Rattle.goblin_pe_calls.specs.declared.footprint.PeRanges.{PeRanges}
+use Rattle.goblin_pe_calls.specs.declared.ranges.PeRange.{PeRange}
+use Rattle.goblin_pe_calls.specs.declared.ranges.PeRanges.{PeRanges}
 
 -- the record of a range: its first position, and how many there are
 abbrev pub range_record_of : Range → PeRange

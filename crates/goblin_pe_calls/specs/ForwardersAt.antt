@@ -1,5 +1,5 @@
 -- The forwarder at an address, as a call gives it.
-use Rattle.std.specs.Prelude.{ℕ, List, Option}
+use Rattle.std.specs.Prelude.{ℕ, Option}
 use Rattle.goblin_base.specs.Reading.{Reading}
 use Rattle.goblin_pe_sect.specs.AddressReadings.{at_address}
 use Rattle.goblin_pe.specs.Forwarders.{Forwarder, forwarder_at}

@@ -1,5 +1,5 @@
 -- Where a call that keeps records of a file takes memory.
-use Rattle.std.specs.Prelude.{ℕ, ◌+◌, ◌<◌, ◌⊎◌, List, [], Option, None, Some, IsSome}
+use Rattle.std.specs.Prelude.{ℕ, ◌+◌, ◌<◌, ◌⊎◌, List, [], Option, None, IsSome}
 use Rattle.std.specs.Prelude.{IsSomeAnd, MatchOption, length}
 use Rattle.goblin_pe_sect.specs.declared.options.ParseOptions.{ParseOptions}
 use Rattle.goblin_pe.specs.Addresses.{MapOfAddresses, map_by, offset_of}
@@ -10,7 +10,7 @@ use Rattle.goblin_pe_import.specs.declared.import.imports.ImportPosition.{Import
 use Rattle.goblin_pe.specs.LayoutPositions.{file_imports_at, import_start}
 use Rattle.goblin_pe.specs.ExportRecords.{ExportRow, ExportTables}
 use Rattle.goblin_pe.specs.PeHeader.{PeHeader}
-use Rattle.goblin_pe.specs.SectionRoom.{HasRoom}
+use Rattle.goblin_pe_head.specs.SectionRoom.{HasRoom}
 use Rattle.goblin_pe.specs.Whole.{TableParts, TablePlaces, WholeFile, both_import_parts}
 use Rattle.goblin_pe.specs.Whole.{export_part}
 use Rattle.goblin_pe.specs.Whole.{part_map, places_in, whole_file}

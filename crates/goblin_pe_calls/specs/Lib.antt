@@ -11,4 +11,5 @@ pub mod ForwardersAt
 pub mod Growth
 pub mod Imports
 pub mod Opened
+pub mod Places
 pub mod Written

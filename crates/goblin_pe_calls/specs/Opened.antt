@@ -9,13 +9,14 @@ use Rattle.goblin_pe_export.specs.ExportWalks.{NumberedExport, numbered_from}
 use Rattle.goblin_pe.specs.declared.whole.Part.{Part}
 use Rattle.goblin_pe.specs.declared.whole.Part.TheVariants.{Absent, Refused}
 use Rattle.goblin_pe.specs.declared.whole.Part.TheVariants as part
-use Rattle.goblin_pe.specs.Layouts.{layout_header, layout_sections}
+use Rattle.goblin_pe.specs.Layouts.{layout_sections}
 use Rattle.goblin_pe.specs.Whole.{CollectedFileValue, CollectedParts, WholeFile, collected_file}
 use Rattle.goblin_pe.specs.Whole.{offset_by, part_map, places_in, whole_file}
 use Rattle.goblin_pe.proofs.NumberedFootprints.{same-numbered}
 use Rattle.goblin_pe.specs.declared.whole.layout.Layout.{Layout}
 use Rattle.goblin_pe.specs.BaseRelocations.{relocation_bytes}
 use Rattle.goblin_pe.specs.PeHeader.{header_value}
+use Rattle.goblin_pe_head.specs.declared.header.pe_header.Header.{Header}
 use Rattle.goblin_pe_records.specs.declared.directory.PeDirectory.{PeDirectory}
 use Rattle.goblin_pe_records.specs.declared.file.PeFile.{PeFile}
 use Rattle.goblin_pe_calls.specs.declared.open.PeTables.{PeTables}
@@ -125,10 +126,10 @@ tables_view x = (
   part_map relocation_bytes x.relocations,
 )
 
--- the file, by what its tables are read by and their records
-abbrev pub records_view : Layout → FileRecords → RecordsOfFile
-records_view l x = record {
-  header = header_value (layout_header l);
+-- the file, by its header, what its tables are read by and their records
+abbrev pub records_view : Header → Layout → FileRecords → RecordsOfFile
+records_view h l x = record {
+  header = header_value h;
   sections = layout_sections l;
   imports = part_map import_views x.imports;
   exports = exports_view x.exports;

@@ -5,7 +5,7 @@ ghost use Rattle.goblin_pe_sect.specs.Options.{is_strict};
 ghost use Rattle.goblin_pe_head.specs.HeaderReadings.{pe_header};
 ghost use Rattle.goblin_pe.specs.Whole.{layout};
 ghost use Rattle.goblin_pe_records.specs.Calls.{ReadsInto};
-ghost use Rattle.goblin_pe.specs.SectionRoom.{TakesIndex};
+ghost use Rattle.goblin_pe.specs.TakenMemory.{TakesIndex};
 ghost use Rattle.goblin_pe_calls.specs.Damages.{RecordsDamage, damage_record, part_fault};
 
 use goblin_pe::options::ParseOptions;

@@ -285,7 +285,7 @@ fn unread_records<'a>(
 #[tactic(auto, unfolding(goblin_pe::specs::Whole::part_map))]
 pub fn export_records<'a, 'm>(
     alloc: Global,
-    layout: &'m Layout<'a, '_>,
+    layout: &'m Layout<'a>,
     finder: Finder<'m>,
 ) -> Result<ExportRecords<'a>>
     requires { map_of finder ≡ layout_map layout.now }

@@ -1,15 +1,23 @@
-//! The records of what an export directory says, and of the export address table.
+//! The records of what an export directory says, and of the export address table, all or in batches.
 
-ghost use Rattle.std.specs.Prelude.{◌≡◌, ◌<◌, IfOk, OnErr, length, map};
+ghost use Rattle.std.specs.Prelude.{◌≡◌, ◌<◌, ◌^◌, IfOk, MatchResult, OnErr, length, map, slice_get};
 ghost use Rattle.goblin_base.specs.Answers.{GivesOrMemory};
 ghost use Rattle.goblin_pe_export.specs.ExportWalks.{walked_tables};
+ghost use Rattle.goblin_pe.specs.Layouts.{layout_bytes, layout_map, layout_places};
 ghost use Rattle.goblin_pe_records.specs.Blocked.{HasNoSpareRoom};
+ghost use Rattle.goblin_pe_records.specs.Onward.{GivesOnward};
+ghost use Rattle.goblin_pe_calls.specs.Batches.{AddressBatch, GivesAddresses, GivesBatch};
+ghost use Rattle.goblin_pe_calls.specs.Batches.{IsExportsFault};
 ghost use Rattle.goblin_pe_calls.specs.ExportDirectories.{address_said, directory_said};
 ghost use Rattle.goblin_pe_calls.specs.ExportDirectories.{directory_view};
 ghost use Rattle.goblin_pe_calls.specs.ExportDirectories.{no_export_directory};
 
-use goblin_pe::Result;
+use crate::places::layout_at;
 use goblin_pe::export::{ExportAddressTableEntry, ExportDirectoryTable, Exports};
+use goblin_pe::options::ParseOptions;
+use goblin_pe::{Layout, Part, Result};
+use goblin_pe_records::onward::fill_onward;
+use goblin_pe_records::places::PePlaces;
 use std::alloc::Global;
 
 /// An entry of the export address table. Its index and the ordinal base are the ordinal that it
@@ -94,4 +102,75 @@ pub fn no_export_directory<'a>(bytes: &'a [u8]) -> PeExportDirectory<'a>
         table: ExportDirectoryTable::default(),
         has_name: false,
     }
+}
+
+// The record of the entry at an index, where there is one.
+fn address_at(exports: &Exports, index: usize) -> Option<PeExportAddress>
+    ensures { let table = (walked_tables exports.now).export_address_table in
+        result ≡ slice_get (map address_said table) index }
+{
+    match exports.address(index) {
+        Some(entry) => Some(address_record(entry)),
+        None => None,
+    }
+}
+
+// Fills records with the entries from the index `position` on, as far as there is room, moves the index
+// past them, and answers how many these are.
+fn fill_addresses(exports: &Exports, position: &mut usize, records: &mut [PeExportAddress]) -> usize
+    ensures { let table = (walked_tables exports.now).export_address_table in
+        GivesOnward (map address_said table) position.old records.old position.new records.new
+        result }
+{
+    if exports.address_count() <= *position {
+        return 0;
+    }
+    fill_onward(|index| address_at(exports, index), position, records)
+}
+
+// Fills records with the entries of a file that come next, and answers how many.
+fn next_addresses(
+    layout: &Layout,
+    position: &mut usize,
+    records: &mut [PeExportAddress],
+) -> Result<usize>
+    ensures { let m = layout_map layout.now in
+        let places = layout_places layout.now in
+        let bytes = layout_bytes layout.now in
+        let old : AddressBatch = record { position = position.old; records = records.old } in
+        let new : AddressBatch = record { position = position.new; records = records.new } in
+        MatchResult result (GivesAddresses m places bytes old new)
+        (λ e. IsExportsFault m places bytes e × (new ≡ old)) }
+{
+    match layout.exports()? {
+        Part::Read(exports) => Ok(fill_addresses(&exports, position, records)),
+        Part::Absent | Part::Refused => Ok(0),
+    }
+}
+
+/// Fills `records` with the entries of the export address table of a file whose tables lie at these
+/// places, from the index `position` on, as many as there is room for, says in `count` how many, and
+/// moves `position` past them.
+///
+/// # Errors
+/// As [`layout_at`]; in strict mode the export directory. Nothing is then changed.
+pub fn give_addresses(
+    alloc: Global,
+    bytes: &[u8],
+    opts: &ParseOptions,
+    places: &PePlaces,
+    position: &mut usize,
+    records: &mut [PeExportAddress],
+    count: &mut usize,
+) -> Result<()>
+    ensures { let old : AddressBatch = record { position = position.old; records = records.old } in
+        let new : AddressBatch = record { position = position.new; records = records.new } in
+        GivesBatch opts.now places.now bytes.now
+        (λ m places. GivesAddresses m places bytes.now old new count.new)
+        (λ m places. IsExportsFault m places bytes.now)
+        ((new ≡ old) × (count.new ≡ count.old)) result }
+{
+    let layout = layout_at(alloc, bytes, places, opts)?;
+    *count = next_addresses(&layout, position, records)?;
+    Ok(())
 }

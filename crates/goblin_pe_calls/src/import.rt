@@ -231,7 +231,7 @@ fn file_records_of<'a, 'm, 'e>(
 #[tactic(auto, unfolding(goblin_pe::specs::Whole::part_map))]
 fn listed_records<'a, 'm>(
     alloc: Global,
-    layout: &'m Layout<'a, '_>,
+    layout: &'m Layout<'a>,
     finder: &mut Finder<'m>,
 ) -> Result<Part<Vec<PeImport<'a>>>>
     requires { map_of finder.old ≡ layout_map layout.now }
@@ -265,7 +265,7 @@ fn listed_records<'a, 'm>(
 #[tactic(auto, using(goblin_pe::proofs::ImportParts::list_collected, crate::proofs::Growth::parts_entries))]
 pub fn import_records<'a, 'm>(
     alloc: Global,
-    layout: &'m Layout<'a, '_>,
+    layout: &'m Layout<'a>,
     finder: &mut Finder<'m>,
 ) -> Result<Part<Vec<PeImport<'a>>>>
     requires { map_of finder.old ≡ layout_map layout.now }

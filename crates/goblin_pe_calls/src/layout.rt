@@ -7,11 +7,13 @@ ghost use Rattle.goblin_pe_records.specs.Calls.{ReadsWithout};
 ghost use Rattle.goblin_pe_calls.specs.FileLayouts.{LayoutRecords, SaysLayout, layout_said};
 ghost use Rattle.goblin_pe_calls.specs.FileLayouts.{layout_view};
 
+use crate::places::places_record;
 use goblin_pe::header::{CoffHeader, DosHeader, Header};
 use goblin_pe::options::ParseOptions;
 use goblin_pe::{Result, section_records_of};
 use goblin_pe_records::directory::{PeDirectory, directories_of, fill_directories};
 use goblin_pe_records::headers::{PeOptionalHeader, fill_optional};
+use goblin_pe_records::places::PePlaces;
 use goblin_pe_records::section::{PeSection, fill_sections};
 
 /// An image as a whole, without its tables.
@@ -25,6 +27,8 @@ pub struct PeLayout<'a> {
     pub directories: usize,
     /// How many sections there are, whatever the room.
     pub sections: usize,
+    /// Where the sections and the tables lie, for walks over these.
+    pub places: PePlaces,
     /// The DOS header.
     pub dos_header: DosHeader,
     /// The COFF header.
@@ -41,6 +45,7 @@ fn fill_layout<'a>(layout: &mut PeLayout<'a>, header: &Header<'a>, sections: usi
     fill_optional(&mut layout.optional_header, &header.optional_header);
     layout.directories = directories_of(&header.optional_header).len();
     layout.sections = sections;
+    layout.places = places_record(header);
     layout.dos_header = header.dos_header;
     layout.coff_header = header.coff_header;
     layout.dos_stub = header.dos_stub.bytes;

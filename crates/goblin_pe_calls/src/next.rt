@@ -20,11 +20,12 @@ ghost use Rattle.goblin_pe_calls.specs.Imports.{import_said, import_view};
 
 use crate::export::{PeExport, plain_record, put_export};
 use crate::import::{PeImport, put_import};
+use crate::places::layout_at;
 use goblin_pe::export::Exports;
-use goblin_pe::header::Header;
 use goblin_pe::import::{Bitfield, ImportPosition, Imports};
 use goblin_pe::options::ParseOptions;
 use goblin_pe::{FileImports, Layout, Part, Result, ResultOf};
+use goblin_pe_records::places::PePlaces;
 use std::alloc::Global;
 
 /// Where a walk over imports goes on; zeros are the beginning. It may be kept, and copied.
@@ -81,7 +82,7 @@ fn position_record(position: Option<ImportPosition>) -> PeImportPosition
 
 // The imports of a file from a position on.
 fn imports_at<'a, 'm, 'e>(
-    layout: &'m Layout<'a, '_>,
+    layout: &'m Layout<'a>,
     position: &PeImportPosition,
 ) -> ResultOf<'e, Part<FileImports<'a, 'm, 'e>>>
     ensures { let m = layout_map layout.now in
@@ -141,7 +142,7 @@ fn fill_library<'a, 'm, 'e>(
 
 // Fills records with the imports that come next, as far as there is room, and answers how many.
 fn fill_imports<'a, 'm, 'e>(
-    layout: &Layout<'a, '_>,
+    layout: &Layout<'a>,
     mut imports: FileImports<'a, 'm, 'e>,
     position: &mut PeImportPosition,
     records: &mut [PeImport<'a>],
@@ -195,7 +196,7 @@ fn position_without(position: &PeImportPosition, room: usize) -> PeImportPositio
 
 // Fills records with the imports of a file that come next, and answers how many.
 fn next_imports<'a>(
-    layout: &Layout<'a, '_>,
+    layout: &Layout<'a>,
     position: &mut PeImportPosition,
     records: &mut [PeImport<'a>],
 ) -> Result<usize>
@@ -217,31 +218,30 @@ fn next_imports<'a>(
     }
 }
 
-/// Fills `records` with the imports of a file from a position on, as many as there is room for, says
-/// in `count` how many, and leaves in `position` where the next call goes on.
+/// Fills `records` with the imports of a file whose tables lie at these places, from a position on, as
+/// many as there is room for, says in `count` how many, and leaves in `position` where the next call
+/// goes on.
 ///
 /// # Errors
-/// What these options refuse of the header or the sections, and memory for an index of more than 96
-/// sections; in strict mode the import directory, at the first position, and the very next import, if
-/// there is room for it. Nothing is then changed.
+/// As [`layout_at`]; in strict mode the import directory, at the first position, and the very next
+/// import, if there is room for it. Nothing is then changed.
 pub fn give_imports<'a>(
     alloc: Global,
     bytes: &'a [u8],
     opts: &ParseOptions,
+    places: &PePlaces,
     position: &mut PeImportPosition,
     records: &mut [PeImport<'a>],
     count: &mut usize,
 ) -> Result<()>
     ensures { let old : ImportBatch = record { position = position.old; records = records.old } in
         let new : ImportBatch = record { position = position.new; records = records.new } in
-        GivesBatch opts.now bytes.now
+        GivesBatch opts.now places.now bytes.now
         (λ m places. GivesImports m places bytes.now old new count.new)
         (λ m places. IsImportsFault m places bytes.now old)
         ((new ≡ old) × (count.new ≡ count.old)) result }
 {
-    let mut header = Header::default();
-    header.read_with_opts(bytes, opts)?;
-    let layout = Layout::of(alloc, bytes, &header, opts)?;
+    let layout = layout_at(alloc, bytes, places, opts)?;
     *count = next_imports(&layout, position, records)?;
     Ok(())
 }
@@ -290,7 +290,7 @@ fn position_after(position: usize, exports: &Exports, count: usize) -> usize
 
 // Fills records with the exports of a file that come next, and answers how many.
 fn next_exports<'a>(
-    layout: &Layout<'a, '_>,
+    layout: &Layout<'a>,
     position: &mut usize,
     records: &mut [PeExport<'a>],
 ) -> Result<usize>
@@ -313,30 +313,29 @@ fn next_exports<'a>(
     }
 }
 
-/// Fills `records` with the exports of a file from a position on, as many as there is room for, says
-/// in `count` how many, and leaves in `position` where the next call goes on.
+/// Fills `records` with the exports of a file whose tables lie at these places, from a position on, as
+/// many as there is room for, says in `count` how many, and leaves in `position` where the next call
+/// goes on.
 ///
 /// # Errors
-/// What these options refuse of the header or the sections, and memory for an index of more than 96
-/// sections; in strict mode the export directory. Nothing is then changed.
+/// As [`layout_at`]; in strict mode the export directory. Nothing is then changed.
 pub fn give_exports<'a>(
     alloc: Global,
     bytes: &'a [u8],
     opts: &ParseOptions,
+    places: &PePlaces,
     position: &mut usize,
     records: &mut [PeExport<'a>],
     count: &mut usize,
 ) -> Result<()>
     ensures { let old : ExportBatch = record { position = position.old; records = records.old } in
         let new : ExportBatch = record { position = position.new; records = records.new } in
-        GivesBatch opts.now bytes.now
+        GivesBatch opts.now places.now bytes.now
         (λ m places. GivesExports m places bytes.now old new count.new)
         (λ m places. IsExportsFault m places bytes.now)
         ((new ≡ old) × (count.new ≡ count.old)) result }
 {
-    let mut header = Header::default();
-    header.read_with_opts(bytes, opts)?;
-    let layout = Layout::of(alloc, bytes, &header, opts)?;
+    let layout = layout_at(alloc, bytes, places, opts)?;
     *count = next_exports(&layout, position, records)?;
     Ok(())
 }

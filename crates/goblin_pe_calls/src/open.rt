@@ -25,9 +25,9 @@ ghost use Rattle.goblin_pe_records.specs.Sections.{section_said};
 use crate::block::block_records;
 use crate::export::{ExportRecords, PeExport};
 use crate::export_directory::{PeExportAddress, PeExportDirectory};
-use crate::file::fill_file;
 use crate::import::PeImport;
 use crate::records::{FileRecords, file_records};
+use crate::whole_file::fill_file;
 use goblin_pe::header::{Header, RichMetadata};
 use goblin_pe::options::ParseOptions;
 use goblin_pe::{Layout, Part, Result};
@@ -76,32 +76,32 @@ struct Made<'a> {
 // What is made of a file that was read.
 fn made_of<'a>(
     alloc: Global,
-    layout: &Layout<'a, '_>,
+    header: &Header<'a>,
+    layout: &Layout<'a>,
     records: &FileRecords<'a>,
     bytes: &'a [u8],
     opts: &ParseOptions,
 ) -> Result<Made<'a>>
     requires { let records_of = records_of_file opts.now bytes.now in
         option_map records_of ((whole_file opts.now).value bytes.now)
-        ≡ Some (records_view layout.now records.now) }
+        ≡ Some (records_view header.now layout.now records.now) }
     ensures refused { IfErr result IsMemory }
-    ensures rich_header { let v = records_view layout.now records.now in
+    ensures rich_header { let v = records_view header.now layout.now records.now in
         IfOk result (λ m. m.rich_header ≡ rich_of v.header.rich_header) }
-    ensures relocations { let v = records_view layout.now records.now in
+    ensures relocations { let v = records_view header.now layout.now records.now in
         IfOk result (λ m. m.relocations ≡ base_relocations_of v.relocations) }
-    ensures rich_entries { let v = records_view layout.now records.now in
+    ensures rich_entries { let v = records_view header.now layout.now records.now in
         IfOk result (λ m. m.rich_entries.items ≡ entries_of_rich v.header.rich_header) }
     ensures sections { (w : WholeFile) → (whole_file opts.now).value bytes.now ≡ Some w
         → IfOk result (λ m. map section_said m.sections.items ≡ map without_text w.sections) }
-    ensures blocks { let v = records_view layout.now records.now in
+    ensures blocks { let v = records_view header.now layout.now records.now in
         IfOk result (λ m. map block_view m.blocks.items ≡ blocks_in v.relocations) }
     ensures none { IfOk result
         (λ m. HasNoSpareRoom m.rich_entries × HasNoSpareRoom m.sections × HasLittleRoom m.blocks) }
-    ensures grown { let v = records_view layout.now records.now in
+    ensures grown { let v = records_view header.now layout.now records.now in
         OnErr result (0 < length v.sections + length (entries_of_rich v.header.rich_header)
         + length (blocks_in v.relocations)) }
 {
-    let header = layout.header();
     let table = header.coff_header.symbols_end();
     let sections = named_sections(alloc, bytes, layout.section_records(), table, opts)?;
     let (rich_entries, rich_header) = entry_records(alloc, &header.rich_header)?;
@@ -195,9 +195,16 @@ fn open_by<'a>(
 {
     let layout = Layout::of(alloc, bytes, header, opts)?;
     let records = file_records(alloc, &layout)?;
-    let made = made_of(alloc, &layout, &records, bytes, opts)?;
+    let made = made_of(alloc, header, &layout, &records, bytes, opts)?;
     fill_directories(directories, directories_of(&header.optional_header));
-    fill_file(file, &layout, &records, made.relocations, made.rich_header);
+    fill_file(
+        file,
+        header,
+        &layout,
+        &records,
+        made.relocations,
+        made.rich_header,
+    );
     let dos_stub = header.dos_stub.bytes;
     *tables = handed_over(made, records.imports, records.exports, dos_stub);
     Ok(())

@@ -31,7 +31,7 @@ pub struct FileRecords<'a> {
 }
 
 /// Reads the tables of a file, in this order.
-pub fn file_records<'a>(alloc: Global, layout: &Layout<'a, '_>) -> Result<FileRecords<'a>>
+pub fn file_records<'a>(alloc: Global, layout: &Layout<'a>) -> Result<FileRecords<'a>>
     ensures value { let m = layout_map layout.now in
         ReadsOrMemory tables_view result
         (mapped (collected_tables import_said

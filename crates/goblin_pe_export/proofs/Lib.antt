@@ -4,4 +4,5 @@ mod ExportRoom
 mod ExportRows
 pub mod ExportWalk
 mod Grammar
+mod LeftOutExports
 mod WholeEntries

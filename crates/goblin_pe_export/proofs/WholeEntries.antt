@@ -1,13 +1,12 @@
 -- The whole entries of a table of a given count: as bytes, and as values.
 use Rattle.std.proofs.Common.{◌≡◌, ◌<◌, ◌≤◌, ◌+◌, ◌-◌, ◌*◌, ◌/◌, ℕ, zero, suc}
-use Rattle.std.proofs.Common.{true, false, List, [], drop, length, map, Option, Some, None, refl}
+use Rattle.std.proofs.Common.{List, [], drop, length, map, Option, Some, None, refl}
 use Rattle.std.proofs.Common.{sym, ap, ◌∙◌, arith, add-one, inl, inr}
-use Rattle.std.specs.Prelude.{is_none, min, nat_le, nat_lt, option_map, option_to_list}
+use Rattle.std.specs.Prelude.{is_none, min, option_map, option_to_list}
 use Rattle.std.specs.Prelude.{slice_get, slice_range}
 use Rattle.std.specs.List.{range_with_len}
-use Rattle.std.proofs.Math.Bool.{and-false}
 use Rattle.std.proofs.Math.Nat.{mul-div_cancel_left, mul-le-mul_left, zero-div}
-use Rattle.std.proofs.lemmas.Bool.{cases_lt, le-leb, lt-leb, lt-ltb}
+use Rattle.std.proofs.lemmas.Bool.{cases_lt}
 use Rattle.std.proofs.lemmas.List.{length-drop, length-take}
 use Rattle.std.proofs.lemmas.List.FromFn.{get_or-map-range_with_len, length-map-range_with_len}
 use Rattle.std.proofs.lemmas.List.FromFn.{map-range_with_len_more}
@@ -16,7 +15,7 @@ use Rattle.goblin_base.specs.Bytes.{slice_at}
 use Rattle.goblin_base.specs.Tables.{Format, concat_below, counted_table, counted_table_if, entry_at}
 use Rattle.goblin_base.specs.Tables.{records_in, whole_entries}
 use Rattle.goblin_base.proofs.Below.{least-is}
-use Rattle.goblin_base.proofs.Numbers.{slice-of_slice}
+use Rattle.goblin_base.proofs.Numbers.{slice-of_slice, slice_at-inside, slice_at-past}
 use Rattle.goblin_base.proofs.RecordItems.{length-records_in, records_in-none}
 use Rattle.goblin_pe_export.specs.ExportRecords.{entries_in, table_bytes}
 
@@ -46,18 +45,6 @@ entries_inside w n o count wide some =
     let all : w * ((n - o) / w) ≤ n - o = omega (arith, wide) in
     omega (arith, fits, all)
 
-slice-there : (bytes : List ℕ) (p n : ℕ) → 0 < n → p + n ≤ length bytes
-    → slice_at bytes p n ≡ Some (slice_range bytes p (p + n))
-slice-there bytes p n wide h =
-    let begins : nat_lt p (length bytes) ≡ true = lt-ltb p (length bytes) (omega arith) in
-    let ends : nat_le (p + n) (length bytes) ≡ true = le-leb (p + n) (length bytes) h in
-    rw (begins, ends) refl
-
-slice-missing : (bytes : List ℕ) (p n : ℕ) → length bytes < p + n → slice_at bytes p n ≡ None
-slice-missing bytes p n h =
-    let ends : nat_le (p + n) (length bytes) ≡ false = lt-leb (p + n) (length bytes) h in
-    rw (ends, and-false (nat_lt p (length bytes))) refl
-
 -- the entry at an index is that of its bytes
 pub entry_read : {V : Type 0} (w : ℕ) (value : List ℕ → V) (bytes : List ℕ) (i : ℕ) → 0 < w
     → slice_get (records_in w value bytes) i ≡ option_map value (slice_at bytes (w * i) w)
@@ -68,15 +55,15 @@ entry_read {V} w value bytes i wide =
     let long : length (map of (range_with_len 0 n)) ≡ n = length-map-range_with_len of 0 n in
     elim (cases_lt i n) [
       | inl inside ↦
-          let there : slice_at bytes (w * i) w ≡ Some (slice_range bytes (w * i) (w * i + w)) =
-          slice-there bytes (w * i) w wide (entry_inside w (length bytes) i wide inside) in
+          let ends = entry_inside w (length bytes) i wide inside in
+          let there = slice_at-inside bytes (w * i) w (omega (arith, wide, ends)) ends in
           slice_get-get_or (map of (range_with_len 0 n)) i (of i) (omega (arith, long, inside))
           ∙ ap (λ (x : V). Some x)
           (get_or-map-range_with_len of 0 n i i (of i) inside (omega arith))
           ∙ sym (ap (option_map value) there)
       | inr outside ↦
-          let none : slice_at bytes (w * i) w ≡ None =
-          slice-missing bytes (w * i) w (entry_outside w (length bytes) i wide outside) in
+          let none =
+          slice_at-past bytes (w * i) w (entry_outside w (length bytes) i wide outside) in
           slice_get_past (map of (range_with_len 0 n)) i (omega (arith, long, outside))
           ∙ sym (ap (option_map value) none)
     ]
@@ -123,9 +110,8 @@ module _ {V : Type 0} (format : Format V) (count : ℕ) (bytes : List ℕ) (o : 
       entry_inside w (length bytes - o) i wide (omega arith) in
       let below : w * suc i ≤ w * n = mul-le-mul_left w h in
       let within : w * i + w ≤ w * n = omega (arith, below, next-entry w i) in
-      let there : slice_at bytes (o + w * i) w
-      ≡ Some (slice_range bytes (o + w * i) (o + w * i + w)) =
-      slice-there bytes (o + w * i) w wide (omega (arith, inside, wide)) in
+      let there =
+      slice_at-inside bytes (o + w * i) w (omega (arith, inside, wide)) (omega (arith, inside, wide)) in
       let part = slice-of_slice bytes o (w * n) (w * i) w within in
       ap (option_map format.value_of) there
       ∙ ap (λ (own : List ℕ). Some (format.value_of own)) (sym part)
@@ -136,8 +122,7 @@ module _ {V : Type 0} (format : Format V) (count : ℕ) (bytes : List ℕ) (o : 
       let n : ℕ = min room count in
       let past : length bytes - o < w * n + w =
       entry_outside w (length bytes - o) n wide (omega arith) in
-      let none : slice_at bytes (o + w * n) w ≡ None =
-      slice-missing bytes (o + w * n) w (omega (arith, past)) in
+      let none = slice_at-past bytes (o + w * n) w (omega (arith, past)) in
       ap (option_map format.value_of) none
 
   pub whole-is : whole_entries format count bytes o ≡ min room count

@@ -92,7 +92,7 @@ pub section_end : (strict : Bool) (table : ℕ) (bytes : List ℕ) (p : ℕ) (s 
 section_end strict table bytes p s is = (section_there strict table bytes p s is).end
 
 -- the sections of the bytes of n records
-sections_of_slice : (bytes : List ℕ) (p n : ℕ) → p + 40 * n ≤ length bytes
+pub sections_of_slice : (bytes : List ℕ) (p n : ℕ) → p + 40 * n ≤ length bytes
     → sections_in (slice_range bytes p (p + 40 * n)) ≡ sections_from bytes p n
 unfolding records_in
 sections_of_slice bytes p n within =

@@ -1,15 +1,14 @@
 -- The entries of an address table.
-use Rattle.std.proofs.Common.{◌≡◌, ◌+◌, ◌-◌, ◌≤◌, ℕ, List, length, Some, None, true, false, sym, ap, ◌∙◌, arith, refl}
-use Rattle.std.specs.Prelude.{nat_le, nat_lt, slice_range}
-use Rattle.std.proofs.lemmas.Bool.{le-leb, le-ltb, lt-ltb}
+use Rattle.std.proofs.Common.{◌≡◌, ◌+◌, ◌-◌, ◌≤◌, ℕ, List, length, Some, None, false, sym, ap, ◌∙◌, arith, refl}
+use Rattle.std.specs.Prelude.{nat_lt, option_map, slice_range}
+use Rattle.std.proofs.lemmas.Bool.{le-ltb}
 use Rattle.goblin_base.specs.Record.{record_at}
+use Rattle.goblin_base.proofs.Numbers.{slice_at-inside}
 
 -- a record whose bytes are in the file
 pub record_there : {R : Type 0} (size : ℕ) (value : List ℕ → R) (bytes : List ℕ) (p : ℕ) → 1 ≤ size → p + size ≤ length bytes → record_at size value bytes p ≡ Some (value (slice_range bytes p (p + size)))
 record_there size value bytes p wide room =
-    let start : nat_lt p (length bytes) ≡ true = lt-ltb _ _ (omega (arith, wide, room)) in
-    let end : nat_le (p + size) (length bytes) ≡ true = le-leb _ _ room in
-    rw (start, end) refl
+    ap (option_map value) (slice_at-inside bytes p size (omega (arith, wide, room)) room)
 
 -- so is an entry that was read of so many bytes
 pub entry_there : {R T : Type 0} (size width : ℕ) (value : List ℕ → R) (view : T → R) (bytes : List ℕ) (p : ℕ) (entry : T) → width ≡ size → 1 ≤ width → width ≤ length bytes - p → p ≤ length bytes → view entry ≡ value (slice_range bytes p (p + width)) → record_at size value bytes p ≡ Some (view entry)

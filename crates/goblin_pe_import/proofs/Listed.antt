@@ -1,12 +1,11 @@
 -- What is listed of a hint and of an entry.
-use Rattle.std.proofs.Common.{◌≡◌, ℕ, ◌+◌, Bool, true, false, nat_le, nat_lt, Option}
+use Rattle.std.proofs.Common.{◌≡◌, ℕ, ◌+◌, Bool, true, false, nat_le, Option}
 use Rattle.std.proofs.Common.{Some, None, List, [], ◌++◌, length, refl}
 use Rattle.std.proofs.Common.{arith, inl, inr}
-use Rattle.std.specs.Prelude.{slice_range}
-use Rattle.std.proofs.lemmas.Bool.{cases_Bool, le-leb, leb-false, leb-true, lt-ltb}
+use Rattle.std.proofs.lemmas.Bool.{cases_Bool, le-leb, leb-false, leb-true}
 use Rattle.goblin_base.specs.Bytes.{slice_at}
 use Rattle.goblin_base.specs.Footprints.{Range, positions, slice_footprint, stretch_footprint}
-use Rattle.goblin_base.proofs.Numbers.{slice_at-some}
+use Rattle.goblin_base.proofs.Numbers.{slice_at-inside, slice_at-some}
 use Rattle.goblin_base.proofs.SlotFootprints.{stretch-none}
 use Rattle.goblin_pe_import.specs.ImportEntries.{EntryValue}
 use Rattle.goblin_pe_import.specs.LookupReadings.{hint_name, kept_entry, kept_name}
@@ -22,10 +21,7 @@ hint-none bytes p none =
     elim (cases_Bool (nat_le (p + 2) (length bytes))) [
       | inl whole ↦
           let before = leb-true (p + 2) (length bytes) whole in
-          let start : nat_lt p (length bytes) ≡ true =
-          lt-ltb p (length bytes) (omega (arith, before)) in
-          let there : slice_at bytes p 2 ≡ Some (slice_range bytes p (p + 2)) =
-          rw (start, whole) refl in
+          let there = slice_at-inside bytes p 2 (omega (arith, before)) before in
           absurd (cc (none, there))
       | inr short ↦
           let past = leb-false (p + 2) (length bytes) short in

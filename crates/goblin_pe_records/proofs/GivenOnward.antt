@@ -1,8 +1,9 @@
 -- A list whose items fill records from an index on.
-use Rattle.std.proofs.Common.{◌≡◌, ◌<◌, ◌≤◌, ◌^◌, ◌*◌, ◌/◌, ℕ, ◌+◌, ◌-◌, List, length, map, drop, min, set, Some, None, Option, slice_get, get_or, [], ◌∷◌, ap, sym, subst, refl, arith, ◌∙◌, inl, inr}
+use Rattle.std.proofs.Common.{◌≡◌, ◌<◌, ◌≤◌, ◌^◌, ◌*◌, ◌/◌, ℕ, ◌+◌, ◌-◌, List, length, map, drop, min, set, take, Some, None, Option, slice_get, get_or, [], ◌∷◌, ap, sym, subst, refl, arith, ◌∙◌, inl, inr}
 use Rattle.std.specs.Prelude.{slice_range}
 use Rattle.std.specs.List.{range_with_len}
-use Rattle.std.proofs.lemmas.List.{get_or-drop, length-drop, map-id}
+use Rattle.std.proofs.Math.ListN.{drop_of_length-le}
+use Rattle.std.proofs.lemmas.List.{get_or-drop, length-drop, map-id, take_all}
 use Rattle.std.proofs.lemmas.List.FromFn.{get_or-map-range_with_len, length-map-range_with_len}
 use Rattle.std.proofs.lemmas.Option.{get_or_from_slice_get, slice_get_cases, slice_get-get_or, slice_get_past, slice_get_within}
 use Rattle.goblin_base.specs.Tables.{records_in}
@@ -68,6 +69,18 @@ module _ {W : Type 0} (items : List W) (from : ℕ) (old : List W) (i : ℕ) (re
         counted = omega (arith, few, full, same, all);
         position = omega (arith, few, short, fits, end, all);
       }
+
+-- where nothing is left
+pub onward-none : {W : Type 0} (items : List W) (from : ℕ) (old : List W) → length items ≤ from → GivesOnward items from old from old 0
+onward-none {W} items from old past =
+    let no : List W = [] in
+    let none : drop from items ≡ no = drop_of_length-le items past in
+    let empty : take (length old) no ≡ no = take_all (length old) no (omega arith) in
+    record {
+      filled = rw none (sym empty, refl);
+      counted = omega (arith, past);
+      position = omega arith;
+    }
 
 -- ---- the records in bytes
 

@@ -6,7 +6,6 @@ pub mod Named
 pub mod NamedObject
 pub mod NamedTe
 pub mod Names
-pub mod Offsets
 pub mod Puts
 pub mod Symbols
 pub mod SymbolTables

@@ -41,8 +41,8 @@ pub struct PeBaseRelocations {
     pub rest: PeFault,
 }
 
-// The record of a block.
-fn block_record<'a>(block: &RelocationBlock<'a>) -> PeBlock<'a>
+/// The record of a block.
+pub fn block_record<'a>(block: &RelocationBlock<'a>) -> PeBlock<'a>
     ensures { block_view result ≡ block_value block.now }
 {
     PeBlock {

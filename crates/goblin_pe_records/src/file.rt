@@ -5,6 +5,7 @@ ghost use Rattle.goblin_pe_records.specs.States.{state_number};
 
 use crate::block::PeBaseRelocations;
 use crate::headers::PeOptionalHeader;
+use crate::places::PePlaces;
 use crate::rich::PeRichHeader;
 use goblin_pe_head::header::{CoffHeader, DosHeader};
 
@@ -55,6 +56,8 @@ pub struct PeFile {
     pub directories: usize,
     /// How many sections there are.
     pub sections: usize,
+    /// Where the sections and the tables lie, for walks over these.
+    pub places: PePlaces,
     /// The imports.
     pub imports: PeTable,
     /// The exports.

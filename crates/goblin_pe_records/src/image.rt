@@ -10,8 +10,7 @@ ghost use Rattle.goblin_pe_sect.specs.AddressReadings.{text_at_address};
 ghost use Rattle.goblin_pe_records.specs.Calls.{ReadsWithout};
 ghost use Rattle.goblin_pe_records.specs.Images.{bytes_at_address, image_map, text_view};
 
-use crate::mapping::offset_by;
-use crate::options::{PeOptions, options_of};
+use crate::options::PeOptions;
 use crate::section::PeSection;
 use goblin_base::read::{pread_slice, pread_str};
 use goblin_base::{Cause, Error, Result};
@@ -41,14 +40,6 @@ pub struct PeText<'a> {
 }
 
 impl<'a> PeImage<'a> {
-    /// The file offset of an address.
-    pub fn offset_of(&self, rva: usize) -> Option<usize>
-        ensures { result ≡ image_map self.now rva }
-    {
-        let opts = options_of(&self.options);
-        offset_by(rva, self.sections, self.file_alignment, &opts)
-    }
-
     // The file offset of an address; it is refused where there is none.
     fn offset_at(&self, rva: usize) -> Result<usize>
         ensures { Answers (λ p. p) result (image_map self.now rva) (λ e. e ≡ Malformed (Unmapped rva)) }

@@ -47,6 +47,7 @@ fn first_holding<'s, 'a>(rva: usize, sections: &'s [PeSection<'a>]) -> Option<&'
 }
 
 // The same, as a section.
+#[tactic(auto, using(goblin_pe_sect::proofs::First::find_viewed))]
 fn first_in_memory<'s, 'a>(rva: usize, sections: &'s [PeSection<'a>]) -> Option<&'s PeSection<'a>>
     ensures value { option_map section_view (option_copied result)
         ≡ find (is_in_memory rva) (map section_view sections.now) }

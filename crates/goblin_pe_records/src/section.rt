@@ -1,17 +1,22 @@
-//! The records of sections.
+//! The records of sections, filled and written.
 
 ghost use Rattle.std.specs.Prelude.{◌≡◌, ◌<◌, IfOk, OnErr, Some, length, map, option_map, slice_get};
+ghost use Rattle.goblin_base.specs.declared.endian.Endian.TheVariants.{Little};
+ghost use Rattle.goblin_base.specs.Answers.{GivesOrMemory, IsSliceFault};
+ghost use Rattle.goblin_base.specs.Bytes.{overwritten};
+ghost use Rattle.goblin_base.specs.Record.{encoding};
 ghost use Rattle.goblin_pe_sect.specs.Options.{is_strict};
-ghost use Rattle.goblin_pe_sect.specs.SectionTable.{recorded_sections, unnamed};
-ghost use Rattle.goblin_base.specs.Answers.{GivesOrMemory};
+ghost use Rattle.goblin_pe_sect.specs.SectionReadings.{SectionWritesBack};
+ghost use Rattle.goblin_pe_sect.specs.SectionTable.{recorded_sections, section_fields, unnamed};
 ghost use Rattle.goblin_pe_head.specs.TeHeader.{section_moved};
 ghost use Rattle.goblin_pe_records.specs.Blocked.{HasNoSpareRoom};
 ghost use Rattle.goblin_pe_records.specs.Filled.{Filled, without_text};
 ghost use Rattle.goblin_pe_records.specs.Sections.{named_in, real_name_in, section_said};
 ghost use Rattle.goblin_pe_records.specs.Sections.{section_view};
+ghost use Rattle.goblin_pe_records.specs.Written.{Output, SetsName, WritesOut};
 
-use goblin_base::Result;
 use goblin_base::read::pread_str;
+use goblin_base::{Endian, Result};
 use goblin_pe_head::header::adjust_section;
 use goblin_pe_sect::options::ParseOptions;
 use goblin_pe_sect::section_table::{SectionRecords, SectionTable};
@@ -205,4 +210,44 @@ pub fn named_sections<'a>(
         name_record(&mut records[i], bytes, &section, table, opts);
     }
     Ok(records)
+}
+
+// Writes the record of a section, and says how many bytes it takes.
+fn write_record(section: &SectionTable, out: &mut [u8], written: &mut usize) -> Result<()>
+    ensures written { let old : Output = record { out = out.old; written = written.old } in
+        let new : Output = record { out = out.new; written = written.new } in
+        WritesOut (overwritten out.old 0 (encoding Little (section_fields section.now)))
+        (λ size. size ≡ 40) (IsSliceFault out.old 0 40) old new result }
+    ensures back { SectionWritesBack }
+{
+    *written = section.try_into_ctx(out, Endian::Little)?;
+    Ok(())
+}
+
+/// Writes the record of a section to the front of `out`, and puts its size, 40, into `written`.
+///
+/// # Errors
+/// Where there is no room; nothing is then changed.
+#[tactic(auto, unfolding(goblin_pe_sect::specs::SectionTable::section_fields))]
+pub fn write_section(section: &PeSection, out: &mut [u8], written: &mut usize) -> Result<()>
+    ensures written { let old : Output = record { out = out.old; written = written.old } in
+        let new : Output = record { out = out.new; written = written.new } in
+        WritesOut (overwritten out.old 0 (encoding Little (section_fields (section_view section.now))))
+        (λ size. size ≡ 40) (IsSliceFault out.old 0 40) old new result }
+    ensures back { SectionWritesBack }
+{
+    write_record(&section_of(section), out, written)
+}
+
+/// Sets the eight bytes of a section's name to say that the name is at `offset` in the string table.
+///
+/// # Errors
+/// An offset that six digits of base 64 cannot say; nothing is then changed.
+pub fn set_name_offset(section: &mut PeSection, offset: usize) -> Result<()>
+    ensures { SetsName offset section.old section.new result }
+{
+    let mut table = section_of(section);
+    table.set_name_offset(offset)?;
+    section.name = table.name;
+    Ok(())
 }

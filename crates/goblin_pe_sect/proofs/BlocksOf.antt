@@ -1,7 +1,7 @@
 -- The items of a base relocation directory are the one longest list of blocks at its front.
-use Rattle.std.proofs.Common.{◌≡◌, ℕ, zero, suc, ◌+◌, ◌-◌, ◌<◌, ◌≤◌, Bool, true, false, cond, List, [], ◌∷◌, ◌++◌, length, map, min, take, drop, nat_le, nat_lt, Option, Some, None, Result, Ok, Err, refl, ap, sym, subst, ◌∙◌, inl, inr, arith, tests, rules}
+use Rattle.std.proofs.Common.{◌≡◌, ℕ, zero, suc, ◌+◌, ◌-◌, ◌<◌, ◌≤◌, Bool, true, false, cond, List, [], ◌∷◌, ◌++◌, length, map, min, take, drop, nat_lt, Option, Some, None, Result, Ok, Err, refl, ap, sym, subst, ◌∙◌, inl, inr, arith, tests, rules}
 use Rattle.std.specs.Prelude.{flat_map, slice_range}
-use Rattle.std.proofs.lemmas.Bool.{cases_lt, le-leb, lt-ltb}
+use Rattle.std.proofs.lemmas.Bool.{cases_lt}
 use Rattle.std.proofs.lemmas.List.{drop-drop, drop-take, take-take}
 use Rattle.goblin_base.specs.declared.endian.Endian.TheVariants.{Little}
 use Rattle.goblin_base.specs.declared.error.ErrorOf.{ErrorOf}
@@ -9,7 +9,7 @@ use Rattle.goblin_base.specs.Bytes.{IsBytes, number, slice_at}
 use Rattle.goblin_base.specs.Record.{encoding}
 use Rattle.goblin_base.proofs.RecordRoundTrip.{Slot, encoding-fields_from, fields_from, slots_width, slice_then}
 use Rattle.goblin_base.proofs.RecordRoundTrip.Slot.{octets_slot, uint_slot}
-use Rattle.goblin_base.proofs.Numbers.{number-slice, read_number, slice_at-some}
+use Rattle.goblin_base.proofs.Numbers.{number-slice, read_number, slice_at-inside, slice_at-some}
 use Rattle.goblin_pe_sect.specs.BaseRelocations.{AreBlocks, AreBlocksOf, Block, IsBlockAt, block_at, block_fields, first_items, then_items, with_head, with_words}
 use Rattle.goblin_pe_sect.proofs.BlockItems.{inside, first_items-past}
 
@@ -63,12 +63,6 @@ at_from_read directory p b e = at_by directory p (slice_at directory p 8) b refl
 
 -- ---- to what is read
 
-slice_is : (bytes : List ℕ) (p n : ℕ) → p < length bytes → p + n ≤ length bytes → slice_at bytes p n ≡ Some (slice_range bytes p (p + n))
-slice_is bytes p n start end =
-    let first : nat_lt p (length bytes) ≡ true = lt-ltb _ _ start in
-    let second : nat_le (p + n) (length bytes) ≡ true = le-leb _ _ end in
-    rw (first, second) refl
-
 head_with_words : (directory head : List ℕ) (q n rva : ℕ) (words : List ℕ) → number Little 4 head 4 ≡ n → number Little 4 head 0 ≡ rva → 8 ≤ n → slice_at directory q (n - 8) ≡ Some words → with_head directory q (Some head) ≡ Ok (record { rva = rva; size = n; words = words })
 head_with_words directory head q n rva words size_is rva_is large second =
     let test : nat_lt n 8 ≡ false = search (rules, tests) in
@@ -81,11 +75,11 @@ read_from_at directory p b h =
     let head = slice_range directory p (p + 8) in
     let here : p + 0 ≡ p = omega arith in
     let to : p + 8 + (b.size - 8) ≡ p + b.size = omega (arith, h.large) in
-    let first : slice_at directory p 8 ≡ Some head = slice_is directory p 8 (omega (arith, room)) (omega (arith, room)) in
+    let first : slice_at directory p 8 ≡ Some head = slice_at-inside directory p 8 (omega (arith, room)) (omega (arith, room)) in
     let rva : number Little 4 head 0 ≡ b.rva = number_within 4 8 0 directory p (omega arith) ∙ ap (number Little 4 directory) here ∙ h.rva in
     let size : number Little 4 head 4 ≡ b.size = number_within 4 8 4 directory p (omega arith) ∙ h.size in
     let own : slice_range directory (p + 8) (p + 8 + (b.size - 8)) ≡ b.words = ap (slice_range directory (p + 8)) to ∙ h.words in
-    let words : slice_at directory (p + 8) (b.size - 8) ≡ Some b.words = slice_is directory (p + 8) (b.size - 8) room (omega (arith, h.within, h.large)) ∙ ap (λ (xs : List ℕ). Some xs) own in
+    let words : slice_at directory (p + 8) (b.size - 8) ≡ Some b.words = slice_at-inside directory (p + 8) (b.size - 8) room (omega (arith, h.within, h.large)) ∙ ap (λ (xs : List ℕ). Some xs) own in
     ap (with_head directory (p + 8)) first ∙ head_with_words directory head (p + 8) b.size b.rva b.words size rva h.large words
 
 -- ---- the longest list

@@ -1,16 +1,17 @@
 -- Directories that were read are written as they stood, with zeros after the last, and one that was written is read again.
-use Rattle.std.proofs.Common.{◌≡◌, ℕ, zero, suc, ◌+◌, ◌-◌, ◌*◌, ◌≤◌, true, false, nat_le, List, ◌∷◌, ◌++◌, length, drop, map, Option, Some, None, refl, sym, ap, ◌∙◌, inl, inr, arith, Bool, cond, nat_lt, take, replicate, ◌⊎◌}
-use Rattle.std.specs.Prelude.{◌==◌, ◌&&◌, ◌||◌, slice_range, flat_map}
+use Rattle.std.proofs.Common.{◌≡◌, ℕ, zero, suc, ◌+◌, ◌-◌, ◌*◌, ◌≤◌, true, false, nat_le, List, ◌∷◌, ◌++◌, length, drop, map, Option, Some, None, refl, sym, ap, ◌∙◌, inl, inr, arith, Bool, cond, take, replicate, ◌⊎◌}
+use Rattle.std.specs.Prelude.{◌==◌, ◌&&◌, ◌||◌, slice_range, flat_map, option_map}
 use Rattle.std.specs.List.{range_with_len}
-use Rattle.std.proofs.lemmas.Bool.{le-leb, lt-ltb, and_parts, eqb-true, leb-true}
+use Rattle.std.proofs.lemmas.Bool.{and_parts, eqb-true, leb-true}
 use Rattle.std.proofs.lemmas.Option.{cond_some}
 use Rattle.std.proofs.lemmas.List.{drop-drop, map-append, replicate-append-replicate}
 use Rattle.std.proofs.lemmas.List.Concat.{flat_map-append}
 use Rattle.std.proofs.Math.Seq.{take-add}
 use Rattle.goblin_base.specs.declared.endian.Endian.TheVariants.{Little}
 use Rattle.goblin_base.specs.Bytes.{IsBytes, number_bytes, slice_at}
-use Rattle.goblin_base.specs.Record.{FieldValue, WritesBack, encoding, record_at, FieldsFit, ReadsBack}
+use Rattle.goblin_base.specs.Record.{FieldValue, WritesBack, encoding, FieldsFit, ReadsBack}
 use Rattle.goblin_base.proofs.RecordRoundTrip.{writes_back, reads_back}
+use Rattle.goblin_base.proofs.Numbers.{slice_at-inside}
 use Rattle.goblin_base.proofs.Writing.{encoding_append}
 use Rattle.goblin_pe_sect.specs.declared.data_directories.DataDirectory.{DataDirectory}
 use Rattle.goblin_pe_sect.specs.DataDirectories.{directory_fields, directory_or_zeros, directory_record, entries_fields, entry_ending, no_directory}
@@ -46,10 +47,8 @@ directory_or_zeros-entry_ending end d = zeros_by_tests (d.virtual_address == 0) 
 own_bytes : (bytes : List ℕ) (p : ℕ) → IsBytes bytes → p + 8 ≤ length bytes → encoding Little (directory_fields (directory_record Little (slice_range bytes p (p + 8)))) ≡ slice_range bytes p (p + 8)
 own_bytes bytes p h room =
     let own = slice_range bytes p (p + 8) in
-    let start : nat_lt p (length bytes) ≡ true = lt-ltb _ _ (omega arith) in
-    let end : nat_le (p + 8) (length bytes) ≡ true = le-leb _ _ room in
-    let here : slice_at bytes p 8 ≡ Some own = rw (start, end) refl in
-    let there : record_at 8 (directory_record Little) bytes p ≡ Some (directory_record Little own) = rw (start, end) refl in
+    let here = slice_at-inside bytes p 8 (omega arith) room in
+    let there = ap (option_map (directory_record Little)) here in
     let back : slice_at bytes p 8 ≡ Some (encoding Little (directory_fields (directory_record Little own))) = directory_back Little bytes p (directory_record Little own) h there in
     cc (here, back)
 

@@ -1,12 +1,11 @@
 -- The data directories by the room in the file: what they are, and which cause is true of them.
 use Rattle.std.proofs.Common.{◌≡◌, ◌≢◌, ◌/◌, ◌%◌, ◌+◌, ◌-◌, ◌*◌, ◌<◌, ◌≤◌, ◌&&◌, ◌||◌, ℕ, zero, suc, Bool, true}
-use Rattle.std.proofs.Common.{false, cond, get_or, nat_eq, nat_le, nat_lt, List, length, map}
+use Rattle.std.proofs.Common.{false, cond, get_or, nat_eq, nat_le, List, length, map}
 use Rattle.std.proofs.Common.{Option, Some, None, refl, replicate, set, subst, sym, ap, ◌∙◌, inl, inr, arith}
 use Rattle.std.specs.Prelude.{option_and_then, option_map, slice_range}
 use Rattle.std.specs.List.{range_with_len, slice_get}
-use Rattle.std.proofs.Math.Bool.{and-false}
 use Rattle.std.proofs.lemmas.Bool.{cases_eq, cases_lt, eq-eqb, eqb-false, le-leb, leb-false}
-use Rattle.std.proofs.lemmas.Bool.{leb-true, lt-leb, lt-ltb, ne_eqb}
+use Rattle.std.proofs.lemmas.Bool.{leb-true, lt-leb, ne_eqb}
 use Rattle.std.proofs.lemmas.List.FromFn.{get_or-map-range_with_len, length-map-range_with_len}
 use Rattle.std.proofs.lemmas.Option.{slice_get_past, slice_get_read}
 use Rattle.goblin_base.specs.declared.endian.Endian.TheVariants.{Little}
@@ -18,7 +17,7 @@ use Rattle.goblin_base.specs.Answers.{IsFirstMissing, IsSliceFault, all_at, all_
 use Rattle.goblin_base.specs.Bytes.{slice_at}
 use Rattle.goblin_base.specs.Record.{record_at}
 use Rattle.goblin_base.proofs.Footprints.{same-all_at, same_map}
-use Rattle.goblin_base.proofs.Numbers.{slice-of_slice}
+use Rattle.goblin_base.proofs.Numbers.{slice-of_slice, slice_at-inside, slice_at-past}
 use Rattle.goblin_base.proofs.Steps.{all_at-none, unmapped}
 use Rattle.goblin_pe_sect.specs.declared.data_directories.DataDirectory.{DataDirectory}
 use Rattle.goblin_pe_sect.specs.DataDirectories.{directory_record, entry_ending}
@@ -59,12 +58,11 @@ module _ (count : ℕ) (bytes : List ℕ) (p : ℕ) where
 
   directory_there : (i : ℕ) → p + 8 * i + 8 ≤ length bytes → directory i ≡ Some (own i)
   directory_there i le =
-      let begins : nat_lt (p + 8 * i) (length bytes) ≡ true = lt-ltb _ _ (omega (arith, le)) in
-      let ends : nat_le (p + 8 * i + 8) (length bytes) ≡ true = le-leb _ _ le in
-      rw (begins, ends) refl
+      ap (option_map (directory_record Little)) (slice_at-inside bytes (p + 8 * i) 8 (omega (arith, le)) le)
 
   directory_missing : (i : ℕ) → length bytes < p + 8 * i + 8 → directory i ≡ None
-  directory_missing i past = rw (lt-leb _ _ past, and-false) refl
+  directory_missing i past =
+      ap (option_map (directory_record Little)) (slice_at-past bytes (p + 8 * i) 8 past)
 
   all_there : (0 < count → p + 8 * count ≤ length bytes)
       → all_at directory count ≡ Some (map own (range_with_len 0 count))
@@ -218,14 +216,13 @@ pub record_there : (bytes : List ℕ) (p k : ℕ) (d : DataDirectory) → p + k 
     → d ≡ directory_record Little (slice_range (slice_range bytes p (length bytes)) k (k + 8))
     → record_at 8 (directory_record Little) bytes (p + k) ≡ Some d
 record_there bytes p k d room is =
-    let begins : nat_lt (p + k) (length bytes) ≡ true = lt-ltb _ _ (omega (arith, room)) in
-    let ends : nat_le (p + k + 8) (length bytes) ≡ true = le-leb _ _ room in
     let all : p + (length bytes - p) ≡ length bytes = omega (arith, room) in
     let same : slice_range (slice_range bytes p (length bytes)) k (k + 8)
     ≡ slice_range bytes (p + k) (p + k + 8) =
     subst (λ (end : ℕ). slice_range (slice_range bytes p end) k (k + 8) ≡ slice_range bytes (p + k) (p + k + 8))
     all (slice-of_slice bytes p (length bytes - p) k 8 (omega (arith, room))) in
-    rw (begins, ends) (ap (λ (own : List ℕ). Some (directory_record Little own)) (sym same) ∙ ap (λ (d : DataDirectory). Some d) (sym is))
+    ap (option_map (directory_record Little)) (slice_at-inside bytes (p + k) 8 (omega (arith, room)) room)
+    ∙ ap (λ (own : List ℕ). Some (directory_record Little own)) (sym same) ∙ ap (λ (d : DataDirectory). Some d) (sym is)
 
 -- an entry that was not read is none
 pub none_so_far : (i : ℕ) (bytes : List ℕ) (p : ℕ) (entries : List (Option (ℕ × DataDirectory)))

@@ -8,7 +8,7 @@ use Rattle.std.proofs.lemmas.Slice.Zip.{length-zip}
 use Rattle.std.proofs.lemmas.List.{append-nil, at_drop_more, drop_all, length-drop, take_all, get_or-set_same, get_or-set_other, length-set}
 use Rattle.std.proofs.lemmas.List.Concat.{flat_map-cons}
 use Rattle.std.proofs.lemmas.List.FromFn.{fill_by_all, get_or-map-range_with_len, length-map-range_with_len}
-use Rattle.std.proofs.Math.Bool.{and-false, or-true}
+use Rattle.std.proofs.Math.Bool.{or-true}
 use Rattle.goblin_base.specs.declared.endian.Endian.{Endian}
 use Rattle.goblin_base.specs.declared.endian.Endian.TheVariants.{Little}
 use Rattle.goblin_base.specs.declared.error.ErrorOf.{ErrorOf}
@@ -17,6 +17,7 @@ use Rattle.goblin_base.specs.declared.error.ReadFault.TheVariants.{BadOffset, To
 use Rattle.goblin_base.specs.Bytes.{replaced, slice_at}
 use Rattle.goblin_base.specs.Answers.{IsFirstMissing, IsSliceFault}
 use Rattle.goblin_base.specs.Record.{FieldValue, encoding, record_at, total_width}
+use Rattle.goblin_base.proofs.Numbers.{slice_at-inside, slice_at-past}
 use Rattle.goblin_base.proofs.Records.{record_at-some}
 use Rattle.goblin_base.proofs.Writing.{IsPutting, encoding_append, length-replaced, length_encoding, replaced_then}
 use Rattle.goblin_pe_sect.specs.declared.data_directories.DataDirectory.{DataDirectory}
@@ -60,22 +61,16 @@ entries-there i bytes p entries h k lt none =
       | inl nothing ↦ absurd (omega (arith, lt, eqb-true i 0 nothing))
       | inr le ↦ leb-true _ _ le
     ] in
-    let begins : nat_lt (p + 8 * k) (length bytes) ≡ true = lt-ltb _ _ (omega (arith, room, lt)) in
-    let ends : nat_le (p + 8 * k + 8) (length bytes) ≡ true = le-leb _ _ (omega (arith, room, lt)) in
-    let is : slice_at bytes (p + 8 * k) 8 ≡ Some (slice_range bytes (p + 8 * k) (p + 8 * k + 8)) = rw (begins, ends) refl in
+    let is = slice_at-inside bytes (p + 8 * k) 8 (omega (arith, room, lt)) (omega (arith, room, lt)) in
     absurd (cc (is, none))
-
--- nor is one that passes the end
-not_there : (bytes : List ℕ) (p : ℕ) → length bytes < p + 8 → slice_at bytes p 8 ≡ None
-not_there bytes p past = rw (lt-leb _ _ past, and-false) refl
 
 -- the first that is not there refuses them all
 pub one_missing : (count i : ℕ) (bytes : List ℕ) (p at : ℕ) (entries : List (Option (ℕ × DataDirectory))) (e : ErrorOf) → i < count → count ≤ 16 → at ≡ p + 8 * i
     → entries_in_room i bytes p ≡ Some entries → IsSliceFault bytes at 8 e → (entries_in_room count bytes p ≡ None) × IsFirstMissing (λ i. slice_at bytes (p + 8 * i) 8) count (λ i. IsSliceFault bytes (p + 8 * i) 8) e
 one_missing count i bytes p at entries (Read BadOffset) lt most is so_far h =
-    (past_end count bytes p (omega arith) (omega arith), (i, lt, entries-there i bytes p entries so_far, not_there bytes (p + 8 * i) (omega arith), omega arith))
+    (past_end count bytes p (omega arith) (omega arith), (i, lt, entries-there i bytes p entries so_far, slice_at-past bytes (p + 8 * i) 8 (omega arith), omega arith))
 one_missing count i bytes p at entries (Read TooBig) lt most is so_far h =
-    (past_end count bytes p (omega arith) (omega arith), (i, lt, entries-there i bytes p entries so_far, not_there bytes (p + 8 * i) (omega arith), omega arith))
+    (past_end count bytes p (omega arith) (omega arith), (i, lt, entries-there i bytes p entries so_far, slice_at-past bytes (p + 8 * i) 8 (omega arith), omega arith))
 one_missing count i bytes p at entries e lt most is so_far h = absurd h
 
 -- what entries that were read are

@@ -1,12 +1,12 @@
 -- Directories that are read end within the file.
 use Rattle.std.proofs.Common.{◌≡◌, ◌+◌, ◌-◌, ◌*◌, ◌<◌, ◌≤◌, ℕ, Bool, true, false, cond, nat_le}
-use Rattle.std.proofs.Common.{List, length, Option, Some, None, refl, inl, inr, arith}
+use Rattle.std.proofs.Common.{List, length, Option, Some, None, ap, refl, inl, inr, arith}
 use Rattle.std.specs.Prelude.{IfSome, option_map}
-use Rattle.std.proofs.Math.Bool.{and-false}
-use Rattle.std.proofs.lemmas.Bool.{cases_lt, lt-leb}
+use Rattle.std.proofs.lemmas.Bool.{cases_lt}
 use Rattle.goblin_base.specs.declared.endian.Endian.TheVariants.{Little}
 use Rattle.goblin_base.specs.Answers.{all_at}
 use Rattle.goblin_base.specs.Record.{record_at}
+use Rattle.goblin_base.proofs.Numbers.{slice_at-past}
 use Rattle.goblin_base.proofs.Steps.{all_at-each}
 use Rattle.goblin_pe_sect.specs.declared.data_directories.DataDirectory.{DataDirectory}
 use Rattle.goblin_pe_sect.specs.DataDirectories.{directory_record}
@@ -14,7 +14,7 @@ use Rattle.goblin_pe_sect.specs.DirectoryReadings.{directories_at, sixteen}
 
 directory_past : (bytes : List ℕ) (p : ℕ) → length bytes < p + 8
     → record_at 8 (directory_record Little) bytes p ≡ None
-directory_past bytes p past = rw (lt-leb _ _ past, and-false) refl
+directory_past bytes p past = ap (option_map (directory_record Little)) (slice_at-past bytes p 8 past)
 
 all-within : (count : ℕ) (bytes : List ℕ) (p : ℕ) (all : List DataDirectory) → p ≤ length bytes
     → all_at (λ i. record_at 8 (directory_record Little) bytes (p + 8 * i)) count ≡ Some all

@@ -79,6 +79,13 @@ first_items (suc n) directory p =
 abbrev pub block_items : List ℕ → ℕ → List (Result Block ErrorOf)
 block_items directory p = first_items (length directory - p) directory p
 
+-- What is found at p of a directory: nothing where nothing comes, else the next item, and after a block
+-- come the items from its end on.
+abbrev pub FindsItem : List ℕ → ℕ → Option (Result RelocationBlock ErrorOf) → Type 0
+FindsItem directory p None = block_items directory p ≡ []
+FindsItem directory p (Some found) =
+    block_items directory p ≡ then_items (block_items directory) p (block_item found)
+
 -- what an iterator over blocks has left
 abbrev pub blocks_left : RelocationBlockIterator → List (Result Block ErrorOf)
 blocks_left it = block_items it.bytes.now it.offset

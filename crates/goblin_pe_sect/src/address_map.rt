@@ -1,6 +1,6 @@
 //! Where addresses lie in the file, by the windows of the sections.
 
-ghost use Rattle.std.specs.Prelude.{◌≡◌, ◌<◌, ℕ, IfErr, IfOk, length, vec_capacity};
+ghost use Rattle.std.specs.Prelude.{◌≡◌, ◌^◌, ◌<◌, ℕ, IfErr, IfOk, length, vec_capacity};
 ghost use Rattle.goblin_base.specs.Answers.{GivesOrMemory, IsMemory};
 ghost use Rattle.goblin_pe_sect.specs.declared.address_map.Windows.TheVariants.{Walked};
 ghost use Rattle.goblin_pe_sect.specs.Mapping.{file_offset};
@@ -196,7 +196,7 @@ impl<'s> AddressMap<'s> {
         ensures { result ≡ offset_of (map_of self.now) rva }
     {
         let mut run = Run::default();
-        self.find_run(rva, &mut run)
+        self.find_run(rva as usize, &mut run)
     }
 
     // The file offset of an address. `run` becomes addresses about it that have their offsets
@@ -204,8 +204,9 @@ impl<'s> AddressMap<'s> {
     // does by an index. (A result of that size would cost loops that seldom ask here more than an
     // argument does.)
     #[inline(never)]
-    pub(crate) fn find_run(&self, rva: u32, run: &mut Run) -> Option<usize>
-        requires { IsRun (offset_of (map_of self.now)) run.old }
+    pub(crate) fn find_run(&self, rva: usize, run: &mut Run) -> Option<usize>
+        requires is { IsRun (offset_of (map_of self.now)) run.old }
+        requires small { rva < 2 ^ 32 }
         ensures value { result ≡ offset_of (map_of self.now) rva }
         ensures is { IsRun (offset_of (map_of self.now)) run.new }
         ensures walked { IsIndexed self.now → run.new ≡ run.old }
@@ -214,7 +215,7 @@ impl<'s> AddressMap<'s> {
             Windows::Walked(records, file_alignment) => {
                 find_in_records(*records, *file_alignment, &self.opts, rva, run)
             }
-            Windows::Indexed(index) => index.find(rva as usize),
+            Windows::Indexed(index) => index.find(rva),
         }
     }
 }

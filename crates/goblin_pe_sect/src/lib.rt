@@ -1,11 +1,13 @@
 //! The sections of a PE file, its data directories and relocations, the mapping of addresses to
-//! file offsets, and tables of entries. `goblin_pe` re-exports its modules, except for `footprint`.
+//! file offsets, and tables of entries. `goblin_pe` re-exports its modules, except for `footprint`
+//! and `mapping`.
 #![tactic(auto)]
 
 pub mod address_map;
 pub mod data_directories;
 mod digits;
 pub mod footprint;
+pub mod mapping;
 pub mod options;
 pub mod relocation;
 pub mod section_table;

@@ -2,21 +2,20 @@
 //!
 //! Addresses are relative to the image's base (RVAs); offsets are file offsets. Both are in bytes.
 
-ghost use Rattle.std.specs.Prelude.{◌≡◌, ◌+◌, ◌^◌, ◌<◌, ◌≤◌, ◌↔◌, ℕ, IsTrue, IfSome, MatchOption};
-ghost use Rattle.std.specs.Prelude.{find};
+ghost use Rattle.std.specs.Prelude.{◌≡◌, ◌+◌, ◌^◌, ◌<◌, ◌≤◌, ◌↔◌, ℕ, IsTrue, MatchOption};
 ghost use Rattle.std.specs.Int.{is_power_of_two};
 ghost use Rattle.std.specs.Option.{option_copied, option_map};
 ghost use Rattle.goblin_base.specs.Answers.{Answers};
 ghost use Rattle.goblin_base.specs.Reading.{Reads};
 ghost use Rattle.goblin_pe_sect.specs.AddressReadings.{data_at, name_or_none, text_at_address};
-ghost use Rattle.goblin_pe_sect.specs.Mapping.{read_size, window_end, window_of, is_in_window};
-ghost use Rattle.goblin_pe_sect.specs.Mapping.{raw_begin, rounds, offset_in, file_offset};
-ghost use Rattle.goblin_pe_sect.specs.Mapping.{InWindow, MapsTo, section_at};
+ghost use Rattle.goblin_pe_sect.specs.Mapping.{read_size, window_end, window_of, raw_begin, rounds};
+ghost use Rattle.goblin_pe_sect.specs.Mapping.{file_offset, MapsTo, section_at};
 ghost use Rattle.goblin_pe_sect.specs.Mapping.{MapsNowhere, OffsetsApart, IsMessage};
 ghost use Rattle.goblin_pe_sect.specs.Multiples.{greatest_multiple, least_multiple};
 ghost use Rattle.goblin_pe_sect.specs.Options.{is_strict, default_options};
 
 use crate::data_directories::DataDirectory;
+use crate::mapping::{self, file_offset};
 use crate::options::{ParseOptions, RawPointerRule};
 use crate::section_table::SectionTable;
 use goblin_base::{
@@ -118,31 +117,6 @@ pub fn window(section: &SectionTable, file_alignment: u32) -> Option<(usize, usi
     }
 }
 
-// Whether the section's window holds the address.
-fn is_in_window(rva: usize, section: &SectionTable, file_alignment: u32) -> bool
-    requires { 0 < file_alignment }
-    ensures { result ≡ is_in_window file_alignment rva section.now }
-{
-    let (begin, end) = section_window(section, file_alignment);
-    is_in_range(rva, begin, end)
-}
-
-// The first section whose window holds the address.
-#[tactic(auto, using(crate::proofs::Mapped::found_in_window))]
-fn first_in_window(
-    rva: usize,
-    sections: &[SectionTable],
-    file_alignment: u32,
-) -> Option<&SectionTable>
-    requires { 0 < file_alignment }
-    ensures value { option_copied result ≡ find (is_in_window file_alignment rva) sections.now }
-    ensures holds { IfSome result (λ s. InWindow file_alignment rva s.now) }
-{
-    sections
-        .iter()
-        .find(|section| is_in_window(rva, section, file_alignment))
-}
-
 // Whether the rule rounds raw pointers at this file alignment.
 #[inline(always)]
 fn rounds(rule: RawPointerRule, file_alignment: u32) -> bool
@@ -157,7 +131,7 @@ fn rounds(rule: RawPointerRule, file_alignment: u32) -> bool
 
 /// The section that an address lies in: the first whose window holds it, by which [`find_offset`]
 /// maps it. None does if `file_alignment` is not a power of two.
-#[tactic(auto, using(crate::proofs::Mapped::power_positive))]
+#[tactic(auto, using(crate::proofs::First::as_given, crate::proofs::First::found_as_given))]
 pub fn section_at(
     rva: usize,
     sections: &[SectionTable],
@@ -165,11 +139,7 @@ pub fn section_at(
 ) -> Option<&SectionTable>
     ensures { option_copied result ≡ section_at file_alignment rva sections.now }
 {
-    if file_alignment.is_power_of_two() {
-        first_in_window(rva, sections, file_alignment)
-    } else {
-        None
-    }
+    mapping::section_at(rva, sections, file_alignment)
 }
 
 /// The file offset at which the section's raw data begins for the mapping of addresses: its raw
@@ -187,38 +157,6 @@ pub fn raw_begin(section: &SectionTable, file_alignment: u32, opts: &ParseOption
     }
 }
 
-// The file offset of an address in the section's window.
-#[tactic(auto, using(crate::proofs::Mapped::read_size_le))]
-fn offset_in(rva: usize, section: &SectionTable, file_alignment: u32, opts: &ParseOptions) -> usize
-    requires { InWindow file_alignment rva section.now }
-    ensures { result ≡ offset_in opts.now file_alignment section.now rva }
-{
-    let distance = rva - section.virtual_address as usize;
-    let raw_size = section.size_of_raw_data as usize;
-    prove!(distance < raw_size + 4096);
-    raw_begin(section, file_alignment, opts) as usize + distance
-}
-
-// The file offset of an address.
-#[tactic(auto, using(crate::proofs::Mapped::power_positive), unfolding(crate::specs::Mapping::file_offset))]
-fn file_offset(
-    rva: usize,
-    sections: &[SectionTable],
-    file_alignment: u32,
-    opts: &ParseOptions,
-) -> Option<usize>
-    ensures { result ≡ file_offset opts.now sections.now file_alignment rva }
-{
-    if !opts.resolve_rva {
-        return Some(rva);
-    }
-    if !file_alignment.is_power_of_two() {
-        return None;
-    }
-    let section = first_in_window(rva, sections, file_alignment)?;
-    Some(offset_in(rva, section, file_alignment, opts))
-}
-
 /// The file offset of the address `rva`: that of the first section whose window holds it, in the
 /// order of the table. Where windows overlap, the first hides the others.
 ///
@@ -230,7 +168,7 @@ fn file_offset(
 ///
 /// Source: none, as for [`window`]; [`RawPointerRule`] says for which images each rule for raw
 /// pointers is right.
-#[tactic(auto, using(crate::proofs::Mapped::file_offset_first))]
+#[tactic(auto, using(crate::proofs::Mapped::file_offset_first, crate::proofs::First::as_given))]
 pub fn find_offset(
     rva: usize,
     sections: &[SectionTable],

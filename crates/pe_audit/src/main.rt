@@ -14,11 +14,11 @@ use goblin_pe::Result as Answer;
 use goblin_pe::options::ParseOptions;
 use goblin_pe::section_table::SectionTable;
 use goblin_pe_caller::entry::enters_code;
-use goblin_pe_caller::footprint::Key;
 use goblin_pe_caller::forwarders::forwarders;
 use goblin_pe_caller::imports::imports_from;
 use goblin_pe_caller::report::report;
 use goblin_pe_caller::stamp::stamp;
+use goblin_pe_caller::verdict::Verdict;
 use goblin_pe_caller::write_execute::writable_code;
 use std::alloc::Global;
 use std::io::{ErrorKind, Read};
@@ -87,7 +87,7 @@ fn show(rt: &HostRuntime, bytes: &[u8], library: &str) -> io::Result<()> {
     }
     let size = kept(stamped_size(alloc, bytes))?;
     println!(rt; "header: {size} bytes")?;
-    let same = word(kept(is_kept(alloc, bytes))?);
+    let same = word(kept(is_known(alloc, bytes))?);
     println!(rt; "known by its key: {same}")
 }
 
@@ -105,8 +105,8 @@ fn stamped_size(alloc: Global, bytes: &[u8]) -> Answer<usize> {
     stamp(bytes, 0x1122_3344, &mut out)
 }
 
-// Whether the file has what its own key keeps.
-fn is_kept(alloc: Global, bytes: &[u8]) -> Answer<bool> {
-    let key = Key::of(alloc, bytes, &ParseOptions::default())?;
-    Ok(key.fits(bytes))
+// Whether the verdict on the file is known again to be on it.
+fn is_known(alloc: Global, bytes: &[u8]) -> Answer<bool> {
+    let verdict = Verdict::of(alloc, bytes)?;
+    Ok(verdict.again(bytes) == Some(true))
 }

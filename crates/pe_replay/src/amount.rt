@@ -161,7 +161,7 @@ impl Amount for Whole<'_> {
     }
 }
 
-impl Amount for Layout<'_, '_> {
+impl Amount for Layout<'_> {
     fn amount(&self) -> Result<usize, Refusal> {
         Ok(self.section_records().len())
     }

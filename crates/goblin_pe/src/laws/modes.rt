@@ -10,7 +10,7 @@ ghost use Rattle.goblin_pe_head.specs.PeHeader.{header_value};
 ghost use Rattle.goblin_pe_sect.specs.Addresses.{map_by, offset_of};
 ghost use Rattle.goblin_pe.specs.Modes.{ReadsInModes, in_mode, in_permissive_mode};
 ghost use Rattle.goblin_pe.specs.TableRuns.{AreGrown, AreInModes};
-ghost use Rattle.goblin_pe.specs.SectionRoom.{TakesLists};
+ghost use Rattle.goblin_pe.specs.TakenMemory.{TakesLists};
 ghost use Rattle.goblin_pe.specs.Whole.{whole_file};
 
 use crate::header::Header;

@@ -5,7 +5,7 @@ ghost use Rattle.goblin_base.specs.Answers.{IsMemory};
 ghost use Rattle.goblin_base.specs.Reading.{ReadsOrMemory};
 ghost use Rattle.goblin_pe_head.specs.TeReadings.{te_header, te_image};
 ghost use Rattle.goblin_pe_sect.specs.Addresses.{map_by, offset_of, reads_strictly};
-ghost use Rattle.goblin_pe.specs.SectionRoom.{TakesSections};
+ghost use Rattle.goblin_pe_head.specs.SectionRoom.{TakesSections};
 ghost use Rattle.goblin_pe.specs.TwinParts.{AreParts, ArePartsGrown, AreTwinParts, asked_by};
 ghost use Rattle.goblin_pe.specs.TwinParts.{te_view};
 
@@ -59,7 +59,6 @@ fn read_te(alloc: Global, bytes: &[u8], offset: usize) -> Result<(TeHeader, Vec<
 }
 
 // The answers of the readers for one file.
-#[tactic(auto, using(crate::proofs::SectionRoom::sections_answer_takes))]
 fn read_parts<'a, 'e, D: TryFromCtx<'a>>(
     alloc: Global,
     bytes: &'a [u8],

@@ -5,7 +5,7 @@ ghost use Rattle.goblin_base.specs.Answers.{IsMemory};
 ghost use Rattle.goblin_base.specs.Reading.{TwinsOrMemory};
 ghost use Rattle.goblin_pe_sect.specs.Options.{is_strict};
 ghost use Rattle.goblin_pe_head.specs.HeaderReadings.{pe_header};
-ghost use Rattle.goblin_pe.specs.SectionRoom.{TakesLists};
+ghost use Rattle.goblin_pe.specs.TakenMemory.{TakesLists};
 ghost use Rattle.goblin_pe.specs.Whole.{whole_file};
 
 use crate::options::ParseOptions;

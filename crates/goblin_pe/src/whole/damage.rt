@@ -11,7 +11,7 @@ ghost use Rattle.goblin_pe.specs.Damages.{AreDamaged, IsDamage, IsDamageOf, IsRe
 ghost use Rattle.goblin_pe.specs.Damages.{TellsDamage};
 ghost use Rattle.goblin_pe.specs.Layouts.{IsFileImportsCause, file_imports_left, layout_map};
 ghost use Rattle.goblin_pe.specs.Layouts.{layout_bytes, layout_places};
-ghost use Rattle.goblin_pe.specs.SectionRoom.{TakesIndex};
+ghost use Rattle.goblin_pe.specs.TakenMemory.{TakesIndex};
 ghost use Rattle.goblin_pe.specs.Whole.{import_list, sections_after};
 
 use crate::import::{Bitfield, Imports, LeftOut};

@@ -3,15 +3,17 @@
 ghost use Rattle.std.specs.Prelude.{◌+◌, ◌/◌, ◌<◌, ◌≡◌, IfErr, IfOk, IsErrAnd, None, Ok, Some};
 ghost use Rattle.std.specs.Prelude.{Option, length, map, ℕ};
 ghost use Rattle.std.specs.List.{flat_map};
-ghost use Rattle.goblin_base.specs.Answers.{IsMemory};
+ghost use Rattle.goblin_base.specs.Answers.{GivesOrMemory, IsMemory};
 ghost use Rattle.goblin_base.specs.Reading.{Reads, ReadsOrMemory};
 ghost use Rattle.readings.specs.Reads.{mapped};
 ghost use Rattle.readings.specs.Walks.{Walks};
 ghost use Rattle.goblin_pe_sect.specs.declared.options.ParseOptions.{ParseOptions};
-ghost use Rattle.goblin_pe_sect.specs.Addresses.{map_of, offset_of, reads_strictly, strict_map};
+ghost use Rattle.goblin_pe_sect.specs.Addresses.{AreMany, map_by, map_of, offset_of};
+ghost use Rattle.goblin_pe_sect.specs.Addresses.{reads_strictly, strict_map};
 ghost use Rattle.goblin_pe_sect.specs.BaseRelocations.{relocation_bytes};
 ghost use Rattle.goblin_pe_sect.specs.Options.{is_strict};
 ghost use Rattle.goblin_pe_sect.specs.SectionTable.{recorded_sections, unnamed};
+ghost use Rattle.goblin_pe_sect.specs.WindowIndex.{HasPieces};
 ghost use Rattle.goblin_pe_head.specs.CoffHeader.{IsTooManySections};
 ghost use Rattle.goblin_pe_head.specs.PeHeader.{header_value};
 ghost use Rattle.goblin_pe_import.specs.ImportPositions.{first_import};
@@ -21,14 +23,15 @@ ghost use Rattle.goblin_pe.specs.Damages.{exports_left_out, imports_left_out_at,
 ghost use Rattle.goblin_pe.specs.LayoutPositions.{GivesFirst, GivesFrom, StartsAt, file_map};
 ghost use Rattle.goblin_pe.specs.LayoutPositions.{import_start};
 ghost use Rattle.goblin_pe.specs.Layouts.{IsExportWalk, IsFileImportsCause, IsLayoutOf, PartWalks};
-ghost use Rattle.goblin_pe.specs.Layouts.{file_imports_left, layout_bytes, layout_header};
+ghost use Rattle.goblin_pe.specs.Layouts.{file_imports_left, layout_bytes};
 ghost use Rattle.goblin_pe.specs.Layouts.{layout_map, layout_places, layout_sections};
 ghost use Rattle.goblin_pe.specs.Layouts.{walked_exports};
-ghost use Rattle.goblin_pe.specs.SectionRoom.{TakesIndex, TakesSections};
+ghost use Rattle.goblin_pe_head.specs.SectionRoom.{TakesSections};
+ghost use Rattle.goblin_pe.specs.TakenMemory.{TakesIndex};
 ghost use Rattle.goblin_pe.specs.Whole.{AreListed, IfRead, TablePlaces, entry_format, export_part};
 ghost use Rattle.goblin_pe.specs.Whole.{import_list};
 ghost use Rattle.goblin_pe.specs.Whole.{part_map, relocation_part, section_table_offset};
-ghost use Rattle.goblin_pe.specs.Whole.{sections_after};
+ghost use Rattle.goblin_pe.specs.Whole.{sections_after, table_places};
 
 use crate::export::Exports;
 use crate::import::{ImportPosition, Imports, LeftOut};
@@ -42,15 +45,14 @@ use goblin_pe_sect::section_table::SectionRecords;
 use goblin_pe_sect::{DataDirectory, ParseOptions, SectionTable};
 use std::alloc::Global;
 
-/// What all tables of a file are read by: its header, the records of its sections, and where its
+/// What all tables of a file are read by: where they lie, the records of the sections, and where
 /// addresses lie in the file. Each table is read when it is asked for: imports and exports one by
 /// one, without memory.
 ///
 /// Source: PE Format, "Overview".
 #[derive(Drop)]
-pub struct Layout<'a, 'h> {
+pub struct Layout<'a> {
     bytes: &'a [u8],
-    header: &'h Header<'a>,
     pub(super) places: Places,
     records: SectionRecords<'a>,
     pub(super) address_map: AddressMap<'a>,
@@ -63,9 +65,12 @@ fn section_table_after(pe_pointer: u32, size_of_optional_header: u16) -> usize
     pe_pointer as usize + SIZEOF_PE_MAGIC + SIZEOF_COFF_HEADER + size_of_optional_header as usize
 }
 
-// The file offset of the section table, which follows the optional header.
+/// The file offset of the section table, which follows the optional header, by the size that the COFF
+/// header says.
+///
+/// Source: PE Format, "Section Table (Section Headers)".
 #[inline(always)]
-fn section_table_offset(header: &Header) -> usize
+pub fn section_table_offset(header: &Header) -> usize
     ensures { result ≡ section_table_offset (header_value header.now) }
 {
     let size = header.coff_header.size_of_optional_header;
@@ -99,10 +104,16 @@ pub fn section_records_of<'a>(
         .section_records_with_opts(bytes, &mut offset, opts)
 }
 
-// The sections of a file with this header.
+/// The sections of a file with this header, in the order of their records, with their names from the
+/// string table, in memory of their own.
+///
+/// Source: PE Format, "Section Table (Section Headers)".
+///
+/// # Errors
+/// As [`CoffHeader::sections_with_opts`](goblin_pe_head::CoffHeader::sections_with_opts).
 #[inline(always)]
-#[tactic(auto, unfolding(crate::specs::Whole::sections_after), using(crate::proofs::SectionRoom::sections_answer_takes))]
-pub(super) fn sections_of(
+#[tactic(auto, unfolding(crate::specs::Whole::sections_after))]
+pub fn sections_of(
     alloc: Global,
     bytes: &[u8],
     header: &Header,
@@ -134,7 +145,7 @@ fn walked(bytes: &[u8]) -> &[u8]
     bytes
 }
 
-impl<'a, 'h> Layout<'a, 'h> {
+impl<'a> Layout<'a> {
     /// Refuses the sections of a file with this header where [`Whole::read`](crate::Whole::read)
     /// does, and prepares what maps its addresses. Memory is taken only for an index of more than
     /// 96 sections, by whose windows addresses are mapped.
@@ -148,9 +159,9 @@ impl<'a, 'h> Layout<'a, 'h> {
     pub fn of(
         alloc: Global,
         bytes: &'a [u8],
-        header: &'h Header<'a>,
+        header: &Header,
         opts: &ParseOptions,
-    ) -> Result<Layout<'a, 'h>>
+    ) -> Result<Layout<'a>>
         ensures value { let strict = is_strict opts.now.parse_mode in
             ReadsOrMemory layout_sections result
             (mapped (map unnamed) (sections_after strict (header_value header.now))) bytes.now }
@@ -162,10 +173,35 @@ impl<'a, 'h> Layout<'a, 'h> {
     {
         let records = section_records_of(bytes, header, opts)?;
         let places = Places::of(&header.optional_header);
+        let layout = Layout::by(alloc, bytes, places, records, opts)?;
+        Ok(layout)
+    }
+
+    /// The layout of a file whose tables lie at these places, and whose addresses are mapped by the
+    /// sections of these records, whatever its header says.
+    ///
+    /// # Errors
+    /// Only [`Error::Memory`](goblin_base::Error::Memory), of more than 96 sections, where their
+    /// windows map addresses.
+    #[inline(always)]
+    pub fn by<'e>(
+        alloc: Global,
+        bytes: &'a [u8],
+        places: Places,
+        records: SectionRecords<'a>,
+        opts: &ParseOptions,
+    ) -> ResultOf<'e, Layout<'a>>
+        ensures mapped { GivesOrMemory layout_map result
+            (map_by opts.now (recorded_sections records.entry) places.file_alignment) }
+        ensures over { IfOk result (λ l. layout_bytes l ≡ bytes.now) }
+        ensures placed { IfOk result (λ l. layout_places l ≡ table_places places) }
+        ensures recorded { IfOk result (λ l. layout_sections l ≡ recorded_sections records.entry) }
+        ensures grown { let count = length (recorded_sections records.entry) in
+            IfErr result (λ e. HasPieces opts.now places.file_alignment × AreMany count) }
+    {
         let address_map = AddressMap::of_records(alloc, records, places.file_alignment, opts)?;
         Ok(Layout {
             bytes,
-            header,
             places,
             records,
             address_map,
@@ -173,14 +209,13 @@ impl<'a, 'h> Layout<'a, 'h> {
     }
 
     // The same layout, by which damaged tables are refused and not passed over.
-    pub(super) fn strictly(self) -> Layout<'a, 'h>
+    pub(super) fn strictly(self) -> Layout<'a>
         ensures over { layout_bytes result ≡ layout_bytes self.entry }
         ensures placed { layout_places result ≡ layout_places self.entry }
         ensures mapped { layout_map result ≡ strict_map (layout_map self.entry) }
     {
         Layout {
             bytes: self.bytes,
-            header: self.header,
             places: self.places,
             records: self.records,
             address_map: self.address_map.strictly(),
@@ -194,36 +229,12 @@ impl<'a, 'h> Layout<'a, 'h> {
         self.bytes
     }
 
-    /// The header: everything before the section table.
-    pub fn header(&self) -> &'h Header<'a>
-        ensures { result.now ≡ layout_header self.now }
-    {
-        self.header
-    }
-
     /// The records of the sections, by which the addresses are mapped. Their sections have no names
     /// from the string table.
     pub fn section_records(&self) -> SectionRecords<'a>
         ensures { recorded_sections result ≡ layout_sections self.now }
     {
         self.records
-    }
-
-    /// The sections, in the order of their records, with their names from the string table, in
-    /// memory of their own.
-    ///
-    /// # Errors
-    /// As [`CoffHeader::sections_with_opts`](goblin_pe_head::CoffHeader::sections_with_opts), so of
-    /// a layout that was read only [`Error::Memory`](goblin_base::Error::Memory).
-    pub fn sections(&self, alloc: Global) -> Result<Vec<SectionTable>>
-        ensures value { let strict = is_strict (layout_map self.now).opts.parse_mode in
-            ReadsOrMemory (λ v. v.items) result
-            (sections_after strict (header_value (layout_header self.now)))
-            (layout_bytes self.now) }
-        ensures grown { let count = (layout_header self.now).coff_header.number_of_sections in
-            IfErr result (λ e. IsMemory e → TakesSections count (layout_bytes self.now)) }
-    {
-        sections_of(alloc, self.bytes, self.header, self.address_map.opts())
     }
 
     /// The imports that the import directory leads to, one by one, where they are asked for.

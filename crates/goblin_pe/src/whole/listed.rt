@@ -10,7 +10,7 @@ ghost use Rattle.goblin_pe_export.specs.Exports.{HasExportEntries, TakesRoomFor,
 ghost use Rattle.goblin_pe_import.specs.ImportDirectory.{TakesLibraries};
 ghost use Rattle.goblin_pe_import.specs.ImportReadings.{import_data};
 ghost use Rattle.goblin_pe_import.specs.Imports.{IsImportListFault, imports_of, kept_count};
-ghost use Rattle.goblin_pe.specs.SectionRoom.{TakesExports, TakesImports, TakesTables};
+ghost use Rattle.goblin_pe.specs.TakenMemory.{TakesExports, TakesImports, TakesTables};
 ghost use Rattle.goblin_pe.specs.Whole.{IsReadAnd};
 ghost use Rattle.goblin_pe.specs.Whole.{IsListedImportsFault, entry_format, export_part};
 ghost use Rattle.goblin_pe.specs.Whole.{import_data_part};

@@ -30,20 +30,27 @@ pub(super) fn part_of<'e, T: Drop>(
     }
 }
 
-// Where the tables of a file lie, and how they are read.
+/// Where the tables of a file lie, and how they are read.
+///
+/// Source: PE Format, "Optional Header (Image Only)".
 #[derive(Copy, Clone)]
-pub(super) struct Places {
-    pub(super) magic: u16,
-    pub(super) file_alignment: u32,
-    pub(super) exports: Option<DataDirectory>,
-    pub(super) imports: Option<DataDirectory>,
-    pub(super) relocations: Option<DataDirectory>,
+pub struct Places {
+    /// The magic: by 0x10B the entries of import tables have four bytes, else eight.
+    pub magic: u16,
+    /// The file alignment of the sections' raw data, in bytes.
+    pub file_alignment: u32,
+    /// The export directory, if there is one.
+    pub exports: Option<DataDirectory>,
+    /// The import directory, if there is one.
+    pub imports: Option<DataDirectory>,
+    /// The directory of base relocations, if there is one.
+    pub relocations: Option<DataDirectory>,
 }
 
 impl Places {
-    // By an optional header; without one there are none.
+    /// Those that an optional header says; without one there are none.
     #[tactic(auto, unfolding(crate::specs::Whole::places_in))]
-    pub(super) fn of(header: &Option<OptionalHeader>) -> Places
+    pub fn of(header: &Option<OptionalHeader>) -> Places
         ensures { table_places result ≡ places_in header.now }
     {
         let Some(header) = header else {

@@ -13,7 +13,7 @@ use goblin_base::footprint::{Marks, add_slice};
 use goblin_pe_export::laws::add_exports;
 use goblin_pe_import::laws::add_imports;
 
-impl Layout<'_, '_> {
+impl Layout<'_> {
     // Marks what the import data of a directory reaches.
     #[tactic(auto, unfolding(crate::specs::Whole::entry_format))]
     fn mark_import_data(&self, marks: &mut Marks, rva: u32)

@@ -13,6 +13,7 @@ ghost use Rattle.goblin_pe_symbol.specs.Symbols.{symbol_bytes};
 ghost use Rattle.goblin_pe_head.specs.declared.header.coff.CoffHeader.{CoffHeader};
 ghost use Rattle.goblin_pe_head.specs.CoffHeader.{IsTooManySections, coff_fields, coff_header};
 ghost use Rattle.goblin_pe_head.specs.CoffHeader.{string_table_offset, symbols_end};
+ghost use Rattle.goblin_pe_head.specs.SectionRoom.{TakesSections};
 ghost use Rattle.goblin_pe_head.specs.CoffReadings as reading;
 
 use crate::header::sections::{read_section_records, read_sections};
@@ -134,7 +135,8 @@ impl CoffHeader {
             (reading.sections_at true table count offset.old) bytes.now }
         ensures first { length bytes.now / 40 < self.now.number_of_sections
             → IsErrAnd result (IsTooManySections self.now.number_of_sections bytes.now) }
-        ensures grown { IfErr result (λ e. IsMemory e → 0 < self.now.number_of_sections) }
+        ensures grown { IfErr result
+            (λ e. IsMemory e → TakesSections self.now.number_of_sections bytes.now) }
         ensures ok { OnOk result (offset.new ≡ offset.old + 40 * self.now.number_of_sections) }
         ensures err { OnErr result (offset.new ≡ offset.old) }
     {
@@ -166,7 +168,8 @@ impl CoffHeader {
             (reading.sections_at strict table count offset.old) bytes.now }
         ensures first { length bytes.now / 40 < self.now.number_of_sections
             → IsErrAnd result (IsTooManySections self.now.number_of_sections bytes.now) }
-        ensures grown { IfErr result (λ e. IsMemory e → 0 < self.now.number_of_sections) }
+        ensures grown { IfErr result
+            (λ e. IsMemory e → TakesSections self.now.number_of_sections bytes.now) }
         ensures ok { OnOk result (offset.new ≡ offset.old + 40 * self.now.number_of_sections) }
         ensures err { OnErr result (offset.new ≡ offset.old) }
     {

@@ -10,6 +10,7 @@ ghost use Rattle.readings.specs.Reads.{mapped};
 ghost use Rattle.goblin_pe_sect.specs.SectionTable.{recorded_sections, unnamed};
 ghost use Rattle.goblin_pe_head.specs.declared.header.te.TeHeader.{TeHeader};
 ghost use Rattle.goblin_pe_head.specs.CoffHeader.{IsTooManySections};
+ghost use Rattle.goblin_pe_head.specs.SectionRoom.{TakesSections};
 ghost use Rattle.goblin_pe_head.specs.TeHeader.{IsStrippedFault, displacement, moved_address};
 ghost use Rattle.goblin_pe_head.specs.TeHeader.{pointer_moved, section_moved, te_fields, te_record};
 ghost use Rattle.goblin_pe_head.specs.TeReadings as reading;
@@ -191,7 +192,8 @@ impl TeHeader {
             (reading.te_sections_at self.now offset.old) bytes.now }
         ensures first { length bytes.now / 40 < self.now.number_of_sections
             → IsErrAnd result (IsTooManySections self.now.number_of_sections bytes.now) }
-        ensures grown { IfErr result (λ e. IsMemory e → 0 < self.now.number_of_sections) }
+        ensures grown { IfErr result
+            (λ e. IsMemory e → TakesSections self.now.number_of_sections bytes.now) }
         ensures stripped { IfErr result (λ e. IsMemory e → 40 ≤ self.now.stripped_size) }
         ensures ok { OnOk result (offset.new ≡ offset.old + 40 * self.now.number_of_sections) }
         ensures err { OnErr result (offset.new ≡ offset.old) }

@@ -98,7 +98,7 @@ impl<'m> Finder<'m> {
             return Some(offset);
         }
         let mut run = self.run;
-        let offset = self.address_map.find_run(rva, &mut run);
+        let offset = self.address_map.find_run(rva as usize, &mut run);
         self.run = run;
         offset
     }
@@ -118,7 +118,7 @@ impl<'m> Finder<'m> {
             return Some(offset);
         }
         let mut names = self.names;
-        let offset = self.address_map.find_run(rva, &mut names);
+        let offset = self.address_map.find_run(rva as usize, &mut names);
         self.names = names;
         offset
     }

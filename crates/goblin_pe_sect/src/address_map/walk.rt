@@ -1,6 +1,6 @@
 //! The walk over the windows of few sections.
 
-ghost use Rattle.std.specs.Prelude.{◌≡◌, ◌<◌, IfSome, IsTrue, Some};
+ghost use Rattle.std.specs.Prelude.{◌≡◌, ◌^◌, ◌<◌, IfSome, IsTrue, Some};
 ghost use Rattle.std.specs.Int.{is_power_of_two};
 ghost use Rattle.goblin_pe_sect.specs.Mapping.{file_offset};
 ghost use Rattle.goblin_pe_sect.specs.Runs.{IsRun, offset_in_run};
@@ -19,17 +19,20 @@ const ALL_ADDRESSES: Run = Run {
 };
 
 // The file offset of an address, by the first section whose window holds it. `run` becomes the
-// addresses about it that this section owns, up to the windows of the sections before it.
+// addresses about it that this section owns, up to the windows of the sections before it. (So each
+// of these is looked at, which a search as in `mapping` does not do. The address is no u32, which
+// would be kept in two registers.)
 #[inline(always)]
 fn find_window(
     records: SectionRecords,
     file_alignment: u32,
     opts: &ParseOptions,
-    rva: u32,
+    rva: usize,
     run: &mut Run,
 ) -> Option<usize>
     requires maps { IsTrue opts.now.resolve_rva }
     requires aligned { IsTrue (is_power_of_two file_alignment) }
+    requires small { rva < 2 ^ 32 }
     ensures value { result
         ≡ file_offset opts.now (recorded_sections records.entry) file_alignment rva }
     ensures is { let sections = recorded_sections records.entry in
@@ -37,7 +40,6 @@ fn find_window(
         IsRun offset_of run.old → IsRun offset_of run.new }
     ensures about { IfSome result (λ p. offset_in_run run.new rva ≡ Some p) }
 {
-    let rva = rva as usize;
     let mut low = 0;
     let mut high = usize::MAX;
     let mut rest = records;
@@ -75,9 +77,10 @@ pub(super) fn find_in_records(
     records: SectionRecords,
     file_alignment: u32,
     opts: &ParseOptions,
-    rva: u32,
+    rva: usize,
     run: &mut Run,
 ) -> Option<usize>
+    requires { rva < 2 ^ 32 }
     ensures value { result
         ≡ file_offset opts.now (recorded_sections records.entry) file_alignment rva }
     ensures is { let sections = recorded_sections records.entry in
@@ -86,7 +89,7 @@ pub(super) fn find_in_records(
 {
     if !opts.resolve_rva {
         *run = ALL_ADDRESSES;
-        return Some(rva as usize);
+        return Some(rva);
     }
     if !file_alignment.is_power_of_two() {
         return None;

@@ -1,13 +1,14 @@
 //! The base relocations of an image: blocks of words.
 
-ghost use Rattle.std.specs.Prelude.{◌≡◌, ◌+◌, ◌-◌, ◌/◌, ◌%◌, ◌<◌, ◌≤◌, Some, length, IfOk, IfSome};
+ghost use Rattle.std.specs.Prelude.{◌≡◌, ◌+◌, ◌-◌, ◌/◌, ◌%◌, ◌^◌, ◌<◌, ◌≤◌, Some, length, IfOk};
+ghost use Rattle.std.specs.Prelude.{IfSome};
 ghost use Rattle.std.specs.Iterator.{UpTo, YieldsFirst, YieldsFirstBy, at_most};
 ghost use Rattle.std.specs.Iterator.SizeHint.{IsWithinCount};
 ghost use Rattle.goblin_base.specs.Reading.{Reads};
 ghost use Rattle.goblin_base.specs.Record.{WritesRecord};
 ghost use Rattle.goblin_pe_sect.specs.declared.relocation.base.RelocationWord.{RelocationWord};
 ghost use Rattle.goblin_pe_sect.specs.AddressReadings.{relocation_data};
-ghost use Rattle.goblin_pe_sect.specs.BaseRelocations.{AreBlocksOf};
+ghost use Rattle.goblin_pe_sect.specs.BaseRelocations.{AreBlocksOf, FindsItem};
 ghost use Rattle.goblin_pe_sect.specs.BaseRelocations.{block_at, block_item, block_items};
 ghost use Rattle.goblin_pe_sect.specs.BaseRelocations.{blocks_left};
 ghost use Rattle.goblin_pe_sect.specs.BaseRelocations.{relocation_bytes, word_fields, word_items};
@@ -114,6 +115,33 @@ impl<'a> RelocationData<'a> {
         RelocationBlockIterator {
             bytes: self.bytes,
             offset: 0,
+        }
+    }
+
+    // The bytes of the directory.
+    #[inline(always)]
+    fn directory(&self) -> &'a [u8]
+        ensures value { result.now ≡ relocation_bytes self.now }
+        ensures short { length result.now < 2 ^ 63 }
+    {
+        self.bytes
+    }
+
+    /// The block that begins at `offset` of the directory, or why none does; `None` at the end and past
+    /// it. So the blocks can be gone through from one of them on: the next begins at its end, its size
+    /// after its begin.
+    #[tactic(auto, using(crate::proofs::BlockItems::block_first, crate::proofs::BlockItems::items_err, crate::proofs::BlockItems::items_past))]
+    pub fn block_at(&self, offset: usize) -> Option<Result<RelocationBlock<'a>>>
+        ensures found { FindsItem (relocation_bytes self.now) offset result }
+        ensures low { IfSome result (λ found. offset < 2 ^ 63) }
+    {
+        let directory = self.directory();
+        if offset >= directory.len() {
+            return None;
+        }
+        match RelocationBlock::in_directory(directory, offset) {
+            Ok(block) => Some(Ok(block)),
+            Err(error) => Some(Err(error)),
         }
     }
 }

@@ -11,11 +11,11 @@ use goblin_pe::options::ParseOptions;
 use goblin_pe::relocation::RelocationWord;
 use goblin_pe::section_table::SectionTable;
 use goblin_pe::table::*;
-use goblin_pe_caller::footprint::Key;
 use goblin_pe_caller::imports::imports_from;
 use goblin_pe_caller::tables::{
     count_entries, count_forwarders, count_imports, has_ordinal, name_pointer, value_at,
 };
+use goblin_pe_caller::verdict::Verdict;
 use std::alloc::{AllocError, Global};
 
 #[test]
@@ -38,20 +38,20 @@ fn the_library_of_an_import_is_found_by_its_case(rt: HostRuntime) {
     assert!(rt; !imports(rt.alloc(), "A.dll"));
 }
 
-/// Whether these bytes have the sample file's key.
-fn has_key(alloc: Global, file: &[u8]) -> goblin_base::Result<bool> {
-    let key = Key::of(alloc, &sample(), &ParseOptions::default())?;
-    Ok(key.fits(file))
+/// What the verdict on the sample file says of these bytes.
+fn verdict_on(alloc: Global, file: &[u8]) -> goblin_base::Result<Option<bool>> {
+    let verdict = Verdict::of(alloc, &sample())?;
+    Ok(verdict.again(file))
 }
 
 #[test]
-fn a_key_is_that_of_what_is_read(rt: HostRuntime) {
+fn a_verdict_is_on_what_is_read(rt: HostRuntime) {
     let mut file = sample();
     // The time stamp is read, the last byte of the file is not.
     put(&mut file, SAMPLE_LEN - 1, b"\xFF");
-    assert!(rt; is_ok(has_key(rt.alloc(), &file), &true));
+    assert!(rt; is_ok(verdict_on(rt.alloc(), &file), &Some(true)));
     put(&mut file, 0x48, b"\xFF");
-    assert!(rt; is_ok(has_key(rt.alloc(), &file), &false));
+    assert!(rt; is_ok(verdict_on(rt.alloc(), &file), &None));
 }
 
 /// A Rich header of one entry, from its first marker to the key after its last, and the key alone.

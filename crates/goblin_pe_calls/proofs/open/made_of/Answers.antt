@@ -3,7 +3,6 @@ use Rattle.goblin_base.proofs.Steps.{same_value}
 use Rattle.goblin_pe_sect.specs.Options.{is_strict}
 use Rattle.goblin_pe_sect.specs.SectionTable.{Section, unnamed}
 use Rattle.goblin_pe_head.specs.CoffHeader.{symbols_end}
-use Rattle.goblin_pe_head.specs.declared.header.pe_header.Header.{Header}
 use Rattle.goblin_pe_head.specs.PeHeader.{PeHeader}
 use Rattle.goblin_pe.specs.Whole.{WholeFile}
 use Rattle.goblin_pe_records.specs.Filled.{without_text}
@@ -19,12 +18,12 @@ returns-clause-sections c = λ w read.
     let opts = c.args.opts.now in
     let bytes = c.args.bytes.now in
     let strict = is_strict opts.parse_mode in
-    let v = records_view c.args.layout.now c.args.records.now in
+    let v = records_view c.args.header.now c.args.layout.now c.args.records.now in
     let of = file-of-records opts bytes v c.requires in
     let same : of.whole ≡ w = same_value of.whole w (sym of.read ∙ read) in
     let header = sym (ap (λ (x : WholeFile). x.header) same) ∙ of.header in
     let from = sym (ap (λ (x : WholeFile). map unnamed x.sections) same) ∙ of.sections in
-    let table = c.symbols_end-table.ensures ∙ ap (λ (h : Header). symbols_end h.coff_header) c.header-header.ensures ∙ sym (ap (λ (h : PeHeader). symbols_end h.coff_header) header) in
+    let table = c.symbols_end-table.ensures ∙ sym (ap (λ (h : PeHeader). symbols_end h.coff_header) header) in
     sym c.in_ok-sections.ensures.made
     ∙ ap (λ (s : List Section). map (λ s. without_text (named_in strict bytes c.symbols_end-table.result s)) s) (c.section_records.ensures ∙ sym from)
     ∙ said-unnamed strict bytes c.symbols_end-table.result w.sections

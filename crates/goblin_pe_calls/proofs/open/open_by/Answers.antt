@@ -1,13 +1,13 @@
-use Rattle.std.proofs.Common.{◌≡◌, ◌<◌, ◌∙◌, Some, ap, arith, inl, length, refl, rules, subst, sym}
+use Rattle.std.proofs.Common.{◌<◌, ◌∙◌, Some, ap, arith, inl, length, refl, rules, sym}
 use Rattle.std.proofs.lemmas.Result.{err_from_is_err_and}
 use Rattle.std.proofs.lemmas.List.{length-map}
 use Rattle.goblin_base.proofs.Steps.{mapped, unmapped}
 use Rattle.goblin_pe_sect.specs.Options.{is_strict}
 use Rattle.goblin_pe_sect.specs.SectionTable.{unnamed}
-use Rattle.goblin_pe_head.specs.PeHeader.{PeHeader, header_value}
+use Rattle.goblin_pe_head.specs.PeHeader.{header_value}
 use Rattle.goblin_base.specs.Answers.{IsMemory}
 use Rattle.goblin_pe.proofs.Layouts.{sections-refused}
-use Rattle.goblin_pe.proofs.SectionRoom.{has_room, sections_counted}
+use Rattle.goblin_pe.proofs.SectionRoom.{sections_counted}
 use Rattle.goblin_pe.specs.Whole.{whole_file}
 use Rattle.goblin_pe_calls.specs.Growth.{FileBegins, HasRecords}
 use Rattle.goblin_pe_calls.specs.Opened.{records_view}
@@ -27,7 +27,7 @@ returns-in_err-layout c =
     rw (error.1, error.2) (
       λ other. (let refused = c.in_err-layout.ensures.value other in unopened opts bytes _ (sections-refused opts bytes h found _ (unmapped _ _ refused.0, refused.1))),
       λ memory. takes-records opts bytes h found
-          (has_room h.coff_header.number_of_sections bytes _ c.in_err-layout.ensures.first memory)
+          (c.in_err-layout.ensures.grown memory).2
           (either-way ((whole_file opts).value bytes) HasRecords (FileBegins opts bytes h)
           (sections-kept opts bytes h found (counted_some memory))
           (inl (counted_some memory))),
@@ -62,12 +62,11 @@ returns-in_err-made c =
     let bytes = c.args.bytes.now in
     let h = header_value c.args.header.now in
     let found = c.requires in
-    let v = records_view c.in_ok-layout.layout c.in_ok-records.records in
+    let v = records_view c.args.header.now c.in_ok-layout.layout c.in_ok-records.records in
     let from = mapped _ _ _ c.in_ok-layout.ensures.value in
     let read = records-read opts bytes c.args.header.now found c.in_ok-layout.layout from.value from.is c.in_ok-layout.ensures.over from.made c.in_ok-records.records c.in_ok-records.ensures.value in
     let of = file-of-records opts bytes v read in
-    let after : v.header ≡ h = ap header_value c.in_ok-layout.ensures.over.after in
-    let counted = λ (some : 0 < length v.sections). subst (λ (x : PeHeader). 0 < x.coff_header.number_of_sections) (sym after) (sections_counted (is_strict opts.parse_mode) h bytes from.value from.is (omega (arith, some, ap length from.made, length-map from.value unnamed))) in
+    let counted = λ (some : 0 < length v.sections). sections_counted (is_strict opts.parse_mode) h bytes from.value from.is (omega (arith, some, ap length from.made, length-map from.value unnamed)) in
     let error = err_from_is_err_and c.from_residual-in_err-made.result c.from_residual-in_err-made.ensures.1 in
     rw (error.1, error.2) (
       λ other. absurd (other c.in_err-made.ensures.refused),
@@ -81,7 +80,7 @@ pub returns : goal.returns
 returns c =
     let opts = c.args.opts.now in
     let bytes = c.args.bytes.now in
-    let v = records_view c.in_ok-layout.layout c.in_ok-records.records in
+    let v = records_view c.args.header.now c.in_ok-layout.layout c.in_ok-records.records in
     let from = mapped _ _ _ c.in_ok-layout.ensures.value in
     let read = records-read opts bytes c.args.header.now c.requires c.in_ok-layout.layout from.value from.is c.in_ok-layout.ensures.over from.made c.in_ok-records.records c.in_ok-records.ensures.value in
     let of = file-of-records opts bytes v read in

@@ -1,10 +1,10 @@
 //! How many name pointers give no export.
 
-ghost use Rattle.std.specs.Prelude.{◌≡◌, ◌<◌, ◌≤◌, length};
+ghost use Rattle.std.specs.Prelude.{◌≡◌, ◌+◌, ◌<◌, length};
 ghost use Rattle.goblin_pe_sect.specs.Addresses.{map_of, offset_of};
 ghost use Rattle.goblin_pe_export.specs.ExportRecords.{tables_in};
-ghost use Rattle.goblin_pe_export.specs.ExportWalks.{walked_tables};
-ghost use Rattle.goblin_pe_export.specs.LeftOutExports.{gives_export, left_out_at, pointers_left_out};
+ghost use Rattle.goblin_pe_export.specs.ExportWalks.{exports_at, walked_tables};
+ghost use Rattle.goblin_pe_export.specs.LeftOutExports.{gives_export, pointers_left_out};
 ghost use Rattle.goblin_pe_export.specs.LeftOutExports.{reads_forwarder};
 
 use super::Exports;
@@ -45,34 +45,22 @@ fn gives_export(bytes: &[u8], tables: &TablesInFile, index: usize, finder: &mut 
     }
 }
 
-// How many exports the name pointer at an index leaves out: one or none.
-fn left_out_at(bytes: &[u8], tables: &TablesInFile, index: usize, finder: &mut Finder<'_>) -> usize
-    requires { index < length (tables_in tables.now).export_name_pointer_table }
-    ensures value { let m = map_of finder.old in
-        result ≡ left_out_at (offset_of m) bytes.now (tables_in tables.now) index }
-    ensures few { result ≤ 1 }
-    ensures same { finder.new ≡ finder.old }
-{
-    if gives_export(bytes, tables, index, finder) {
-        0
-    } else {
-        1
-    }
-}
-
 impl<'a, 'm> Exports<'a, 'm> {
     /// How many name pointers of the directory give no export, wherever the walk is: there is no
     /// ordinal, the ordinal lies past the address table, or it leads to a forwarder whose text cannot
     /// be read. A name that cannot be read leaves no export out.
-    #[tactic(auto, unfolding(crate::specs::LeftOutExports::left_out_below))]
+    #[tactic(auto, unfolding(crate::specs::LeftOutExports::pointers_left_out))]
     pub fn left_out(&self) -> usize
-        ensures { let m = map_of self.now.finder in
+        ensures value { let m = map_of self.now.finder in
             result ≡ pointers_left_out (offset_of m) self.now.bytes.now (walked_tables self.now) }
+        ensures others { length (exports_at self.now 0) + result
+            ≡ length (walked_tables self.now).export_name_pointer_table }
     {
         let mut finder = self.finder.again();
         let mut count = 0;
         'pointers: for index in 0..self.tables.pointers() {
-            count += left_out_at(self.bytes, &self.tables, index, &mut finder);
+            let gives = gives_export(self.bytes, &self.tables, index, &mut finder);
+            count += usize::from(!gives);
         }
         count
     }

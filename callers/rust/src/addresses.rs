@@ -1,0 +1,147 @@
+//! What is at the addresses of an image.
+
+use crate::error::Error;
+use crate::layout::Layout;
+use crate::raw;
+use crate::rows::{Forwarder, Section};
+use crate::text::Text;
+
+impl<'a> Layout<'a> {
+    /// The file offset of an address, by the sections, the file alignment and the options with
+    /// which the file was read; `None` where no section maps it or the alignment is no power of
+    /// two. Where the options say that addresses are offsets, it is the address itself. It can lie past
+    /// the file's end. It walks over the sections each time.
+    ///
+    /// ```no_run
+    /// # let bytes = [];
+    /// # let layout = goblin_pe::Layout::read(&bytes, &goblin_pe::Options::permissive())?;
+    /// let entry = layout.optional_header().map(|it| it.standard_fields.address_of_entry_point as usize);
+    /// let code = entry.and_then(|rva| layout.find_offset(rva)).and_then(|offset| bytes.get(offset..));
+    /// # Ok::<(), goblin_pe::Error>(())
+    /// ```
+    #[must_use]
+    pub fn find_offset(&self, rva: usize) -> Option<usize> {
+        raw::find_offset(&self.image(), rva)
+    }
+
+    /// The text at an address, up to its NUL or the end of the file.
+    ///
+    /// # Errors
+    /// Where the address has no offset in the file, where this lies at or past the file's end, and where
+    /// the text is not UTF-8.
+    ///
+    /// ```no_run
+    /// # let bytes = [];
+    /// # let layout = goblin_pe::Layout::read(&bytes, &goblin_pe::Options::permissive())?;
+    /// println!("{}", layout.text_at(0x1000)?);
+    /// # Ok::<(), goblin_pe::Error>(())
+    /// ```
+    pub fn text_at(&self, rva: usize) -> Result<Text<'a>, Error> {
+        let mut text = raw::Slice::default();
+        Error::test(raw::text_at(&self.image(), rva, &mut text))?;
+        Ok(Text(text.get()))
+    }
+
+    /// So many bytes of the file from the offset of an address on. The end of its section is not looked at, so
+    /// where they pass that, what comes is what follows in the file, which a loader maps elsewhere or not at
+    /// all.
+    ///
+    /// # Errors
+    /// Where the address has no offset in the file, where this lies at or past the file's end, even if no
+    /// bytes are asked for, and where the bytes pass that end.
+    ///
+    /// ```no_run
+    /// # use goblin_pe::DirectoryType;
+    /// # let bytes = [];
+    /// # let layout = goblin_pe::Layout::read(&bytes, &goblin_pe::Options::permissive())?;
+    /// let debug = layout.data_directory(DirectoryType::DebugTable);
+    /// let data = debug.map(|it| layout.bytes_at(it.virtual_address as usize, it.size as usize)).transpose()?;
+    /// # Ok::<(), goblin_pe::Error>(())
+    /// ```
+    pub fn bytes_at(&self, rva: usize, size: usize) -> Result<&'a [u8], Error> {
+        let mut bytes = raw::Slice::default();
+        Error::test(raw::bytes_at(&self.image(), rva, size, &mut bytes))?;
+        Ok(bytes.get())
+    }
+
+    /// The pair (bytes in the file, how many zeros follow them) of the `size` bytes that a loader sees at an
+    /// address. They lie in the memory of the first section that holds the address, which has as many
+    /// bytes as its virtual size says, or its raw size where that is 0; a header lies in none. Where the
+    /// options say that addresses are offsets, they are the file's own.
+    ///
+    /// # Errors
+    /// Where no section's memory holds the address, where the bytes pass the section's memory, and where
+    /// the file does not have its bytes.
+    ///
+    /// ```no_run
+    /// # let bytes = [];
+    /// # let layout = goblin_pe::Layout::read(&bytes, &goblin_pe::Options::permissive())?;
+    /// let (code, zeros) = layout.memory_at(0x1000, 64)?;
+    /// assert_eq!(code.len() + zeros, 64);
+    /// # Ok::<(), goblin_pe::Error>(())
+    /// ```
+    pub fn memory_at(&self, rva: usize, size: usize) -> Result<(&'a [u8], usize), Error> {
+        let mut data = raw::SectionData::default();
+        Error::test(raw::memory_at(&self.image(), rva, size, &mut data))?;
+        Ok((data.bytes.get(), data.zeros))
+    }
+
+    /// The forwarder whose text is at an address, as an [`ExportAddress`](crate::ExportAddress) that
+    /// forwards has it, also of an export without a name.
+    ///
+    /// # Errors
+    /// Where the address has no offset in the file, where there is no text, and where the text is no
+    /// forwarder.
+    ///
+    /// ```no_run
+    /// # let bytes = [];
+    /// # let layout = goblin_pe::Layout::read(&bytes, &goblin_pe::Options::permissive())?;
+    /// println!("{:?}", layout.forwarder_at(0x1000)?);
+    /// # Ok::<(), goblin_pe::Error>(())
+    /// ```
+    pub fn forwarder_at(&self, rva: usize) -> Result<Forwarder<'a>, Error> {
+        let mut found = raw::Forwarder::default();
+        Error::test(raw::forwarder_at(&self.image(), rva, &mut found))?;
+        Ok(Forwarder::from(&found))
+    }
+
+    /// The section of an address: the first whose window holds it; `None` where there is none.
+    ///
+    /// ```no_run
+    /// # let bytes = [];
+    /// # let layout = goblin_pe::Layout::read(&bytes, &goblin_pe::Options::permissive())?;
+    /// let entry = layout.optional_header().map(|it| it.standard_fields.address_of_entry_point);
+    /// let section = entry.and_then(|entry| layout.section_at(entry as usize));
+    /// # Ok::<(), goblin_pe::Error>(())
+    /// ```
+    #[must_use]
+    pub fn section_at(&self, rva: usize) -> Option<Section<'a>> {
+        let index = raw::section_at(&self.image(), rva)?;
+        self.sections().nth(index)
+    }
+
+    /// The address of a file offset, which [`find_offset`](Self::find_offset) maps to it: that in the first
+    /// section that has one; `None` where there is none. It takes one walk over the sections, and one more for
+    /// each whose data holds the offset.
+    ///
+    /// ```no_run
+    /// # let bytes = [];
+    /// # let layout = goblin_pe::Layout::read(&bytes, &goblin_pe::Options::permissive())?;
+    /// let rva = layout.find_rva(0x400);
+    /// # Ok::<(), goblin_pe::Error>(())
+    /// ```
+    #[must_use]
+    pub fn find_rva(&self, offset: usize) -> Option<usize> {
+        raw::find_rva(&self.image(), offset)
+    }
+
+    // What maps its addresses.
+    pub(crate) fn image(&self) -> raw::Image<'_, 'a> {
+        raw::Image {
+            bytes: raw::Slice::from(self.bytes),
+            sections: raw::Shared::from(self.sections.get()),
+            file_alignment: self.file.optional_header.windows_fields.file_alignment,
+            options: self.options,
+        }
+    }
+}

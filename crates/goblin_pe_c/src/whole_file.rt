@@ -1,0 +1,152 @@
+//! The calls that read a whole file.
+
+ghost use Rattle.std.specs.Prelude.{◌≡◌, length};
+ghost use Rattle.goblin_pe_sect.specs.Options.{is_strict};
+ghost use Rattle.goblin_pe_head.specs.HeaderReadings.{pe_header};
+ghost use Rattle.goblin_pe.specs.Whole.{layout as file_layout};
+ghost use Rattle.goblin_pe_records.specs.Calls.{ReadsInto, ReadsWithout, Reported};
+ghost use Rattle.goblin_pe_calls.specs.FileLayouts.{LayoutRecords, SaysLayout};
+ghost use Rattle.goblin_pe.specs.TakenMemory.{TakesIndex};
+ghost use Rattle.goblin_pe_calls.specs.Damages.{RecordsDamage};
+ghost use Rattle.goblin_pe_calls.specs.Footprints.{Lists};
+ghost use Rattle.goblin_pe_calls.specs.Growth.{TakesRecords};
+ghost use Rattle.goblin_pe_records.specs.Kinds.{kind_number, kind_of};
+ghost use Rattle.goblin_pe_calls.specs.Opened.{Opened, Opens, opened_file};
+ghost use Rattle.goblin_pe_records.specs.Options.{options_of};
+
+use goblin_pe_calls::damage::{self, PeDamage};
+use goblin_pe_calls::layout::{self, PeLayout};
+use goblin_pe_calls::open::{self, PeTables};
+use goblin_pe_calls::ranges::{PeRanges, list as list_ranges};
+use goblin_pe_records::directory::PeDirectory;
+use goblin_pe_records::fault::{PeFault, status_of};
+use goblin_pe_records::file::PeFile;
+use goblin_pe_records::kind;
+use goblin_pe_records::options::{PeOptions, options_of};
+use goblin_pe_records::section::PeSection;
+use std::alloc::Global;
+
+/// The version of this interface. It is raised where a call or a record's layout changes.
+#[unsafe(no_mangle)]
+pub extern "C" fn goblin_pe_interface() -> u32
+    ensures { result ≡ 3 }
+{
+    3
+}
+
+/// What a file is, by its first bytes alone, as a [`Kind`](goblin_pe_records::kind::Kind). It does
+/// not tell whether the file can be read.
+#[unsafe(no_mangle)]
+pub extern "C" fn goblin_pe_raw_kind_of(bytes: &[u8]) -> u32
+    ensures { result ≡ kind_number (kind_of bytes.now) }
+{
+    kind::kind_of(bytes) as u32
+}
+
+/// Reads a whole file once: says in `file` what it is, fills the records of its data directories as
+/// far as there is room, and puts into `tables` its Rich header's entries, sections, imports,
+/// exports, export addresses and base relocation blocks, all of them, with what the export
+/// directory says and the DOS stub. Each table that is not empty is a block of memory that the
+/// caller frees. After a refusal nothing is changed, and nothing is to be freed;
+/// memory is refused (the status 5) only where the file has a header, and room for as many sections
+/// as that says; of a file that can be read only where it has a section, or a table of it an entry;
+/// and of one that is refused only where its header says that there are sections, or a table begins
+/// with an entry before the refusal.
+#[unsafe(no_mangle)]
+pub extern "C" fn goblin_pe_raw_open<'a>(
+    alloc: Global,
+    bytes: &'a [u8],
+    options: &PeOptions,
+    file: &mut PeFile,
+    directories: &mut [PeDirectory],
+    tables: &mut PeTables<'a>,
+) -> PeFault
+    ensures { let old : Opened =
+        record { file = file.old; directories = directories.old; tables = tables.old } in
+        let new : Opened =
+        record { file = file.new; directories = directories.new; tables = tables.new } in
+        let opts = options_of options.now in
+        Reported result
+        (ReadsInto (pe_header (is_strict opts.parse_mode)) (TakesRecords opts bytes.now)
+        (opened_file opts) bytes.now (λ read. Opens read old new) (new ≡ old)) }
+{
+    let opts = options_of(options);
+    status_of(open::open(alloc, bytes, &opts, file, directories, tables))
+}
+
+/// Reads an image without its tables: says in `layout` what it is, and fills the records of its data
+/// directories and of its sections as far as there is room. It takes no memory, however much the
+/// tables list: these are walked over, or looked up, by other calls. After a refusal nothing is
+/// changed; it is refused where [`goblin_pe_raw_open`](crate::whole_file::goblin_pe_raw_open) refuses the
+/// header or the sections.
+#[unsafe(no_mangle)]
+pub extern "C" fn goblin_pe_raw_read_layout<'a>(
+    bytes: &'a [u8],
+    options: &PeOptions,
+    layout: &mut PeLayout<'a>,
+    directories: &mut [PeDirectory],
+    sections: &mut [PeSection<'a>],
+) -> PeFault
+    ensures { let old : LayoutRecords = record {
+      layout = layout.old;
+      directories = directories.old;
+      sections = sections.old;
+    } in
+        let new : LayoutRecords = record {
+          layout = layout.new;
+          directories = directories.new;
+          sections = sections.new;
+        } in
+        let opts = options_of options.now in
+        Reported result
+        (ReadsWithout (file_layout opts) bytes.now (λ l. SaysLayout l old new) (new ≡ old)) }
+{
+    let opts = options_of(options);
+    status_of(layout::read(bytes, &opts, layout, directories, sections))
+}
+
+/// Tells in `damage` what strict mode would refuse of a file, part by part, where its header and
+/// its sections are read as the options say. Each part is read for itself: damage of one says
+/// nothing of the others. A file without damage is one that strict mode reads, and permissive mode
+/// alike; but an import directory at file offset 0 is an empty list there, without damage.
+///
+/// No table is listed: memory is taken only for an index of more than 96 sections, and given back
+/// before the call returns. Refused are a header or sections that these options refuse, and memory
+/// (the status 5), this only of a file that has more than 96 sections, by whose windows addresses
+/// are mapped, and room for as many as its header says. After a refusal nothing is changed.
+#[unsafe(no_mangle)]
+pub extern "C" fn goblin_pe_raw_read_damage(
+    alloc: Global,
+    bytes: &[u8],
+    options: &PeOptions,
+    damage: &mut PeDamage,
+) -> PeFault
+    ensures { let opts = options_of options.now in
+        Reported result
+        (ReadsInto (pe_header (is_strict opts.parse_mode)) (TakesIndex opts bytes.now) (file_layout opts)
+        bytes.now
+        (λ l. RecordsDamage opts l.0 l.1 bytes.now damage.new) (damage.new ≡ damage.old)) }
+{
+    status_of(damage::tell(alloc, bytes, &options_of(options), damage))
+}
+
+/// Puts into `ranges` the positions of a file on which all that
+/// [`goblin_pe_raw_open`](crate::whole_file::goblin_pe_raw_open) gives by these options depends: of two
+/// files of one length with the same bytes there, both have the same header, sections and tables,
+/// or both are refused, not always for the same cause. A file that is refused has a footprint, too.
+///
+/// The ranges come in order, with a position between each and the next; none is empty, and none
+/// passes the file. They are a block of memory that the caller frees, if there is one. Refused is
+/// memory alone (the status 5), only where the file has a byte, and then nothing is changed.
+#[unsafe(no_mangle)]
+pub extern "C" fn goblin_pe_raw_footprint<'a>(
+    alloc: Global,
+    bytes: &[u8],
+    options: &PeOptions,
+    ranges: &mut PeRanges<'a>,
+) -> PeFault
+    ensures { let footprint = (opened_file (options_of options.now)).reaches bytes.now in
+        Reported result (Lists (length bytes.now) footprint ranges.old ranges.new) }
+{
+    status_of(list_ranges(alloc, bytes, &options_of(options), ranges))
+}

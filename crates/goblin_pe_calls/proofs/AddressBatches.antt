@@ -1,0 +1,42 @@
+-- The entries of the export address table of a file, from an index on.
+use Rattle.std.proofs.Common.{◌≡◌, ◌∙◌, ◌⊎◌, ℕ, List, [], Option, Some, ap, arith, inl, inr, map, subst, sym}
+use Rattle.std.specs.Prelude.{IsSomeAnd}
+use Rattle.goblin_pe_export.specs.declared.export.exports.Exports.{Exports}
+use Rattle.goblin_pe.specs.Addresses.{MapOfAddresses, offset_of}
+use Rattle.goblin_pe.specs.ExportRecords.{ExportRow, ExportTables}
+use Rattle.goblin_pe.specs.ExportWalks.{walked_tables}
+use Rattle.goblin_pe.specs.Layouts.{walked_exports}
+use Rattle.goblin_pe.specs.Whole.{TablePlaces, export_part, part_map}
+use Rattle.goblin_pe.specs.declared.whole.Part.{Part}
+use Rattle.goblin_pe.specs.declared.whole.Part.TheVariants.{Absent, Refused}
+use Rattle.goblin_pe.specs.declared.whole.Part.TheVariants as part
+use Rattle.goblin_pe_records.specs.Onward.{GivesOnward}
+use Rattle.goblin_pe_records.proofs.GivenOnward.{onward-none}
+use Rattle.goblin_pe_calls.specs.declared.export_directory.PeExportAddress.{PeExportAddress}
+use Rattle.goblin_pe_calls.specs.Batches.{GivesAddresses, addresses_in}
+use Rattle.goblin_pe_calls.specs.ExportDirectories.{address_said}
+
+module _ (m : MapOfAddresses) (places : TablePlaces) (bytes : List ℕ) (found : Part Exports)
+    (read : (export_part m.opts (offset_of m) places).value bytes ≡ Some (part_map walked_exports found))
+    (x : ℕ) (old : List PeExportAddress) where
+  given : (p : Part (ExportTables × List ExportRow)) → part_map walked_exports found ≡ p
+      → (y count : ℕ) (new : List PeExportAddress) → GivesOnward (addresses_in p) x old y new count
+      → GivesAddresses m places bytes (record { position = x; records = old }) (record { position = y; records = new }) count
+  given p is y count new gives =
+      subst (λ (v : Option (Part (ExportTables × List ExportRow))). IsSomeAnd v (λ p. GivesOnward (addresses_in p) x old y new count))
+      (sym (read ∙ ap (λ (p : Part (ExportTables × List ExportRow)). Some p) is)) gives
+
+  -- where the directory was read
+  pub addresses-given : (walk : Exports) → found ≡ part.Read walk → (y count : ℕ) (new : List PeExportAddress)
+      → GivesOnward (map address_said (walked_tables walk).export_address_table) x old y new count
+      → GivesAddresses m places bytes (record { position = x; records = old }) (record { position = y; records = new }) count
+  unfolding part_map
+  addresses-given walk is y count new gives =
+      given (part.Read (walked_exports walk)) (ap (part_map walked_exports) is) y count new gives
+
+  -- where there are none
+  pub addresses-none : (found ≡ Absent) ⊎ (found ≡ Refused)
+      → GivesAddresses m places bytes (record { position = x; records = old }) (record { position = x; records = old }) 0
+  unfolding part_map
+  addresses-none (inl none) = given Absent (ap (part_map walked_exports) none) x 0 old (onward-none [] x old (omega arith))
+  addresses-none (inr none) = given Refused (ap (part_map walked_exports) none) x 0 old (onward-none [] x old (omega arith))

@@ -1,0 +1,86 @@
+-- The places of a header lead back to the sections after it and to its tables.
+use Rattle.std.proofs.Common.{◌≡◌, ◌≢◌, ◌∙◌, ℕ, zero, suc, ◌+◌, ◌*◌, ◌<◌, ◌≤◌, Bool, true, false, List, Option, None, Some, ap, arith, length, map, refl, rules, subst, sym, tests}
+use Rattle.std.specs.Prelude.{◌==◌, nat_le, nat_lt, option_map, slice_range, unwrap_or}
+use Rattle.std.specs.Option.{is_some}
+use Rattle.std.proofs.lemmas.Bool.{ne_eqb}
+use Rattle.goblin_base.specs.Answers.{all_at}
+use Rattle.goblin_base.specs.Bytes.{slice_at}
+use Rattle.goblin_base.proofs.Steps.{all_at-each, all_at-zero}
+use Rattle.goblin_pe_sect.specs.declared.data_directories.DataDirectory.{DataDirectory}
+use Rattle.goblin_pe_sect.specs.DataDirectories.{no_directory}
+use Rattle.goblin_pe_sect.specs.SectionReadings.{named_section_at}
+use Rattle.goblin_pe_sect.specs.SectionTable.{Section, unnamed}
+use Rattle.goblin_pe_sect.proofs.AddressMaps.{unnamed_map}
+use Rattle.goblin_pe_head.specs.CoffHeader.{symbols_end}
+use Rattle.goblin_pe_head.specs.CoffReadings.{sections_at}
+use Rattle.goblin_pe_head.specs.PeHeader.{PeHeader}
+use Rattle.goblin_pe_head.proofs.SectionRecords.{section_end, section_more, sections_from, sections_of_slice, unnamed_from}
+use Rattle.goblin_pe.specs.Whole.{TablePlaces, places_in, section_table_offset, sections_after}
+use Rattle.goblin_pe_calls.specs.Places.{LeadsBack, directory_if, places_numbers, places_said, sections_there}
+
+-- ---- where the tables lie
+
+directory-back : (o : Option DataDirectory)
+    → directory_if (is_some o) (unwrap_or o no_directory) ≡ o
+directory-back None = refl
+directory-back (Some d) = refl
+
+said-back : (table count : ℕ) (t : TablePlaces) → places_said (places_numbers table count t) ≡ t
+said-back table count t =
+    rw (directory-back t.exports, directory-back t.imports, directory-back t.relocations) refl
+
+-- ---- the sections
+
+module _ (strict : Bool) (table : ℕ) (bytes : List ℕ) (p : ℕ) where
+  abbrev pub value : ℕ → Option Section
+  value i = (named_section_at strict table (p + 40 * i)).value bytes
+
+  there : (o : Option Section) → o ≢ None → (s : Section) × (option_map unnamed o ≡ Some s)
+  there None some = absurd (some refl)
+  there (Some s) some = (unnamed s, refl)
+
+  -- the sections of the first k records, where n are read
+  first : (n : ℕ) (all : List Section) → all_at value n ≡ Some all → (k : ℕ) → k ≤ n
+      → unnamed_from strict table bytes p k ≡ Some (sections_from bytes p k)
+  first n all read zero below = ap (option_map (map unnamed)) (all_at-zero value)
+  first n all read (suc k) below =
+      let s = there (value k) (all_at-each value n all read k (omega (arith, below))) in
+      let more = section_more strict table bytes p k s.0 (first n all read k (omega (arith, below))) s.1 in
+      let one : k + 1 ≡ suc k = omega arith in
+      subst (λ (m : ℕ). unnamed_from strict table bytes p m ≡ Some (sections_from bytes p m)) one more
+
+  -- the last of them ends in the file
+  within : (n : ℕ) (all : List Section) → all_at value (suc n) ≡ Some all → p + 40 * suc n ≤ length bytes
+  within n all read =
+      let s = there (value n) (all_at-each value (suc n) all read n (omega arith)) in
+      let end = section_end strict table bytes (p + 40 * n) s.0 s.1 in
+      omega (arith, end)
+
+  slice-there : (n : ℕ) → 0 < n → p + n ≤ length bytes → slice_at bytes p n ≡ Some (slice_range bytes p (p + n))
+  slice-there n some fits =
+      let before : nat_lt p (length bytes) ≡ true = search (rules, tests) in
+      let whole : nat_le (p + n) (length bytes) ≡ true = search (rules, tests) in
+      rw (before, whole) refl
+
+  -- what n sections are read from
+  pub placed : (n : ℕ) (all : List Section) → all_at value n ≡ Some all → (count : ℕ) → count ≡ n
+      → (sections_there count p).value bytes ≡ Some (map unnamed all)
+  placed zero all read count is = rw is (sym (first zero all read zero (omega arith)) ∙ ap (option_map (map unnamed)) read)
+  placed (suc n) all read count is =
+      let slice = slice-there (40 * suc n) (omega arith) (within n all read) in
+      let some : (suc n == 0) ≡ false = ne_eqb (suc n) 0 (λ e. omega (arith, e)) in
+      rw (is, some, slice)
+      (ap (λ (xs : List Section). Some xs) (sections_of_slice bytes p (suc n) (within n all read))
+      ∙ sym (first (suc n) all read (suc n) (omega arith)) ∙ ap (option_map (map unnamed)) read)
+
+-- ---- a header
+
+pub leads_back : (h : PeHeader) → LeadsBack h
+unfolding sections_after sections_at
+leads_back h = record {
+  tables = said-back (section_table_offset h) h.coff_header.number_of_sections (places_in h.optional_header);
+  sections = λ strict bytes sections read opts.
+      let n = h.coff_header.number_of_sections in
+      let found = placed strict (symbols_end h.coff_header) bytes (section_table_offset h) n sections read n refl in
+      rw found (unnamed_map opts sections (places_in h.optional_header).file_alignment);
+}

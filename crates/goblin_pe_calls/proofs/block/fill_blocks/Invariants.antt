@@ -1,0 +1,12 @@
+-- The records hold the blocks that have come so far.
+use Rattle.std.proofs.Common.{◌-◌, length}
+use Rattle.goblin_pe_sect.specs.BaseRelocations.{relocation_bytes}
+use Rattle.goblin_pe_calls.proofs.BlockBatches.{AtBlocks}
+use Rattle.goblin_pe_calls.proofs.block.fill_blocks.Given as goal
+
+abbrev pub invariant-items : goal.invariant-items
+invariant-items l =
+    AtBlocks (relocation_bytes l.relocations) l.initial.position l.initial.records l.position l.records l.count
+
+abbrev pub decreases-items : goal.decreases-items
+decreases-items l = length l.records - l.count

@@ -1,0 +1,34 @@
+use Rattle.std.proofs.Common.{refl}
+use Rattle.std.proofs.lemmas.Result.{err_from_is_err_and}
+use Rattle.goblin_pe_calls.specs.Batches.{BlockBatch, GivesBlocks, IsBlocksFault}
+use Rattle.goblin_pe_calls.proofs.InPlaces.{IsAt, fault-at, given-at, nothing-at}
+use Rattle.goblin_pe_calls.proofs.block.give_blocks.Goals as goal
+
+pub returns-in_err-layout : goal.returns-in_err-layout
+returns-in_err-layout c =
+    let e = err_from_is_err_and c.from_residual.result c.from_residual.ensures.1 in
+    rw (e.1, e.2) (
+      λ other. nothing-at c.args.places.now c.args.bytes.now _ _ (c.in_err-layout.ensures.value other),
+      c.in_err-layout.ensures.grown,
+      (refl, refl),
+    )
+
+pub returns-in_err-count : goal.returns-in_err-count
+returns-in_err-count c =
+    let made = c.in_ok-layout.ensures in
+    let old : BlockBatch = record { position = c.args.position.now; records = c.args.records.now } in
+    let at : IsAt c.args.opts.now c.args.places.now c.args.bytes.now c.in_ok-layout.layout = record { read = made.value; over = made.over; placed = made.placed; mapped = made.mapped } in
+    let e = err_from_is_err_and c.from_residual-in_err-count.result c.from_residual-in_err-count.ensures.1 in
+    rw (e.1, e.2) (
+      λ other. fault-at c.args.opts.now c.args.places.now c.args.bytes.now c.in_ok-layout.layout at (λ m places b e. IsBlocksFault m places b old e) _ c.in_err-count.ensures.filled.0,
+      λ memory. absurd (c.in_err-count.ensures.refused memory),
+      (c.in_err-count.ensures.filled.1, refl),
+    )
+
+pub returns : goal.returns
+returns c =
+    let made = c.in_ok-layout.ensures in
+    let old : BlockBatch = record { position = c.args.position.now; records = c.args.records.now } in
+    let new : BlockBatch = record { position = c.next_blocks.new.position; records = c.next_blocks.new.records } in
+    let at : IsAt c.args.opts.now c.args.places.now c.args.bytes.now c.in_ok-layout.layout = record { read = made.value; over = made.over; placed = made.placed; mapped = made.mapped } in
+    given-at c.args.opts.now c.args.places.now c.args.bytes.now c.in_ok-layout.layout at (λ m places b. GivesBlocks m places b old new c.in_ok-count.field-0) c.in_ok-count.ensures.filled

@@ -1,0 +1,33 @@
+//! The record of where the sections and the tables of an image lie.
+
+use goblin_pe_sect::data_directories::DataDirectory;
+
+/// Where the sections and the tables of an image lie, and how the tables are read, as its header says:
+/// what walks over the tables take, so that none reads the header again.
+///
+/// Source: PE Format, "Optional Header (Image Only)".
+#[repr(C)]
+#[derive(Copy, Clone)]
+pub struct PePlaces {
+    /// The file offset of the section table.
+    pub section_table: usize,
+    /// The export directory; zeros where there is none.
+    pub exports: DataDirectory,
+    /// The import directory; zeros where there is none.
+    pub imports: DataDirectory,
+    /// The directory of base relocations; zeros where there is none.
+    pub relocations: DataDirectory,
+    /// The file alignment of the sections' raw data, in bytes; 0 where there is no optional header.
+    pub file_alignment: u32,
+    /// How many records the section table has.
+    pub number_of_sections: u16,
+    /// The magic of the optional header: by 0x10B the entries of import tables have four bytes, else
+    /// eight; 0 where there is no optional header.
+    pub magic: u16,
+    /// Whether there is an export directory.
+    pub has_exports: bool,
+    /// Whether there is an import directory.
+    pub has_imports: bool,
+    /// Whether there is a directory of base relocations.
+    pub has_relocations: bool,
+}

@@ -1,0 +1,202 @@
+//! How sections map addresses, and offsets back to them, in whatever records they stand.
+
+ghost use Rattle.std.specs.Prelude.{◌≡◌, ◌<◌, IfSome, find, map, position};
+ghost use Rattle.std.specs.Option.{option_copied, option_map};
+ghost use Rattle.goblin_pe_sect.specs.Mapping.{InWindow, file_address, file_offset, is_at};
+ghost use Rattle.goblin_pe_sect.specs.Mapping.{is_in_window, maps_to, offset_in, rva_in, section_at};
+ghost use Rattle.goblin_pe_sect.specs.Mapping.{section_index};
+ghost use Rattle.goblin_pe_sect.specs.SectionTable.{Section, unnamed};
+
+use crate::options::ParseOptions;
+use crate::section_table::SectionTable;
+use crate::utils::{is_in_range, raw_begin, rva_in, section_window};
+
+/// A section, in whatever record it stands.
+pub trait ToSection {
+    // The section.
+    ghost section: { Self → Section };
+
+    /// It, without its name from the string table, which would take memory.
+    fn to_section(&self) -> SectionTable
+        ensures { result ≡ unnamed (section self.now) };
+}
+
+impl ToSection for SectionTable {
+    ghost section = { λ section. section };
+
+    fn to_section(&self) -> SectionTable {
+        SectionTable {
+            real_name: None,
+            ..*self
+        }
+    }
+}
+
+// Whether the section's window holds the address.
+#[tactic(auto, unfolding(crate::specs::Mapping::read_size))]
+fn is_in_window<S: ToSection>(rva: usize, section: &S, file_alignment: u32) -> bool
+    requires { 0 < file_alignment }
+    ensures { result ≡ is_in_window file_alignment rva (S.section section.now) }
+{
+    let (begin, end) = section_window(&section.to_section(), file_alignment);
+    is_in_range(rva, begin, end)
+}
+
+// The first record of a section whose window holds the address.
+#[tactic(auto, using(crate::proofs::Mapped::found_record))]
+fn first_in_window<S: ToSection>(rva: usize, sections: &[S], file_alignment: u32) -> Option<&S>
+    requires { 0 < file_alignment }
+    ensures value { option_copied result
+        ≡ find (λ s. is_in_window file_alignment rva (S.section s)) sections.now }
+    ensures holds { IfSome result (λ s. InWindow file_alignment rva (S.section s.now)) }
+{
+    sections
+        .iter()
+        .find(|section| is_in_window(rva, *section, file_alignment))
+}
+
+// Its index.
+fn first_index<S: ToSection>(rva: usize, sections: &[S], file_alignment: u32) -> Option<usize>
+    requires { 0 < file_alignment }
+    ensures { result
+        ≡ position (λ s. is_in_window file_alignment rva (S.section s)) sections.now }
+{
+    sections
+        .iter()
+        .position(|section| is_in_window(rva, section, file_alignment))
+}
+
+/// The record of the section that an address lies in, as [`section_at`](crate::utils::section_at).
+#[tactic(auto, using(crate::proofs::Mapped::power_positive, crate::proofs::First::find_viewed))]
+pub fn section_at<S: ToSection>(rva: usize, sections: &[S], file_alignment: u32) -> Option<&S>
+    ensures { option_map S.section (option_copied result)
+        ≡ section_at file_alignment rva (map S.section sections.now) }
+{
+    if file_alignment.is_power_of_two() {
+        first_in_window(rva, sections, file_alignment)
+    } else {
+        None
+    }
+}
+
+/// The index of that record.
+#[tactic(auto, using(crate::proofs::Mapped::power_positive, crate::proofs::First::position_viewed))]
+pub fn section_index<S: ToSection>(rva: usize, sections: &[S], file_alignment: u32) -> Option<usize>
+    ensures { result ≡ section_index file_alignment rva (map S.section sections.now) }
+{
+    if file_alignment.is_power_of_two() {
+        first_index(rva, sections, file_alignment)
+    } else {
+        None
+    }
+}
+
+// The file offset of an address in the section's window.
+#[tactic(auto, using(crate::proofs::Mapped::read_size_le))]
+fn offset_in<S: ToSection>(
+    rva: usize,
+    section: &S,
+    file_alignment: u32,
+    opts: &ParseOptions,
+) -> usize
+    requires { InWindow file_alignment rva (S.section section.now) }
+    ensures { result ≡ offset_in opts.now file_alignment (S.section section.now) rva }
+{
+    let section = section.to_section();
+    let distance = rva - section.virtual_address as usize;
+    let raw_size = section.size_of_raw_data as usize;
+    prove!(distance < raw_size + 4096);
+    raw_begin(&section, file_alignment, opts) as usize + distance
+}
+
+/// The file offset of an address, as [`find_offset`](crate::utils::find_offset).
+#[tactic(auto, using(crate::proofs::Mapped::power_positive, crate::proofs::First::find_viewed), unfolding(crate::specs::Mapping::file_offset))]
+pub fn file_offset<S: ToSection>(
+    rva: usize,
+    sections: &[S],
+    file_alignment: u32,
+    opts: &ParseOptions,
+) -> Option<usize>
+    ensures { result ≡ file_offset opts.now (map S.section sections.now) file_alignment rva }
+{
+    if !opts.resolve_rva {
+        return Some(rva);
+    }
+    if !file_alignment.is_power_of_two() {
+        return None;
+    }
+    let section = first_in_window(rva, sections, file_alignment)?;
+    Some(offset_in(rva, section, file_alignment, opts))
+}
+
+// The address that the section's window has at the file offset.
+#[tactic(auto, unfolding(crate::specs::Mapping::read_size))]
+fn address_in<S: ToSection>(
+    offset: usize,
+    section: &S,
+    file_alignment: u32,
+    opts: &ParseOptions,
+) -> Option<usize>
+    ensures { result ≡ rva_in opts.now file_alignment offset (S.section section.now) }
+{
+    rva_in(offset, &section.to_section(), file_alignment, opts)
+}
+
+// Whether there is an offset, and it is this one.
+fn is_at(offset: usize, found: Option<usize>) -> bool
+    ensures { result ≡ is_at offset found }
+{
+    match found {
+        Some(found) => found == offset,
+        None => false,
+    }
+}
+
+// Whether the section's window has an address at the file offset that the sections map back to it.
+fn maps_back<S: ToSection>(
+    offset: usize,
+    section: &S,
+    sections: &[S],
+    file_alignment: u32,
+    opts: &ParseOptions,
+) -> bool
+    ensures { result
+        ≡ maps_to opts.now (map S.section sections.now) file_alignment offset
+        (rva_in opts.now file_alignment offset (S.section section.now)) }
+{
+    match address_in(offset, section, file_alignment, opts) {
+        Some(rva) => is_at(offset, file_offset(rva, sections, file_alignment, opts)),
+        None => false,
+    }
+}
+
+// The first such section.
+fn first_back<'s, S: ToSection>(
+    offset: usize,
+    sections: &'s [S],
+    file_alignment: u32,
+    opts: &ParseOptions,
+) -> Option<&'s S>
+    ensures { option_copied result
+        ≡ find (λ s. maps_to opts.now (map S.section sections.now) file_alignment offset
+        (rva_in opts.now file_alignment offset (S.section s))) sections.now }
+{
+    sections.iter().find(|section| maps_back(offset, *section, sections, file_alignment, opts))
+}
+
+/// The address of a file offset, as [`find_rva`](crate::utils::find_rva).
+#[tactic(auto, using(crate::proofs::First::find_viewed), unfolding(crate::specs::Mapping::file_address))]
+pub fn file_address<S: ToSection>(
+    offset: usize,
+    sections: &[S],
+    file_alignment: u32,
+    opts: &ParseOptions,
+) -> Option<usize>
+    ensures { result ≡ file_address opts.now (map S.section sections.now) file_alignment offset }
+{
+    if !opts.resolve_rva {
+        return Some(offset);
+    }
+    let section = first_back(offset, sections, file_alignment, opts)?;
+    address_in(offset, section, file_alignment, opts)
+}
