@@ -1,5 +1,6 @@
-/* Does the same so often: repeat open|imports|exports FILE TIMES opens an image and frees its tables, or walks
-   over its imports or its exports in batches of 64. It prints how many imports and exports one pass has. */
+/* Does the same so often: repeat open|imports|exports|each_import|each_export FILE TIMES opens an image and frees its
+   tables, or walks over its imports or its exports in batches of 64, or in batches of one. It prints how many imports
+   and exports one pass has. */
 #include "goblin_pe.h"
 
 #include <stdio.h>
@@ -35,7 +36,7 @@ static bool is_opened(size_t *imports, size_t *exports)
     return true;
 }
 
-static bool are_imports_walked_over(size_t *imports)
+static bool are_imports_walked_over(size_t *imports, size_t room)
 {
     struct goblin_pe_import_position position = { 0 };
     struct goblin_pe_import records[BATCH];
@@ -44,13 +45,13 @@ static bool are_imports_walked_over(size_t *imports)
     if (goblin_pe_read_layout(bytes, length, NULL, &layout, NULL, 0, NULL, 0).status != GOBLIN_PE_STATUS_OK)
         return false;
     for (*imports = 0; count; *imports += count)
-        if (goblin_pe_next_imports(bytes, length, NULL, &layout.places, &position, records, BATCH, &count).status !=
+        if (goblin_pe_next_imports(bytes, length, NULL, &layout.places, &position, records, room, &count).status !=
             GOBLIN_PE_STATUS_OK)
             return false;
     return true;
 }
 
-static bool are_exports_walked_over(size_t *exports)
+static bool are_exports_walked_over(size_t *exports, size_t room)
 {
     struct goblin_pe_export records[BATCH];
     struct goblin_pe_layout layout;
@@ -58,7 +59,7 @@ static bool are_exports_walked_over(size_t *exports)
     if (goblin_pe_read_layout(bytes, length, NULL, &layout, NULL, 0, NULL, 0).status != GOBLIN_PE_STATUS_OK)
         return false;
     for (*exports = 0; count; *exports += count)
-        if (goblin_pe_next_exports(bytes, length, NULL, &layout.places, &position, records, BATCH, &count).status !=
+        if (goblin_pe_next_exports(bytes, length, NULL, &layout.places, &position, records, room, &count).status !=
             GOBLIN_PE_STATUS_OK)
             return false;
     return true;
@@ -69,10 +70,11 @@ int main(int argc, char **argv)
     size_t imports = 0, exports = 0;
     if (argc != 4 || !read_file(argv[2]))
         return 2;
-    const bool of_imports = !strcmp(argv[1], "imports"), of_exports = !strcmp(argv[1], "exports");
+    const size_t room = strncmp(argv[1], "each_", 5) ? BATCH : 1;
+    const bool of_imports = strstr(argv[1], "import"), of_exports = strstr(argv[1], "export");
     for (long times = strtol(argv[3], NULL, 10); times > 0; times--)
-        if (!(of_imports   ? are_imports_walked_over(&imports)
-              : of_exports ? are_exports_walked_over(&exports)
+        if (!(of_imports   ? are_imports_walked_over(&imports, room)
+              : of_exports ? are_exports_walked_over(&exports, room)
                            : is_opened(&imports, &exports)))
             return 1;
     printf("%zu\n", imports + exports);

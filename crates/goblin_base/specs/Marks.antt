@@ -1,5 +1,6 @@
 -- Marks: which positions of a file are marked, as one truth for each position.
-use Rattle.std.specs.Prelude.{ℕ, ◌≡◌, ◌↔◌, ◌/◌, ◌%◌, Bool, false, ◌&&◌, ◌||◌, ◌==◌, nat_le, nat_lt, List, [], ◌∷◌}
+use Rattle.std.specs.Prelude.{ℕ, ◌≡◌, ◌↔◌, ◌/◌, ◌%◌, Bool, false, ◌&&◌, ◌||◌, ◌==◌, nat_le, nat_lt}
+use Rattle.std.specs.Prelude.{List, [], ◌∷◌}
 use Rattle.std.specs.Prelude.{if◌then◌else◌, ◌+◌, ◌≤◌, ◌<◌, true, replicate, Option, Some, None}
 use Rattle.std.specs.Prelude.{length, map, slice_index, slice_index_or}
 use Rattle.std.specs.List.{All, range_with_len}

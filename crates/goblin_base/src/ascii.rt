@@ -72,8 +72,8 @@ pub(crate) fn run_in_lanes(bytes: &[u8]) -> Option<usize>
     }
 }
 
-// How many bytes precede the first NUL, or the end where there is none, if they are all ASCII. `None`
-// leaves it to a slower way.
+// How many bytes precede the first NUL, or the end where there is none, if they are all ASCII.
+// `None` leaves it to a slower way.
 #[inline(always)]
 pub(crate) fn plain_run(bytes: &[u8]) -> Option<usize>
     ensures within { IfSome result (λ run. run ≤ length bytes.now) }

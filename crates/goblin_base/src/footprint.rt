@@ -5,7 +5,8 @@
 ghost use Rattle.std.specs.Prelude.{◌≡◌, ◌<◌, IfErr, IfOk, OnErr, false, length, map, replicate};
 ghost use Rattle.std.specs.Prelude.{vec_capacity, vec_len};
 ghost use Rattle.goblin_base.specs.Answers.{IsMemory};
-ghost use Rattle.goblin_base.specs.Footprints.{Range, positions, slice_footprint, stretch_footprint};
+ghost use Rattle.goblin_base.specs.Footprints.{Range, positions, slice_footprint};
+ghost use Rattle.goblin_base.specs.Footprints.{stretch_footprint};
 ghost use Rattle.goblin_base.specs.Marks.{GivesRange, marked, ranges_of};
 ghost use Rattle.goblin_base.specs.Parts.{between_footprint};
 

@@ -23,8 +23,8 @@ sum_of_words bytes field zero = 0
 sum_of_words bytes field (suc n) =
     with_carry (sum_of_words bytes field n + summed_word bytes field n)
 
--- the checksum of a file whose field stands at an offset: the sum of all words, of which the last may
--- be cut, and the length, in 32 bits
+-- the checksum of a file whose field stands at an offset: the sum of all words, of which the last
+-- may be cut, and the length, in 32 bits
 abbrev pub image_checksum : List ℕ → ℕ → ℕ
 image_checksum bytes field =
     (sum_of_words bytes field ((length bytes + 1) / 2) + length bytes) % 2 ^ 32

@@ -49,15 +49,15 @@ fn sum_of_words(bytes: &[u8], field: usize) -> u32
     sum
 }
 
-/// The checksum of the image `bytes`, whose checksum field stands at the file offset `field`: 88 bytes
-/// after the offset of its signature, `pe_pointer`. It is the sum of the little-endian words of two
-/// bytes, in 16 bits and with each carry added, and the length of the file, in 32 bits. The four bytes
-/// of the field, as far as the file has them, count as zeros, and so does the byte that a last word
-/// lacks. Windows tests it of drivers, and of libraries that it loads at boot or into critical
-/// processes.
+/// The checksum of the image `bytes`, whose checksum field stands at the file offset `field`: 88
+/// bytes after the offset of its signature, `pe_pointer`. It is the sum of the little-endian words
+/// of two bytes, in 16 bits and with each carry added, and the length of the file, in 32 bits. The
+/// four bytes of the field, as far as the file has them, count as zeros, and so does the byte that
+/// a last word lacks. Windows tests it of drivers, and of libraries that it loads at boot or into
+/// critical processes.
 ///
-/// Source: PE Format, "Optional Header Windows-Specific Fields (Image Only)", `CheckSum`, which leaves
-/// the algorithm to the Windows library IMAGEHLP.
+/// Source: PE Format, "Optional Header Windows-Specific Fields (Image Only)", `CheckSum`, which
+/// leaves the algorithm to the Windows library IMAGEHLP.
 pub fn checksum(bytes: &[u8], field: usize) -> u32
     ensures { result ≡ image_checksum bytes.now field }
 {

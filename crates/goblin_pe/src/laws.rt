@@ -11,9 +11,9 @@
 //! two are equal values or both refusals if the files agree on the footprint of the read in `a` and
 //! neither is `Error::Memory`. Nothing is said about equal causes.
 //!
-//! The calls whose names begin with `footprint` list the footprint of a read, as ranges in order that
-//! do not touch; [`mark_whole`] gives the marks from which these of a whole file come, and [`FileKey`]
-//! keeps the bytes there.
+//! The calls whose names begin with `footprint` list the footprint of a read, as ranges in order
+//! that do not touch; [`mark_whole`] gives the marks from which these of a whole file come, and
+//! [`FileKey`] keeps the bytes there.
 //!
 //! The calls whose names begin with `mode` read one file in both modes, and
 //! [`reorder_whole_tables`] reads it under two tables of sections. Permissive mode repeats what

@@ -7,8 +7,8 @@ ghost use Rattle.goblin_pe_records.specs.Filled.{Filled};
 use goblin_pe_records::fault::{PeFault, put_text, text_of};
 
 /// Writes the text of the refusal with these numbers, as far as there is room, and answers how long
-/// the whole text is, 160 bytes at most; 0 where the numbers are of no refusal. The whole text is the
-/// refusal's, or one that was cut and ends in three dots. It takes no memory.
+/// the whole text is, 160 bytes at most; 0 where the numbers are of no refusal. The whole text is
+/// the refusal's, or one that was cut and ends in three dots. It takes no memory.
 #[unsafe(no_mangle)]
 pub extern "C" fn goblin_pe_raw_fault_text(fault: &PeFault, text: &mut [u8]) -> usize
     ensures text { (whole : List ℕ) × IsTextOf fault.now whole × (result ≡ length whole)

@@ -11,8 +11,8 @@ use goblin_pe_records::fault::{PeFault, status_of};
 use goblin_pe_records::image::PeImage;
 
 /// Reads the forwarder whose text is at the address `rva`, as an entry of the export address table
-/// says it, also of an export without a name: the library up to the first dot, and the export's name,
-/// or `#` and its ordinal.
+/// says it, also of an export without a name: the library up to the first dot, and the export's
+/// name, or `#` and its ordinal.
 ///
 /// Refused, with nothing changed, are an address without a file offset (the status 1, the cause 22,
 /// whose number is the address), one where there is no text (the status 4), and a text that is no

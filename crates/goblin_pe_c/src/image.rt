@@ -53,8 +53,8 @@ pub extern "C" fn goblin_pe_raw_text_at<'a>(
 /// Reads the `size` bytes at the address `rva` into `text`. A section's end is not looked at.
 ///
 /// Refused are an address without a file offset (the status 1, the cause 22, whose number is the
-/// address), and one where the bytes are not there (the status 4): by the cause 1 if the offset lies
-/// at or past the end of the file, else by 2.
+/// address), and one where the bytes are not there (the status 4): by the cause 1 if the offset
+/// lies at or past the end of the file, else by 2.
 #[unsafe(no_mangle)]
 pub extern "C" fn goblin_pe_raw_bytes_at<'a>(
     image: &PeImage<'a>,
@@ -71,8 +71,9 @@ pub extern "C" fn goblin_pe_raw_bytes_at<'a>(
 
 /// Reads the data of a section in memory: the bytes at its raw pointer, as many as its raw size
 /// says, and how many zeros follow them up to the virtual size. There are none where the raw size
-/// is at least that; the bytes are then not cut. The raw pointer is taken as stored or rounded down to
-/// 512, by the rule of the image's options and its file alignment; its sections are not looked at.
+/// is at least that; the bytes are then not cut. The raw pointer is taken as stored or rounded down
+/// to 512, by the rule of the image's options and its file alignment; its sections are not looked
+/// at.
 ///
 /// A read is refused (the status 4) where the bytes run past the end of the file, or begin past it,
 /// even where there are none: by the cause 1 if they begin at or past it, else by 2.

@@ -10,9 +10,9 @@ use goblin_base::{Endian, Record};
 use goblin_pe::import::ImportDirectoryEntry;
 use goblin_pe_records::found::put_found;
 
-/// Reads the 20 bytes at the file offset `offset` as the record of a library in the import directory,
-/// puts it into `record`, and answers whether the file has them; if not, nothing is changed. Whether
-/// they stand in the directory is not tested.
+/// Reads the 20 bytes at the file offset `offset` as the record of a library in the import
+/// directory, puts it into `record`, and answers whether the file has them; if not, nothing is
+/// changed. Whether they stand in the directory is not tested.
 ///
 /// Source: PE Format, "Import Directory Table".
 #[unsafe(no_mangle)]

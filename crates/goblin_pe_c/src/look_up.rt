@@ -16,8 +16,8 @@ use goblin_pe_records::image::PeImage;
 use goblin_pe_records::memory::read_memory;
 use goblin_pe_records::section_data::PeSectionData;
 
-/// Puts the index of the section that the address `rva` lies in into `index`, and answers whether it
-/// lies in one: the first whose window holds it, by which the address is mapped. It lies in none
+/// Puts the index of the section that the address `rva` lies in into `index`, and answers whether
+/// it lies in one: the first whose window holds it, by which the address is mapped. It lies in none
 /// where the alignment is not a power of two. The options are not looked at.
 #[unsafe(no_mangle)]
 pub extern "C" fn goblin_pe_raw_section_at(image: &PeImage, rva: usize, index: &mut usize) -> bool
@@ -37,9 +37,9 @@ pub extern "C" fn goblin_pe_raw_find_rva(image: &PeImage, offset: usize, rva: &m
 }
 
 /// Reads the `size` bytes that a loader sees at the address `rva`: those that the file has, and how
-/// many zeros follow them. They lie in the memory of the first section that holds the address, which
-/// has as many bytes as its virtual size says, or its raw size where that is 0. Where the options say
-/// that addresses are offsets, they are the file's own.
+/// many zeros follow them. They lie in the memory of the first section that holds the address,
+/// which has as many bytes as its virtual size says, or its raw size where that is 0. Where the
+/// options say that addresses are offsets, they are the file's own.
 ///
 /// Refused are an address that no section's memory holds, and bytes that pass the section's memory
 /// (the status 1, the cause 22, whose number is the address that is not there), and bytes that the

@@ -49,9 +49,9 @@ pub extern "C" fn goblin_pe_raw_read_object<'a>(
     status_of(object::read(bytes, &opts, object, sections))
 }
 
-/// Tests the symbol table and the string table of an image or an object, which its COFF header leads
-/// to, and says in `table` where they lie. Where the header's pointer to the symbol table is 0, it
-/// has zeros. The whole string table is read, once for all of its texts. It takes no memory.
+/// Tests the symbol table and the string table of an image or an object, which its COFF header
+/// leads to, and says in `table` where they lie. Where the header's pointer to the symbol table is
+/// 0, it has zeros. The whole string table is read, once for all of its texts. It takes no memory.
 ///
 /// It is refused where the records of the table run past the end of the file or begin at it (the
 /// status 4), where the string table after them has no length of four bytes (4) or one below 4 (the
@@ -73,15 +73,15 @@ pub extern "C" fn goblin_pe_raw_read_symbol_table(
 }
 
 /// Fills records of the symbols of a table that
-/// [`goblin_pe_raw_read_symbol_table`](crate::object::goblin_pe_raw_read_symbol_table) told of, from
-/// the record at the index `position` on: as many as there are and as there is room for. `count` says
-/// how many these are, and `position` is then the index of the record that is read next. The first
-/// record is read as a symbol, even where it is an auxiliary one of a symbol before it. After the
-/// last symbol, and where the table's offset is 0, `count` is 0, as it is without room; the position
-/// then stays. It takes no memory, and time for these symbols alone.
+/// [`goblin_pe_raw_read_symbol_table`](crate::object::goblin_pe_raw_read_symbol_table) told of,
+/// from the record at the index `position` on: as many as there are and as there is room for.
+/// `count` says how many these are, and `position` is then the index of the record that is read
+/// next. The first record is read as a symbol, even where it is an auxiliary one of a symbol before
+/// it. After the last symbol, and where the table's offset is 0, `count` is 0, as it is without
+/// room; the position then stays. It takes no memory, and time for these symbols alone.
 ///
-/// The table may say anything: of the string table only the names are looked at, each by itself, and
-/// one that is not UTF-8 is not there. Refused are records that run past the end of the file or
+/// The table may say anything: of the string table only the names are looked at, each by itself,
+/// and one that is not UTF-8 is not there. Refused are records that run past the end of the file or
 /// begin at it (the status 4), and a string table that runs past it (the cause 20). Nothing is then
 /// changed.
 #[unsafe(no_mangle)]

@@ -1,9 +1,11 @@
-//! The calls that walk over a table, from any position on: as many records as there is room for. They
-//! take no memory, but for an index where a file has more than 96 sections.
+//! The calls that walk over a table, from any position on: as many records as there is room for.
+//! They take no memory, but for an index where a file has more than 96 sections.
 
 ghost use Rattle.std.specs.Prelude.{◌≡◌};
-ghost use Rattle.goblin_pe_calls.specs.Batches.{AddressBatch, BlockBatch, ExportBatch, GivesAddresses};
-ghost use Rattle.goblin_pe_calls.specs.Batches.{GivesBatch, GivesBlocks, GivesExports, GivesImports};
+ghost use Rattle.goblin_pe_calls.specs.Batches.{AddressBatch, BlockBatch, ExportBatch};
+ghost use Rattle.goblin_pe_calls.specs.Batches.{GivesAddresses};
+ghost use Rattle.goblin_pe_calls.specs.Batches.{GivesBatch, GivesBlocks, GivesExports};
+ghost use Rattle.goblin_pe_calls.specs.Batches.{GivesImports};
 ghost use Rattle.goblin_pe_calls.specs.Batches.{ImportBatch, IsBlocksFault, IsExportsFault};
 ghost use Rattle.goblin_pe_calls.specs.Batches.{IsImportsFault};
 ghost use Rattle.goblin_pe_records.specs.Calls.{ReadsWithout, Reported};
@@ -38,17 +40,17 @@ use std::alloc::Global;
 ///
 /// The sections and the import directory lie where `places` says, as
 /// [`goblin_pe_raw_read_layout`](crate::whole_file::goblin_pe_raw_read_layout) and
-/// [`goblin_pe_raw_open`](crate::whole_file::goblin_pe_raw_open) say of the file; the header is not read
-/// again. Other numbers are followed as well: what lies there is taken for the section table and
-/// the directory.
+/// [`goblin_pe_raw_open`](crate::whole_file::goblin_pe_raw_open) say of the file; the header is not
+/// read again. Other numbers are followed as well: what lies there is taken for the section table
+/// and the directory.
 ///
-/// Refused, with nothing changed, is a file that is too short for the records of its sections, where
-/// there are any (the status 4); in strict mode an import directory whose address has no offset, if
-/// the position is the first; and in strict mode the very next import, if there is room for it.
-/// Imports that come before a refusal are given, and the next call is refused; no law says on which
-/// bytes those before a refusal depend. Memory (the status 5) is refused only of a file that has more
-/// than 96 sections, by whose windows addresses are mapped: it is taken for an index of them, and
-/// given back before the call returns.
+/// Refused, with nothing changed, is a file that is too short for the records of its sections,
+/// where there are any (the status 4); in strict mode an import directory whose address has no
+/// offset, if the position is the first; and in strict mode the very next import, if there is room
+/// for it. Imports that come before a refusal are given, and the next call is refused; no law says
+/// on which bytes those before a refusal depend. Memory (the status 5) is refused only of a file
+/// that has more than 96 sections, by whose windows addresses are mapped: it is taken for an index
+/// of them, and given back before the call returns.
 #[unsafe(no_mangle)]
 pub extern "C" fn goblin_pe_raw_next_imports<'a>(
     alloc: Global,
@@ -104,11 +106,11 @@ pub extern "C" fn goblin_pe_raw_next_exports<'a>(
     status_of(give_exports(alloc, bytes, &opts, places, position, records, count))
 }
 
-/// Fills `records` with the entries of the export address table of a file from the index `position` on,
-/// as many as there is room for, says in `count` how many, and moves `position` past them. With room
-/// for any, a `count` of 0 is the end. The index and the ordinal base are the ordinal that an entry
-/// stands for. A file without an export directory, and in permissive mode one whose directory is
-/// refused, has none. The sections and the directory lie where `places` says, as for
+/// Fills `records` with the entries of the export address table of a file from the index `position`
+/// on, as many as there is room for, says in `count` how many, and moves `position` past them. With
+/// room for any, a `count` of 0 is the end. The index and the ordinal base are the ordinal that an
+/// entry stands for. A file without an export directory, and in permissive mode one whose directory
+/// is refused, has none. The sections and the directory lie where `places` says, as for
 /// [`goblin_pe_raw_next_imports`].
 ///
 /// Refused, with nothing changed, are sections as by that call, and in strict mode the export
@@ -136,16 +138,17 @@ pub extern "C" fn goblin_pe_raw_next_export_addresses(
     status_of(give_addresses(alloc, bytes, &opts, places, position, records, count))
 }
 
-/// Fills `records` with the blocks of base relocations of a file from a position on, as many as there is
-/// room for, says in `count` how many, and leaves in `position` where the next call goes on: the offset
-/// in the directory at which the next block begins, at first 0. With room for any, a `count` of 0 is the
-/// end. A file without a directory of base relocations, and in permissive mode one whose directory is
-/// refused, has none. The sections and the directory lie where `places` says, as for
-/// [`goblin_pe_raw_next_imports`].
+/// Fills `records` with the blocks of base relocations of a file from a position on, as many as
+/// there is room for, says in `count` how many, and leaves in `position` where the next call goes
+/// on: the offset in the directory at which the next block begins, at first 0. With room for any, a
+/// `count` of 0 is the end. A file without a directory of base relocations, and in permissive mode
+/// one whose directory is refused, has none. The sections and the directory lie where `places`
+/// says, as for [`goblin_pe_raw_next_imports`].
 ///
-/// Refused, with nothing changed, are sections as by that call; in strict mode the directory; and in both
-/// modes a rest that is no block, if it comes next and there is room for a block, by the cause that
-/// [`goblin_pe_raw_open`](crate::whole_file::goblin_pe_raw_open) says of the rest. Memory as there.
+/// Refused, with nothing changed, are sections as by that call; in strict mode the directory; and
+/// in both modes a rest that is no block, if it comes next and there is room for a block, by the
+/// cause that [`goblin_pe_raw_open`](crate::whole_file::goblin_pe_raw_open) says of the rest.
+/// Memory as there.
 #[unsafe(no_mangle)]
 pub extern "C" fn goblin_pe_raw_next_blocks<'a>(
     alloc: Global,
@@ -170,13 +173,13 @@ pub extern "C" fn goblin_pe_raw_next_blocks<'a>(
 }
 
 /// Fills `records` with all relocations of a section of an object from the index `position` on, as
-/// many as there is room for, says in `count` how many these are, and moves `position` past them. Where
-/// there is room, a `count` of 0 is the end. A section that has more than its counter can say, by the
-/// bit `IMAGE_SCN_LNK_NRELOC_OVFL` and a counter of 65,535, begins with a record that is none of them:
-/// its `virtual_address` is the number of all records, itself among them.
+/// many as there is room for, says in `count` how many these are, and moves `position` past them.
+/// Where there is room, a `count` of 0 is the end. A section that has more than its counter can
+/// say, by the bit `IMAGE_SCN_LNK_NRELOC_OVFL` and a counter of 65,535, begins with a record that
+/// is none of them: its `virtual_address` is the number of all records, itself among them.
 ///
-/// A read is refused (the status 4) where they run past the end of the file, or begin at or past it,
-/// even where there are none. Nothing is then changed.
+/// A read is refused (the status 4) where they run past the end of the file, or begin at or past
+/// it, even where there are none. Nothing is then changed.
 #[unsafe(no_mangle)]
 pub extern "C" fn goblin_pe_raw_next_relocations(
     bytes: &[u8],
@@ -194,8 +197,8 @@ pub extern "C" fn goblin_pe_raw_next_relocations(
 }
 
 /// Fills `words` with those of a block of base relocations from the index `position` on, each with
-/// its address and its type, as many as there is room for, moves `position` past them, and answers how
-/// many these are. A byte that is left after the words is no word.
+/// its address and its type, as many as there is room for, moves `position` past them, and answers
+/// how many these are. A byte that is left after the words is no word.
 #[unsafe(no_mangle)]
 pub extern "C" fn goblin_pe_raw_next_words(
     block: &PeBlock,

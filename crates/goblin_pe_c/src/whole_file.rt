@@ -74,11 +74,11 @@ pub extern "C" fn goblin_pe_raw_open<'a>(
     status_of(open::open(alloc, bytes, &opts, file, directories, tables))
 }
 
-/// Reads an image without its tables: says in `layout` what it is, and fills the records of its data
-/// directories and of its sections as far as there is room. It takes no memory, however much the
-/// tables list: these are walked over, or looked up, by other calls. After a refusal nothing is
-/// changed; it is refused where [`goblin_pe_raw_open`](crate::whole_file::goblin_pe_raw_open) refuses the
-/// header or the sections.
+/// Reads an image without its tables: says in `layout` what it is, and fills the records of its
+/// data directories and of its sections as far as there is room. It takes no memory, however much
+/// the tables list: these are walked over, or looked up, by other calls. After a refusal nothing is
+/// changed; it is refused where [`goblin_pe_raw_open`](crate::whole_file::goblin_pe_raw_open)
+/// refuses the header or the sections.
 #[unsafe(no_mangle)]
 pub extern "C" fn goblin_pe_raw_read_layout<'a>(
     bytes: &'a [u8],
@@ -131,9 +131,10 @@ pub extern "C" fn goblin_pe_raw_read_damage(
 }
 
 /// Puts into `ranges` the positions of a file on which all that
-/// [`goblin_pe_raw_open`](crate::whole_file::goblin_pe_raw_open) gives by these options depends: of two
-/// files of one length with the same bytes there, both have the same header, sections and tables,
-/// or both are refused, not always for the same cause. A file that is refused has a footprint, too.
+/// [`goblin_pe_raw_open`](crate::whole_file::goblin_pe_raw_open) gives by these options depends: of
+/// two files of one length with the same bytes there, both have the same header, sections and
+/// tables, or both are refused, not always for the same cause. A file that is refused has a
+/// footprint, too.
 ///
 /// The ranges come in order, with a position between each and the next; none is empty, and none
 /// passes the file. They are a block of memory that the caller frees, if there is one. Refused is

@@ -34,7 +34,8 @@ pub fn imports_from(alloc: Global, bytes: &[u8], library: &str) -> Result<bool>
     layout_imports_from(&layout, library)
 }
 
-/// The same of a layout. It goes on after the first import from there, as a later one may be refused.
+/// The same of a layout. It goes on after the first import from there, as a later one may be
+/// refused.
 #[tactic(auto, unfolding(goblin_pe::specs::Whole::part_map))]
 fn layout_imports_from<'e>(layout: &Layout, library: &str) -> ResultOf<'e, bool>
     ensures { Reads (λ b. b) result

@@ -42,8 +42,8 @@ impl Verdict {
         })
     }
 
-    /// The verdict on another file, without reading it; `None` if that differs from the first where a
-    /// read looks.
+    /// The verdict on another file, without reading it; `None` if that differs from the first where
+    /// a read looks.
     pub fn again(&self, file: &[u8]) -> Option<bool>
         ensures { (was : List ℕ) → IsVerdictOn was self.now → MatchOption result
             (¬ Agree ((whole_file default_options).reaches was) was file.now)

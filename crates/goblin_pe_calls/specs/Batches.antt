@@ -129,8 +129,8 @@ pub record ImportBatch : Type 0 where
   pub records : List PeImport
 
 -- The records hold the imports from the old position on, up to a refusal, and from the new one on
--- come the others; the very next is no refusal, if there is room for any. Where nothing is left, and
--- there is room for more, the new position is the end; without room the position stays.
+-- come the others; the very next is no refusal, if there is room for any. Where nothing is left,
+-- and there is room for more, the new position is the end; without room the position stays.
 abbrev pub GivesImports : MapOfAddresses → TablePlaces → List ℕ → ImportBatch → ImportBatch → ℕ
     → Type 0
 GivesImports m places bytes old new count =
@@ -148,8 +148,8 @@ IsImportsFault m places bytes old e =
     FirstFault (start.value bytes) (start.IsCause bytes)
     (λ s e. (0 < length old.records) × IsFaultIn m places.magic bytes s e) e
 
--- A walk has given some imports and goes on after them: whatever the records held up to `first`, they
--- hold these after it, up to `last`.
+-- A walk has given some imports and goes on after them: whatever the records held up to `first`,
+-- they hold these after it, up to `last`.
 pub record FillsHere {T : Type 0} (format : Format EntryValue) (s t : Imports T)
     (old new : List PeImport) (first last : ℕ) : Type 0 where
   pub values : List ImportValue
@@ -250,8 +250,9 @@ pub record BlockBatch : Type 0 where
   pub position : ℕ
   pub records : List PeBlock
 
--- Of what comes next, the records hold the blocks up to a refusal, and from the new position on come the
--- others; the very next is no refusal, if there is room for any. Without a block the position stays.
+-- Of what comes next, the records hold the blocks up to a refusal, and from the new position on
+-- come the others; the very next is no refusal, if there is room for any. Without a block the
+-- position stays.
 pub record FillsBlocks (left later : List (Result Block ErrorOf)) (old new : BlockBatch) (count : ℕ)
     : Type 0 where
   pub batch : IsBatch block_view (λ b. b) (values_of left) old.records new.records count
@@ -273,8 +274,9 @@ IsBlocksFault m places bytes old e =
 
 -- ---- a call
 
--- A call has given what comes next by these places; or the records of the sections are not there, or
--- what comes next is refused, or memory for an index of many sections, and everything is unchanged.
+-- A call has given what comes next by these places; or the records of the sections are not there,
+-- or what comes next is refused, or memory for an index of many sections, and everything is
+-- unchanged.
 abbrev pub GivesBatch : ParseOptions → PePlaces → List ℕ
     → (MapOfAddresses → TablePlaces → Type 0)
     → (MapOfAddresses → TablePlaces → ErrorOf → Type 0) → Type 0 → Result Unit ErrorOf → Type 0

@@ -75,7 +75,8 @@ FileBegins opts bytes h =
     ⊎ TablesBegin (map_by opts [] places.file_alignment) places bytes
 
 -- Memory is taken for a file with this header: it has room for as many sections as that says; and
--- if the file can be read, records of it are kept, and else something of it came before the refusal.
+-- if the file can be read, records of it are kept, and else something of it came before the
+-- refusal.
 abbrev pub TakesRecords : ParseOptions → List ℕ → PeHeader → Type 0
 TakesRecords opts bytes h =
     HasRoom bytes h

@@ -109,7 +109,8 @@ Opens read old new =
 
 -- ---- the records while they are made
 
--- A file whose imports and exports are records, and whose sections have no names from the string table.
+-- A file whose imports and exports are records, and whose sections have no names from the string
+-- table.
 abbrev pub RecordsOfFile : Type 0
 RecordsOfFile = CollectedFileValue ImportSaid ExportsSaid
 

@@ -1,5 +1,6 @@
 -- Where the sections and the tables of a file lie, as the record that a caller keeps.
-use Rattle.std.specs.Prelude.{◌≡◌, ℕ, ◌*◌, ◌==◌, Bool, if◌then◌else◌, List, [], length, Option, None, Some}
+use Rattle.std.specs.Prelude.{◌≡◌, ℕ, ◌*◌, ◌==◌, Bool, if◌then◌else◌, List, [], length, Option}
+use Rattle.std.specs.Prelude.{None, Some}
 use Rattle.std.specs.Prelude.{IsSomeAnd, unwrap_or}
 use Rattle.std.specs.Option.{is_some}
 use Rattle.goblin_base.specs.Reading.{Reading}
@@ -16,7 +17,8 @@ use Rattle.goblin_pe_records.specs.declared.places.PePlaces.{PePlaces}
 
 -- ---- the record of a header
 
--- where the tables lie, as numbers, with the offset of the section table and the number of its records
+-- where the tables lie, as numbers, with the offset of the section table and the number of its
+-- records
 abbrev pub places_numbers : ℕ → ℕ → TablePlaces → PePlaces
 places_numbers section_table number_of_sections t = record {
   section_table = section_table;
@@ -52,8 +54,8 @@ places_said p = record {
   relocations = directory_if p.has_relocations p.relocations;
 }
 
--- The sections of so many records at p, without their names from the string table. Where there are none,
--- it does not matter where.
+-- The sections of so many records at p, without their names from the string table. Where there are
+-- none, it does not matter where.
 abbrev pub sections_there : ℕ → ℕ → Reading (List Section)
 sections_there count p =
     pick (count == 0) (given []) (mapped sections_in (slice_at p (40 * count)))
@@ -66,14 +68,15 @@ placed_sections p = sections_there p.number_of_sections p.section_table
 abbrev pub map_at : ParseOptions → PePlaces → List Section → MapOfAddresses
 map_at opts p sections = map_by opts sections p.file_alignment
 
--- memory is taken for an index: there are more than 96 sections, by whose windows addresses are mapped
+-- memory is taken for an index: there are more than 96 sections, by whose windows addresses are
+-- mapped
 abbrev pub TakesIndexAt : ParseOptions → PePlaces → List ℕ → Type 0
 TakesIndexAt opts p bytes =
     HasPieces opts p.file_alignment
     × IsSomeAnd ((placed_sections p).value bytes) (λ sections. AreMany (length sections))
 
--- The places of a header lead back to its file: its tables lie there, and addresses are mapped by the
--- sections after it.
+-- The places of a header lead back to its file: its tables lie there, and addresses are mapped by
+-- the sections after it.
 pub record LeadsBack (h : PeHeader) : Type 0 where
   pub tables : places_said (places_record h) ≡ places_in h.optional_header
   pub sections : (strict : Bool) (bytes : List ℕ) (sections : List Section)

@@ -11,8 +11,8 @@ use Rattle.goblin_pe_records.specs.Directories.{directories_of, entry_record}
 use Rattle.goblin_pe_records.specs.Written.{header_said}
 use Rattle.goblin_pe_calls.specs.Files.{file_of}
 
--- A header that strict mode read is written from a file's records as the file's bytes up to its end,
--- with zeros for the missing directories after them.
+-- A header that strict mode read is written from a file's records as the file's bytes up to its
+-- end, with zeros for the missing directories after them.
 unfoldable pub OpenedWritesBack : Type 0
 OpenedWritesBack =
     (opts : ParseOptions) (bytes : List ℕ) (w : WholeFile) → IsBytes bytes

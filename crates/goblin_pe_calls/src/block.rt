@@ -1,5 +1,5 @@
-//! The records of the base relocation blocks of a file: all, in whatever way their table stands, or in
-//! batches.
+//! The records of the base relocation blocks of a file: all, in whatever way their table stands, or
+//! in batches.
 
 ghost use Rattle.std.specs.Prelude.{◌≡◌, ◌<◌, IfErr, IfOk, MatchResult, OnErr, length, map};
 ghost use Rattle.goblin_base.specs.Answers.{IsMemory};
@@ -51,8 +51,8 @@ pub fn block_records<'a>(
     Ok((records, PeBaseRelocations { blocks, rest }))
 }
 
-// Fills records with the blocks from an offset of their directory on, as far as there is room, leaves in
-// `position` where the next one begins, and answers how many these are.
+// Fills records with the blocks from an offset of their directory on, as far as there is room,
+// leaves in `position` where the next one begins, and answers how many these are.
 fn fill_blocks<'a>(
     relocations: &RelocationData<'a>,
     position: &mut usize,
@@ -103,13 +103,13 @@ fn next_blocks<'a>(
     }
 }
 
-/// Fills `records` with the blocks of base relocations of a file whose tables lie at these places, from
-/// the offset `position` of their directory on, as many as there is room for, says in `count` how many,
-/// and leaves in `position` where the next one begins.
+/// Fills `records` with the blocks of base relocations of a file whose tables lie at these places,
+/// from the offset `position` of their directory on, as many as there is room for, says in `count`
+/// how many, and leaves in `position` where the next one begins.
 ///
 /// # Errors
-/// As [`layout_at`]; in strict mode the directory; and why the very next bytes are no block, if there are
-/// any and there is room for one. Nothing is then changed.
+/// As [`layout_at`]; in strict mode the directory; and why the very next bytes are no block, if
+/// there are any and there is room for one. Nothing is then changed.
 pub fn give_blocks<'a>(
     alloc: Global,
     bytes: &'a [u8],

@@ -35,8 +35,8 @@ pub struct PeDamage {
     /// How many entries of the other libraries it leaves out.
     pub left_out_entries: usize,
     /// How many name pointers of the export directory give no export, in either mode: there is no
-    /// ordinal, the ordinal lies past the address table, or it leads to a forwarder whose text cannot
-    /// be read. 0 where there is no export directory, or it is refused.
+    /// ordinal, the ordinal lies past the address table, or it leads to a forwarder whose text
+    /// cannot be read. 0 where there is no export directory, or it is refused.
     pub left_out_exports: usize,
 }
 

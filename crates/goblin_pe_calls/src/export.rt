@@ -132,8 +132,8 @@ fn forwarder_record<'a>(
     }
 }
 
-/// Puts the record of an export of these bytes into its place. (A record that is made for both kinds
-/// at once would be cleared first for every export.)
+/// Puts the record of an export of these bytes into its place. (A record that is made for both
+/// kinds at once would be cleared first for every export.)
 #[inline(always)]
 pub fn put_export<'a>(place: &mut PeExport<'a>, bytes: &'a [u8], walked: &WalkedExport<'a>)
     ensures { export_view place.new ≡ export_said (walked_export walked.now) }

@@ -1,6 +1,8 @@
-//! The records of what an export directory says, and of the export address table, all or in batches.
+//! The records of what an export directory says, and of the export address table, all or in
+//! batches.
 
-ghost use Rattle.std.specs.Prelude.{◌≡◌, ◌<◌, ◌^◌, IfOk, MatchResult, OnErr, length, map, slice_get};
+ghost use Rattle.std.specs.Prelude.{◌≡◌, ◌<◌, ◌^◌, IfOk, MatchResult, OnErr, length, map};
+ghost use Rattle.std.specs.Prelude.{slice_get};
 ghost use Rattle.goblin_base.specs.Answers.{GivesOrMemory};
 ghost use Rattle.goblin_pe_export.specs.ExportWalks.{walked_tables};
 ghost use Rattle.goblin_pe.specs.Layouts.{layout_bytes, layout_map, layout_places};
@@ -115,8 +117,8 @@ fn address_at(exports: &Exports, index: usize) -> Option<PeExportAddress>
     }
 }
 
-// Fills records with the entries from the index `position` on, as far as there is room, moves the index
-// past them, and answers how many these are.
+// Fills records with the entries from the index `position` on, as far as there is room, moves the
+// index past them, and answers how many these are.
 fn fill_addresses(exports: &Exports, position: &mut usize, records: &mut [PeExportAddress]) -> usize
     ensures { let table = (walked_tables exports.now).export_address_table in
         GivesOnward (map address_said table) position.old records.old position.new records.new
@@ -149,8 +151,8 @@ fn next_addresses(
 }
 
 /// Fills `records` with the entries of the export address table of a file whose tables lie at these
-/// places, from the index `position` on, as many as there is room for, says in `count` how many, and
-/// moves `position` past them.
+/// places, from the index `position` on, as many as there is room for, says in `count` how many,
+/// and moves `position` past them.
 ///
 /// # Errors
 /// As [`layout_at`]; in strict mode the export directory. Nothing is then changed.

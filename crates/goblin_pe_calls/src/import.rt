@@ -56,8 +56,8 @@ pub struct PeImport<'a> {
     pub reserved2: u32,
 }
 
-// The record of an import, with what its entry says: its name, the address of this, its ordinal or its
-// hint, and whether it is by name.
+// The record of an import, with what its entry says: its name, the address of this, its ordinal or
+// its hint, and whether it is by name.
 #[inline(always)]
 fn record_by<'a>(
     import: &WalkedImport<'a>,
@@ -90,8 +90,8 @@ fn record_by<'a>(
     }
 }
 
-/// Puts the record of an import of these bytes into its place. (Each kind has a record of its own: one
-/// that is made for both would be put together by conditions for every import.)
+/// Puts the record of an import of these bytes into its place. (Each kind has a record of its own:
+/// one that is made for both would be put together by conditions for every import.)
 #[inline(always)]
 #[tactic(auto, unfolding(goblin_pe_import::specs::Imports::entry_name, goblin_pe_import::specs::Imports::entry_has_name, goblin_pe_import::specs::Imports::entry_ordinal, goblin_pe_import::specs::Imports::entry_name_rva))]
 pub fn put_import<'a>(place: &mut PeImport<'a>, bytes: &'a [u8], import: &WalkedImport<'a>)
@@ -154,8 +154,8 @@ fn push_import<'a, 'e>(
     Ok(())
 }
 
-// Adds the records of the plain imports that come next in the library of the walk, as far as there is
-// room.
+// Adds the records of the plain imports that come next in the library of the walk, as far as there
+// is room.
 #[inline(always)]
 fn push_here<'a, 'm, 'e, T: Bitfield<'a>>(
     records: &mut Vec<PeImport<'a>>,
@@ -179,8 +179,8 @@ fn push_here<'a, 'm, 'e, T: Bitfield<'a>>(
     imports.go_on(&plain);
 }
 
-// The records of the imports that a walk gives. Plain ones after the first of a library, as far as there
-// is room, come by a loop of their own, in which nothing can be refused.
+// The records of the imports that a walk gives. Plain ones after the first of a library, as far as
+// there is room, come by a loop of their own, in which nothing can be refused.
 #[inline(always)]
 fn records_of<'a, 'm, 'e, T: Bitfield<'a>>(
     alloc: Global,
@@ -260,8 +260,8 @@ fn listed_records<'a, 'm>(
     }
 }
 
-/// The records of a file's imports, in the order of the libraries and of their entries. The finder is
-/// left where they end.
+/// The records of a file's imports, in the order of the libraries and of their entries. The finder
+/// is left where they end.
 #[tactic(auto, using(goblin_pe::proofs::ImportParts::list_collected, crate::proofs::Growth::parts_entries))]
 pub fn import_records<'a, 'm>(
     alloc: Global,

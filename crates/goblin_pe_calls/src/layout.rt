@@ -51,9 +51,9 @@ fn fill_layout<'a>(layout: &mut PeLayout<'a>, header: &Header<'a>, sections: usi
     layout.dos_stub = header.dos_stub.bytes;
 }
 
-/// Reads an image without its tables: says in `layout` what it is, and fills the records of its data
-/// directories and of its sections as far as there is room. It takes no memory: each name is where it
-/// lies in the file.
+/// Reads an image without its tables: says in `layout` what it is, and fills the records of its
+/// data directories and of its sections as far as there is room. It takes no memory: each name is
+/// where it lies in the file.
 ///
 /// # Errors
 /// What these options refuse of the header and the sections; nothing is then changed.

@@ -96,9 +96,9 @@ fn imports_at<'a, 'm, 'e>(
     }
 }
 
-// Fills records from `first` on with the plain imports that come next in the library of the walk, as far
-// as there is room, and returns the index after the last one filled. It is not inlined, so that its loop
-// shares no registers with its caller's.
+// Fills records from `first` on with the plain imports that come next in the library of the walk,
+// as far as there is room, and returns the index after the last one filled. It is not inlined, so
+// that its loop shares no registers with its caller's.
 #[inline(never)]
 fn fill_here<'a, 'm, 'e, T: Bitfield<'a>>(
     bytes: &'a [u8],
@@ -124,8 +124,8 @@ fn fill_here<'a, 'm, 'e, T: Bitfield<'a>>(
     count
 }
 
-// As `fill_here`, by the width of the file's entries. Where there is no room, nothing is made ready for
-// what comes next.
+// As `fill_here`, by the width of the file's entries. Where there is no room, nothing is made ready
+// for what comes next.
 #[inline(always)]
 fn fill_library<'a, 'm, 'e>(
     bytes: &'a [u8],
@@ -223,9 +223,9 @@ fn next_imports<'a>(
     }
 }
 
-/// Fills `records` with the imports of a file whose tables lie at these places, from a position on, as
-/// many as there is room for, says in `count` how many, and leaves in `position` where the next call
-/// goes on.
+/// Fills `records` with the imports of a file whose tables lie at these places, from a position on,
+/// as many as there is room for, says in `count` how many, and leaves in `position` where the next
+/// call goes on.
 ///
 /// # Errors
 /// As [`layout_at`]; in strict mode the import directory, at the first position, and the very next
@@ -251,8 +251,8 @@ pub fn give_imports<'a>(
     Ok(())
 }
 
-// Fills records with the exports that come next, as far as there is room, and answers how many. Those
-// that are plain come by a loop of their own, in which all goes in line.
+// Fills records with the exports that come next, as far as there is room, and answers how many.
+// Those that are plain come by a loop of their own, in which all goes in line.
 fn fill_exports<'a, 'm>(
     bytes: &'a [u8],
     exports: &mut Exports<'a, 'm>,
@@ -318,9 +318,9 @@ fn next_exports<'a>(
     }
 }
 
-/// Fills `records` with the exports of a file whose tables lie at these places, from a position on, as
-/// many as there is room for, says in `count` how many, and leaves in `position` where the next call
-/// goes on.
+/// Fills `records` with the exports of a file whose tables lie at these places, from a position on,
+/// as many as there is room for, says in `count` how many, and leaves in `position` where the next
+/// call goes on.
 ///
 /// # Errors
 /// As [`layout_at`]; in strict mode the export directory. Nothing is then changed.

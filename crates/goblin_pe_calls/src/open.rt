@@ -210,11 +210,12 @@ fn open_by<'a>(
     Ok(())
 }
 
-/// Reads a whole file: says in `file` what it is, fills the records of its data directories as far as
-/// there is room, and puts its tables into `tables`, each a block of memory of its own.
+/// Reads a whole file: says in `file` what it is, fills the records of its data directories as far
+/// as there is room, and puts its tables into `tables`, each a block of memory of its own.
 ///
 /// # Errors
-/// What these options refuse of the file, and memory; nothing is then changed, and no block is left.
+/// What these options refuse of the file, and memory; nothing is then changed, and no block is
+/// left.
 pub fn open<'a>(
     alloc: Global,
     bytes: &'a [u8],

@@ -1,5 +1,5 @@
-//! Where the sections and the tables of a file lie, as a record that a caller keeps, and what all tables
-//! are read by, from such a record.
+//! Where the sections and the tables of a file lie, as a record that a caller keeps, and what all
+//! tables are read by, from such a record.
 
 ghost use Rattle.std.specs.Prelude.{◌≡◌, IfErr, IfOk};
 ghost use Rattle.goblin_base.specs.Answers.{IsMemory};
@@ -20,8 +20,8 @@ use goblin_pe::{Layout, Places, Result, section_table_offset};
 use goblin_pe_records::places::PePlaces;
 use std::alloc::Global;
 
-/// Where the sections and the tables of a file with this header lie. What is read by these places is read
-/// of that file.
+/// Where the sections and the tables of a file with this header lie. What is read by these places
+/// is read of that file.
 pub fn places_record(header: &Header) -> PePlaces
     ensures made { result ≡ places_record (header_value header.now) }
     ensures back { LeadsBack (header_value header.now) }
@@ -78,13 +78,14 @@ fn records_at<'a>(bytes: &'a [u8], places: &PePlaces) -> Result<SectionRecords<'
     Ok(SectionRecords::of(records))
 }
 
-/// What all tables of a file are read by, where these and the sections lie as a record says, whatever the
-/// file's header says. Of the sections' records nothing is tested but that the file has them.
+/// What all tables of a file are read by, where these and the sections lie as a record says,
+/// whatever the file's header says. Of the sections' records nothing is tested but that the file
+/// has them.
 ///
 /// # Errors
-/// [`Error::Read`](goblin_pe::Error::Read) where there are sections and the file is too short for their
-/// records; [`Error::Memory`](goblin_pe::Error::Memory) only of more than 96 sections, by whose windows
-/// addresses are mapped.
+/// [`Error::Read`](goblin_pe::Error::Read) where there are sections and the file is too short for
+/// their records; [`Error::Memory`](goblin_pe::Error::Memory) only of more than 96 sections, by
+/// whose windows addresses are mapped.
 pub fn layout_at<'a>(
     alloc: Global,
     bytes: &'a [u8],

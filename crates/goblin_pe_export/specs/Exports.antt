@@ -54,8 +54,8 @@ unfoldable pub own_exports : ExportTables → ℕ → ℕ
 own_exports tables zero = 0
 own_exports tables (suc n) = own_exports tables n + (if leads_to_own tables n then 1 else 0)
 
--- The room of a list: none where nothing is in it, and else at most for so many, or for half as many
--- again as there are.
+-- The room of a list: none where nothing is in it, and else at most for so many, or for half as
+-- many again as there are.
 abbrev pub TakesRoomFor : {A : Type 0} → ℕ → Vec A Global → Type 0
 TakesRoomFor many v =
     (vec_len v ≡ 0 → vec_capacity v ≡ 0)

@@ -201,8 +201,8 @@ abbrev pub slots_bound : List ℕ → Option ℕ → ℕ
 slots_bound bytes None = 0
 slots_bound bytes (Some place) = length bytes - place + 1
 
--- no more comes than a whole file of entries, a refusal of their table and one of the address table,
--- for each record that may be left from p on
+-- no more comes than a whole file of entries, a refusal of their table and one of the address
+-- table, for each record that may be left from p on
 abbrev pub records_bound : List ℕ → ℕ → ℕ
 records_bound bytes p = (length bytes + 2) * (length bytes - p + 1)
 

@@ -1,5 +1,5 @@
--- How much permissive mode leaves out of the imports of a directory, over a map of addresses to file
--- offsets.
+-- How much permissive mode leaves out of the imports of a directory, over a map of addresses to
+-- file offsets.
 use Rattle.std.specs.Prelude.{ℕ, zero, suc, ◌+◌, Bool, false, ◌&&◌, not, if◌then◌else◌}
 use Rattle.std.specs.Prelude.{List, Option, Some, None, is_none}
 use Rattle.std.specs.Int.{from_bool}

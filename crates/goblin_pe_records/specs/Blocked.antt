@@ -1,5 +1,5 @@
--- Blocks of memory that a caller frees: none where there is nothing in it, since an empty table's is
--- not handed over; and how much more than its entries a block has room for.
+-- Blocks of memory that a caller frees: none where there is nothing in it, since an empty table's
+-- is not handed over; and how much more than its entries a block has room for.
 use Rattle.std.specs.Prelude.{◌≡◌, ◌≤◌, ◌+◌, ◌/◌, Vec, length, max, vec_capacity, vec_len}
 use Rattle.std.specs.Global.{Global}
 

@@ -1,5 +1,6 @@
 -- What a loader sees at an address of an image, as a caller passes it.
-use Rattle.std.specs.Prelude.{ℕ, ◌+◌, ◌-◌, ◌==◌, ◌<◌, ◌≤◌, ◌&&◌, Bool, nat_le, nat_lt, min, if◌then◌else◌}
+use Rattle.std.specs.Prelude.{ℕ, ◌+◌, ◌-◌, ◌==◌, ◌<◌, ◌≤◌, ◌&&◌, Bool, nat_le, nat_lt, min}
+use Rattle.std.specs.Prelude.{if◌then◌else◌}
 use Rattle.std.specs.Prelude.{List, [], find, Option, Some, None}
 use Rattle.goblin_base.specs.declared.error.CauseOf.TheVariants.{Unmapped}
 use Rattle.goblin_base.specs.Reading.{Reading}
@@ -59,8 +60,8 @@ seen_by_sections image rva size =
     needs (find (is_in_memory rva) (image_sections image)) (Unmapped rva)
     >>= seen_of_section image rva size
 
--- so many bytes that a loader sees at an address: those that the file has, and how many zeros follow
--- them; where addresses are offsets, the file's own
+-- so many bytes that a loader sees at an address: those that the file has, and how many zeros
+-- follow them; where addresses are offsets, the file's own
 unfoldable pub memory_at : PeImage → ℕ → ℕ → Reading (List ℕ × ℕ)
 memory_at image rva size =
     pick image.options.resolve_rva (seen_by_sections image rva size)

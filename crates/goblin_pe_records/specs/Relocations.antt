@@ -23,8 +23,8 @@ abbrev pub SaysRelocations : List Relocation → RelocationRecords → Relocatio
 SaysRelocations relocations old new =
     (Filled (λ r. r) relocations old.records new.records) × (new.count ≡ length relocations)
 
--- the number of a section's relocations stands in the first record, as they are more than the counter
--- in its own record can say: that is full, and the bit IMAGE_SCN_LNK_NRELOC_OVFL is set
+-- the number of a section's relocations stands in the first record, as they are more than the
+-- counter in its own record can say: that is full, and the bit IMAGE_SCN_LNK_NRELOC_OVFL is set
 abbrev pub counts_in_first : Section → Bool
 counts_in_first s =
     (s.number_of_relocations == 0xFFFF) && not (bit_and s.characteristics 0x0100_0000 == 0)

@@ -57,8 +57,8 @@ abbrev pub WritesOut : Option (List ℕ) → (ℕ → Type 0) → (ErrorOf → T
 WritesOut change IsSize IsCause old new (Ok x) = (change ≡ Some new.out) × IsSize new.written
 WritesOut change IsSize IsCause old new (Err e) = (change ≡ None) × IsCause e × (new ≡ old)
 
--- A call has set the eight bytes of a section's name to those that hold a number, which readers find
--- there; or none hold it, the cause is true, and everything is unchanged.
+-- A call has set the eight bytes of a section's name to those that hold a number, which readers
+-- find there; or none hold it, the cause is true, and everything is unchanged.
 abbrev pub SetsName : ℕ → PeSection → PeSection → Result Unit ErrorOf → Type 0
 SetsName offset old new (Ok x) =
     (indirect_name offset ≡ Some new.name)

@@ -36,9 +36,9 @@ impl PeImage<'_> {
         section_index(rva, self.sections, self.file_alignment)
     }
 
-    /// The address of a file offset: that in the first section whose window has an address there that
-    /// the image maps back to the offset. Where addresses are offsets, the offset itself; `None` if no
-    /// address is mapped to it.
+    /// The address of a file offset: that in the first section whose window has an address there
+    /// that the image maps back to the offset. Where addresses are offsets, the offset itself;
+    /// `None` if no address is mapped to it.
     pub fn rva_of(&self, offset: usize) -> Option<usize>
         ensures { result ≡ image_address self.now offset }
     {

@@ -6,7 +6,8 @@ ghost use Rattle.goblin_base.specs.declared.error.ErrorOf.TheVariants.{Malformed
 ghost use Rattle.goblin_base.specs.ErrorText.{error_text};
 ghost use Rattle.goblin_pe_records.specs.Faults.{IsNumbered, IsTextOf, cause_of, causes, fault};
 ghost use Rattle.goblin_pe_records.specs.Faults.{fault_of, number_of, status_of, status_with};
-ghost use Rattle.goblin_pe_records.specs.Faults.{no_fault, read_fault_of, refusal_text, word_number};
+ghost use Rattle.goblin_pe_records.specs.Faults.{no_fault, read_fault_of, refusal_text};
+ghost use Rattle.goblin_pe_records.specs.Faults.{word_number};
 ghost use Rattle.goblin_pe_records.specs.Faults.{word_of};
 ghost use Rattle.goblin_pe_records.specs.Filled.{Filled};
 
@@ -476,8 +477,8 @@ fn error_of(fault: &PeFault) -> Option<Error>
     })
 }
 
-/// The text of the refusal with these numbers, whole, or cut and ended by three dots, in 160 bytes at
-/// most; none where they are of no refusal.
+/// The text of the refusal with these numbers, whole, or cut and ended by three dots, in 160 bytes
+/// at most; none where they are of no refusal.
 pub fn text_of(fault: &PeFault) -> InlineText<TEXT_ROOM>
     ensures text { IsTextOf fault.now (inline_text result) }
     ensures short { length (inline_text result) ≤ 160 }

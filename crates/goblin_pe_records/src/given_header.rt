@@ -53,8 +53,8 @@ fn optional_said(file: &PeFile, directories: &[PeDirectory]) -> Option<OptionalH
     })
 }
 
-/// The header that `file`, the records of its data directories and the bytes of its DOS stub say, its
-/// Rich header part of the stub.
+/// The header that `file`, the records of its data directories and the bytes of its DOS stub say,
+/// its Rich header part of the stub.
 pub fn header_said<'a>(file: &PeFile, directories: &[PeDirectory], stub: &'a [u8]) -> Header<'a>
     ensures value { header_value result ≡ header_said file.now directories.now stub.now }
     ensures optional { result.optional_header ≡ optional_said file.now directories.now }

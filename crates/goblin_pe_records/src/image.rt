@@ -70,8 +70,8 @@ impl<'a> PeImage<'a> {
     ///
     /// # Errors
     /// [`Error::Malformed`] with [`Cause::Unmapped`] if the address has no file offset, and
-    /// [`Error::Read`] if this lies at or past the end of the file, or the bytes pass it; nothing is
-    /// then changed.
+    /// [`Error::Read`] if this lies at or past the end of the file, or the bytes pass it; nothing
+    /// is then changed.
     pub fn read_bytes(&self, rva: usize, size: usize, text: &mut PeText<'a>) -> Result<()>
         ensures { ReadsWithout (bytes_at_address (image_map self.now) rva size) self.now.bytes.now
             (λ whole. text_view text.new ≡ whole) (text.new ≡ text.old) result }

@@ -115,8 +115,8 @@ fn seen_by_sections<'a>(image: &PeImage<'a>, rva: usize, size: usize) -> Result<
 ///
 /// # Errors
 /// [`Error::Malformed`] with [`Cause::Unmapped`] if no section's memory holds the address, or the
-/// bytes pass the memory of the first that does: the address that is not there. [`Error::Read`] where
-/// the file does not have its bytes. Nothing is then changed.
+/// bytes pass the memory of the first that does: the address that is not there. [`Error::Read`]
+/// where the file does not have its bytes. Nothing is then changed.
 #[tactic(auto, unfolding(crate::specs::Memory::memory_at))]
 pub fn read_memory<'a>(
     image: &PeImage<'a>,

@@ -3,9 +3,9 @@
 ghost use Rattle.std.specs.Prelude.{◌≡◌, ◌<◌, ◌^◌, List, length, slice_get};
 ghost use Rattle.goblin_pe_records.specs.Onward.{GivesOnward};
 
-/// Fills records with the items of a list from the index `position` on, as far as there is room, moves
-/// the index past them, and answers how many these are. `item` answers the item at an index, where
-/// there is one.
+/// Fills records with the items of a list from the index `position` on, as far as there is room,
+/// moves the index past them, and answers how many these are. `item` answers the item at an index,
+/// where there is one.
 pub fn fill_onward<W: Copy, F: Fn(usize) -> Option<W>>(
     item: F,
     position: &mut usize,

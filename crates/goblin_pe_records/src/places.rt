@@ -2,8 +2,8 @@
 
 use goblin_pe_sect::data_directories::DataDirectory;
 
-/// Where the sections and the tables of an image lie, and how the tables are read, as its header says:
-/// what walks over the tables take, so that none reads the header again.
+/// Where the sections and the tables of an image lie, and how the tables are read, as its header
+/// says: what walks over the tables take, so that none reads the header again.
 ///
 /// Source: PE Format, "COFF File Header (Object and Image)", "Optional Header (Image Only)" and
 /// "Section Table (Section Headers)".
@@ -22,8 +22,8 @@ pub struct PePlaces {
     pub file_alignment: u32,
     /// How many records the section table has.
     pub number_of_sections: u16,
-    /// The magic of the optional header: by 0x10B the entries of import tables have four bytes, else
-    /// eight; 0 where there is no optional header.
+    /// The magic of the optional header: by 0x10B the entries of import tables have four bytes,
+    /// else eight; 0 where there is no optional header.
     pub magic: u16,
     /// Whether there is an export directory.
     pub has_exports: bool,

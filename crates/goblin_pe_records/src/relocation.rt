@@ -53,7 +53,8 @@ pub fn read_relocations(
     Ok(())
 }
 
-// Whether a section's first relocation has the number of all: there are more than its counter can say.
+// Whether a section's first relocation has the number of all: there are more than its counter can
+// say.
 fn counts_in_first(section: &PeSection) -> bool
     ensures { result ≡ counts_in_first (section_view section.now) }
 {
@@ -94,9 +95,9 @@ fn relocation_at(table: &[u8], index: usize) -> Option<Relocation>
     Some(Relocation::in_record(record, Endian::Little))
 }
 
-/// Fills records of all relocations of a section of an object from the one at the index `position` on,
-/// as far as there is room, moves `position` past them, and says in `count` how many these are. Where
-/// the section has more than its counter can say, the first record is none of them: its
+/// Fills records of all relocations of a section of an object from the one at the index `position`
+/// on, as far as there is room, moves `position` past them, and says in `count` how many these are.
+/// Where the section has more than its counter can say, the first record is none of them: its
 /// `virtual_address` is the number of all records, itself among them.
 ///
 /// # Errors

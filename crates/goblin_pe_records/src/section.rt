@@ -1,6 +1,7 @@
 //! The records of sections, filled and written.
 
-ghost use Rattle.std.specs.Prelude.{◌≡◌, ◌<◌, IfOk, OnErr, Some, length, map, option_map, slice_get};
+ghost use Rattle.std.specs.Prelude.{◌≡◌, ◌<◌, IfOk, OnErr, Some, length, map, option_map};
+ghost use Rattle.std.specs.Prelude.{slice_get};
 ghost use Rattle.goblin_base.specs.declared.endian.Endian.TheVariants.{Little};
 ghost use Rattle.goblin_base.specs.Answers.{GivesOrMemory, IsSliceFault};
 ghost use Rattle.goblin_base.specs.Bytes.{overwritten};
@@ -127,8 +128,8 @@ fn name_by_table<'a>(place: &mut PeSection<'a>, bytes: &'a [u8], table: usize, o
     }
 }
 
-// As `name_by_table`, without a call where the name begins with no slash: most names are their eight
-// bytes.
+// As `name_by_table`, without a call where the name begins with no slash: most names are their
+// eight bytes.
 #[inline(always)]
 #[tactic(auto, unfolding(crate::specs::Sections::real_name_in, goblin_pe_sect::specs::SectionName::name_value))]
 fn name_record<'a>(
@@ -164,8 +165,8 @@ fn stored_section(
     section
 }
 
-/// Fills the records of the sections of a section table, as far as there is room, each with its name
-/// from the string table at `table`; with a displacement, as they are in the stripped file.
+/// Fills the records of the sections of a section table, as far as there is room, each with its
+/// name from the string table at `table`; with a displacement, as they are in the stripped file.
 pub fn fill_sections<'a>(
     records: &mut [PeSection<'a>],
     bytes: &'a [u8],
@@ -239,7 +240,8 @@ pub fn write_section(section: &PeSection, out: &mut [u8], written: &mut usize) -
     write_record(&section_of(section), out, written)
 }
 
-/// Sets the eight bytes of a section's name to say that the name is at `offset` in the string table.
+/// Sets the eight bytes of a section's name to say that the name is at `offset` in the string
+/// table.
 ///
 /// # Errors
 /// An offset that six digits of base 64 cannot say; nothing is then changed.

@@ -49,9 +49,9 @@ impl<'a> Image<'a> {
     }
 }
 
-/// Reads the header at the front of a Terse Executable and the sections that follow it, and fills the
-/// records of these as far as there is room. It takes no memory: each name is where it lies in the
-/// file.
+/// Reads the header at the front of a Terse Executable and the sections that follow it, and fills
+/// the records of these as far as there is room. It takes no memory: each name is where it lies in
+/// the file.
 ///
 /// # Errors
 /// What the readers of the header and of the sections refuse; nothing is then changed.

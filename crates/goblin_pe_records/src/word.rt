@@ -58,9 +58,9 @@ fn bytes_of<'a>(block: &PeBlock<'a>) -> &'a [u8]
     block.words
 }
 
-/// Fills records of the words of a block from the one at the index `position` on, as far as there is
-/// room, moves `position` past them, and answers how many these are. A byte that is left after the
-/// words is no word.
+/// Fills records of the words of a block from the one at the index `position` on, as far as there
+/// is room, moves `position` past them, and answers how many these are. A byte that is left after
+/// the words is no word.
 pub fn next_words(block: &PeBlock, position: &mut usize, records: &mut [PeWord]) -> usize
     ensures { GivesOnward (block_words block.now) position.old records.old position.new records.new
         result }

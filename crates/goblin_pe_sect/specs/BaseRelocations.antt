@@ -79,8 +79,8 @@ first_items (suc n) directory p =
 abbrev pub block_items : List ℕ → ℕ → List (Result Block ErrorOf)
 block_items directory p = first_items (length directory - p) directory p
 
--- What is found at p of a directory: nothing where nothing comes, else the next item, and after a block
--- come the items from its end on.
+-- What is found at p of a directory: nothing where nothing comes, else the next item, and after a
+-- block come the items from its end on.
 abbrev pub FindsItem : List ℕ → ℕ → Option (Result RelocationBlock ErrorOf) → Type 0
 FindsItem directory p None = block_items directory p ≡ []
 FindsItem directory p (Some found) =

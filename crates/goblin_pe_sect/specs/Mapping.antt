@@ -1,7 +1,8 @@
 -- How an address in memory maps to an offset in the file.
 use Rattle.std.specs.Prelude.{IsTrue, ℕ, ◌+◌, ◌-◌, ◌==◌, ◌≡◌, ◌<◌, ◌≤◌, min, Bool, ◌&&◌, nat_le}
 use Rattle.std.specs.Prelude.{false, true}
-use Rattle.std.specs.Prelude.{nat_lt, if◌then◌else◌, List, Option, Some, None, find, position, slice_get}
+use Rattle.std.specs.Prelude.{nat_lt, if◌then◌else◌, List, Option, Some, None, find, position}
+use Rattle.std.specs.Prelude.{slice_get}
 use Rattle.std.specs.Prelude.{option_map}
 use Rattle.std.specs.Option.{option_and_then}
 use Rattle.std.specs.Int.{is_power_of_two}
@@ -49,15 +50,15 @@ window_of s alignment =
 abbrev pub is_in_window : ℕ → ℕ → Section → Bool
 is_in_window alignment rva s = nat_le s.virtual_address rva && nat_lt rva (window_end s alignment)
 
--- a rule rounds raw pointers at this file alignment: always, never, or where the alignment is 512 or
--- more
+-- a rule rounds raw pointers at this file alignment: always, never, or where the alignment is 512
+-- or more
 abbrev pub rounds : RawPointerRule → ℕ → Bool
 rounds AsStored alignment = false
 rounds RoundedTo512 alignment = true
 rounds ByFileAlignment alignment = nat_le 512 alignment
 
--- where a section's raw data begins for the mapping of addresses: at its raw pointer as it is stored,
--- or at the greatest multiple of 512 that is at most it, by the rule of the options
+-- where a section's raw data begins for the mapping of addresses: at its raw pointer as it is
+-- stored, or at the greatest multiple of 512 that is at most it, by the rule of the options
 abbrev pub raw_begin : ParseOptions → ℕ → Section → ℕ
 raw_begin opts alignment s =
     if rounds opts.raw_pointer_rule alignment
@@ -112,8 +113,8 @@ maps_to opts sections alignment p None = false
 maps_to opts sections alignment p (Some rva) =
     is_at p (file_offset opts sections alignment rva)
 
--- the address of a file offset: that in the first section whose window has an address there that the
--- sections map back to the offset; and the offset itself where addresses are not mapped
+-- the address of a file offset: that in the first section whose window has an address there that
+-- the sections map back to the offset; and the offset itself where addresses are not mapped
 unfoldable pub file_address : ParseOptions → List Section → ℕ → ℕ → Option ℕ
 file_address opts sections alignment p =
     if opts.resolve_rva

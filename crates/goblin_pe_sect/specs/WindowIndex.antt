@@ -2,7 +2,8 @@
 -- returns.
 use Rattle.std.specs.Prelude.{ℕ, zero, suc, ◌+◌, ◌-◌, ◌*◌, ◌/◌, ◌≡◌, ◌<◌, ◌≤◌, ◌^◌, ◌==◌, ◌⊎◌, Bool}
 use Rattle.std.specs.Prelude.{false, nat_le, nat_lt, if◌then◌else◌, List, [], Option, Some, None}
-use Rattle.std.specs.Prelude.{length, map, slice_index, slice_index_or, slice_get, Contains, position}
+use Rattle.std.specs.Prelude.{length, map, slice_index, slice_index_or, slice_get, Contains}
+use Rattle.std.specs.Prelude.{position}
 use Rattle.std.specs.Prelude.{IsTrue}
 use Rattle.std.specs.List.{prefix_len}
 use Rattle.std.specs.List.Sorted.{IsStrictlyIncreasing}

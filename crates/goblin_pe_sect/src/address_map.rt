@@ -39,9 +39,9 @@ pub(crate) enum Windows<'s> {
     Indexed(WindowIndex),
 }
 
-/// How addresses are mapped to file offsets, and how the bytes there are read: the options, and what
-/// the windows of the sections are found by. That is an index, beside which the sections may be
-/// dropped; or, of records in a file, these themselves where they are few, or where no window is
+/// How addresses are mapped to file offsets, and how the bytes there are read: the options, and
+/// what the windows of the sections are found by. That is an index, beside which the sections may
+/// be dropped; or, of records in a file, these themselves where they are few, or where no window is
 /// looked for: by options that addresses are offsets, or an alignment that is no power of two.
 #[derive(Drop)]
 pub struct AddressMap<'s> {
@@ -83,8 +83,8 @@ fn listed<'e>(alloc: Global, records: SectionRecords) -> ResultOf<'e, Vec<Sectio
 }
 
 impl<'s> Windows<'s> {
-    // What finds the windows of many records: an index; where the options or the alignment leave none
-    // to be found, the records.
+    // What finds the windows of many records: an index; where the options or the alignment leave
+    // none to be found, the records.
     #[inline(never)]
     #[tactic(auto, using(crate::proofs::AddressMaps::same_map))]
     fn of_many<'e>(
@@ -135,9 +135,9 @@ impl<'s> AddressMap<'s> {
     }
 
     /// Prepares the map by the sections of these records. At most 96, which is as many as Windows
-    /// loads, take no memory: their windows are walked over for each address. More are listed, and get
-    /// an index, but where `opts` says that addresses are offsets or `file_alignment` is not a power
-    /// of two.
+    /// loads, take no memory: their windows are walked over for each address. More are listed, and
+    /// get an index, but where `opts` says that addresses are offsets or `file_alignment` is not a
+    /// power of two.
     ///
     /// # Errors
     /// Only [`Error::Memory`](goblin_base::Error::Memory).

@@ -17,9 +17,9 @@ pub enum RawPointerRule {
     AsStored = 0,
     /// At the greatest multiple of 512 that is at most the raw pointer.
     RoundedTo512 = 1,
-    /// By the file alignment, as pefile maps: rounded where that is 512 or more, else as stored. In a
-    /// lawful image it is below 512 only where it equals a `section_alignment` below 4,096, so this
-    /// is right for each such image, without a look at its header before.
+    /// By the file alignment, as pefile maps: rounded where that is 512 or more, else as stored. In
+    /// a lawful image it is below 512 only where it equals a `section_alignment` below 4,096, so
+    /// this is right for each such image, without a look at its header before.
     ByFileAlignment = 2,
 }
 

@@ -239,7 +239,8 @@ impl SectionTable {
     ///
     /// # Errors
     /// [`Error::Read`] if the 40 bytes run past the end of the file; as
-    /// [`SectionTable::name_offset_with_opts`] where the name is refused. `offset` is then unchanged.
+    /// [`SectionTable::name_offset_with_opts`] where the name is refused. `offset` is then
+    /// unchanged.
     #[inline(always)]
     #[tactic(auto, unfolding(crate::specs::SectionReadings::named_section_at, crate::specs::SectionName::IsNameFault, crate::specs::SectionTable::section_record))]
     pub fn parse_unnamed(

@@ -161,9 +161,9 @@ pub fn raw_begin(section: &SectionTable, file_alignment: u32, opts: &ParseOption
 /// order of the table. Where windows overlap, the first hides the others.
 ///
 /// The windows are those that [`window`] returns. The offset is the raw pointer, as stored or
-/// rounded down to 512 by the rule of `opts`, plus the distance from the section's address; it may lie
-/// past the file, so test it before reading there. If `opts` says that addresses are offsets, the
-/// result is the address itself. Otherwise it is `None` if no window holds the address or
+/// rounded down to 512 by the rule of `opts`, plus the distance from the section's address; it may
+/// lie past the file, so test it before reading there. If `opts` says that addresses are offsets,
+/// the result is the address itself. Otherwise it is `None` if no window holds the address or
 /// `file_alignment` is not a power of two.
 ///
 /// Source: none, as for [`window`]; [`RawPointerRule`] says for which images each rule for raw
@@ -246,8 +246,8 @@ pub fn safe_try_name<'a>(
 }
 
 /// The text at `offset`, the file offset of the address `rva`, as [`safe_try_name`] returns it; for
-/// callers that have mapped the address before. `None` as an offset means that the address has none,
-/// and therefore no text.
+/// callers that have mapped the address before. `None` as an offset means that the address has
+/// none, and therefore no text.
 ///
 /// # Errors
 /// As [`safe_try_name`].

@@ -13,10 +13,10 @@
 //! | `block rva=H size=H words=D` | each block |
 //! | `block refused` | where a rest follows the blocks |
 //!
-//! H is `0x` and lower-case hexadecimal digits, D decimal digits, N a name, in which each byte outside
-//! printable ASCII, and the backslash, is `\x` and two such digits. The fields are those of `Header`,
-//! `SectionTable`, `Import`, `Export` and `RelocationBlock` of the library. A line ends with a line
-//! feed.
+//! H is `0x` and lower-case hexadecimal digits, D decimal digits, N a name, in which each byte
+//! outside printable ASCII, and the backslash, is `\x` and two such digits. The fields are those of
+//! `Header`, `SectionTable`, `Import`, `Export` and `RelocationBlock` of the library. A line ends
+//! with a line feed.
 #![tactic(auto)]
 
 mod lines;

@@ -1,6 +1,7 @@
 //! What a file is known by to one who has its answer.
 
-ghost use Rattle.std.specs.Prelude.{◌≡◌, ◌↔◌, ◌<◌, ◌≤◌, IfErr, IfOk, IsTrue, List, OnErr, length, map};
+ghost use Rattle.std.specs.Prelude.{◌≡◌, ◌↔◌, ◌<◌, ◌≤◌, IfErr, IfOk, IsTrue, List, OnErr, length};
+ghost use Rattle.std.specs.Prelude.{map};
 ghost use Rattle.std.specs.Prelude.{ℕ};
 ghost use Rattle.std.specs.List.{All};
 ghost use Rattle.goblin_base.specs.Answers.{IsMemory};
@@ -60,9 +61,9 @@ impl FileKey {
         })
     }
 
-    /// Whether a file agrees with the one whose key this is on all that its answer depends on. By the
-    /// options that the key was made with, both then have the same answer: one value, or they are
-    /// refused.
+    /// Whether a file agrees with the one whose key this is on all that its answer depends on. By
+    /// the options that the key was made with, both then have the same answer: one value, or they
+    /// are refused.
     pub fn fits(&self, file: &[u8]) -> bool
         ensures exact { (opts : ParseOptions) (was : List ℕ) → IsKeyOf opts was self.now
             → (IsTrue result ↔ Agree ((whole_file opts).reaches was) was file.now) }

@@ -95,8 +95,8 @@ fn read_parts<'a, 'e, D: TryFromCtx<'a>>(
     }
 }
 
-// What reads a file into an answer. Its users know the answer as a type parameter: the proof that two
-// answers which own as much as `PartsOf` may be moved is too large for the checker.
+// What reads a file into an answer. Its users know the answer as a type parameter: the proof that
+// two answers which own as much as `PartsOf` may be moved is too large for the checker.
 trait Reader<'a, T> {
     ghost is_answer: { Self → List ℕ → T → Type 0 };
 

@@ -30,7 +30,8 @@ use std::alloc::Global;
 pub struct Damage {
     /// The DOS stub.
     pub dos_stub: Option<Error>,
-    /// The names of the sections: one that begins with a slash and goes on with bytes that are no text.
+    /// The names of the sections: one that begins with a slash and goes on with bytes that are no
+    /// text.
     pub section_names: Option<Error>,
     /// The imports, if they are asked for.
     pub imports: Option<Error>,
@@ -41,8 +42,8 @@ pub struct Damage {
     /// How much permissive mode leaves out of the imports; nothing where they are not asked for.
     pub left_out: LeftOut,
     /// How many name pointers of the export directory give no export, in either mode: there is no
-    /// ordinal, the ordinal lies past the address table, or it leads to a forwarder whose text cannot
-    /// be read. 0 where there is no export directory, or it is refused.
+    /// ordinal, the ordinal lies past the address table, or it leads to a forwarder whose text
+    /// cannot be read. 0 where there is no export directory, or it is refused.
     pub left_out_exports: usize,
 }
 
@@ -145,8 +146,8 @@ impl Whole<'_> {
     /// # Errors
     /// As [`Header::parse_with_opts`]; as
     /// [`CoffHeader::sections_with_opts`](goblin_pe_head::CoffHeader::sections_with_opts);
-    /// [`Error::Memory`] if memory is refused, and only of a file that has more than 96 sections, by
-    /// whose windows addresses are mapped, and room for as many as its header says.
+    /// [`Error::Memory`] if memory is refused, and only of a file that has more than 96 sections,
+    /// by whose windows addresses are mapped, and room for as many as its header says.
     pub fn damage(alloc: Global, bytes: &[u8], opts: &ParseOptions) -> Result<Damage>
         ensures tells { TellsDamage opts.now bytes.now result }
         ensures sound { IfOk result (λ d. IsSound d → IsReadByBoth opts.now bytes.now) }

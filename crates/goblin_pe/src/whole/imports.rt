@@ -20,8 +20,8 @@ use goblin_base::ResultOf;
 use goblin_pe_sect::address_map::Finder;
 use std::iter::FusedIterator;
 
-/// The imports of a file, in the order of the libraries and of their entries, without memory: by the
-/// magic of 32 bits their tables have entries of four bytes, else of eight.
+/// The imports of a file, in the order of the libraries and of their entries, without memory: by
+/// the magic of 32 bits their tables have entries of four bytes, else of eight.
 ///
 /// In strict mode it ends with one error where the import data is refused, after the imports before
 /// what is to blame. In permissive mode there is none.
@@ -52,8 +52,8 @@ impl<'a, 'm, 'e> FileImports<'a, 'm, 'e> {
         }
     }
 
-    /// Whether one of the imports that are still to come passes a test. The walk goes on after the first that does, as a later one
-    /// may be refused.
+    /// Whether one of the imports that are still to come passes a test. The walk goes on after the
+    /// first that does, as a later one may be refused.
     ///
     /// # Errors
     /// In strict mode as the walk, at its end.

@@ -65,8 +65,8 @@ fn section_table_after(pe_pointer: u32, size_of_optional_header: u16) -> usize
     pe_pointer as usize + SIZEOF_PE_MAGIC + SIZEOF_COFF_HEADER + size_of_optional_header as usize
 }
 
-/// The file offset of the section table, which follows the optional header, by the size that the COFF
-/// header says.
+/// The file offset of the section table, which follows the optional header, by the size that the
+/// COFF header says.
 ///
 /// Source: PE Format, "Section Table (Section Headers)".
 #[inline(always)]
@@ -77,8 +77,8 @@ pub fn section_table_offset(header: &Header) -> usize
     section_table_after(header.dos_header.pe_pointer, size)
 }
 
-/// The records of the sections of a file with this header, in its bytes. They take no memory, and their
-/// sections have no names from the string table.
+/// The records of the sections of a file with this header, in its bytes. They take no memory, and
+/// their sections have no names from the string table.
 ///
 /// Source: PE Format, "Section Table (Section Headers)".
 ///
@@ -104,8 +104,8 @@ pub fn section_records_of<'a>(
         .section_records_with_opts(bytes, &mut offset, opts)
 }
 
-/// The sections of a file with this header, in the order of their records, with their names from the
-/// string table, in memory of their own.
+/// The sections of a file with this header, in the order of their records, with their names from
+/// the string table, in memory of their own.
 ///
 /// Source: PE Format, "Section Table (Section Headers)".
 ///
@@ -147,8 +147,8 @@ fn walked(bytes: &[u8]) -> &[u8]
 
 impl<'a> Layout<'a> {
     /// The layout of a file with this header. Its sections are refused where
-    /// [`Whole::read`](crate::Whole::read) refuses them. Memory is taken only for an index of more than
-    /// 96 sections, by whose windows addresses are mapped.
+    /// [`Whole::read`](crate::Whole::read) refuses them. Memory is taken only for an index of more
+    /// than 96 sections, by whose windows addresses are mapped.
     ///
     /// # Errors
     /// As [`CoffHeader::sections_with_opts`](goblin_pe_head::CoffHeader::sections_with_opts), but

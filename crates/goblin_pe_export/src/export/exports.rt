@@ -38,8 +38,8 @@ pub struct WalkedExport<'a> {
 }
 
 /// The exports of an image, in the order of their name pointers, without memory: those that
-/// [`Export::parse_by`] lists for what [`ExportData::parse_by`](crate::export::ExportData::parse_by)
-/// reads.
+/// [`Export::parse_by`] lists for what
+/// [`ExportData::parse_by`](crate::export::ExportData::parse_by) reads.
 ///
 /// The three tables are read where they stand in the file, one name pointer at a time. Once the
 /// record that leads to them is read, nothing is refused.
@@ -75,8 +75,8 @@ impl<'a, 'm> Exports<'a, 'm> {
         Exports::by(bytes, directory, Finder::of(address_map))
     }
 
-    /// The exports of an export directory, as [`Exports::of`], by a finder: what it has at hand takes
-    /// no search.
+    /// The exports of an export directory, as [`Exports::of`], by a finder: what it has at hand
+    /// takes no search.
     ///
     /// # Errors
     /// As [`Exports::of`].

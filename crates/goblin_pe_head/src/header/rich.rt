@@ -11,7 +11,8 @@ ghost use Rattle.goblin_pe_head.specs.declared.header.rich.RichMetadata.{RichMet
 ghost use Rattle.goblin_pe_head.specs.HeaderLaws.{RichIsMarked, RichIsUnmarked};
 ghost use Rattle.goblin_pe_head.specs.HeaderReadings as reading;
 ghost use Rattle.goblin_pe_head.specs.RichHeader.{PaddingFits, dans_place, leading_words};
-ghost use Rattle.goblin_pe_head.specs.RichHeader.{least_below, marker_place, other_place, rich_value};
+ghost use Rattle.goblin_pe_head.specs.RichHeader.{least_below, marker_place, other_place};
+ghost use Rattle.goblin_pe_head.specs.RichHeader.{rich_value};
 ghost use Rattle.goblin_pe_head.specs.RichHeader.{word_at};
 ghost use Rattle.goblin_pe_head.specs.RichMetadata.{AreEntriesOf, metadata_at, metadata_fields};
 ghost use Rattle.goblin_pe_head.specs.RichMetadata.{metadata_items, metadata_left, metadata_record};

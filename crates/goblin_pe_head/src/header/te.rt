@@ -208,9 +208,9 @@ impl TeHeader {
     }
 
     /// Tests the section table, whose records follow one another from the file offset `offset` on,
-    /// moves `offset` past it, as [`TeHeader::sections`] does, and returns the records. They take no
-    /// memory. Their sections are as stored, without names from the string table: [`adjust_section`] makes
-    /// of each the one in the stripped file.
+    /// moves `offset` past it, as [`TeHeader::sections`] does, and returns the records. They take
+    /// no memory. Their sections are as stored, without names from the string table:
+    /// [`adjust_section`] makes of each the one in the stripped file.
     ///
     /// # Errors
     /// As [`TeHeader::sections`], but for [`Error::Memory`].

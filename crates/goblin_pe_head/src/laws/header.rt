@@ -1,6 +1,7 @@
 //! Lists which positions of a file its header depends on.
 
-ghost use Rattle.std.specs.Prelude.{◌≡◌, ◌<◌, ◌≤◌, ◌+◌, ◌^◌, ◌++◌, Bool, IfErr, IfOk, IfSome, OnErr};
+ghost use Rattle.std.specs.Prelude.{◌≡◌, ◌<◌, ◌≤◌, ◌+◌, ◌^◌, ◌++◌, Bool, IfErr, IfOk, IfSome};
+ghost use Rattle.std.specs.Prelude.{OnErr};
 ghost use Rattle.std.specs.Prelude.{length};
 ghost use Rattle.goblin_base.specs.Answers.{IsMemory};
 ghost use Rattle.goblin_base.specs.Marks.{IsFootprint, marked};

@@ -1,5 +1,5 @@
-//! What callers in Rattle alone see of symbols: sizes of 64 bits, why a name is refused, and how long
-//! a name is good.
+//! What callers in Rattle alone see of symbols: sizes of 64 bits, why a name is refused, and how
+//! long a name is good.
 
 use goblin_base::{Cause, Error, Strtab};
 use goblin_pe_symbol::symbol::{Symbol, SymbolTable};

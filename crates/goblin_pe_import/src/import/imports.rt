@@ -93,8 +93,8 @@ struct Walk<'a, 'm> {
     next: Option<ImportPosition>,
 }
 
-// Tests the address table that is still to be tested, if there is one. Permissive mode has tested it
-// before.
+// Tests the address table that is still to be tested, if there is one. Permissive mode has tested
+// it before.
 fn test_untested<'a, 'e, T: Bitfield<'a>>(
     bytes: &'a [u8],
     untested: Option<u32>,
@@ -238,8 +238,8 @@ impl<'a, 'm> Walk<'a, 'm> {
         self.next = None;
     }
 
-    // Leads the walk to the library of a record, from the slot at a file offset on, and then to those
-    // whose records are in the directory from the offset `next` on.
+    // Leads the walk to the library of a record, from the slot at a file offset on, and then to
+    // those whose records are in the directory from the offset `next` on.
     #[inline(always)]
     fn enter<'e, T: Bitfield<'a>>(
         &mut self,
@@ -359,8 +359,8 @@ impl<'a, 'm> Walk<'a, 'm> {
         slots.checked_add(bound_at(self.bytes, self.next)?)
     }
 
-    // The import in the slot at a place of the library that the walk is in, where it is plain; `None`
-    // says nothing of the slot.
+    // The import in the slot at a place of the library that the walk is in, where it is plain;
+    // `None` says nothing of the slot.
     #[inline(always)]
     fn plain_import<T: Bitfield<'a>>(&self, place: usize) -> Option<WalkedImport<'a>>
         ensures steps { IfSome result (λ import. GivesNext walked_value (walk_left T.format)
@@ -525,8 +525,8 @@ impl<'a, 'm, 'e, T: Bitfield<'a>> Imports<'a, 'm, 'e, T> {
         }
     }
 
-    /// The imports that come next, as long as they are plain; `None` where the walk is in no library.
-    /// [`Imports::go_on`] goes on after those that came.
+    /// The imports that come next, as long as they are plain; `None` where the walk is in no
+    /// library. [`Imports::go_on`] goes on after those that came.
     #[inline(always)]
     pub fn plain(&self) -> Option<PlainImports<'a, 'm, 'e, T>>
         ensures begins { IfSome result (λ plain. plain_at plain ≡ self.now) }
@@ -601,11 +601,11 @@ impl<'a, 'm, 'e, T: Bitfield<'a>> Iterator for Imports<'a, 'm, 'e, T> {
 
 impl<'a, 'm, 'e, T: Bitfield<'a>> FusedIterator for Imports<'a, 'm, 'e, T> {}
 
-/// The imports that come next in a library, as long as they are plain: by ordinal, or by a name that
-/// is ASCII and lies near those before.
+/// The imports that come next in a library, as long as they are plain: by ordinal, or by a name
+/// that is ASCII and lies near those before.
 ///
-/// These are nearly all. All else is left to `next` of the walk, and what a step calls goes in line: so
-/// a loop over them keeps its values in registers, and takes less time.
+/// These are nearly all. All else is left to `next` of the walk, and what a step calls goes in
+/// line: so a loop over them keeps its values in registers, and takes less time.
 #[derive(Drop)]
 pub struct PlainImports<'a, 'm, 'e, T> {
     // The walk as it was.
@@ -615,7 +615,8 @@ pub struct PlainImports<'a, 'm, 'e, T> {
 }
 
 impl<'a, 'm, 'e, T: Bitfield<'a>> PlainImports<'a, 'm, 'e, T> {
-    /// The next import, if it is plain. `None` says nothing of what comes: the walk's `next` tells it.
+    /// The next import, if it is plain. `None` says nothing of what comes: the walk's `next` tells
+    /// it.
     #[inline(always)]
     pub fn next_import(&mut self) -> Option<WalkedImport<'a>>
         ensures { GivesPlain T.format self.old result self.new }

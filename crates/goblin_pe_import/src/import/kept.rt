@@ -1,6 +1,7 @@
 //! The entries that a lookup table keeps, one by one.
 
-ghost use Rattle.std.specs.Prelude.{◌≡◌, ◌+◌, ◌<◌, ◌≤◌, ◌^◌, IfErr, IfOk, IfSome, IsSome, Ok, Some, length, true};
+ghost use Rattle.std.specs.Prelude.{◌≡◌, ◌+◌, ◌<◌, ◌≤◌, ◌^◌, IfErr, IfOk, IfSome, IsSome, Ok, Some};
+ghost use Rattle.std.specs.Prelude.{length, true};
 ghost use Rattle.goblin_pe_sect.specs.Addresses.{map_of, offset_of, reads_strictly};
 ghost use Rattle.goblin_pe_import.specs.ImportWalks.{IsEntriesCause, entries_from, kept_value};
 ghost use Rattle.goblin_pe_import.specs.ImportWalks.{place_after};
@@ -24,8 +25,8 @@ pub(super) struct KeptEntry<'a> {
     pub(super) entry: SyntheticImportLookupTableEntry<'a>,
 }
 
-// The next entry that a lookup table at `offset` keeps, of the slots from the one at `place` on; the
-// error if one before it is refused, and `None` at the end or without a place.
+// The next entry that a lookup table at `offset` keeps, of the slots from the one at `place` on;
+// the error if one before it is refused, and `None` at the end or without a place.
 #[inline(always)]
 pub(super) fn next_kept<'a, 'e, T: Bitfield<'a>>(
     bytes: &'a [u8],
@@ -66,8 +67,8 @@ pub(super) fn next_kept<'a, 'e, T: Bitfield<'a>>(
 }
 
 // The entry that a lookup table at `offset` keeps in the slot at `place`, where it is plain: by
-// ordinal, or by a name that is ASCII and lies near the last one. `None` says nothing of the slot. All
-// that it calls goes in line, so a loop over such slots keeps its values in registers.
+// ordinal, or by a name that is ASCII and lies near the last one. `None` says nothing of the slot.
+// All that it calls goes in line, so a loop over such slots keeps its values in registers.
 #[inline(always)]
 pub(super) fn plain_kept<'a, T: Bitfield<'a>>(
     bytes: &'a [u8],

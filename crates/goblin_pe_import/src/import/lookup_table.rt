@@ -1,6 +1,7 @@
 //! Import lookup tables: what is imported from a library, by name or by ordinal.
 
-ghost use Rattle.std.specs.Prelude.{◌≡◌, ◌<◌, [], ◌⊎◌, Bool, IfErr, IfOk, IfSome, Some, length, map, true};
+ghost use Rattle.std.specs.Prelude.{◌≡◌, ◌<◌, [], ◌⊎◌, Bool, IfErr, IfOk, IfSome, Some, length};
+ghost use Rattle.std.specs.Prelude.{map, true};
 ghost use Rattle.std.specs.List.{All};
 ghost use Rattle.std.specs.List.Sorted.{IsStrictlyIncreasing};
 ghost use Rattle.goblin_base.specs.Answers.{IsMemory};
@@ -35,7 +36,8 @@ pub(super) fn no_text(bytes: &[u8]) -> &str
     }
 }
 
-// How many bytes there must be from a plain entry on: the hint, and a lane of 16 bytes for the name.
+// How many bytes there must be from a plain entry on: the hint, and a lane of 16 bytes for the
+// name.
 const PLAIN_ROOM: usize = 18;
 
 /// A hint, and the name after it, by which a library exports what is imported.
@@ -90,8 +92,8 @@ impl<'a> HintNameTableEntry<'a> {
         Ok(HintNameTableEntry { hint, name })
     }
 
-    // The hint and the name at an offset, where the name is ASCII and its NUL none of the file's last
-    // bytes; `None` says nothing of them. Both modes give the same.
+    // The hint and the name at an offset, where the name is ASCII and its NUL none of the file's
+    // last bytes; `None` says nothing of them. Both modes give the same.
     #[inline(always)]
     fn plain(bytes: &'a [u8], offset: usize) -> Option<HintNameTableEntry<'a>>
         ensures { IfSome result (λ named. (strict : Bool)
@@ -149,8 +151,9 @@ impl<'a> SyntheticImportLookupTableEntry<'a> {
         }
     }
 
-    // What a table keeps of an entry that is plain: by ordinal, or by a name that is ASCII and whose
-    // address lies among those about names that the finder keeps. `None` says nothing of the entry.
+    // What a table keeps of an entry that is plain: by ordinal, or by a name that is ASCII and
+    // whose address lies among those about names that the finder keeps. `None` says nothing of the
+    // entry.
     #[inline(always)]
     #[tactic(auto, unfolding(crate::specs::LookupReadings::kept_entry, crate::specs::LookupReadings::kept_name))]
     pub(super) fn plain<T: Bitfield<'a>>(

@@ -32,8 +32,8 @@ pub(crate) fn next_record(bytes: &[u8], offset: usize) -> Option<ImportDirectory
     }
 }
 
-// Whether a table may end in the slot of `width` bytes at an offset. Read strictly, that slot must be
-// in the file.
+// Whether a table may end in the slot of `width` bytes at an offset. Read strictly, that slot must
+// be in the file.
 #[inline(always)]
 pub(crate) fn may_end(bytes: &[u8], offset: usize, width: usize, strictly: bool) -> bool
     ensures { result ≡ (not strictly || is_some (slice_at bytes.now offset width)) }

@@ -1,11 +1,13 @@
 //! Which bytes of a file its imports depend on.
 
-ghost use Rattle.std.specs.Prelude.{◌≡◌, ◌+◌, ◌<◌, ◌⊎◌, ◌++◌, IfErr, IfOk, OnErr, if◌then◌else◌, length};
+ghost use Rattle.std.specs.Prelude.{◌≡◌, ◌+◌, ◌<◌, ◌⊎◌, ◌++◌, IfErr, IfOk, OnErr, if◌then◌else◌};
+ghost use Rattle.std.specs.Prelude.{length};
 ghost use Rattle.std.specs.Option.{is_some};
 ghost use Rattle.goblin_base.specs.Answers.{IsMemory};
 ghost use Rattle.goblin_base.specs.Marks.{IsFootprint, marked};
 ghost use Rattle.goblin_base.specs.Bytes.{slice_at};
-ghost use Rattle.goblin_base.specs.Footprints.{led_to, positions, slice_footprint, stretch_footprint};
+ghost use Rattle.goblin_base.specs.Footprints.{led_to, positions, slice_footprint};
+ghost use Rattle.goblin_base.specs.Footprints.{stretch_footprint};
 ghost use Rattle.goblin_pe_sect.specs.Addresses.{TakesMap, map_by, map_of, offset_of};
 ghost use Rattle.goblin_pe_sect.specs.Addresses.{reads_strictly};
 ghost use Rattle.goblin_pe_import.specs.ImportReadings.{import_data, libraries_at, library_of};
@@ -61,7 +63,8 @@ fn add_entry<'a, T: Bitfield<'a>>(
     }
 }
 
-// Marks the slots of `width` bytes from an offset on, and the one at `last` if the file has all of it.
+// Marks the slots of `width` bytes from an offset on, and the one at `last` if the file has all of
+// it.
 #[tactic(auto, using(goblin_base::proofs::Marks::marking))]
 fn add_slots(marks: &mut Marks, bytes: &[u8], offset: usize, last: usize, width: usize)
     ensures { let is_whole = is_some (slice_at bytes.now last width) in

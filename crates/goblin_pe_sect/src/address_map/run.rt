@@ -22,8 +22,8 @@ impl Run {
         requires addresses { self.now.first + self.now.size < 2 ^ 64 }
         ensures { result ≡ offset_in_run self.now rva }
     {
-        // The distance of an address before the first wraps to more than the size, so one comparison
-        // tests both ends.
+        // The distance of an address before the first wraps to more than the size, so one
+        // comparison tests both ends.
         let past = rva.wrapping_sub(self.first);
         if self.size <= past {
             return None;

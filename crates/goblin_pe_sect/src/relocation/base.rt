@@ -86,8 +86,8 @@ impl<'a> RelocationData<'a> {
         RelocationData::parse_at(bytes, dd, offset)
     }
 
-    /// The base relocations of the directory `dd`, whose address has the file offset `offset`, if it
-    /// has one.
+    /// The base relocations of the directory `dd`, whose address has the file offset `offset`, if
+    /// it has one.
     ///
     /// # Errors
     /// As [`RelocationData::parse_with_opts`].
@@ -128,8 +128,8 @@ impl<'a> RelocationData<'a> {
     }
 
     /// The block that begins `offset` bytes into the directory, as
-    /// [`blocks`](RelocationData::blocks) gives it; `None` at the end and past it. The next one begins
-    /// `size` bytes further.
+    /// [`blocks`](RelocationData::blocks) gives it; `None` at the end and past it. The next one
+    /// begins `size` bytes further.
     ///
     /// # Errors
     /// As the iterator of [`blocks`](RelocationData::blocks): fewer than 8 bytes are left, or the

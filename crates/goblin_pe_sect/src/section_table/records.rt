@@ -26,7 +26,8 @@ fn section_in(records: &[u8], index: usize) -> SectionTable
 }
 
 impl<'a> SectionRecords<'a> {
-    /// The records in these bytes, one after the other. Fewer than 40 bytes at the end are left out.
+    /// The records in these bytes, one after the other. Fewer than 40 bytes at the end are left
+    /// out.
     pub fn of(records: &'a [u8]) -> SectionRecords<'a>
         ensures value { recorded_sections result ≡ sections_in records.now }
         ensures whole { AreBytesAlone }

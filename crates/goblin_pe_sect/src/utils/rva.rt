@@ -27,11 +27,11 @@ pub fn rva_in(
     Some(first + (offset - begin))
 }
 
-/// The address of the file offset `offset`: [`find_offset`] maps it to this offset. Of several it is
-/// that in the first section, in the order of the table, that has one. If `opts` says that addresses
-/// are offsets, it is the offset itself. Otherwise it is `None` if no address has this offset: the
-/// offset lies in a header, behind the sections' data, or in data that no address is mapped to, or
-/// `file_alignment` is not a power of two.
+/// The address of the file offset `offset`: [`find_offset`] maps it to this offset. Of several it
+/// is that in the first section, in the order of the table, that has one. If `opts` says that
+/// addresses are offsets, it is the offset itself. Otherwise it is `None` if no address has this
+/// offset: the offset lies in a header, behind the sections' data, or in data that no address is
+/// mapped to, or `file_alignment` is not a power of two.
 ///
 /// It takes one walk over the sections, and one more for each whose data holds the offset.
 ///

@@ -12,7 +12,8 @@ ghost use Rattle.goblin_pe_symbol.specs.AuxiliarySymbols.{function_definition_fi
 ghost use Rattle.goblin_pe_symbol.specs.AuxiliarySymbols.{function_definition_record};
 ghost use Rattle.goblin_pe_symbol.specs.AuxiliarySymbols.{section_definition_fields};
 ghost use Rattle.goblin_pe_symbol.specs.AuxiliarySymbols.{section_definition_record};
-ghost use Rattle.goblin_pe_symbol.specs.AuxiliarySymbols.{weak_external_fields, weak_external_record};
+ghost use Rattle.goblin_pe_symbol.specs.AuxiliarySymbols.{weak_external_fields};
+ghost use Rattle.goblin_pe_symbol.specs.AuxiliarySymbols.{weak_external_record};
 
 use super::COFF_SYMBOL_SIZE;
 use goblin_base::{

@@ -146,8 +146,8 @@ fn is_read<F: Fn(Global, &[u8]) -> bool>(alloc: Global, span: &Span, is_the_same
     false
 }
 
-/// Whether a test passes for the sample file, and for each file that differs from it outside of these
-/// positions, at one place or at all of them.
+/// Whether a test passes for the sample file, and for each file that differs from it outside of
+/// these positions, at one place or at all of them.
 fn ignores_outside<F: Fn(Global, &[u8]) -> bool>(
     alloc: Global,
     spans: &[Span],
@@ -367,8 +367,8 @@ const OF_ANOTHER_LOOKUP: &[Span] = &[
 ];
 
 /// What is reached of the first bytes of the sample file, up to the end of an entry of its lookup
-/// table and up to the byte before: the records of the import directory, and the slots of the lookup
-/// table that are whole.
+/// table and up to the byte before: the records of the import directory, and the slots of the
+/// lookup table that are whole.
 const OF_CUT: &[Span] = &[(0x000, 0x160), (0x200, 0x228), (0x240, 0x248)];
 
 const OF_CUT_ENTRY: &[Span] = &[(0x000, 0x160), (0x200, 0x228), (0x240, 0x244)];

@@ -134,8 +134,8 @@ impl OfSample for Whole<'_> {
     }
 }
 
-/// Whether both answers are what a reader makes of the sample file. It takes them: of a type that it
-/// does not know that costs its proof little.
+/// Whether both answers are what a reader makes of the sample file. It takes them: of a type that
+/// it does not know that costs its proof little.
 pub fn are_samples<'e, A: OfSample + Drop>(answers: (ResultOf<'e, A>, ResultOf<'e, A>)) -> bool {
     matches!(&answers, (Ok(first), Ok(second)) if first.is_sample() && second.is_sample())
 }

@@ -47,8 +47,8 @@ fn gives_export(bytes: &[u8], tables: &TablesInFile, index: usize, finder: &mut 
 
 impl<'a, 'm> Exports<'a, 'm> {
     /// How many name pointers of the directory give no export, wherever the walk is: there is no
-    /// ordinal, the ordinal lies past the address table, or it leads to a forwarder whose text cannot
-    /// be read. A name that cannot be read leaves no export out.
+    /// ordinal, the ordinal lies past the address table, or it leads to a forwarder whose text
+    /// cannot be read. A name that cannot be read leaves no export out.
     #[tactic(auto, unfolding(crate::specs::LeftOutExports::pointers_left_out))]
     pub fn left_out(&self) -> usize
         ensures value { let m = map_of self.now.finder in
