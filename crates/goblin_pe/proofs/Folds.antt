@@ -1,10 +1,9 @@
 -- A loop over the imports of a file that gathers something: what it has gathered so far, and what at each way out.
-use Rattle.std.proofs.Common.{◌≡◌, ℕ, ◌+◌, ◌-◌, ◌^◌, ◌||◌, Bool, true, false, cond, List, [], ◌∷◌, ◌++◌, Option, Some, None, Result, Ok, Err, arith}
+use Rattle.std.proofs.Common.{◌≡◌, ℕ, ◌+◌, ◌-◌, ◌^◌, Bool, cond, List, [], ◌∷◌, ◌++◌, Option, Some, None, Result, Ok, Err, arith}
 use Rattle.std.proofs.Common.{refl, sym, ap, subst, ◌∙◌}
 use Rattle.std.specs.Prelude.{count_by, find, min, option_map}
 use Rattle.std.specs.Option.{option_or}
-use Rattle.std.specs.List.{list_any}
-use Rattle.std.proofs.lemmas.List.Folds.{find-append, list_any-append}
+use Rattle.std.proofs.lemmas.List.Folds.{find-append}
 use Rattle.std.proofs.lemmas.List.Sums.{sum_by-append}
 use Rattle.goblin_base.specs.declared.error.ErrorOf.{ErrorOf}
 use Rattle.goblin_base.specs.Answers.{all_of}
@@ -14,7 +13,7 @@ use Rattle.goblin_pe_import.specs.declared.import.imports.WalkedImport.{WalkedIm
 use Rattle.goblin_pe.specs.declared.whole.imports.FileImports.{FileImports}
 use Rattle.goblin_pe.specs.LayoutPositions.{GivesFileImport}
 use Rattle.goblin_pe.specs.Layouts.{IsFileImportsCause, file_imports_left}
-use Rattle.readings.specs.Tests.{counted, has_any}
+use Rattle.readings.specs.Tests.{counted}
 use Rattle.readings.specs.Walks.{GivesNext}
 use Rattle.readings.proofs.Walked.{AtWalk, walk-all, walk-fault, walk-more, walk-start}
 
@@ -46,18 +45,6 @@ module _ {B : Type 0} (gather : List ImportValue → B) (start now next : FileIm
   gathers_fault r e given is =
       let fault = walk-fault file_imports_left IsFileImportsCause start now h.items h.at walked_value next r given.0 e is in
       (ap (option_map gather) fault.0, fault.1)
-
-one-any : {A : Type 0} (p : A → Bool) (x : A) (b : Bool) → p x ≡ b → list_any p (x ∷ []) ≡ b
-one-any p x true is = rw is refl
-one-any p x false is = rw is refl
-
--- whether one of the imports passes a test
-pub any_more : (p : ImportValue → Bool) (start now next : FileImports) (found more : Bool) (r : Result WalkedImport ErrorOf) (x : WalkedImport)
-    → Gathers (has_any p) start now found → GivesFileImport now (Some r) next → r ≡ Ok x → more ≡ (found || p (walked_value x)) → Gathers (has_any p) start next more
-unfolding has_any
-any_more p start now next found more r x h given is said =
-    gathers_more (has_any p) start now next found h r x more given is
-    (said ∙ ap (λ (b : Bool). b || p (walked_value x)) h.said ∙ ap (λ (b : Bool). list_any p h.items || b) (sym (one-any p (walked_value x) (p (walked_value x)) refl)) ∙ sym (list_any-append p h.items (walked_value x ∷ [])))
 
 -- a count that stops at m goes on as the count does
 capped-more : (c d m : ℕ) → min (min c m + d) m ≡ min (c + d) m

@@ -1,11 +1,11 @@
--- A file that has the pieces of a key agrees with the file whose key it is, and the other way round.
+-- A file that has the bytes of a key agrees with the file whose key it is, and the other way round.
 use Rattle.std.proofs.Common.{◌≡◌, ℕ, List, length, sym, subst, ◌∙◌}
 use Rattle.std.specs.List.{All}
 use Rattle.goblin_pe_sect.specs.declared.options.ParseOptions.{ParseOptions}
 use Rattle.goblin_base.specs.Footprints.{Agree, Range}
-use Rattle.goblin_pe.specs.Keys.{HasPiece, IsKeyOf, Piece}
+use Rattle.goblin_pe.specs.Keys.{HasKeptRange, IsKeyOf, KeptRange}
 use Rattle.goblin_pe.specs.Whole.{whole_file}
-use Rattle.goblin_pe.proofs.Covered.{agree-pieces, pieces-agree}
+use Rattle.goblin_pe.proofs.Covered.{agree-kept, kept-agree}
 use Rattle.goblin_base.proofs.Footprints.{agree-fewer}
 use Rattle.goblin_pe.specs.declared.laws.key.FileKey.{FileKey}
 
@@ -13,12 +13,12 @@ module _ (opts : ParseOptions) (was file : List ℕ) (key : FileKey) (is : IsKey
   abbrev reached : List Range
   reached = (whole_file opts).reaches was
 
-  pub there-agree : length file ≡ key.length → All (HasPiece file) key.pieces.items → Agree reached was file
+  pub there-agree : length file ≡ key.length → All (HasKeptRange file) key.kept.items → Agree reached was file
   there-agree long there =
       agree-fewer is.ranges reached was file (λ p. (is.is.covers p).1)
-      (pieces-agree is.ranges was file (sym (long ∙ is.same_length)) (subst (λ (pieces : List Piece). All (HasPiece file) pieces) is.same_pieces there))
+      (kept-agree is.ranges was file (sym (long ∙ is.same_length)) (subst (λ (kept : List KeptRange). All (HasKeptRange file) kept) is.same_kept there))
 
-  pub agree-there : Agree reached was file → All (HasPiece file) key.pieces.items
+  pub agree-there : Agree reached was file → All (HasKeptRange file) key.kept.items
   agree-there agree =
       let own = agree-fewer reached is.ranges was file (λ p. (is.is.covers p).0) agree in
-      subst (λ (pieces : List Piece). All (HasPiece file) pieces) (sym is.same_pieces) (agree-pieces is.ranges was file is.is.within own)
+      subst (λ (kept : List KeptRange). All (HasKeptRange file) kept) (sym is.same_kept) (agree-kept is.ranges was file is.is.within own)

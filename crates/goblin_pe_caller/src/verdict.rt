@@ -1,9 +1,11 @@
 //! A verdict on a file, kept for others that have the same.
 
-ghost use Rattle.std.specs.Prelude.{◌≡◌, IfErr, IfOk, List, MatchOption, ℕ};
+ghost use Rattle.std.specs.Prelude.{◌≡◌, ◌<◌, ◌⊎◌, IfErr, IfOk, IsSome, List, MatchOption, OnErr};
+ghost use Rattle.std.specs.Prelude.{length, true, ℕ};
 ghost use Rattle.std.specs.Option.{is_some};
 ghost use Rattle.goblin_pe.specs.Answers.{IsMemory};
 ghost use Rattle.goblin_pe.specs.Footprints.{Agree};
+ghost use Rattle.goblin_pe.specs.HeaderReadings.{pe_header};
 ghost use Rattle.goblin_pe.specs.Options.{default_options};
 ghost use Rattle.goblin_pe.specs.Whole.{whole_file};
 ghost use Rattle.goblin_pe_caller.specs.Verdicts.{IsVerdictOn};
@@ -25,10 +27,12 @@ impl Verdict {
     /// The verdict on a file.
     ///
     /// # Errors
-    /// `Memory` only.
+    /// `Memory` only, and only if the file has a byte.
     pub fn of(alloc: Global, file: &[u8]) -> Result<Verdict>
         ensures value { IfOk result (IsVerdictOn file.now) }
         ensures refused { IfErr result IsMemory }
+        ensures grown { OnErr result
+            (IsSome ((pe_header true).value file.now) ⊎ (0 < length file.now)) }
     {
         let refused = refusal(alloc, file)?;
         let key = FileKey::of(alloc, file, &ParseOptions::default())?;

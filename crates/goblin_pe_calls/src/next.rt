@@ -124,7 +124,9 @@ fn fill_here<'a, 'm, 'e, T: Bitfield<'a>>(
     count
 }
 
-// As `fill_here`, by the width of the file's entries.
+// As `fill_here`, by the width of the file's entries. Where there is no room, nothing is made ready for
+// what comes next.
+#[inline(always)]
 fn fill_library<'a, 'm, 'e>(
     bytes: &'a [u8],
     imports: &mut FileImports<'a, 'm, 'e>,
@@ -134,6 +136,9 @@ fn fill_library<'a, 'm, 'e>(
     ensures filled { FillsLibrary imports.old imports.new records.old records.new first result }
     ensures further { first ≤ result }
 {
+    if records.len() <= first {
+        return first;
+    }
     match imports {
         FileImports::Narrow(imports) => fill_here(bytes, imports, records, first),
         FileImports::Wide(imports) => fill_here(bytes, imports, records, first),

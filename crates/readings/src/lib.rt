@@ -12,6 +12,6 @@
 //!
 //! `proofs/Loops` says what a loop over a table's slots returns at each exit, `proofs/Modes` what
 //! strict and permissive mode have in common, `proofs/Walks` how a walk goes from slot to slot,
-//! `proofs/WalkValues` what collecting its items gives, and `proofs/Walked` what a loop over a walk
-//! has made.
+//! `proofs/WalkValues` what collecting its items gives, `proofs/Walked` what a loop over a walk has
+//! made, and `proofs/Tests` that one item passes a test where the first that does is found.
 #![tactic(auto)]

@@ -1,13 +1,13 @@
 //! What a file is known by to one who has its answer.
 
-ghost use Rattle.std.specs.Prelude.{◌≡◌, ◌↔◌, ◌<◌, ◌≤◌, IfErr, IfOk, IsTrue, List, length, map};
+ghost use Rattle.std.specs.Prelude.{◌≡◌, ◌↔◌, ◌<◌, ◌≤◌, IfErr, IfOk, IsTrue, List, OnErr, length, map};
 ghost use Rattle.std.specs.Prelude.{ℕ};
 ghost use Rattle.std.specs.List.{All};
 ghost use Rattle.goblin_base.specs.Answers.{IsMemory};
 ghost use Rattle.goblin_base.specs.Footprints.{Agree};
 ghost use Rattle.goblin_base.specs.Reading.{IsInFile};
 ghost use Rattle.goblin_pe_sect.specs.declared.options.ParseOptions.{ParseOptions};
-ghost use Rattle.goblin_pe.specs.Keys.{HasPiece, IsKeyOf, piece_at};
+ghost use Rattle.goblin_pe.specs.Keys.{HasKeptRange, IsKeyOf, kept_range};
 ghost use Rattle.goblin_pe.specs.Whole.{whole_file};
 
 use crate::laws::footprint_whole;
@@ -18,95 +18,99 @@ use std::marker::Model;
 
 /// The bytes of a file at the offsets from `begin` on and before `end`.
 #[derive(Drop)]
-pub struct Piece {
+pub struct KeptRange {
     begin: usize,
     end: usize,
     bytes: Vec<u8>,
 }
 
-impl Model for Piece {
+impl Model for KeptRange {
     ghost use Rattle.std.specs.Prelude.{List, ℕ};
     ghost use Rattle.goblin_base.specs.Footprints.{Range};
 
     ghost Value = { Range × List ℕ };
 
-    ghost view = { λ piece. ((piece.begin, piece.end), piece.bytes.items) };
+    ghost view = { λ range. ((range.begin, range.end), range.bytes.items) };
 }
 
 /// What [`Whole::read`](crate::Whole::read) of a file depends on: its length, and the bytes of its
-/// footprint. A cache keeps it beside what was read, to know later files with the same answer.
+/// footprint, copied. A cache keeps it beside what was read, to know later files with the same
+/// answer. The options are not in it: keys of different options are to be kept apart.
 #[derive(Drop)]
 pub struct FileKey {
     length: usize,
-    pieces: Vec<Piece>,
+    kept: Vec<KeptRange>,
 }
 
 impl FileKey {
     /// The key of a file that is read by these options.
     ///
     /// # Errors
-    /// [`Error::Memory`](goblin_base::Error::Memory) only.
+    /// [`Error::Memory`](goblin_base::Error::Memory) only, and only if the file has a byte.
     pub fn of(alloc: Global, file: &[u8], opts: &ParseOptions) -> Result<FileKey>
         ensures value { IfOk result (IsKeyOf opts.now file.now) }
         ensures refused { IfErr result IsMemory }
+        ensures grown { OnErr result (0 < length file.now) }
     {
         let ranges = footprint_whole(alloc, file, opts)?;
-        let pieces = pieces_of(alloc, file, &ranges)?;
+        let kept = kept_ranges(alloc, file, &ranges)?;
         Ok(FileKey {
             length: file.len(),
-            pieces,
+            kept,
         })
     }
 
-    /// Whether a file agrees with the one whose key this is on all that its answer depends on. Both
-    /// then have the same answer by the key's options: one value, or they are refused.
+    /// Whether a file agrees with the one whose key this is on all that its answer depends on. By the
+    /// options that the key was made with, both then have the same answer: one value, or they are
+    /// refused.
     pub fn fits(&self, file: &[u8]) -> bool
         ensures exact { (opts : ParseOptions) (was : List ℕ) → IsKeyOf opts was self.now
             → (IsTrue result ↔ Agree ((whole_file opts).reaches was) was file.now) }
         ensures value { (opts : ParseOptions) (was : List ℕ) → IsKeyOf opts was self.now
             → IsTrue result → (whole_file opts).value was ≡ (whole_file opts).value file.now }
     {
-        file.len() == self.length && are_there(&self.pieces, file)
+        file.len() == self.length && are_there(&self.kept, file)
     }
 }
 
-// Whether all pieces are in a file.
-fn are_there(pieces: &[Piece], file: &[u8]) -> bool
-    ensures { IsTrue result ↔ All (HasPiece file.now) pieces.now }
+// Whether a file has all these bytes.
+fn are_there(kept: &[KeptRange], file: &[u8]) -> bool
+    ensures { IsTrue result ↔ All (HasKeptRange file.now) kept.now }
 {
-    pieces.iter().all(|piece| is_there(piece, file))
+    kept.iter().all(|range| is_there(range, file))
 }
 
-// Whether a piece is in a file.
-fn is_there(piece: &Piece, file: &[u8]) -> bool
-    ensures { IsTrue result ↔ HasPiece file.now piece.now }
+// Whether a file has these bytes.
+fn is_there(range: &KeptRange, file: &[u8]) -> bool
+    ensures { IsTrue result ↔ HasKeptRange file.now range.now }
 {
-    piece.begin <= piece.end
-        && piece.end <= file.len()
-        && file[piece.begin..piece.end] == piece.bytes[..]
+    range.begin <= range.end
+        && range.end <= file.len()
+        && file[range.begin..range.end] == range.bytes[..]
 }
 
-// The pieces of a file in these ranges.
-fn pieces_of(alloc: Global, file: &[u8], ranges: &[(usize, usize)]) -> Result<Vec<Piece>>
+// The bytes of a file in these ranges.
+fn kept_ranges(alloc: Global, file: &[u8], ranges: &[(usize, usize)]) -> Result<Vec<KeptRange>>
     requires { All (IsInFile file.now) ranges.now }
     ensures value { IfOk result
-        (λ v. v.items ≡ map (piece_at file.now) ranges.now) }
+        (λ v. v.items ≡ map (kept_range file.now) ranges.now) }
     ensures refused { IfErr result IsMemory }
+    ensures grown { OnErr result (0 < length file.now) }
 {
-    let mut pieces = Vec::new(alloc);
+    let mut kept = Vec::new(alloc);
     for (begin, end) in ranges {
-        let piece = piece_at(alloc, file, *begin, *end)?;
-        pieces.push(piece)?;
+        let range = kept_range(alloc, file, *begin, *end)?;
+        kept.push(range)?;
     }
-    Ok(pieces)
+    Ok(kept)
 }
 
-// The piece of a file in a range.
-fn piece_at(alloc: Global, file: &[u8], begin: usize, end: usize) -> Result<Piece>
+// The bytes of a file in a range.
+fn kept_range(alloc: Global, file: &[u8], begin: usize, end: usize) -> Result<KeptRange>
     requires { (begin < end) × (end ≤ length file.now) }
-    ensures value { IfOk result (λ piece. piece ≡ piece_at file.now (begin, end)) }
+    ensures value { IfOk result (λ range. range ≡ kept_range file.now (begin, end)) }
     ensures refused { IfErr result IsMemory }
 {
     let bytes = Vec::from_slice(alloc, &file[begin..end])?;
-    Ok(Piece { begin, end, bytes })
+    Ok(KeptRange { begin, end, bytes })
 }

@@ -64,12 +64,8 @@ impl<'a, 'm, 'e> FileImports<'a, 'm, 'e> {
             (option_map (has_any p) (all_of (file_imports_left self.entry)))
             (IsFileImportsCause self.entry) }
     {
-        let mut found = false;
-        'imports: for import in self {
-            let import = import?;
-            found |= test(&import);
-        }
-        Ok(found)
+        let found = self.find_import(test)?;
+        Ok(found.is_some())
     }
 
     /// How many of the imports pass a test, at most `usize::MAX`, since few bytes can list very many.

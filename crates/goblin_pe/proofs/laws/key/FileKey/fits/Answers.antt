@@ -1,7 +1,7 @@
 use Rattle.std.proofs.Common.{List, subst, sym, ◌∙◌}
 use Rattle.std.specs.List.{All}
 use Rattle.std.proofs.lemmas.Bool.{eqb-true}
-use Rattle.goblin_pe.specs.Keys.{HasPiece, Piece}
+use Rattle.goblin_pe.specs.Keys.{HasKeptRange, KeptRange}
 use Rattle.goblin_pe.specs.Whole.{whole_file}
 use Rattle.goblin_pe.proofs.Keys.{agree-there, there-agree}
 use Rattle.goblin_pe.proofs.laws.key.FileKey.fits.Goals as goal
@@ -10,8 +10,8 @@ pub returns-then-file-self-clause-exact : goal.returns-then-file-self-clause-exa
 returns-then-file-self-clause-exact c = λ opts was is.
     let file = c.args.file.now in
     let key = c.args.self.now in (
-      λ yes. there-agree opts was file key is c.if-file-self.true (subst (λ (pieces : List Piece). All (HasPiece file) pieces) c.deref.ensures.value (c.are_there.ensures.0 yes)),
-      λ agree. c.are_there.ensures.1 (subst (λ (pieces : List Piece). All (HasPiece file) pieces) (sym c.deref.ensures.value) (agree-there opts was file key is agree)),
+      λ yes. there-agree opts was file key is c.if-file-self.true (subst (λ (kept : List KeptRange). All (HasKeptRange file) kept) c.deref.ensures.value (c.are_there.ensures.0 yes)),
+      λ agree. c.are_there.ensures.1 (subst (λ (kept : List KeptRange). All (HasKeptRange file) kept) (sym c.deref.ensures.value) (agree-there opts was file key is agree)),
     )
 
 pub returns-then-file-self-clause-value : goal.returns-then-file-self-clause-value

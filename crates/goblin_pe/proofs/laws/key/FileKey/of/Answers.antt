@@ -1,5 +1,5 @@
 use Rattle.std.proofs.Common.{map, refl, ap, ◌∙◌}
-use Rattle.goblin_pe.specs.Keys.{piece_at}
+use Rattle.goblin_pe.specs.Keys.{kept_range}
 use Rattle.goblin_pe.proofs.laws.key.FileKey.of.Goals as goal
 
 pub returns-clause-value : goal.returns-clause-value
@@ -7,5 +7,5 @@ returns-clause-value c = record {
   ranges = c.in_ok-ranges.ranges.items;
   is = c.in_ok-ranges.ensures.ranges;
   same_length = refl;
-  same_pieces = c.in_ok-pieces.ensures.value ∙ ap (map (piece_at c.args.file.now)) c.deref.ensures.value;
+  same_kept = c.in_ok-kept.ensures.value ∙ ap (map (kept_range c.args.file.now)) c.deref.ensures.value;
 }
