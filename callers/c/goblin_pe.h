@@ -32,13 +32,13 @@
 
    What a file of n bytes may take, beside the caller's records. A name is a text of the file, which nothing
    bounds but the file's end, and which is read once for each who has it: m names take n * m steps at most. A step
-   of a long text takes about a tenth of a nanosecond, and half of one in a footprint. A walk is stopped after any
-   batch; no other call is.
+   of a long text takes some 0.15 nanoseconds where it is ASCII, else up to three. A walk is stopped after any batch,
+   but a batch ends only at a record, or where the table ends; no other call is stopped.
 
    call                              memory at most                        time at most
    kind_of, read_section_data,
-     bytes_at, import_record_at,
-     write_*, set_*                  none                                  what the records say
+     import_record_at, write_*,
+     set_*                           none                                  what the records say
    read_layout                       none                                  n, and a name for each section with room
    read_object, read_te              none                                  a name for each section with room
    read_symbol_table, checksum       none                                  n
@@ -46,23 +46,30 @@
    read_relocations, next_words,
      next_relocations, read_aux_*    none                                  the records
    find_offset, section_at, text_at,
-     memory_at, forwarder_at         none                                  the sections, and one text
+     bytes_at, memory_at,
+     forwarder_at                    none                                  the sections, and one text
    find_rva                          none                                  the sections, and these once more for each
                                                                            whose data holds the offset
-   next_imports, next_exports,       none, or for more than 96 sections    the sections, and a name for each record
-     next_export_addresses,          an index of some 300 bytes for each
-     next_blocks
-   read_damage                       the same                              a name for each import and each export
-   open                              its tables, which no n bounds: see    what these take
+   next_export_addresses,            none, or for more than 96 sections    the sections, and the records
+     next_blocks                     an index of some 300 bytes for each
+   next_imports, next_exports        the same                              the sections, and a name for each record
+                                                                           and for what is passed over before it
+   read_damage                       the same                              a name for each import and each export, and
+                                                                           for what is left out of them
+   open                              its tables, which no n bounds: see    the same
                                      below
-   footprint                         n / 8 and 8 * n bytes, and such an    a name for each section, import and export
+   footprint                         n / 8 and 8 * n bytes, and such an    the same, and a name for each section
                                      index
 
    How much memory a file may take is for the caller to limit, as a small file may list much: its
    libraries may share one table of imports, and that may be their own records. So 32 KiB can list nearly 13
    million imports, 0.8 GB of records, and 256 KiB 850 million, over 50 GB. Where no limit can be set, read a
-   layout, and walk over its tables; stop when it is enough. Names in one long text take time, too: of half a
-   mebibyte whose imports begin two bytes apart in one text read_damage takes some twenty seconds.
+   layout, and walk over its tables; stop when it is enough.
+
+   Time is for the caller to limit, too. What is passed over for one record are libraries without an import, entries
+   that permissive mode leaves out, and name pointers that give no export, with their forwarders' texts: where
+   libraries share a table of such entries, 128 KiB may take a second, and 1 MiB a minute. Of half a mebibyte whose
+   imports begin two bytes apart in one text read_damage takes some twelve seconds.
 
    goblin_pe_records.h has the records, the numbers in them and the default options, as the proved library
    declares them. What a later version adds to a record stands at its end. */
@@ -205,7 +212,7 @@ static inline void goblin_pe_free_ranges(struct goblin_pe_ranges *ranges)
    asked for, and in permissive mode where their directory has no file offset, or the offset 0. In strict mode the
    walk ends with a refusal where goblin_pe_open has one for its imports; what comes before it is given first, and
    no law says on which bytes that depends. The sections and the tables lie at `places`, which goblin_pe_read_layout
-   and goblin_pe_open say, so no call reads the header again; other places lead to other tables, and harm nothing.
+   and goblin_pe_open say, so no call reads the header again; other numbers there lead to other tables, and harm nothing; flags are false or true.
    Refused is also a file that is too short for the records of its sections. Memory is taken only for an index of
    more than 96 sections, which Windows does not load, and given back: each call makes it anew, of 65,535 sections
    in some 25 milliseconds, so give room for thousands then. */
@@ -218,9 +225,11 @@ static inline struct goblin_pe_fault goblin_pe_next_imports(
         GOBLIN_PE_SOME(struct goblin_pe_import, imports), room, count);
 }
 
-/* Puts the record of a library in the import directory into `record`, and answers whether the file has it at this
-   offset, as the position of a walk says it after an import: its time stamp, its forwarder chain, and the address of
-   its name, at which goblin_pe_bytes_at reads a name that is not UTF-8. */
+/* Reads the 20 bytes at this file offset as the record of a library in the import directory, puts it into `record`,
+   and answers whether the file has them; if not, nothing is changed. Whether they stand in the directory is not
+   tested. It has the library's time stamp, its forwarder chain, and the address of its name, at which
+   goblin_pe_bytes_at reads a name that is not UTF-8. The position of a walk names the record of the last import's
+   library after each batch that is full; after one that is not, it may be the end, which names none. */
 static inline bool goblin_pe_import_record_at(
     const uint8_t *bytes, size_t length, size_t offset, struct goblin_pe_import_directory_entry *record)
 {

@@ -1,11 +1,9 @@
 -- Want of memory for sections tells that there are some, and that the file has room for them.
 use Rattle.std.proofs.Common.{◌≡◌, ◌∙◌, ◌<◌, ◌+◌, ◌*◌, List, [], ℕ, zero, suc, Bool, ap, arith, length, sym}
-use Rattle.std.specs.Prelude.{◌/◌, codes, IfErr, IsErrAnd, IsSomeAnd, Some, Result, Ok, Err}
+use Rattle.std.specs.Prelude.{◌/◌, IsSomeAnd, Some}
 use Rattle.goblin_base.specs.declared.error.ErrorOf.{ErrorOf}
-use Rattle.goblin_base.specs.declared.error.ErrorOf.TheVariants.{Memory}
-use Rattle.goblin_base.specs.Answers.{IsMemory, IsTooShort}
+use Rattle.goblin_base.specs.Answers.{IsMemory}
 use Rattle.goblin_pe_head.specs.declared.header.te.TeHeader.{TeHeader}
-use Rattle.goblin_pe_head.specs.CoffHeader.{IsTooManySections}
 use Rattle.goblin_pe_head.specs.PeHeader.{PeHeader}
 use Rattle.goblin_pe_head.specs.TeReadings.{te_header}
 use Rattle.goblin_base.specs.Reading.{Reading}
@@ -16,7 +14,7 @@ use Rattle.goblin_pe_sect.specs.SectionTable.{Section}
 use Rattle.goblin_pe_head.specs.CoffHeader.{symbols_end}
 use Rattle.goblin_pe_head.specs.CoffReadings.{sections_at, with_room}
 use Rattle.goblin_pe.specs.Whole.{section_table_offset, sections_after}
-use Rattle.goblin_pe_head.specs.SectionRoom.{HasRoomFor, TakesSections}
+use Rattle.goblin_pe_head.specs.SectionRoom.{TakesSections}
 
 pub te_sections_take : (bytes : List ℕ) (p : ℕ) (h : TeHeader) (e : ErrorOf) → (te_header p).value bytes ≡ Some h
     → (IsMemory e → TakesSections h.number_of_sections bytes) → IsMemory e → IsSomeAnd ((te_header p).value bytes) (λ header. TakesSections header.number_of_sections bytes)

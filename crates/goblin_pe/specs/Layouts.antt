@@ -42,8 +42,8 @@ layout_places l = table_places l.places
 abbrev pub layout_map : Layout → MapOfAddresses
 layout_map l = map_of l.address_map
 
--- It is that of these bytes with this header: its addresses are mapped by the file's sections, by
--- the header's file alignment and by these options.
+-- It is that of these bytes with this header: its tables lie where the header says, and its
+-- addresses are mapped by the file's sections, by the header's file alignment and by these options.
 pub record IsLayoutOf (opts : ParseOptions) (bytes : List ℕ) (header : Header) (l : Layout) : Type 0
   where
     pub over : layout_bytes l ≡ bytes

@@ -10,9 +10,11 @@ use goblin_base::{Endian, Record};
 use goblin_pe::import::ImportDirectoryEntry;
 use goblin_pe_records::found::put_found;
 
-/// Puts what the record of a library at the file offset `offset` says, as the `record_offset` of a
-/// [`PeImportPosition`](goblin_pe_calls::next::PeImportPosition) has it, into `record`, and answers
-/// whether the file has its 20 bytes. If not, nothing is changed.
+/// Reads the 20 bytes at the file offset `offset` as the record of a library in the import directory,
+/// puts it into `record`, and answers whether the file has them; if not, nothing is changed. Whether
+/// they stand in the directory is not tested.
+///
+/// Source: PE Format, "Import Directory Table".
 #[unsafe(no_mangle)]
 pub extern "C" fn goblin_pe_raw_import_record_at(
     bytes: &[u8],

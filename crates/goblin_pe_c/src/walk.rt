@@ -39,7 +39,8 @@ use std::alloc::Global;
 /// The sections and the import directory lie where `places` says, as
 /// [`goblin_pe_raw_read_layout`](crate::whole_file::goblin_pe_raw_read_layout) and
 /// [`goblin_pe_raw_open`](crate::whole_file::goblin_pe_raw_open) say of the file; the header is not read
-/// again. Any other places are gone by alike: what they lead to are the records and the directory.
+/// again. Other numbers are followed as well: what lies there is taken for the section table and
+/// the directory.
 ///
 /// Refused, with nothing changed, is a file that is too short for the records of its sections, where
 /// there are any (the status 4); in strict mode an import directory whose address has no offset, if

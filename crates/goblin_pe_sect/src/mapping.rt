@@ -16,7 +16,7 @@ pub trait ToSection {
     // The section.
     ghost section: { Self → Section };
 
-    /// It, without its name from the string table, which would take memory.
+    /// The section, without its name from the string table, which would take memory.
     fn to_section(&self) -> SectionTable
         ensures { result ≡ unnamed (section self.now) };
 }
@@ -79,7 +79,7 @@ pub fn section_at<S: ToSection>(rva: usize, sections: &[S], file_alignment: u32)
     }
 }
 
-/// The index of that record.
+/// The index of the record that [`section_at`] gives.
 #[tactic(auto, using(crate::proofs::Mapped::power_positive, crate::proofs::First::position_viewed))]
 pub fn section_index<S: ToSection>(rva: usize, sections: &[S], file_alignment: u32) -> Option<usize>
     ensures { result ≡ section_index file_alignment rva (map S.section sections.now) }

@@ -52,7 +52,7 @@ impl<'a, 'm, 'e> FileImports<'a, 'm, 'e> {
         }
     }
 
-    /// Whether one of the imports passes a test. The walk goes on after the first that does, as a later one
+    /// Whether one of the imports that are still to come passes a test. The walk goes on after the first that does, as a later one
     /// may be refused.
     ///
     /// # Errors
@@ -68,7 +68,8 @@ impl<'a, 'm, 'e> FileImports<'a, 'm, 'e> {
         Ok(found.is_some())
     }
 
-    /// How many of the imports pass a test, at most `usize::MAX`, since few bytes can list very many.
+    /// How many of the imports that are still to come pass a test, at most `usize::MAX`, since few
+    /// bytes can list very many.
     ///
     /// # Errors
     /// In strict mode as the walk, at its end.
@@ -89,8 +90,8 @@ impl<'a, 'm, 'e> FileImports<'a, 'm, 'e> {
         Ok(count)
     }
 
-    /// The first of the imports that passes a test; `None` where none does. The walk goes on after it, as a
-    /// later one may be refused.
+    /// The first of the imports still to come that passes a test; `None` where none does. The walk
+    /// goes on after it, as a later one may be refused.
     ///
     /// # Errors
     /// In strict mode as the walk, at its end.

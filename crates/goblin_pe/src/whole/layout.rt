@@ -146,8 +146,8 @@ fn walked(bytes: &[u8]) -> &[u8]
 }
 
 impl<'a> Layout<'a> {
-    /// Refuses the sections of a file with this header where [`Whole::read`](crate::Whole::read)
-    /// does, and prepares what maps its addresses. Memory is taken only for an index of more than
+    /// The layout of a file with this header. Its sections are refused where
+    /// [`Whole::read`](crate::Whole::read) refuses them. Memory is taken only for an index of more than
     /// 96 sections, by whose windows addresses are mapped.
     ///
     /// # Errors

@@ -37,7 +37,8 @@ pub(super) fn part_of<'e, T: Drop>(
 pub struct Places {
     /// The magic: by 0x10B the entries of import tables have four bytes, else eight.
     pub magic: u16,
-    /// The file alignment of the sections' raw data, in bytes.
+    /// The file alignment of the sections' raw data, in bytes; 0 without an optional header: then no
+    /// section maps an address.
     pub file_alignment: u32,
     /// The export directory, if there is one.
     pub exports: Option<DataDirectory>,

@@ -473,11 +473,13 @@ impl<'a, 'm, 'e, T: Bitfield<'a>> Imports<'a, 'm, 'e, T> {
         let rva = directory.virtual_address;
         let strictly = address_map.reads_strictly();
         let mut finder = Finder::of(address_map);
-        match first_record(finder.offset_of(rva), strictly) {
-            Some(offset) => Ok(Imports::at(bytes, offset, finder)),
-            None if strictly => Err(Error::Malformed(Cause::Unmapped(rva as usize))),
-            None => Ok(Imports::from_position(bytes, None, finder)),
-        }
+        let Some(offset) = first_record(finder.offset_of(rva), strictly) else {
+            if strictly {
+                return Err(Error::Malformed(Cause::Unmapped(rva as usize)));
+            }
+            return Ok(Imports::from_position(bytes, None, finder));
+        };
+        Ok(Imports::at(bytes, offset, finder))
     }
 
     /// The imports of the libraries of the directory at the file offset `offset`.

@@ -127,9 +127,13 @@ impl<'a> RelocationData<'a> {
         self.bytes
     }
 
-    /// The block that begins at `offset` of the directory, or why none does; `None` at the end and past
-    /// it. So the blocks can be gone through from one of them on: the next begins at its end, its size
-    /// after its begin.
+    /// The block that begins `offset` bytes into the directory, as
+    /// [`blocks`](RelocationData::blocks) gives it; `None` at the end and past it. The next one begins
+    /// `size` bytes further.
+    ///
+    /// # Errors
+    /// As the iterator of [`blocks`](RelocationData::blocks): fewer than 8 bytes are left, or the
+    /// block's size is below 8 or runs past the directory.
     #[tactic(auto, using(crate::proofs::BlockItems::block_first, crate::proofs::BlockItems::items_err, crate::proofs::BlockItems::items_past))]
     pub fn block_at(&self, offset: usize) -> Option<Result<RelocationBlock<'a>>>
         ensures found { FindsItem (relocation_bytes self.now) offset result }

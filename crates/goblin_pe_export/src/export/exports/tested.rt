@@ -8,7 +8,7 @@ ghost use Rattle.goblin_pe_export.specs.ExportWalks.{NumberedExport, exports_lef
 use super::{Exports, WalkedExport};
 
 impl<'a, 'm> Exports<'a, 'm> {
-    /// Whether one of the exports passes a test.
+    /// Whether one of the exports that are still to come passes a test.
     pub fn any_export<F: Fn(&WalkedExport<'a>) -> bool>(self, test: F) -> bool
         requires { F.IsAlwaysCallable test }
         ensures { (p : NumberedExport → Bool) → IsTest walked_export (FnReturnsAt F.Fn test) p
@@ -17,7 +17,7 @@ impl<'a, 'm> Exports<'a, 'm> {
         self.find_export(test).is_some()
     }
 
-    /// How many of the exports pass a test.
+    /// How many of the exports that are still to come pass a test.
     pub fn count_exports<F: Fn(&WalkedExport<'a>) -> bool>(self, test: F) -> usize
         requires { F.IsAlwaysCallable test }
         ensures { (p : NumberedExport → Bool) → IsTest walked_export (FnReturnsAt F.Fn test) p
@@ -32,7 +32,7 @@ impl<'a, 'm> Exports<'a, 'm> {
         count
     }
 
-    /// The first of the exports that passes a test; `None` where none does.
+    /// The first of the exports still to come that passes a test; `None` where none does.
     pub fn find_export<F: Fn(&WalkedExport<'a>) -> bool>(self, test: F) -> Option<WalkedExport<'a>>
         requires { F.IsAlwaysCallable test }
         ensures { (p : NumberedExport → Bool) → IsTest walked_export (FnReturnsAt F.Fn test) p
