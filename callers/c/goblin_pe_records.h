@@ -580,7 +580,8 @@ struct goblin_pe_te_header {
 /* Where the sections and the tables of an image lie, and how the tables are read, as its header
    says: what walks over the tables take, so that none reads the header again.
 
-   Source: PE Format, "Optional Header (Image Only)". */
+   Source: PE Format, "COFF File Header (Object and Image)", "Optional Header (Image Only)" and
+   "Section Table (Section Headers)". */
 struct goblin_pe_places {
     /* The file offset of the section table. */
     size_t section_table;

@@ -455,7 +455,8 @@ class Places(Record):
     """Where the sections and the tables of an image lie, and how the tables are read, as its header
     says: what walks over the tables take, so that none reads the header again.
 
-    Source: PE Format, "Optional Header (Image Only)".
+    Source: PE Format, "COFF File Header (Object and Image)", "Optional Header (Image Only)" and
+    "Section Table (Section Headers)".
 
     section_table: The file offset of the section table.
     exports: The export directory; zeros where there is none.

@@ -386,7 +386,8 @@ pub struct TeHeader {
 /// Where the sections and the tables of an image lie, and how the tables are read, as its header
 /// says: what walks over the tables take, so that none reads the header again.
 ///
-/// Source: PE Format, "Optional Header (Image Only)".
+/// Source: PE Format, "COFF File Header (Object and Image)", "Optional Header (Image Only)" and
+/// "Section Table (Section Headers)".
 #[repr(C)]
 #[derive(Clone, Copy, Default, Debug, PartialEq, Eq, PartialOrd, Ord, Hash)]
 pub struct Places {
