@@ -183,10 +183,12 @@ class Triage(Case):
                          json.loads(TOLD_BY_PEFILE.read_text("utf-8")))
 
     def test_all_of_the_images_beside_pefile(self):
-        if not importlib.util.find_spec("pefile"):
+        found = importlib.util.find_spec("pefile")
+        if not found:
             self.skipTest("no pefile")
         files = [self.written(name, data) for name, data in triaged_images().items()]
-        told = succeed([sys.executable, CALLERS / "beside_pefile.py", *files], env=self.env)
+        env = {**self.env, "PYTHONPATH": f"{CALLERS / 'python'}:{os.path.dirname(found.origin)}"}
+        told = succeed([sys.executable, CALLERS / "beside_pefile.py", *files], env=env)
         self.assertEqual(told, f"{len(files)} of {len(files)} files are alike\n")
 
     def test_what_is_no_image_and_what_is_damaged(self):

@@ -227,6 +227,27 @@ fn import_record(bytes: &[u8]) -> usize {
     pe.find_offset(directory.virtual_address as usize).unwrap()
 }
 
+// The directory goes on after its only block with the head of one that has four bytes.
+#[test]
+fn a_walk_over_blocks_ends_with_what_is_said_of_the_rest() {
+    let mut bytes = sample("imports_by_name_x64.dll");
+    let kind = DirectoryType::BaseRelocationTable;
+    let pe = Pe::parse(&bytes).unwrap();
+    let directory = pe.data_directory(kind).unwrap();
+    let begin = pe.find_offset(directory.virtual_address as usize).unwrap();
+    let entry = pe.dos_header().pe_pointer as usize + 24 + 112 + 8 * kind as usize;
+    let end = begin + directory.size as usize;
+    bytes[entry + 4..entry + 8].copy_from_slice(&(directory.size + 8).to_le_bytes());
+    bytes[end + 4..end + 8].copy_from_slice(&4u32.to_le_bytes());
+    let pe = Pe::parse(&bytes).unwrap();
+    let mut walk = pe.walk_blocks();
+    assert_eq!(walk.next().unwrap().ok(), pe.blocks().next());
+    let refused = walk.next().unwrap().err();
+    assert_eq!(refused, pe.block_rest());
+    assert_eq!(refused.unwrap().named_cause(), Some(Cause::BlockSize));
+    assert!(walk.next().is_none());
+}
+
 // The name of the only library is longer than what is written at once.
 #[test]
 fn a_long_name_is_written_whole_in_the_text_of_the_imports() {
