@@ -8,7 +8,7 @@ use Rattle.readings.specs.Reads.{mapped, or_else}
 use Rattle.goblin_pe_sect.specs.AddressReadings.{offset_at}
 use Rattle.goblin_pe_sect.specs.Addresses.{MapOfAddresses, offset_of, reads_strictly}
 use Rattle.goblin_pe_import.specs.ImportEntries.{EntryValue}
-use Rattle.goblin_pe_import.specs.ImportReadings.{first_record}
+use Rattle.goblin_pe_import.specs.ImportReadings.{first_record_offset}
 use Rattle.goblin_pe_import.specs.ImportWalks.{IsCauseAt, IsImportsCause, imports_at, imports_left}
 use Rattle.goblin_pe_import.specs.declared.import.imports.ImportPosition.{ImportPosition}
 use Rattle.goblin_pe_import.specs.declared.import.imports.Imports.{Imports}
@@ -19,7 +19,7 @@ use Rattle.goblin_pe_import.specs.declared.import.imports.Imports.{Imports}
 -- one
 abbrev pub first_position : Bool → ℕ → Option ImportPosition
 first_position strict o =
-    option_map (λ p. record { record_offset = p; slot_offset = None }) (first_record strict (Some o))
+    option_map (λ p. record { record_offset = p; slot_offset = None }) (first_record_offset strict (Some o))
 
 -- The position of the first import of a directory at an address. Permissive mode treats an address
 -- without an offset as one that leads to the front of the file.

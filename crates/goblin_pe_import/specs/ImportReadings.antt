@@ -56,9 +56,9 @@ libraries_at strict format offset_of o =
 
 -- The offset of the first record of a directory that has this offset, where it has one. Permissive
 -- mode treats a directory at the front of the file as empty.
-abbrev pub first_record : Bool → Option ℕ → Option ℕ
-first_record strict None = None
-first_record strict (Some o) = cond (not strict && o == 0) None (Some o)
+abbrev pub first_record_offset : Bool → Option ℕ → Option ℕ
+first_record_offset strict None = None
+first_record_offset strict (Some o) = cond (not strict && o == 0) None (Some o)
 
 -- The libraries of the directory at an offset. Permissive mode treats a directory at the front of
 -- the file as empty.

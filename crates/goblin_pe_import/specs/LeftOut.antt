@@ -6,7 +6,7 @@ use Rattle.std.specs.Int.{from_bool}
 use Rattle.std.specs.Option.{is_some}
 use Rattle.goblin_base.specs.Tables.{Format, SlotFormat, is_kept, slot_at, stop}
 use Rattle.goblin_pe_import.specs.ImportEntries.{EntryValue, entry_slots}
-use Rattle.goblin_pe_import.specs.ImportReadings.{first_record, library_of}
+use Rattle.goblin_pe_import.specs.ImportReadings.{first_record_offset, library_of}
 use Rattle.goblin_pe_import.specs.ImportRecords.{import_slots, lookup_offset}
 use Rattle.goblin_pe_import.specs.LookupReadings.{kept_entry}
 use Rattle.goblin_pe_import.specs.declared.import.directory_entry.ImportDirectoryEntry.{ImportDirectoryEntry}
@@ -69,8 +69,8 @@ entries_of_directory format offset_of bytes o =
 -- the same for the directory at an address: none if permissive mode finds no record
 abbrev pub libraries_left_out : Format EntryValue → (ℕ → Option ℕ) → List ℕ → ℕ → ℕ
 libraries_left_out format offset_of bytes rva =
-    amount_of (libraries_of_directory format offset_of bytes) (first_record false (offset_of rva))
+    amount_of (libraries_of_directory format offset_of bytes) (first_record_offset false (offset_of rva))
 
 abbrev pub entries_left_out : Format EntryValue → (ℕ → Option ℕ) → List ℕ → ℕ → ℕ
 entries_left_out format offset_of bytes rva =
-    amount_of (entries_of_directory format offset_of bytes) (first_record false (offset_of rva))
+    amount_of (entries_of_directory format offset_of bytes) (first_record_offset false (offset_of rva))

@@ -42,7 +42,7 @@ pub use directory_entry::{ImportDirectoryEntry, SIZEOF_IMPORT_DIRECTORY_ENTRY};
 pub use imports::{ImportPosition, Imports, PlainImports, WalkedImport};
 pub use left_out::LeftOut;
 pub use library::SyntheticImportDirectoryEntry;
-pub(crate) use library::{address_table_rva, first_record, lookup_offset};
+pub(crate) use library::{address_table_rva, first_record_offset, lookup_offset};
 pub use listed::Import;
 pub use lookup_table::{HintNameTableEntry, ImportLookupTable, SyntheticImportLookupTableEntry};
 use slots::may_end;
@@ -211,7 +211,7 @@ impl<'a> ImportData<'a> {
     {
         let rva = directory.virtual_address;
         let strictly = address_map.reads_strictly();
-        let import_data = match first_record(address_map.offset_of(rva), strictly) {
+        let import_data = match first_record_offset(address_map.offset_of(rva), strictly) {
             Some(offset) => libraries::<T>(alloc, bytes, offset, address_map)?,
             None if strictly => return Err(Error::Malformed(Cause::Unmapped(rva as usize))),
             None => Vec::new(alloc),

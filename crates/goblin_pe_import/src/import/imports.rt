@@ -40,7 +40,7 @@ use crate::import::address_table::{test_address_table, test_numbers};
 use crate::import::bitfield::Bitfield;
 use crate::import::directory_entry::{ImportDirectoryEntry, SIZEOF_IMPORT_DIRECTORY_ENTRY};
 use crate::import::kept::{KeptEntry, next_kept, plain_kept};
-use crate::import::library::{address_table_rva, first_record, library_name, lookup_offset};
+use crate::import::library::{address_table_rva, first_record_offset, library_name, lookup_offset};
 use crate::import::lookup_table::SyntheticImportLookupTableEntry;
 use crate::import::slots::{may_end, next_record};
 use goblin_base::{Cause, Error, ResultOf};
@@ -473,7 +473,7 @@ impl<'a, 'm, 'e, T: Bitfield<'a>> Imports<'a, 'm, 'e, T> {
         let rva = directory.virtual_address;
         let strictly = address_map.reads_strictly();
         let mut finder = Finder::of(address_map);
-        let Some(offset) = first_record(finder.offset_of(rva), strictly) else {
+        let Some(offset) = first_record_offset(finder.offset_of(rva), strictly) else {
             if strictly {
                 return Err(Error::Malformed(Cause::Unmapped(rva as usize)));
             }

@@ -8,7 +8,7 @@ ghost use Rattle.goblin_pe_import.specs.LeftOut as left_out;
 use crate::import::address_table::test_address_table;
 use crate::import::bitfield::Bitfield;
 use crate::import::directory_entry::{ImportDirectoryEntry, SIZEOF_IMPORT_DIRECTORY_ENTRY};
-use crate::import::library::{first_record, lookup_offset};
+use crate::import::library::{first_record_offset, lookup_offset};
 use crate::import::slots::{next_entry, next_record};
 use goblin_base::pread_slice;
 use goblin_pe_sect::address_map::{AddressMap, Finder};
@@ -150,7 +150,7 @@ impl LeftOut {
             result.entries
             ≡ min (left_out.entries_left_out T.format (offset_of m) bytes.now rva) usize.MAX }
     {
-        match first_record(address_map.offset_of(directory.virtual_address), false) {
+        match first_record_offset(address_map.offset_of(directory.virtual_address), false) {
             Some(offset) => of_directory::<T>(bytes, offset, address_map),
             None => LeftOut::default(),
         }

@@ -13,7 +13,7 @@ ghost use Rattle.goblin_pe_import.specs.ImportDirectory.{lookup_offset};
 ghost use Rattle.goblin_pe_import.specs.ImportLookup.{KeepsEntries, entry_view};
 ghost use Rattle.goblin_pe_import.specs.ImportReadings as reading;
 ghost use Rattle.goblin_pe_sect.specs.AddressReadings.{name_at};
-ghost use Rattle.goblin_pe_import.specs.ImportReadings.{first_record, lookup_if};
+ghost use Rattle.goblin_pe_import.specs.ImportReadings.{first_record_offset, lookup_if};
 
 use crate::import::address_table::{ImportAddressTable, address_table};
 use crate::import::bitfield::Bitfield;
@@ -114,8 +114,8 @@ pub(super) fn library_name<'a, 'e>(
 // The offset of the first record of a directory that has this offset, where it has one: permissive
 // mode treats a directory at the front of the file as empty.
 #[inline(always)]
-pub(crate) fn first_record(offset: Option<usize>, strictly: bool) -> Option<usize>
-    ensures { result ≡ first_record strictly offset }
+pub(crate) fn first_record_offset(offset: Option<usize>, strictly: bool) -> Option<usize>
+    ensures { result ≡ first_record_offset strictly offset }
 {
     match offset {
         Some(0) if !strictly => None,

@@ -15,8 +15,8 @@ ghost use Rattle.goblin_pe_import.specs.ImportReadings.{lookup_if};
 ghost use Rattle.goblin_pe_import.specs.LookupReadings.{address_table, kept_entry};
 
 use crate::import::{
-    Bitfield, ImportDirectoryEntry, SIZEOF_IMPORT_DIRECTORY_ENTRY, address_table_rva, first_record,
-    lookup_offset, next_entry, next_record,
+    Bitfield, ImportDirectoryEntry, SIZEOF_IMPORT_DIRECTORY_ENTRY, address_table_rva,
+    first_record_offset, lookup_offset, next_entry, next_record,
 };
 use goblin_base::footprint::{Marks, add_stretch};
 use goblin_base::{ResultOf, pread_slice};
@@ -186,7 +186,7 @@ pub fn add_imports<'a, T: Bitfield<'a>>(
         (import_data (reads_strictly m) T.format (offset_of m) rva).reaches bytes.now in
         marks.new ≡ marked marks.old reached }
 {
-    match first_record(address_map.offset_of(rva), address_map.reads_strictly()) {
+    match first_record_offset(address_map.offset_of(rva), address_map.reads_strictly()) {
         Some(offset) => add_libraries::<T>(marks, bytes, offset, address_map),
         None => (),
     }
