@@ -1091,7 +1091,7 @@ struct goblin_pe_fault goblin_pe_raw_read_section_data(
     struct goblin_pe_section_data *contents);
 bool goblin_pe_raw_import_record_at(
     const uint8_t *bytes, size_t byte_count, size_t offset,
-    struct goblin_pe_import_directory_entry *record);
+    struct goblin_pe_import_directory_entry *entry);
 bool goblin_pe_raw_section_at(const struct goblin_pe_image *image, size_t rva, size_t *index);
 bool goblin_pe_raw_find_rva(const struct goblin_pe_image *image, size_t offset, size_t *rva);
 struct goblin_pe_fault goblin_pe_raw_memory_at(

@@ -1296,7 +1296,7 @@ unsafe extern "C" {
         bytes: *const u8,
         byte_count: usize,
         offset: usize,
-        record: &mut ImportDirectoryEntry,
+        entry: &mut ImportDirectoryEntry,
     ) -> bool;
 
     pub fn goblin_pe_raw_section_at(image: &Image<'_, '_>, rva: usize, index: &mut usize) -> bool;

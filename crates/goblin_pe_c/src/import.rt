@@ -11,7 +11,7 @@ use goblin_pe::import::ImportDirectoryEntry;
 use goblin_pe_records::found::put_found;
 
 /// Reads the 20 bytes at the file offset `offset` as the record of a library in the import
-/// directory, puts it into `record`, and answers whether the file has them; if not, nothing is
+/// directory, puts it into `entry`, and answers whether the file has them; if not, nothing is
 /// changed. Whether they stand in the directory is not tested.
 ///
 /// Source: PE Format, "Import Directory Table".
@@ -19,10 +19,10 @@ use goblin_pe_records::found::put_found;
 pub extern "C" fn goblin_pe_raw_import_record_at(
     bytes: &[u8],
     offset: usize,
-    record: &mut ImportDirectoryEntry,
+    entry: &mut ImportDirectoryEntry,
 ) -> bool
     ensures { Puts (λ r. r) result (record_at 20 (import_record Endian.Little) bytes.now offset)
-        record.old record.new }
+        entry.old entry.new }
 {
     put_found(
         record,
