@@ -25,7 +25,7 @@ pub extern "C" fn goblin_pe_raw_import_record_at(
         entry.old entry.new }
 {
     put_found(
-        record,
+        entry,
         ImportDirectoryEntry::read_at(bytes, offset, Endian::Little).ok(),
     )
 }
