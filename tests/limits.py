@@ -12,7 +12,7 @@ from goblin_pe._library import LIB
 from tests import images
 
 MIB = 1 << 20
-STRICT = records.Options(False, True, 0, True)
+STRICT, PERMISSIVE = records.Options(False, True, 0, True), records.Options(True, True, 0, True)
 
 
 def sections(count, name=b"/4"):
@@ -67,6 +67,15 @@ def imports_in_one_text(base, size):
     record = struct.pack("<5I", table, 0, 0, base + 40, table).ljust(40, b"\0") + b"a.dll".ljust(16, b"\0")
     entries = struct.pack("<%dI" % (count + 1), *range(text, text + 2 * count, 2), 0)
     return record + entries + "\u00E9".encode() * (count + 2) + b"\0"
+
+
+def libraries_of_left_out_entries(base, size):
+    """Libraries that share one table, of whose entries none has a name that an address leads to."""
+    libraries, entries = size // 40, size // 8
+    table, name = base + 20 * libraries, base + size - 8
+    record = struct.pack("<5I", table, 0, 0, name, table)
+    directory = record * (libraries - 1) + bytes(20)
+    return (directory + struct.pack("<I", 0x70000000) * (entries - 4) + bytes(4)).ljust(size - 8, b"\0") + b"a.dll".ljust(8, b"\0")
 
 
 def exports_in_one_text(base, size):
@@ -128,13 +137,17 @@ def open_without_imports(file):
     return fault.status, tables.count("exports")
 
 
-def next_imports(file):
+def next_imports(file, options=STRICT):
     layout, directories = records.Layout(), (records.Directory * 16)()
-    LIB.goblin_pe_raw_read_layout(file, len(file), c.byref(STRICT), c.byref(layout), directories, 16, (records.Section * 1)(), 0)
+    LIB.goblin_pe_raw_read_layout(file, len(file), c.byref(options), c.byref(layout), directories, 16, (records.Section * 1)(), 0)
     position, room, count = records.ImportPosition(), (records.Import * 256)(), c.c_size_t()
     fault = LIB.goblin_pe_raw_next_imports(
-        file, len(file), c.byref(STRICT), c.byref(layout.places), c.byref(position), room, 256, c.byref(count))
+        file, len(file), c.byref(options), c.byref(layout.places), c.byref(position), room, 256, c.byref(count))
     return fault.status, count.value
+
+
+def next_imports_permissively(file):
+    return next_imports(file, PERMISSIVE)
 
 
 # A call and its file.
@@ -146,6 +159,8 @@ ROWS = {
     "many symbols": (next_symbols, lambda: object_with_symbols(320000)),
     "damage of imports in one text": (read_damage, lambda: in_one_section((0, 0, 0x1000, 40), imports_in_one_text, MIB // 2)),
     "exports in one text": (open_without_imports, lambda: in_one_section((0x1000, 40, 0, 0), exports_in_one_text, MIB // 2)),
+    "imports that are all left out": (
+        next_imports_permissively, lambda: in_one_section((0, 0, 0x1000, 40), libraries_of_left_out_entries, MIB // 8)),
     "a batch of many sections": (next_imports, lambda: bytes(images.hostile_image(64 * (65535 + 16)))),
 }
 

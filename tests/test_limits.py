@@ -17,6 +17,7 @@ ROWS = [
     ("many symbols", 200, 320000),
     ("damage of imports in one text", 120000, 0),
     ("exports in one text", 75000, 65465),
+    ("imports that are all left out", 10000, 0),
     ("a batch of many sections", 250, 256),
 ]
 

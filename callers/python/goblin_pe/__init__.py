@@ -465,7 +465,8 @@ class Layout:
 
     def walk_libraries(self) -> _t.Iterator[Library]:
         """The libraries of which something is imported one by one, in the order of their records, as walk_imports gives imports.
-        One library may have several records, and one without imports is left out. Each library is a call of its own; of more
+        Of each only the first import is read, so what strict mode refuses of the others is not told. One library may have
+        several records, and one without imports is left out. Each library is a call of its own; of more
         than 96 sections each makes an index, in some 25 milliseconds for the 65,535 that there can be."""
         return self._libraries(self._bytes(), self._next_imports())
 

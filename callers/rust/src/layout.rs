@@ -340,7 +340,8 @@ impl<'a> Layout<'a> {
     }
 
     /// A walk over the libraries of which something is imported, in the order of their records, as
-    /// [`walk_imports`](Self::walk_imports) is over imports. One library may have several records. Each library
+    /// [`walk_imports`](Self::walk_imports) is over imports; of each library only the first import is read, so what
+    /// strict mode refuses of the others is not told. One library may have several records. Each library
     /// is a call of its own; of more than 96 sections each makes an index, in some 25 milliseconds.
     ///
     /// ```no_run
