@@ -5,7 +5,7 @@ use Rattle.std.specs.Prelude.{◌⊎◌, option_map}
 use Rattle.goblin_base.specs.declared.error.ErrorOf.{ErrorOf}
 use Rattle.goblin_base.specs.Reading.{Reading}
 use Rattle.goblin_base.proofs.Steps as steps
-use Rattle.readings.specs.Reads.{◌beside◌, given, mapped, pick}
+use Rattle.readings.specs.Reads.{given, mapped, pick}
 use Rattle.goblin_pe_sect.specs.declared.data_directories.DataDirectory.{DataDirectory}
 use Rattle.goblin_pe_sect.specs.declared.options.ParseOptions.{ParseOptions}
 use Rattle.goblin_pe_sect.specs.SectionTable.{Section}
@@ -15,9 +15,9 @@ use Rattle.goblin_pe_import.specs.Imports.{ImportValue}
 use Rattle.goblin_pe.specs.declared.whole.Part.{Part}
 use Rattle.goblin_pe.specs.declared.whole.Part.TheVariants.{Absent}
 use Rattle.goblin_pe.specs.Whole.{CollectedFileValue, CollectedParts}
-use Rattle.goblin_pe.specs.Whole.{TableParts}
-use Rattle.goblin_pe.specs.Whole.{collected_file, collected_tables}
-use Rattle.goblin_pe.specs.Whole.{offset_by, part_at, part_map, places_in}
+use Rattle.goblin_pe.specs.Whole.{TableParts, TablePlaces, both_import_parts, collected_exports}
+use Rattle.goblin_pe.specs.Whole.{collected_file, collected_imports, collected_tables, export_part}
+use Rattle.goblin_pe.specs.Whole.{offset_by, part_at, part_map, places_in, relocation_part}
 use Rattle.goblin_pe.specs.Whole.{table_parts, whole_of}
 
 -- ---- parts
@@ -34,42 +34,50 @@ unasked_mapped view f strict false read directory bytes is = refl
 unasked_mapped view f strict true read directory bytes (inl is) = absurd cc
 unasked_mapped view f strict true read directory bytes (inr is) = rw is refl
 
--- ---- three reads side by side, of the first two of which something is made
+-- ---- the tables, of whose imports and exports something is made
 
 abbrev pub IsRefused : {Z : Type 0} → List ℕ → Reading Z → ErrorOf → Type 0
 IsRefused bytes r e = (r.value bytes ≡ None) × r.IsCause bytes e
 
-module _ {A B C X Y : Type 0} (a : Reading A) (b : Reading B) (c : Reading C) (f : A → X)
-    (g : B → Y) (bytes : List ℕ) where
-  abbrev all_made : Reading ((X × Y) × C)
-  all_made = mapped (λ all. ((f all.0.0, g all.0.1), all.1)) (a beside b beside c)
+module _ {X Y : Type 0} (import_of : ImportValue → X) (exports_of : Part ExportTables → Y)
+    (opts : ParseOptions) (offset_of : ℕ → Option ℕ) (places : TablePlaces) (bytes : List ℕ) where
+  abbrev imports_made : Reading (Part (List X))
+  imports_made = mapped (collected_imports import_of) (both_import_parts opts offset_of places)
 
-  pub first-refused : (e : ErrorOf) → IsRefused bytes (mapped f a) e → IsRefused bytes all_made e
-  first-refused e h = rw (steps.unmapped f (a.value bytes) h.0) (refl, h.1)
+  abbrev exports_made : Reading Y
+  exports_made = mapped (collected_exports exports_of) (export_part opts offset_of places)
 
-  pub second-refused : (x : X) (e : ErrorOf) → option_map f (a.value bytes) ≡ Some x
-      → IsRefused bytes (mapped g b) e → IsRefused bytes all_made e
+  abbrev all_made : Reading (CollectedParts X Y)
+  all_made = mapped (collected_tables import_of exports_of) (table_parts opts offset_of places)
+
+  pub first-refused : (e : ErrorOf) → IsRefused bytes imports_made e → IsRefused bytes all_made e
+  unfolding table_parts
+  first-refused e h = rw (steps.unmapped _ _ h.0) (refl, h.1)
+
+  pub second-refused : (x : Part (List X)) (e : ErrorOf) → imports_made.value bytes ≡ Some x
+      → IsRefused bytes exports_made e → IsRefused bytes all_made e
+  unfolding table_parts
   second-refused x e made h =
-      let m = steps.mapped (a.value bytes) f x made in
-      rw (m.is, steps.unmapped g (b.value bytes) h.0) (refl, h.1)
+      rw ((steps.mapped _ _ x made).is, steps.unmapped _ _ h.0) (refl, h.1)
 
-  pub third-refused : (x : X) (y : Y) (e : ErrorOf) → option_map f (a.value bytes) ≡ Some x
-      → option_map g (b.value bytes) ≡ Some y → IsRefused bytes c e → IsRefused bytes all_made e
+  pub third-refused : (x : Part (List X)) (y : Y) (e : ErrorOf)
+      → imports_made.value bytes ≡ Some x → exports_made.value bytes ≡ Some y
+      → IsRefused bytes (relocation_part opts offset_of places) e → IsRefused bytes all_made e
+  unfolding table_parts
   third-refused x y e first second h =
-      let m = steps.mapped (a.value bytes) f x first in
-      let n = steps.mapped (b.value bytes) g y second in
-      rw (m.is, n.is, h.0) (refl, h.1)
+      rw ((steps.mapped _ _ x first).is, (steps.mapped _ _ y second).is, h.0) (refl, h.1)
 
-  pub all-read : (x : X) (y : Y) (z : C) → option_map f (a.value bytes) ≡ Some x
-      → option_map g (b.value bytes) ≡ Some y → c.value bytes ≡ Some z
+  pub all-read : (x : Part (List X)) (y : Y) (z : Part (List ℕ))
+      → imports_made.value bytes ≡ Some x → exports_made.value bytes ≡ Some y
+      → (relocation_part opts offset_of places).value bytes ≡ Some z
       → all_made.value bytes ≡ Some ((x, y), z)
+  unfolding table_parts
   all-read x y z first second third =
-      let m = steps.mapped (a.value bytes) f x first in
-      let n = steps.mapped (b.value bytes) g y second in
+      let m = steps.mapped _ _ x first in
+      let n = steps.mapped _ _ y second in
       rw (m.is, n.is, third)
-      (ap (λ (x : X). Some ((x, g n.value), z)) m.made ∙ ap (λ (y : Y). Some ((x, y), z)) n.made)
-
--- ---- the tables of a file
+      (ap (λ (x : Part (List X)). Some ((x, collected_exports exports_of n.value), z)) m.made
+      ∙ ap (λ (y : Y). Some ((x, y), z)) n.made)
 
 module _ {X Y : Type 0} (import_of : ImportValue → X) (exports_of : Part ExportTables → Y) where
   -- what is kept of a file with this header and these sections, and of whose tables this is kept
@@ -84,8 +92,7 @@ module _ {X Y : Type 0} (import_of : ImportValue → X) (exports_of : Part Expor
 
   file-collected : (h : PeHeader) (sections : List Section) (parts : TableParts)
       → collected_file import_of exports_of (whole_of h sections parts)
-      ≡ file_with h sections
-      (collected_tables import_of exports_of parts)
+      ≡ file_with h sections (collected_tables import_of exports_of parts)
   file-collected h sections parts = refl
 
   module _ (opts : ParseOptions) (h : PeHeader) (sections : List Section) (bytes : List ℕ) where
@@ -95,8 +102,7 @@ module _ {X Y : Type 0} (import_of : ImportValue → X) (exports_of : Part Expor
         (table_parts opts (offset_by opts sections places) places).value bytes
 
     pub file_read : (t : CollectedParts X Y)
-        → option_map (collected_tables import_of exports_of)
-        tables_of ≡ Some t
+        → option_map (collected_tables import_of exports_of) tables_of ≡ Some t
         → option_map (collected_file import_of exports_of) (option_map (whole_of h sections) tables_of)
         ≡ Some (file_with h sections t)
     file_read t e =
@@ -104,10 +110,3 @@ module _ {X Y : Type 0} (import_of : ImportValue → X) (exports_of : Part Expor
         rw m.is
         (ap (λ (x : CollectedFileValue X Y). Some x) (file-collected h sections m.value)
         ∙ ap (λ (x : CollectedParts X Y). Some (file_with h sections x)) m.made)
-
-    pub file_refused :
-        option_map (collected_tables import_of exports_of)
-        tables_of ≡ None
-        → option_map (collected_file import_of exports_of) (option_map (whole_of h sections) tables_of)
-        ≡ None
-    file_refused e = rw (steps.unmapped _ tables_of e) refl

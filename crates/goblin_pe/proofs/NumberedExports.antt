@@ -12,7 +12,7 @@ use Rattle.goblin_pe_export.proofs.ExportWalk.{read_walked}
 use Rattle.goblin_pe.specs.declared.whole.Part.{Part}
 use Rattle.goblin_pe.specs.declared.whole.Part.TheVariants.{Absent, Refused}
 use Rattle.goblin_pe.specs.declared.whole.Part.TheVariants as part
-use Rattle.goblin_pe.proofs.NumberedFootprints.{first-of, second-of}
+use Rattle.goblin_pe.proofs.NumberedFootprints.{exports-in}
 use Rattle.goblin_pe.proofs.Parts.{part_map-twice}
 use Rattle.goblin_pe.specs.Whole.{WholeFile, export_part, offset_by}
 use Rattle.goblin_pe.specs.Whole.{part_at, part_map, part_of, places_in}
@@ -63,7 +63,7 @@ module _ (offset_of : ℕ → Option ℕ) (bytes : List ℕ) where
 pub rows_of_file : (opts : ParseOptions) (bytes : List ℕ) (w : WholeFile)
     → (whole_file opts).value bytes ≡ Some w
     → w.exports ≡ part_map (map (λ x. x.row)) (numbered_exports opts bytes w)
-unfolding whole_file whole_with table_parts export_part
+unfolding whole_file whole_with export_part
 rows_of_file opts bytes w is =
     let strict = is_strict opts.parse_mode in
     let header = step ((pe_header strict).value bytes) _ w is in
@@ -71,9 +71,8 @@ rows_of_file opts bytes w is =
     let places = places_in header.value.optional_header in
     let offset_of = offset_by opts sections.value places in
     let all = mapped ((table_parts opts offset_of places).value bytes) _ w sections.then in
-    let both = first-of _ _ all.value all.is in
-    let exports = second-of _ _ all.value.0 both in
-    let own = at-numbered offset_of bytes strict places.exports all.value.0.1 exports in
+    let exports = exports-in opts offset_of places bytes all.value all.is in
+    let own = at-numbered offset_of bytes strict places.exports all.value.exports exports in
     let numbered = λ (tables : ExportTables). numbered_from offset_of bytes tables 0 in
     subst (λ (f : WholeFile). f.exports ≡ part_map (map (λ x. x.row)) (numbered_exports opts bytes f)) all.made
-    (own ∙ part_map-twice numbered (map (λ x. x.row)) (part_map (λ read. read.0) all.value.0.1))
+    (own ∙ part_map-twice numbered (map (λ x. x.row)) (part_map (λ read. read.0) all.value.exports))

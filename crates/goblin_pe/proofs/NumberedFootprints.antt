@@ -5,7 +5,6 @@ use Rattle.std.specs.List.{cons_option, range_with_len}
 use Rattle.goblin_base.specs.Footprints.{Agree}
 use Rattle.goblin_base.proofs.Footprints.{agree-below, agree-led, agree-left, agree-right}
 use Rattle.goblin_base.proofs.Steps.{mapped, same_value, step}
-use Rattle.readings.specs.Reads.{pair_of}
 use Rattle.goblin_pe_sect.specs.declared.data_directories.DataDirectory.{DataDirectory}
 use Rattle.goblin_pe_sect.specs.declared.options.ParseOptions.{ParseOptions}
 use Rattle.goblin_pe_sect.specs.Options.{is_strict}
@@ -13,26 +12,23 @@ use Rattle.goblin_pe_head.specs.HeaderReadings.{pe_header}
 use Rattle.goblin_pe_export.specs.ExportReadings.{export_data, export_read, export_row, exports}
 use Rattle.goblin_pe_export.specs.ExportRecords.{ExportRow, ExportTables}
 use Rattle.goblin_pe_export.specs.ExportWalks.{NumberedExport, numbered_export, numbered_from}
+use Rattle.goblin_pe_import.proofs.ImportBound.{pair_of-left, pair_of-right}
 use Rattle.goblin_pe.specs.declared.whole.Part.{Part}
 use Rattle.goblin_pe.specs.declared.whole.Part.TheVariants.{Absent, Refused}
 use Rattle.goblin_pe.specs.declared.whole.Part.TheVariants as part
-use Rattle.goblin_pe.specs.Whole.{WholeFile, both_import_parts, export_part, offset_by}
-use Rattle.goblin_pe.specs.Whole.{part_at, part_map, part_of, places_in}
+use Rattle.goblin_pe.specs.Whole.{TableParts, TablePlaces, WholeFile, both_import_parts, export_part}
+use Rattle.goblin_pe.specs.Whole.{offset_by, part_at, part_map, part_of, places_in}
 use Rattle.goblin_pe.specs.Whole.{sections_after, table_parts, whole_after, whole_file, whole_with}
 
--- ---- a pair of values
-
-pub first-of : {A B : Type 0} (a : Option A) (b : Option B) (x : A × B) → pair_of a b ≡ Some x
-    → a ≡ Some x.0
-first-of None b x is = absurd cc
-first-of (Some a) None x is = absurd cc
-first-of {A} {B} (Some a) (Some b) x is = ap (λ (y : A × B). Some y.0) (same_value (a, b) x is)
-
-pub second-of : {A B : Type 0} (a : Option A) (b : Option B) (x : A × B) → pair_of a b ≡ Some x
-    → b ≡ Some x.1
-second-of None b x is = absurd cc
-second-of (Some a) None x is = absurd cc
-second-of {A} {B} (Some a) (Some b) x is = ap (λ (y : A × B). Some y.1) (same_value (a, b) x is)
+-- the exports among the tables of a file
+pub exports-in : (opts : ParseOptions) (offset_of : ℕ → Option ℕ) (places : TablePlaces)
+    (bytes : List ℕ) (t : TableParts) → (table_parts opts offset_of places).value bytes ≡ Some t
+    → (export_part opts offset_of places).value bytes ≡ Some t.exports
+unfolding table_parts
+exports-in opts offset_of places bytes t is =
+    let all = mapped _ _ t is in
+    pair_of-right _ _ all.value.0 (pair_of-left _ _ all.value all.is)
+    ∙ ap (λ (x : TableParts). Some x.exports) all.made
 
 -- ---- the exports of two files
 
@@ -71,7 +67,7 @@ module _ (offset_of : ℕ → Option ℕ) (a b : List ℕ) where
   read-same d read is agree =
       let found = (export_data offset_of d).value a in
       let at = step found _ read is in
-      let same : at.value ≡ read.0 = same_value _ _ (first-of _ _ read at.then) in
+      let same : at.value ≡ read.0 = same_value _ _ (pair_of-left _ _ read at.then) in
       let own = agree-right ((export_data offset_of d).reaches a) _ a b agree in
       let led = agree-led found (λ t. (exports offset_of t).reaches a) at.value a b at.is own in
       subst (λ (t : ExportTables). numbered_from offset_of a t 0 ≡ numbered_from offset_of b t 0) same
@@ -121,11 +117,10 @@ same-numbered opts a b w is agree =
     let places = places_in h.optional_header in
     let offset_of = offset_by opts sections.value places in
     let all = mapped ((table_parts opts offset_of places).value a) _ w sections.then in
-    let both = first-of _ _ all.value all.is in
-    let exports = second-of _ _ all.value.0 both in
+    let exports = exports-in opts offset_of places a all.value all.is in
     let after = agree-led (start.value a) (λ h. (whole_after opts h).reaches a) h a b header.is (agree-right (start.reaches a) _ a b agree) in
     let within = agree-led (listed.value a) (λ s. (whole_with opts h s).reaches a) sections.value a b sections.is (agree-right (listed.reaches a) _ a b after) in
     let tables = (both_import_parts opts offset_of places).reaches a in
     let own = agree-right tables _ a b (agree-left (tables ++ (export_part opts offset_of places).reaches a) _ a b within) in
     subst (AreSame opts a b) all.made
-    (at-same offset_of a b strict places.exports all.value.0.1 exports own)
+    (at-same offset_of a b strict places.exports all.value.exports exports own)

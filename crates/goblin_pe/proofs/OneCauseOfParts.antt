@@ -481,7 +481,7 @@ module _ (opts : ParseOptions) (offset_of : ℕ → Option ℕ) (places : TableP
 
   has-tables_of_file : HasOne (table_parts opts offset_of places)
   unfolding table_parts
-  has-tables_of_file = has-beside _ _ (has-beside _ _ has-import_parts has-export_part) has-relocation_part
+  has-tables_of_file = has-mapped _ _ (has-beside _ _ (has-beside _ _ has-import_parts has-export_part) has-relocation_part)
 
 -- ---- the whole file
 

@@ -233,17 +233,19 @@ module _ (opts : ParseOptions) (offset_of : ℕ → Option ℕ) (places : TableP
 
   -- what permissive mode has of tables that strict mode has
   abbrev permissive_tables : TableParts → TableParts
-  permissive_tables t = ((permissive_imports t.0.0, t.0.1), t.1)
+  permissive_tables t = record t { imports = permissive_imports t.imports }
 
   repeats-table_parts : RepeatsAs permissive_tables (table_parts strictly offset_of places)
       (table_parts permissively offset_of places)
   unfolding table_parts export_part relocation_part
   repeats-table_parts =
-      as-beside _ (λ x. x) _ _ _ _
+      as-mapped _ _ permissive_tables _ _
+      (as-beside _ (λ x. x) _ _ _ _
       (as-beside permissive_imports (λ x. x) (both_import_parts strictly offset_of places)
       (both_import_parts permissively offset_of places) _ _ (record { kept = imports_again })
       (repeats-part_at (export_read offset_of) places.exports))
-      (repeats-part_at (relocation_data offset_of) places.relocations)
+      (repeats-part_at (relocation_data offset_of) places.relocations))
+      (λ all. refl)
 
 -- ---- a whole file
 

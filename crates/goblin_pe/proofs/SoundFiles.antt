@@ -63,6 +63,10 @@ module _ (bytes : List ℕ) where
 
 -- ---- the tables
 
+mapped-there : {A B : Type 0} (f : A → B) (o : Option A) → IsSome o → IsSome (option_map f o)
+mapped-there f None some = absurd cc
+mapped-there f (Some x) some = refl
+
 both-there : {A B : Type 0} (a : Option A) (b : Option B) → IsSome a → IsSome b → IsSome (pair_of a b)
 both-there None b first second = absurd cc
 both-there (Some x) None first second = absurd cc
@@ -77,13 +81,10 @@ module _ (opts : ParseOptions) (bytes : List ℕ) (short : length bytes < 2 ^ 63
   tables-there offset_of places imports exports relocations left_out no_imports no_exports no_relocations damage =
       let listed = there (import_list (in_mode Strict opts) offset_of places) bytes imports no_imports damage.imports in
       let parts = unmapped-there _ ((both_import_parts (in_mode Strict opts) offset_of places).value bytes) _ (list_value (in_mode Strict opts) offset_of places bytes short fit) listed in
-      all-there (both_import_parts (in_mode Strict opts) offset_of places) (export_part (in_mode Strict opts) offset_of places) (relocation_part (in_mode Strict opts) offset_of places) bytes parts
+      mapped-there _ _
+      (all-there (both_import_parts (in_mode Strict opts) offset_of places) (export_part (in_mode Strict opts) offset_of places) (relocation_part (in_mode Strict opts) offset_of places) bytes parts
       (there (export_part (in_mode Strict opts) offset_of places) bytes exports no_exports damage.exports)
-      (there (relocation_part (in_mode Strict opts) offset_of places) bytes relocations no_relocations damage.relocations)
-
-  mapped-there : {A B : Type 0} (f : A → B) (o : Option A) → IsSome o → IsSome (option_map f o)
-  mapped-there f None some = absurd cc
-  mapped-there f (Some x) some = refl
+      (there (relocation_part (in_mode Strict opts) offset_of places) bytes relocations no_relocations damage.relocations))
 
   with-there : (h : PeHeader) (s : List Section) → IsSome ((table_parts (in_mode Strict opts) (offset_by opts s (places_in h.optional_header)) (places_in h.optional_header)).value bytes) → IsSome ((whole_with (in_mode Strict opts) h s).value bytes)
   unfolding whole_with file_offset

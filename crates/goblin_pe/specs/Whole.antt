@@ -204,17 +204,17 @@ relocation_part opts offset_of places =
     part_at (is_strict opts.parse_mode) (relocation_data offset_of) places.relocations
 
 -- the tables of a file: imports, exports and base relocations
-abbrev pub TableParts : Type 0
-TableParts =
-    ((Part (List ImportedLibrary) × Part (List ImportValue))
-    × Part (ExportTables × List ExportRow))
-    × Part (List ℕ)
+pub record TableParts : Type 0 where
+  pub imports : Part (List ImportedLibrary) × Part (List ImportValue)
+  pub exports : Part (ExportTables × List ExportRow)
+  pub relocations : Part (List ℕ)
 
 unfoldable pub table_parts : ParseOptions → (ℕ → Option ℕ) → TablePlaces → Reading TableParts
 table_parts opts offset_of places =
-    both_import_parts opts offset_of places
+    mapped (λ all. record { imports = all.0.0; exports = all.0.1; relocations = all.1 })
+    (both_import_parts opts offset_of places
     beside export_part opts offset_of places
-    beside relocation_part opts offset_of places
+    beside relocation_part opts offset_of places)
 
 -- ---- the whole file
 
@@ -233,11 +233,11 @@ abbrev pub whole_of : PeHeader → List Section → TableParts → WholeFile
 whole_of header sections tables = record {
   header = header;
   sections = sections;
-  import_data = tables.0.0.0;
-  imports = tables.0.0.1;
-  export_data = part_map (λ read. read.0) tables.0.1;
-  exports = part_map (λ read. read.1) tables.0.1;
-  relocations = tables.1;
+  import_data = tables.imports.0;
+  imports = tables.imports.1;
+  export_data = part_map (λ read. read.0) tables.exports;
+  exports = part_map (λ read. read.1) tables.exports;
+  relocations = tables.relocations;
 }
 
 -- the offset of the section table: after the optional header, by the size that the COFF header says
@@ -290,7 +290,8 @@ CollectedParts X Y = (Part (List X) × Y) × Part (List ℕ)
 abbrev pub collected_tables : {X Y : Type 0} → (ImportValue → X) → (Part ExportTables → Y)
     → TableParts → CollectedParts X Y
 collected_tables import_of exports_of parts =
-    ((collected_imports import_of parts.0.0, collected_exports exports_of parts.0.1), parts.1)
+    let imports = collected_imports import_of parts.imports in
+    ((imports, collected_exports exports_of parts.exports), parts.relocations)
 
 -- a whole file with X made of each of its imports, and Y of its export tables
 pub record CollectedFileValue (X Y : Type 0) : Type 0 where
@@ -323,7 +324,8 @@ import_read_view read = (read.0, items_part read.1)
 
 -- the tables that their reader returns
 abbrev pub listed_view : ListedTables → TableParts
-listed_view t = (
-  (import_read_view t.imports, part_map export_read_view t.exports),
-  part_map relocation_bytes t.relocations,
-)
+listed_view t = record {
+  imports = import_read_view t.imports;
+  exports = part_map export_read_view t.exports;
+  relocations = part_map relocation_bytes t.relocations;
+}

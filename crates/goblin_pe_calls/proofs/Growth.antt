@@ -120,30 +120,31 @@ pub mapped-some : {A B : Type 0} (f : A → B) (o : Option A) (y : B) → option
 mapped-some f None y is = absurd cc
 mapped-some f (Some x) y is = refl
 
--- ---- three reads side by side
+-- ---- what is made of three reads side by side
 
-pub first-told : {A B C : Type 0} (P : A → Type 0) (Q : (A × B) × C → Type 0) (a : Option A)
-    (b : Option B) (c : Option C) → ((all : (A × B) × C) → P all.0.0 → Q all)
-    → IfSome a P → IfSome (pair_of (pair_of a b) c) Q
-first-told P Q None b c then h = tt
-first-told P Q (Some x) None c then h = tt
-first-told P Q (Some x) (Some y) None then h = tt
-first-told P Q (Some x) (Some y) (Some z) then h = then ((x, y), z) h
+module _ {A B C T : Type 0} (f : (A × B) × C → T) (Q : T → Type 0) where
+  pub first-told : (P : A → Type 0) (a : Option A) (b : Option B) (c : Option C)
+      → ((all : (A × B) × C) → P all.0.0 → Q (f all)) → IfSome a P
+      → IfSome (option_map f (pair_of (pair_of a b) c)) Q
+  first-told P None b c then h = tt
+  first-told P (Some x) None c then h = tt
+  first-told P (Some x) (Some y) None then h = tt
+  first-told P (Some x) (Some y) (Some z) then h = then ((x, y), z) h
 
-pub second-told : {A B C : Type 0} (P : B → Type 0) (Q : (A × B) × C → Type 0) (a : Option A)
-    (b : Option B) (c : Option C) → ((all : (A × B) × C) → P all.0.1 → Q all)
-    → IfSome b P → IfSome (pair_of (pair_of a b) c) Q
-second-told P Q None b c then h = tt
-second-told P Q (Some x) None c then h = tt
-second-told P Q (Some x) (Some y) None then h = tt
-second-told P Q (Some x) (Some y) (Some z) then h = then ((x, y), z) h
+  pub second-told : (P : B → Type 0) (a : Option A) (b : Option B) (c : Option C)
+      → ((all : (A × B) × C) → P all.0.1 → Q (f all)) → IfSome b P
+      → IfSome (option_map f (pair_of (pair_of a b) c)) Q
+  second-told P None b c then h = tt
+  second-told P (Some x) None c then h = tt
+  second-told P (Some x) (Some y) None then h = tt
+  second-told P (Some x) (Some y) (Some z) then h = then ((x, y), z) h
 
-pub third-none : {A B C : Type 0} (Q : (A × B) × C → Type 0) (a : Option A) (b : Option B)
-    (c : Option C) → c ≡ None → IfSome (pair_of (pair_of a b) c) Q
-third-none Q None b c is = tt
-third-none Q (Some x) None c is = tt
-third-none Q (Some x) (Some y) None is = tt
-third-none Q (Some x) (Some y) (Some z) is = absurd cc
+  pub third-none : (a : Option A) (b : Option B) (c : Option C) → c ≡ None
+      → IfSome (option_map f (pair_of (pair_of a b) c)) Q
+  third-none None b c is = tt
+  third-none (Some x) None c is = tt
+  third-none (Some x) (Some y) None is = tt
+  third-none (Some x) (Some y) (Some z) is = absurd cc
 
 -- ---- a whole file
 

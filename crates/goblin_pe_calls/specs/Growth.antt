@@ -36,8 +36,8 @@ HasExports read = 0 < export_count (part_map (λ r. r.0) read) (part_map (λ r. 
 -- there is an import, an export or an export address
 abbrev pub HasTables : TableParts → Type 0
 HasTables parts =
-    0 < length (entries_of parts.0.0.1)
-    + export_count (part_map (λ r. r.0) parts.0.1) (part_map (λ r. r.1) parts.0.1)
+    0 < length (entries_of parts.imports.1)
+    + export_count (part_map (λ r. r.0) parts.exports) (part_map (λ r. r.1) parts.exports)
 
 -- A file of which records are kept: its header says that there are sections, or one of its tables
 -- has an entry.

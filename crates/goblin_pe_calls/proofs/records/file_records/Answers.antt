@@ -2,7 +2,7 @@ use Rattle.std.proofs.Common.{arith, inl, inr}
 use Rattle.std.proofs.lemmas.Result.{err_from_is_err_and}
 use Rattle.goblin_pe_sect.specs.Addresses.{offset_of}
 use Rattle.goblin_pe.specs.Layouts.{layout_map, layout_places}
-use Rattle.goblin_pe.specs.Whole.{collected_exports, collected_imports, export_part}
+use Rattle.goblin_pe.specs.Whole.{collected_imports, export_part}
 use Rattle.goblin_pe.specs.Whole.{both_import_parts, relocation_part, table_parts}
 use Rattle.goblin_pe.proofs.Collected.{all-read, first-refused, second-refused, third-refused}
 use Rattle.goblin_pe_calls.specs.Exports.{exports_said}
@@ -13,42 +13,34 @@ use Rattle.goblin_pe_records.proofs.Making.{whichever}
 use Rattle.goblin_pe_calls.proofs.records.file_records.Goals as goal
 
 pub returns-in_err-imports-clause-value : goal.returns-in_err-imports-clause-value
-unfolding table_parts
 returns-in_err-imports-clause-value c =
     let l = c.args.layout.now in
     let m = layout_map l in
-    let places = layout_places l in
     let error = err_from_is_err_and c.from_residual.result c.from_residual.ensures.1 in
     rw (error.1, error.2)
-    (λ other. first-refused (both_import_parts m.opts (offset_of m) places) (export_part m.opts (offset_of m) places) (relocation_part m.opts (offset_of m) places) (collected_imports import_said) (collected_exports (exports_said (offset_of m) l.bytes.now)) l.bytes.now _ (c.in_err-imports.ensures.value other))
+    (λ other. first-refused import_said (exports_said (offset_of m) l.bytes.now) m.opts (offset_of m) (layout_places l) l.bytes.now _ (c.in_err-imports.ensures.value other))
 
 pub returns-in_err-exports-clause-value : goal.returns-in_err-exports-clause-value
-unfolding table_parts
 returns-in_err-exports-clause-value c =
     let l = c.args.layout.now in
     let m = layout_map l in
-    let places = layout_places l in
     let error = err_from_is_err_and c.from_residual-in_err-exports.result c.from_residual-in_err-exports.ensures.1 in
     rw (error.1, error.2)
-    (λ other. second-refused (both_import_parts m.opts (offset_of m) places) (export_part m.opts (offset_of m) places) (relocation_part m.opts (offset_of m) places) (collected_imports import_said) (collected_exports (exports_said (offset_of m) l.bytes.now)) l.bytes.now _ _ c.in_ok-imports.ensures.value (c.in_err-exports.ensures.value other))
+    (λ other. second-refused import_said (exports_said (offset_of m) l.bytes.now) m.opts (offset_of m) (layout_places l) l.bytes.now _ _ c.in_ok-imports.ensures.value (c.in_err-exports.ensures.value other))
 
 pub returns-in_err-relocations-clause-value : goal.returns-in_err-relocations-clause-value
-unfolding table_parts
 returns-in_err-relocations-clause-value c =
     let l = c.args.layout.now in
     let m = layout_map l in
-    let places = layout_places l in
     let error = err_from_is_err_and c.from_residual-in_err-relocations.result c.from_residual-in_err-relocations.ensures.1 in
     rw (error.1, error.2)
-    (λ other. third-refused (both_import_parts m.opts (offset_of m) places) (export_part m.opts (offset_of m) places) (relocation_part m.opts (offset_of m) places) (collected_imports import_said) (collected_exports (exports_said (offset_of m) l.bytes.now)) l.bytes.now _ _ _ c.in_ok-imports.ensures.value c.in_ok-exports.ensures.value c.in_err-relocations.ensures)
+    (λ other. third-refused import_said (exports_said (offset_of m) l.bytes.now) m.opts (offset_of m) (layout_places l) l.bytes.now _ _ _ c.in_ok-imports.ensures.value c.in_ok-exports.ensures.value c.in_err-relocations.ensures)
 
 pub returns-clause-value : goal.returns-clause-value
-unfolding table_parts
 returns-clause-value c =
     let l = c.args.layout.now in
     let m = layout_map l in
-    let places = layout_places l in
-    all-read (both_import_parts m.opts (offset_of m) places) (export_part m.opts (offset_of m) places) (relocation_part m.opts (offset_of m) places) (collected_imports import_said) (collected_exports (exports_said (offset_of m) l.bytes.now)) l.bytes.now _ _ _ c.in_ok-imports.ensures.value c.in_ok-exports.ensures.value c.in_ok-relocations.ensures
+    all-read import_said (exports_said (offset_of m) l.bytes.now) m.opts (offset_of m) (layout_places l) l.bytes.now _ _ _ c.in_ok-imports.ensures.value c.in_ok-exports.ensures.value c.in_ok-relocations.ensures
 
 pub returns-in_err-imports-clause-grown : goal.returns-in_err-imports-clause-grown
 unfolding table_parts
@@ -57,7 +49,7 @@ returns-in_err-imports-clause-grown c =
     let m = layout_map l in
     let places = layout_places l in
     let b = l.bytes.now in
-    whichever _ _ (first-told (λ read. HasEntries read.1) HasTables ((both_import_parts m.opts (offset_of m) places).value b) ((export_part m.opts (offset_of m) places).value b) ((relocation_part m.opts (offset_of m) places).value b) (λ all some. omega (arith, some)) c.in_err-imports.ensures.grown)
+    whichever _ _ (first-told _ HasTables (λ read. HasEntries read.1) ((both_import_parts m.opts (offset_of m) places).value b) ((export_part m.opts (offset_of m) places).value b) ((relocation_part m.opts (offset_of m) places).value b) (λ all some. omega (arith, some)) c.in_err-imports.ensures.grown)
 
 pub returns-in_err-exports-clause-grown : goal.returns-in_err-exports-clause-grown
 unfolding table_parts
@@ -66,7 +58,7 @@ returns-in_err-exports-clause-grown c =
     let m = layout_map l in
     let places = layout_places l in
     let b = l.bytes.now in
-    whichever _ _ (second-told HasExports HasTables ((both_import_parts m.opts (offset_of m) places).value b) ((export_part m.opts (offset_of m) places).value b) ((relocation_part m.opts (offset_of m) places).value b) (λ all some. omega (arith, some)) c.in_err-exports.ensures.grown)
+    whichever _ _ (second-told _ HasTables HasExports ((both_import_parts m.opts (offset_of m) places).value b) ((export_part m.opts (offset_of m) places).value b) ((relocation_part m.opts (offset_of m) places).value b) (λ all some. omega (arith, some)) c.in_err-exports.ensures.grown)
 
 pub returns-in_err-relocations-clause-grown : goal.returns-in_err-relocations-clause-grown
 unfolding table_parts
@@ -75,7 +67,7 @@ returns-in_err-relocations-clause-grown c =
     let m = layout_map l in
     let places = layout_places l in
     let b = l.bytes.now in
-    whichever _ _ (third-none HasTables ((both_import_parts m.opts (offset_of m) places).value b) ((export_part m.opts (offset_of m) places).value b) ((relocation_part m.opts (offset_of m) places).value b) c.in_err-relocations.ensures.0)
+    whichever _ _ (third-none _ HasTables ((both_import_parts m.opts (offset_of m) places).value b) ((export_part m.opts (offset_of m) places).value b) ((relocation_part m.opts (offset_of m) places).value b) c.in_err-relocations.ensures.0)
 
 pub returns-in_err-imports-clause-begun : goal.returns-in_err-imports-clause-begun
 returns-in_err-imports-clause-begun c =
