@@ -75,11 +75,11 @@ pub extern "C" fn goblin_pe_raw_next_imports<'a>(
 }
 
 /// Fills `records` with the exports of a file from a position on, as many as there is room for,
-/// says in `count` how many, and leaves in `position` where the next call goes on: the index of the
-/// name pointer that is read next, at first 0. With room for any, a `count` of 0 is the end; the
-/// position then stays. A file without an export directory, and in permissive mode one whose
-/// directory is refused, has none. The sections and the directory lie where `places` says, as for
-/// [`goblin_pe_raw_next_imports`].
+/// says in `count` how many, and leaves in `position` where the next call goes on: an index in the
+/// name pointer table from which the others come, at first 0. With room for any, a `count` of 0 is
+/// the end; the position then stays. A file without an export directory, and in permissive mode one
+/// whose directory is refused, has none. The sections and the directory lie where `places` says, as
+/// for [`goblin_pe_raw_next_imports`].
 ///
 /// Refused, with nothing changed, are sections as by that call, and in strict mode the export
 /// directory. Memory as there.

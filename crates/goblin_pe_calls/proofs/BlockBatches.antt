@@ -1,7 +1,9 @@
 -- A loop that fills records with the blocks of a directory from an offset on.
-use Rattle.std.proofs.Common.{◌≡◌, ◌⊎◌, ℕ, ◌+◌, ◌-◌, ◌<◌, Bool, true, false, cond, nat_lt, IfErr, ◌≤◌, List, [], ◌∷◌, ◌++◌, length, map, set, ap, refl, subst, sym, arith, ◌∙◌, inl, inr, zero, suc}
-use Rattle.std.specs.Prelude.{MatchResult, Option, None, Some, Result, Ok, Err}
+use Rattle.std.proofs.Common.{◌≡◌, ◌⊎◌, ℕ, ◌+◌, ◌-◌, ◌<◌, Bool, true, false, cond, nat_lt, IfErr, ◌≤◌, List, [], ◌∷◌, ◌++◌, length, map, set, take, ap, refl, subst, sym, arith, ◌∙◌, inl, inr, zero, suc}
+use Rattle.std.specs.Prelude.{MatchResult, sum_by, Option, None, Some, Result, Ok, Err}
+use Rattle.std.proofs.Math.Seq.{take-append_seam}
 use Rattle.std.proofs.lemmas.List.{append_assoc, length-map, map-append}
+use Rattle.std.proofs.lemmas.List.Sums.{sum_by_push}
 use Rattle.goblin_base.specs.declared.error.ErrorOf.{ErrorOf}
 use Rattle.goblin_base.specs.declared.endian.Endian.TheVariants.{Little}
 use Rattle.goblin_base.specs.declared.error.CauseOf.TheVariants.{BlockSize}
@@ -101,6 +103,14 @@ item-other directory p e is =
 
 -- ---- the loop
 
+-- how many bytes blocks take
+abbrev size_of : List Block → ℕ
+size_of blocks = sum_by (λ (b : Block). b.size) blocks
+
+none-size : (blocks : List Block) → length blocks ≡ 0 → size_of blocks ≡ 0
+none-size [] none = refl
+none-size (b ∷ blocks) none = absurd (omega (arith, none))
+
 module _ (directory : List ℕ) (from : ℕ) (old : List PeBlock) where
   abbrev start : BlockBatch
   start = record { position = from; records = old }
@@ -110,14 +120,14 @@ module _ (directory : List ℕ) (from : ℕ) (old : List PeBlock) where
     pub values : List Block
     pub at : AtBatch block_view (λ b. b) old values records count
     pub left : block_items directory from ≡ map (λ b. Ok b) values ++ block_items directory position
-    pub stays : count ≡ 0 → position ≡ from
+    pub moved : position ≡ from + size_of values
 
   pub blocks-start : AtBlocks from old 0
   blocks-start = record {
     values = [];
     at = batch-start block_view (λ b. b) old;
     left = refl;
-    stays = λ none. refl;
+    moved = omega arith;
   }
 
   module _ (position : ℕ) (records : List PeBlock) (count : ℕ) (h : AtBlocks position records count)
@@ -126,15 +136,19 @@ module _ (directory : List ℕ) (from : ℕ) (old : List PeBlock) where
           → FindsItem directory position (Some (Ok block)) → block_view r ≡ block_value block
           → count < length records → next ≡ position + block.size
           → AtBlocks next (set records count r) (count + 1)
-      blocks-more block r next found says within is = record {
-        values = h.values ++ block_value block ∷ [];
-        at = batch-more block_view (λ b. b) old h.values records count (block_value block) r h.at within says;
-        left = h.left ∙ ap (λ (items : List (Result Block ErrorOf)). map (λ b. Ok b) h.values ++ items) found
-            ∙ sym (append_assoc (map (λ b. Ok b) h.values) (Ok (block_value block) ∷ []) (block_items directory (position + block.size)))
-            ∙ ap (λ (items : List (Result Block ErrorOf)). items ++ block_items directory (position + block.size)) (sym (map-append (λ b. Ok b) h.values (block_value block ∷ [])))
-            ∙ ap (λ (p : ℕ). map (λ b. Ok b) (h.values ++ block_value block ∷ []) ++ block_items directory p) (sym is);
-        stays = λ none. absurd (omega (arith, none));
-      }
+      blocks-more block r next found says within is =
+          let pushed : size_of (h.values ++ block_value block ∷ []) ≡ size_of h.values + block.size =
+          sum_by_push (λ (b : Block). b.size) h.values (block_value block) in
+          let moved = h.moved in
+          record {
+            values = h.values ++ block_value block ∷ [];
+            at = batch-more block_view (λ b. b) old h.values records count (block_value block) r h.at within says;
+            left = h.left ∙ ap (λ (items : List (Result Block ErrorOf)). map (λ b. Ok b) h.values ++ items) found
+                ∙ sym (append_assoc (map (λ b. Ok b) h.values) (Ok (block_value block) ∷ []) (block_items directory (position + block.size)))
+                ∙ ap (λ (items : List (Result Block ErrorOf)). items ++ block_items directory (position + block.size)) (sym (map-append (λ b. Ok b) h.values (block_value block ∷ [])))
+                ∙ ap (λ (p : ℕ). map (λ b. Ok b) (h.values ++ block_value block ∷ []) ++ block_items directory p) (sym is);
+            moved = omega (arith, is, pushed, moved);
+          }
 
       -- nothing is left, or no room
       ended : values_of (block_items directory position) ≡ [] ⊎ (length old ≤ count)
@@ -143,12 +157,15 @@ module _ (directory : List ℕ) (from : ℕ) (old : List PeBlock) where
       ended end next =
           let more = values_of (block_items directory position) in
           let values = ap values_of h.left ∙ values-all h.values (block_items directory position) in
+          let front : take count (values_of (block_items directory from)) ≡ h.values =
+          ap (λ (blocks : List Block). take count blocks) values
+          ∙ ap (λ (n : ℕ). take n (h.values ++ more)) (sym h.at.counted) ∙ take-append_seam h.values more in
           record {
             batch = batch-end block_view (λ b. b) old h.values more (values_of (block_items directory from)) records count h.at values
                 (elim end [ inl none ↦ inr none | inr full ↦ inl full ]);
             rest = left-after (map (λ b. Ok b) h.values) (block_items directory position) (block_items directory from) count (length-map h.values (λ b. Ok b) ∙ h.at.counted) h.left;
             next = next;
-            stays = h.stays;
+            position = h.moved ∙ ap (λ (blocks : List Block). from + size_of blocks) (sym front);
           }
 
       pub blocks-end : FindsItem directory position None
@@ -181,7 +198,9 @@ module _ (directory : List ℕ) (from : ℕ) (old : List PeBlock) where
   pub blocks-first : (position : ℕ) (records : List PeBlock) (h : AtBlocks position records 0) (e : ErrorOf)
       → FindsItem directory position (Some (Err e)) → IsNextRefusal (block_items directory from) e
   blocks-first position records h e is =
-      subst (λ (p : ℕ). FindsItem directory p (Some (Err e)) → IsNextRefusal (block_items directory from) e) (sym (h.stays refl)) (some-next (block_items directory from) e) is
+      let moved = h.moved in
+      let none = none-size h.values h.at.counted in
+      subst (λ (p : ℕ). FindsItem directory p (Some (Err e)) → IsNextRefusal (block_items directory from) e) (omega (arith, moved, none)) (some-next (block_items directory from) e) is
 
 -- ---- in a file
 
@@ -205,7 +224,7 @@ module _ (m : MapOfAddresses) (places : TablePlaces) (bytes : List ℕ) (found :
           batch = batch-end block_view (λ b. b) old [] [] (values_of (items_from x p)) old 0 (batch-start block_view (λ b. b) old) values (inr refl);
           rest = refl;
           next = λ e refused. absurd (none-left (items_from x p) e none refused);
-          stays = λ none. refl;
+          position = omega arith;
         })
 
     pub blocks-none : (found ≡ Absent) ⊎ (found ≡ Refused)

@@ -1,9 +1,9 @@
 -- Batches: as many records of what comes from a position on as there is room for.
 use Rattle.std.specs.Prelude.{◌≡◌, ℕ, ◌==◌, ◌&&◌, ◌<◌, ◌≤◌, ⊤, true, if◌then◌else◌, List, [], ◌∷◌}
-use Rattle.std.specs.Prelude.{◌++◌, map, drop, take}
+use Rattle.std.specs.Prelude.{◌+◌, ◌++◌, map, drop, take}
 use Rattle.std.specs.Prelude.{length, min, Option, Some, None, option_map, Result, Ok, Err, IsSome}
 use Rattle.std.specs.Prelude.{IsSomeAnd}
-use Rattle.std.specs.Prelude.{unwrap_or}
+use Rattle.std.specs.Prelude.{sum_by, unwrap_or}
 use Rattle.goblin_base.specs.declared.error.ErrorOf.{ErrorOf}
 use Rattle.goblin_base.specs.Answers.{FirstFault, IsMemory}
 use Rattle.goblin_base.specs.Tables.{Format}
@@ -251,14 +251,15 @@ pub record BlockBatch : Type 0 where
   pub records : List PeBlock
 
 -- Of what comes next, the records hold the blocks up to a refusal, and from the new position on
--- come the others; the very next is no refusal, if there is room for any. Without a block the
--- position stays.
+-- come the others; the very next is no refusal, if there is room for any. The new position is the
+-- old one and the sizes of the blocks given; without a block it stays.
 pub record FillsBlocks (left later : List (Result Block ErrorOf)) (old new : BlockBatch) (count : ℕ)
     : Type 0 where
   pub batch : IsBatch block_view (λ b. b) (values_of left) old.records new.records count
   pub rest : later ≡ drop count left
   pub next : (e : ErrorOf) → IsNextRefusal left e → length old.records ≡ 0
-  pub stays : count ≡ 0 → new.position ≡ old.position
+  pub position : new.position
+      ≡ old.position + sum_by (λ (b : Block). b.size) (take count (values_of left))
 
 abbrev pub GivesBlocks : MapOfAddresses → TablePlaces → List ℕ → BlockBatch → BlockBatch → ℕ → Type 0
 GivesBlocks m places bytes old new count =

@@ -281,7 +281,7 @@ fn fill_exports<'a, 'm>(
     count
 }
 
-// The position after so many exports; it stays where none came.
+// A position from which the others come after so many exports; it stays where none came.
 fn position_after(position: usize, exports: &Exports, count: usize) -> usize
     ensures stays { count ≡ 0 → result ≡ position }
     ensures later { 0 < count → exports_left exports.now ≡ exports_at exports.now result }
@@ -319,8 +319,8 @@ fn next_exports<'a>(
 }
 
 /// Fills `records` with the exports of a file whose tables lie at these places, from a position on,
-/// as many as there is room for, says in `count` how many, and leaves in `position` where the next
-/// call goes on.
+/// as many as there is room for, says in `count` how many, and leaves in `position` an index in the
+/// name pointer table from which the others come.
 ///
 /// # Errors
 /// As [`layout_at`]; in strict mode the export directory. Nothing is then changed.
