@@ -2,21 +2,17 @@
 use Rattle.std.proofs.Common.{◌≡◌, ◌≢◌, ◌⊎◌, append-nil, ℕ, ◌+◌, ◌<◌, ◌≤◌, ◌^◌, Bool, true, false, List, [], ◌∷◌, ◌++◌, length, map, drop, set, ap, subst, sym, refl, arith, ◌∙◌, inl, inr}
 use Rattle.std.specs.Prelude.{◌==◌, ◌&&◌, if◌then◌else◌, IsSome, IsSomeAnd, MatchResult, Option, None, Result, Some, Ok, Err, option_map, unwrap_or}
 use Rattle.std.proofs.lemmas.Bool.{ne_eqb}
-use Rattle.std.proofs.lemmas.List.{append_assoc, length-append, length-map, map-append}
+use Rattle.std.proofs.lemmas.List.{append_assoc, length-append, length-map}
 use Rattle.goblin_base.specs.declared.error.ErrorOf.{ErrorOf}
-use Rattle.goblin_base.specs.Tables.{Format}
 use Rattle.readings.specs.Reads.{given, pick}
 use Rattle.readings.proofs.Walked.{AtWalk, walk-more, walk-start}
 use Rattle.goblin_pe_sect.specs.Options.{is_strict}
 use Rattle.goblin_pe_sect.specs.declared.data_directories.DataDirectory.{DataDirectory}
 use Rattle.goblin_pe_import.specs.declared.import.imports.ImportPosition.{ImportPosition}
-use Rattle.goblin_pe_import.specs.ImportEntries.{EntryValue}
-use Rattle.goblin_pe_import.specs.declared.import.imports.Imports.{Imports}
 use Rattle.goblin_pe_import.specs.declared.import.imports.WalkedImport.{WalkedImport}
 use Rattle.goblin_pe.specs.Addresses.{MapOfAddresses, offset_of}
 use Rattle.goblin_pe.specs.Imports.{ImportValue}
-use Rattle.goblin_pe.specs.ImportWalks.{GivesImport, IsImportsCause, IsInTable, imports_at, imports_left, position_of}
-use Rattle.goblin_pe.specs.ImportWalks.{AreImportsOver, imports_bytes, imports_map, walked_value}
+use Rattle.goblin_pe.specs.ImportWalks.{IsInTable, imports_at, position_of, walked_value}
 use Rattle.goblin_pe.specs.LayoutPositions.{IsImportWalk, PartGives, StartsAt}
 use Rattle.goblin_pe.specs.LayoutPositions.{file_imports_at, file_position, import_start, start_by}
 use Rattle.goblin_pe.specs.LayoutPositions.{GivesFileImport}
@@ -30,11 +26,12 @@ use Rattle.goblin_pe.specs.declared.whole.imports.FileImports.TheVariants.{Narro
 use Rattle.goblin_pe.proofs.ImportStarts.{start-there, start-value}
 use Rattle.goblin_pe_calls.specs.declared.import.PeImport.{PeImport}
 use Rattle.goblin_pe_calls.specs.declared.next.PeImportPosition.{PeImportPosition}
-use Rattle.goblin_pe_calls.specs.Batches.{AtBatch, FillsHere, FillsLibrary, GivesImports, GoesOn, HasImports, ImportBatch, IsBatch, IsEnd, IsImportsFault, IsRefusedNext, imports_from_position, imports_from_start}
+use Rattle.goblin_pe_calls.specs.Batches.{AtBatch, Fills, GivesImports, GivesInFile, GoesOn, HasImports, ImportBatch, IsBatch, IsEnd, IsImportsFault, IsRefusedNext, imports_from_position, imports_from_start}
 use Rattle.goblin_pe_calls.specs.Batches.{position_numbers, position_said, start_value, values_before}
 use Rattle.goblin_pe_calls.specs.Imports.{import_said, import_view}
 use Rattle.goblin_pe_calls.proofs.Batches.{batch-end, batch-more, batch-none, batch-start, before-all, before-end}
 use Rattle.goblin_pe_calls.proofs.Batches.{before-refused, left-after}
+use Rattle.goblin_pe_calls.proofs.Pushed.{walk-then}
 
 -- ---- the numbers of a position
 
@@ -218,83 +215,47 @@ module _ (m : MapOfAddresses) (places : TablePlaces) (bytes : List ℕ) (p q : P
 
 -- ---- the imports of a library
 
--- what has come of a walk after what came before
-walk-then : {S A : Type 0} (left : S → List (Option A)) (IsCause : S → ErrorOf → Type 0) (start now next : S) (xs ys : List A)
-    → AtWalk left IsCause start now xs → AtWalk left IsCause now next ys → AtWalk left IsCause start next (xs ++ ys)
-walk-then {S} {A} left IsCause start now next xs ys one two =
-    let some : A → Option A = λ x. Some x in
-    record {
-      yielded = one.yielded ∙ ap (λ (items : List (Option A)). map some xs ++ items) two.yielded
-          ∙ sym (append_assoc (map some xs) (map some ys) (left next))
-          ∙ ap (λ (items : List (Option A)). items ++ left next) (sym (map-append some xs ys));
-      cause = λ e fault. one.cause e (two.cause e fault);
-    }
-
 -- it gave the values that the records hold
-record AreFilled (s t : FileImports) (old new : List PeImport) (first last : ℕ) : Type 0 where
+record AreGivenIn (s t : FileImports) (Holds : List ImportValue → Type 0) : Type 0 where
   values : List ImportValue
-  batch : (base : List PeImport) (before : List ImportValue) → AtBatch import_view import_said base before old first
-      → AtBatch import_view import_said base (before ++ values) new last
+  held : Holds values
   walk : AtWalk file_imports_left IsFileImportsCause s t values
 
-library-filled : (s t : FileImports) (old new : List PeImport) (first last : ℕ) → FillsLibrary s t old new first last
-    → AreFilled s t old new first last
-library-filled (Narrow s) (Narrow t) old new first last fills =
-    record { values = fills.values; batch = fills.batch; walk = record { yielded = fills.yielded; cause = fills.cause } }
-library-filled (Wide s) (Wide t) old new first last fills =
-    record { values = fills.values; batch = fills.batch; walk = record { yielded = fills.yielded; cause = fills.cause } }
-library-filled (Narrow s) (Wide t) old new first last fills = absurd fills
-library-filled (Wide s) (Narrow t) old new first last fills = absurd fills
+library-given : (s t : FileImports) (Holds : List ImportValue → Type 0) → GivesInFile s t Holds → AreGivenIn s t Holds
+library-given (Narrow s) (Narrow t) Holds gives =
+    record { values = gives.values; held = gives.held; walk = record { yielded = gives.yielded; cause = gives.cause } }
+library-given (Wide s) (Wide t) Holds gives =
+    record { values = gives.values; held = gives.held; walk = record { yielded = gives.yielded; cause = gives.cause } }
+library-given (Narrow s) (Wide t) Holds gives = absurd gives
+library-given (Wide s) (Narrow t) Holds gives = absurd gives
 
 -- it keeps what is walked over, and where it is in a table
-pub library-kept : (m : MapOfAddresses) (magic : ℕ) (bytes : List ℕ) (s t : FileImports) (old new : List PeImport) (first last : ℕ)
-    → FillsLibrary s t old new first last → IsImportWalk m magic bytes s → IsInTable bytes (file_position s)
+pub library-kept : (m : MapOfAddresses) (magic : ℕ) (bytes : List ℕ) (s t : FileImports) (Holds : List ImportValue → Type 0)
+    → GivesInFile s t Holds → IsImportWalk m magic bytes s → IsInTable bytes (file_position s)
     → IsImportWalk m magic bytes t × IsInTable bytes (file_position t)
-library-kept m magic bytes (Narrow s) (Narrow t) old new first last fills walk inside =
+library-kept m magic bytes (Narrow s) (Narrow t) Holds gives walk inside =
     let same = walk.1.0 in
     let there = subst (λ (b : List ℕ). IsInTable b (position_of s)) (sym same) inside in
-    ((walk.0, (fills.over.0 ∙ walk.1.0, fills.over.1 ∙ walk.1.1), fills.kept walk.2), subst (λ (b : List ℕ). IsInTable b (position_of t)) same (fills.inside walk.2 there))
-library-kept m magic bytes (Wide s) (Wide t) old new first last fills walk inside =
+    ((walk.0, (gives.over.0 ∙ walk.1.0, gives.over.1 ∙ walk.1.1), gives.kept walk.2), subst (λ (b : List ℕ). IsInTable b (position_of t)) same (gives.inside walk.2 there))
+library-kept m magic bytes (Wide s) (Wide t) Holds gives walk inside =
     let same = walk.1.0 in
     let there = subst (λ (b : List ℕ). IsInTable b (position_of s)) (sym same) inside in
-    ((walk.0, (fills.over.0 ∙ walk.1.0, fills.over.1 ∙ walk.1.1), fills.kept walk.2), subst (λ (b : List ℕ). IsInTable b (position_of t)) same (fills.inside walk.2 there))
-library-kept m magic bytes (Narrow s) (Wide t) old new first last fills walk inside = absurd fills
-library-kept m magic bytes (Wide s) (Narrow t) old new first last fills walk inside = absurd fills
+    ((walk.0, (gives.over.0 ∙ walk.1.0, gives.over.1 ∙ walk.1.1), gives.kept walk.2), subst (λ (b : List ℕ). IsInTable b (position_of t)) same (gives.inside walk.2 there))
+library-kept m magic bytes (Narrow s) (Wide t) Holds gives walk inside = absurd gives
+library-kept m magic bytes (Wide s) (Narrow t) Holds gives walk inside = absurd gives
 
--- a walk that has given nothing, and one that gives one more
-pub here-start : {T : Type 0} (format : Format EntryValue) (s : Imports T) (records : List PeImport) (first : ℕ)
-    → FillsHere format s s records records first first
-here-start format s records first = record {
-  values = [];
-  batch = λ base before at. subst (λ (values : List ImportValue). AtBatch import_view import_said base values records first) (sym (append-nil before)) at;
-  yielded = refl;
-  cause = λ e fault. fault;
-  kept = λ placed. placed;
-  over = (refl, refl);
-  inside = λ placed inside. inside;
-}
+-- nothing was filled, and one record more
+pub filled-none : (records : List PeImport) (first : ℕ) → Fills records records first first []
+filled-none records first base before at =
+    subst (λ (values : List ImportValue). AtBatch import_view import_said base values records first) (sym (append-nil before)) at
 
-pub here-more : {T : Type 0} (format : Format EntryValue) (s now next : Imports T) (old records : List PeImport) (first count : ℕ)
-    → FillsHere format s now old records first count → (x : WalkedImport) (r : PeImport) → GivesImport format now (Some (Ok x)) next
-    → count < length records → import_view r ≡ import_said (walked_value x)
-    → FillsHere format s next old (set records count r) first (count + 1)
-here-more format s now next old records first count h x r gives within says =
-    let one = gives.0 in
-    let so_far : AtWalk (imports_left format) (IsImportsCause format) s now h.values = record { yielded = h.yielded; cause = h.cause } in
-    let walk = walk-more (imports_left format) (IsImportsCause format) s now h.values so_far walked_value next x one in
-    let over : AreImportsOver (imports_bytes s) (imports_map s) next = (gives.3.0 ∙ h.over.0, gives.3.1 ∙ h.over.1) in
-    record {
-      values = h.values ++ walked_value x ∷ [];
-      batch = λ base before at.
-          subst (λ (values : List ImportValue). AtBatch import_view import_said base values (set records count r) (count + 1))
-          (append_assoc before h.values (walked_value x ∷ []))
-          (batch-more import_view import_said base (before ++ h.values) records count (walked_value x) r (h.batch base before at) within says);
-      yielded = walk.yielded;
-      cause = walk.cause;
-      kept = λ placed. (gives.1 (h.kept placed)).0;
-      over = over;
-      inside = λ placed inside. subst (λ (b : List ℕ). IsInTable b (position_of next)) over.0 (gives.1 (h.kept placed)).1;
-    }
+pub filled-more : (old records : List PeImport) (first count : ℕ) (x : WalkedImport) (r : PeImport) → count < length records
+    → import_view r ≡ import_said (walked_value x) → (values : List ImportValue) → Fills old records first count values
+    → Fills old (set records count r) first (count + 1) (values ++ walked_value x ∷ [])
+filled-more old records first count x r within says values h base before at =
+    subst (λ (values : List ImportValue). AtBatch import_view import_said base values (set records count r) (count + 1))
+    (append_assoc before values (walked_value x ∷ []))
+    (batch-more import_view import_said base (before ++ values) records count (walked_value x) r (h base before at) within says)
 
 -- ---- the loop
 
@@ -341,20 +302,20 @@ module _ (m : MapOfAddresses) (places : TablePlaces) (bytes : List ℕ) (start :
     -- an import has come, and those of its library that there is room for
     pub library-more : (x : WalkedImport) (next last : FileImports) (q : PeImportPosition) (r : PeImport) (new : List PeImport) (end : ℕ)
         → GivesFileImport now (Some (Ok x)) next → count < length records → import_view r ≡ import_said (walked_value x)
-        → FillsLibrary next last (set records count r) new (count + 1) end → GoesOn m places bytes q last
+        → GivesInFile next last (Fills (set records count r) new (count + 1) end) → GoesOn m places bytes q last
         → AtImports last q new end
     library-more x next last q r new end gives within says fills goes =
         let one = gives.0 in
         let values = h.values ++ walked_value x ∷ [] in
         let at = batch-more import_view import_said old h.values records count (walked_value x) r h.at within says in
         let walk = walk-more file_imports_left IsFileImportsCause start now h.values h.walk walked_value next x one in
-        let filled = library-filled next last (set records count r) new (count + 1) end fills in
+        let filled = library-given next last (Fills (set records count r) new (count + 1) end) fills in
         record {
           values = values ++ filled.values;
-          at = filled.batch old values at;
+          at = filled.held old values at;
           walk = walk-then file_imports_left IsFileImportsCause start next last values filled.values walk filled.walk;
           goes = goes;
-          first = λ none. absurd (let counted = (filled.batch old values at).counted in omega (arith, none, counted, length-append values filled.values, length-append h.values (walked_value x ∷ [])));
+          first = λ none. absurd (let counted = (filled.held old values at).counted in omega (arith, none, counted, length-append values filled.values, length-append h.values (walked_value x ∷ [])));
         }
 
     -- this is left, and is all that comes from the new numbers on

@@ -6,17 +6,10 @@ use Rattle.std.specs.Prelude.{IsSomeAnd}
 use Rattle.std.specs.Prelude.{sum_by, unwrap_or}
 use Rattle.goblin_base.specs.declared.error.ErrorOf.{ErrorOf}
 use Rattle.goblin_base.specs.Answers.{FirstFault, IsMemory}
-use Rattle.goblin_base.specs.Tables.{Format}
 use Rattle.goblin_pe_sect.specs.declared.options.ParseOptions.{ParseOptions}
 use Rattle.goblin_pe_sect.specs.BaseRelocations.{Block, block_items}
-use Rattle.goblin_pe_import.specs.ImportEntries.{EntryValue}
 use Rattle.goblin_pe_import.specs.ImportLookup.{entries_32, entries_64}
-use Rattle.goblin_pe_import.specs.ImportWalks.{AreImportsOver, HasPosition, IsImportsCause}
-use Rattle.goblin_pe_import.specs.ImportWalks.{IsInTable}
-use Rattle.goblin_pe_import.specs.ImportWalks.{imports_bytes, imports_left, imports_map}
-use Rattle.goblin_pe_import.specs.ImportWalks.{position_of}
 use Rattle.goblin_pe_import.specs.declared.import.imports.ImportPosition.{ImportPosition}
-use Rattle.goblin_pe_import.specs.declared.import.imports.Imports.{Imports}
 use Rattle.goblin_pe.specs.Addresses.{MapOfAddresses, offset_of}
 use Rattle.goblin_pe.specs.ExportRecords.{ExportRow, ExportTables}
 use Rattle.goblin_pe.specs.ExportWalks.{NumberedExport, numbered_from}
@@ -36,7 +29,7 @@ use Rattle.goblin_pe_calls.specs.declared.import.PeImport.{PeImport}
 use Rattle.goblin_pe_calls.specs.declared.next.PeImportPosition.{PeImportPosition}
 use Rattle.goblin_pe_calls.specs.ExportDirectories.{address_said}
 use Rattle.goblin_pe_calls.specs.Exports.{export_said, export_view}
-use Rattle.goblin_pe_calls.specs.Imports.{import_said, import_view}
+use Rattle.goblin_pe_calls.specs.Imports.{GivesHere, import_said, import_view}
 use Rattle.goblin_pe_calls.specs.Places.{TakesIndexAt, map_at, placed_sections, places_said}
 use Rattle.goblin_pe_records.specs.Blocks.{block_view}
 use Rattle.goblin_pe_records.specs.Filled.{Filled}
@@ -148,26 +141,17 @@ IsImportsFault m places bytes old e =
     FirstFault (start.value bytes) (start.IsCause bytes)
     (λ s e. (0 < length old.records) × IsFaultIn m places.magic bytes s e) e
 
--- A walk has given some imports and goes on after them: whatever the records held up to `first`,
--- they hold these after it, up to `last`.
-pub record FillsHere {T : Type 0} (format : Format EntryValue) (s t : Imports T)
-    (old new : List PeImport) (first last : ℕ) : Type 0 where
-  pub values : List ImportValue
-  pub batch : (base : List PeImport) (before : List ImportValue)
-      → AtBatch import_view import_said base before old first
-      → AtBatch import_view import_said base (before ++ values) new last
-  pub yielded : imports_left format s ≡ map (λ x. Some x) values ++ imports_left format t
-  pub cause : (e : ErrorOf) → IsImportsCause format t e → IsImportsCause format s e
-  pub kept : HasPosition format s → HasPosition format t
-  pub over : AreImportsOver (imports_bytes s) (imports_map s) t
-  pub inside : HasPosition format s → IsInTable (imports_bytes s) (position_of s)
-      → IsInTable (imports_bytes s) (position_of t)
+-- Whatever the records held up to `first`, they hold these imports after it, up to `last`.
+abbrev pub Fills : List PeImport → List PeImport → ℕ → ℕ → List ImportValue → Type 0
+Fills old new first last values = (base : List PeImport) (before : List ImportValue)
+    → AtBatch import_view import_said base before old first
+    → AtBatch import_view import_said base (before ++ values) new last
 
--- the same of the imports of a file
-abbrev pub FillsLibrary : FileImports → FileImports → List PeImport → List PeImport → ℕ → ℕ → Type 0
-FillsLibrary (Narrow s) (Narrow t) old new first last = FillsHere entries_32 s t old new first last
-FillsLibrary (Wide s) (Wide t) old new first last = FillsHere entries_64 s t old new first last
-FillsLibrary s t old new first last = ⊥
+-- `GivesHere` of the imports of a file
+abbrev pub GivesInFile : FileImports → FileImports → (List ImportValue → Type 0) → Type 0
+GivesInFile (Narrow s) (Narrow t) Holds = GivesHere entries_32 s t Holds
+GivesInFile (Wide s) (Wide t) Holds = GivesHere entries_64 s t Holds
+GivesInFile s t Holds = ⊥
 
 -- a file has imports, and they are asked for
 abbrev pub HasImports : ParseOptions → TablePlaces → Type 0

@@ -8,7 +8,7 @@ ghost use Rattle.goblin_base.specs.Answers.{AnswersOrMemory, GivesOrMemory, IsMe
 ghost use Rattle.goblin_base.specs.Reading.{ReadsOrMemory};
 ghost use Rattle.goblin_pe.specs.Reads.{mapped};
 ghost use Rattle.goblin_pe_sect.specs.Addresses.{map_of, offset_of};
-ghost use Rattle.goblin_pe_import.specs.ImportWalks.{IsImportsCause, finder_of, imports_left};
+ghost use Rattle.goblin_pe_import.specs.ImportWalks.{IsImportsCause, imports_left};
 ghost use Rattle.goblin_pe_import.specs.ImportWalks.{imports_map, walked_value};
 ghost use Rattle.goblin_pe.specs.Layouts.{IsFileImportsCause, file_imports_left, layout_map};
 ghost use Rattle.goblin_pe.specs.Layouts.{layout_bytes, layout_places};
@@ -20,7 +20,8 @@ ghost use Rattle.goblin_pe_records.specs.Blocked.{HasLittleRoom};
 ghost use Rattle.goblin_pe_calls.specs.Blocked.{HasLittleRoomIn};
 ghost use Rattle.readings.specs.Walks.{IsBegun};
 ghost use Rattle.goblin_pe_calls.specs.Growth.{HasEntries, ImportsBegin};
-ghost use Rattle.goblin_pe_calls.specs.Imports.{PushesHere, import_said, import_view, import_views};
+ghost use Rattle.goblin_pe_calls.specs.Imports.{GivesHere, Pushes, import_said};
+ghost use Rattle.goblin_pe_calls.specs.Imports.{import_view, import_views};
 
 use goblin_pe::import::{Bitfield, Imports, SyntheticImportLookupTableEntry, WalkedImport};
 use goblin_pe::{FileImports, Layout, Part, Result, ResultOf};
@@ -162,9 +163,8 @@ fn push_here<'a, 'm, 'e, T: Bitfield<'a>>(
     bytes: &'a [u8],
     imports: &mut Imports<'a, 'm, 'e, T>,
 )
-    ensures pushed { PushesHere T.format imports.old imports.new
-        (map import_view records.old.items) (map import_view records.new.items) }
-    ensures kept { finder_of imports.new ≡ finder_of imports.old }
+    ensures pushed { GivesHere T.format imports.old imports.new
+        (Pushes (map import_view records.old.items) (map import_view records.new.items)) }
     ensures room { HasLittleRoom records.old → HasLittleRoom records.new }
 {
     let Some(mut plain) = imports.plain() else {

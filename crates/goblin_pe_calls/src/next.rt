@@ -7,7 +7,7 @@ ghost use Rattle.goblin_pe_export.specs.ExportWalks.{KeepsOver, exports_at, expo
 ghost use Rattle.goblin_pe.specs.Layouts.{IsFileImportsCause, file_imports_left, layout_map};
 ghost use Rattle.goblin_pe.specs.Layouts.{layout_bytes, layout_places};
 ghost use Rattle.goblin_pe.specs.LayoutPositions.{StartsAt, import_start};
-ghost use Rattle.goblin_pe_calls.specs.Batches.{FillsHere, FillsLibrary};
+ghost use Rattle.goblin_pe_calls.specs.Batches.{Fills, GivesInFile};
 ghost use Rattle.goblin_pe_calls.specs.Batches.{ExportBatch, GivesBatch, GivesExports};
 ghost use Rattle.goblin_pe_calls.specs.Batches.{GivesImports};
 ghost use Rattle.goblin_pe_calls.specs.Batches.{GoesOn, ImportBatch, IsBatch, IsEnd};
@@ -16,7 +16,7 @@ ghost use Rattle.goblin_pe_calls.specs.Batches.{IsImportsFault, IsRefusedNext};
 ghost use Rattle.goblin_pe_calls.specs.Batches.{imports_from_position};
 ghost use Rattle.goblin_pe_calls.specs.Batches.{position_numbers, position_said, values_before};
 ghost use Rattle.goblin_pe_calls.specs.Exports.{export_said, export_view};
-ghost use Rattle.goblin_pe_calls.specs.Imports.{import_said, import_view};
+ghost use Rattle.goblin_pe_calls.specs.Imports.{GivesHere, import_said, import_view};
 
 use crate::export::{PeExport, plain_record, put_export};
 use crate::import::{PeImport, put_import};
@@ -106,7 +106,8 @@ fn fill_here<'a, 'm, 'e, T: Bitfield<'a>>(
     records: &mut [PeImport<'a>],
     first: usize,
 ) -> usize
-    ensures filled { FillsHere T.format imports.old imports.new records.old records.new first result }
+    ensures filled { GivesHere T.format imports.old imports.new
+        (Fills records.old records.new first result) }
     ensures further { first ≤ result }
 {
     let Some(mut plain) = imports.plain() else {
@@ -133,7 +134,8 @@ fn fill_library<'a, 'm, 'e>(
     records: &mut [PeImport<'a>],
     first: usize,
 ) -> usize
-    ensures filled { FillsLibrary imports.old imports.new records.old records.new first result }
+    ensures filled { GivesInFile imports.old imports.new
+        (Fills records.old records.new first result) }
     ensures further { first ≤ result }
 {
     if records.len() <= first {

@@ -1,15 +1,14 @@
-use Rattle.std.proofs.Common.{◌∙◌, map}
-use Rattle.goblin_pe_import.specs.ImportWalks.{plain_at}
+use Rattle.std.proofs.Common.{◌∙◌, append-nil, map, sym}
 use Rattle.goblin_pe_calls.specs.Imports.{import_view}
-use Rattle.goblin_pe_calls.proofs.Pushed.{pushed-more, pushed-none}
+use Rattle.goblin_pe_calls.proofs.Pushed.{here-more, here-start, pushed-more}
 use Rattle.goblin_pe_calls.proofs.import.push_here.Goals as goal
 
 pub returns-in_default-clause-pushed : goal.returns-in_default-clause-pushed
-returns-in_default-clause-pushed g c = pushed-none g.T.Bitfield.format c.args.imports.now (map import_view c.args.records.now.items)
+returns-in_default-clause-pushed g c = here-start g.T.Bitfield.format c.args.imports.now _ (sym (append-nil (map import_view c.args.records.now.items)))
 
 pub plain-init : goal.plain-init
 plain-init g c = (
-  rw c.in-Some.ensures.begins (pushed-none g.T.Bitfield.format c.args.imports.now (map import_view c.args.records.now.items)),
+  rw c.in-Some.ensures.begins (here-start g.T.Bitfield.format c.args.imports.now _ (sym (append-nil (map import_view c.args.records.now.items)))),
   λ room. room,
   c.in-Some.ensures.same,
 )
@@ -17,7 +16,7 @@ plain-init g c = (
 pub plain-preserved : goal.plain-preserved
 plain-preserved g c =
     let gives = c.in-Some-next_import.ensures in (
-      pushed-more g.T.Bitfield.format c.args.imports.now (plain_at c.plain.plain) (plain_at c.next_import.new.self) _ _ _ c.plain.invariant.0 c.in-Some-next_import.import gives.0 c.push_within.ensures.value,
+      here-more g.T.Bitfield.format c.args.imports.now _ _ _ _ c.plain.invariant.0 c.in-Some-next_import.import gives.0 (pushed-more _ _ _ c.in-Some-next_import.import c.push_within.ensures.value),
       λ room. c.push_within.ensures.room (c.plain.invariant.1 room),
       gives.1 ∙ c.plain.invariant.2,
     )

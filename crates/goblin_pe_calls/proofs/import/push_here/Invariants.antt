@@ -2,12 +2,12 @@
 use Rattle.std.proofs.Common.{◌≡◌, length, map}
 use Rattle.goblin_pe_import.specs.ImportWalks.{imports_left, plain_at}
 use Rattle.goblin_pe_records.specs.Blocked.{HasLittleRoom}
-use Rattle.goblin_pe_calls.specs.Imports.{PushesHere, import_view}
+use Rattle.goblin_pe_calls.specs.Imports.{GivesHere, Pushes, import_view}
 use Rattle.goblin_pe_calls.proofs.import.push_here.Given as goal
 
 abbrev pub invariant-plain : goal.invariant-plain
 invariant-plain g l =
-    PushesHere g.T.Bitfield.format l.initial.imports (plain_at l.plain) (map import_view l.initial.records.items) (map import_view l.records.items)
+    GivesHere g.T.Bitfield.format l.initial.imports (plain_at l.plain) (Pushes (map import_view l.initial.records.items) (map import_view l.records.items))
     × (HasLittleRoom l.initial.records → HasLittleRoom l.records)
     × (l.plain.imports ≡ l.initial.imports)
 

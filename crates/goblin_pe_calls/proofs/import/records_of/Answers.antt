@@ -1,5 +1,4 @@
-use Rattle.std.proofs.Common.{◌∙◌, ap, sym}
-use Rattle.goblin_pe.specs.Addresses.{map_of}
+use Rattle.std.proofs.Common.{◌∙◌, sym}
 use Rattle.std.proofs.lemmas.Result.{err_from_is_err_and}
 use Rattle.goblin_pe_import.specs.ImportWalks.{IsImportsCause, imports_left, walked_value}
 use Rattle.goblin_pe_calls.specs.Imports.{import_said}
@@ -25,7 +24,7 @@ libraries-preserved g c =
     let pushed = c.push_here.ensures.pushed in (
       made-pushed g.T.Bitfield.format _ _ _ _ _ one pushed,
       c.push_here.ensures.room (c.in_ok-push_import.ensures.room c.libraries.invariant.1),
-      ap map_of c.push_here.ensures.kept ∙ c.in-Some.ensures.steps.3.1 ∙ c.libraries.invariant.2,
+      pushed.over.1 ∙ c.in-Some.ensures.steps.3.1 ∙ c.libraries.invariant.2,
     )
 
 pub returns-clause-value : goal.returns-clause-value

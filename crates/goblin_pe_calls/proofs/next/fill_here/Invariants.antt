@@ -1,12 +1,13 @@
 -- The records hold the plain imports that have come so far.
 use Rattle.std.proofs.Common.{◌≡◌, ◌-◌, ◌≤◌, length}
 use Rattle.goblin_pe_import.specs.ImportWalks.{plain_at}
-use Rattle.goblin_pe_calls.specs.Batches.{FillsHere}
+use Rattle.goblin_pe_calls.specs.Batches.{Fills}
+use Rattle.goblin_pe_calls.specs.Imports.{GivesHere}
 use Rattle.goblin_pe_calls.proofs.next.fill_here.Given as goal
 
 abbrev pub invariant-plain : goal.invariant-plain
 invariant-plain g l =
-    FillsHere g.T.Bitfield.format l.initial.imports (plain_at l.plain) l.initial.records l.records l.first l.count
+    GivesHere g.T.Bitfield.format l.initial.imports (plain_at l.plain) (Fills l.initial.records l.records l.first l.count)
     × (l.first ≤ l.count)
     × (l.plain.imports ≡ l.initial.imports)
 

@@ -1,4 +1,4 @@
-use Rattle.std.proofs.Common.{◌<◌, ◌^◌, ◌+◌, Some, Result, length, set, arith, subst}
+use Rattle.std.proofs.Common.{◌<◌, ◌^◌, Some, Result, length, arith, subst}
 use Rattle.goblin_base.specs.declared.error.ErrorOf.{ErrorOf}
 use Rattle.goblin_pe_import.specs.declared.import.imports.WalkedImport.{WalkedImport}
 use Rattle.goblin_pe.specs.LayoutPositions.{GivesFileImport}
@@ -20,7 +20,7 @@ imports-preserved c =
     let is = subst (λ (r : Result WalkedImport ErrorOf). GivesFileImport now (Some r) next) c.in-Some-Ok.field-0-is c.in-Some-Ok.ensures.steps in
     let kept = is.1 m places.magic bytes c.imports.invariant.goes.walk in
     let fills = c.fill_library-count.ensures.filled in
-    let there = library-kept m places.magic bytes next last (set c.imports.records c.imports.count c.put_import.new.place) c.fill_library-count.new.records (c.imports.count + 1) c.fill_library-count.result fills kept.0 kept.1 in
+    let there = library-kept m places.magic bytes next last _ fills kept.0 kept.1 in
     let fits = c.bytes.type_inv in
     let most : length bytes < 2 ^ 63 = rw (← c.bytes.ensures) (omega (arith, fits)) in
     let goes = goes-after m places bytes c.position_record.result c.position.result last most there.0 c.imports.invariant.goes.asked c.position.ensures.is there.1 (c.position.ensures.left m places.magic bytes there.0) c.position_record.ensures in
