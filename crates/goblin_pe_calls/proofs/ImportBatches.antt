@@ -286,19 +286,6 @@ module _ (m : MapOfAddresses) (places : TablePlaces) (bytes : List ℕ) (start :
     pub stays : length old ≡ 0 → p ≡ from
 
   module _ (now : FileImports) (p : PeImportPosition) (records : List PeImport) (count : ℕ) (h : AtImports now p records count) where
-    pub imports-more : (x : WalkedImport) (next : FileImports) (q : PeImportPosition) (r : PeImport) → GivesFileImport now (Some (Ok x)) next
-        → GoesOn m places bytes q next → count < length records → import_view r ≡ import_said (walked_value x)
-        → AtImports next q (set records count r) (count + 1)
-    imports-more x next q r given goes within says =
-        let one = given.0 in
-        record {
-          values = h.values ++ walked_value x ∷ [];
-          at = batch-more import_view import_said old h.values records count (walked_value x) r h.at within says;
-          walk = walk-more file_imports_left IsFileImportsCause start now h.values h.walk walked_value next x one;
-          goes = goes;
-          first = λ none. absurd (omega (arith, none));
-        }
-
     -- an import has come, and those of its library that there is room for
     pub library-more : (x : WalkedImport) (next last : FileImports) (q : PeImportPosition) (r : PeImport) (new : List PeImport) (end : ℕ)
         → GivesFileImport now (Some (Ok x)) next → count < length records → import_view r ≡ import_said (walked_value x)
