@@ -2,11 +2,11 @@
 //! beside_object ROUNDS FILE..
 //!
 //! object's own lists lack the imports by ordinal and the exports that are forwarded. So the rows that it reads are
-//! put into lists here, and without lists they are compared with this library's walks.
+//! put into lists here, and without lists they are compared with the walks over this library's layout.
 #[path = "../../beside_goblin/src/measure.rs"]
 mod measure;
 
-use goblin_pe::{Options, Pe};
+use goblin_pe::{Layout, Options, Pe};
 use object::pe::{IMAGE_NT_OPTIONAL_HDR64_MAGIC, ImageNtHeaders32, ImageNtHeaders64};
 use object::read::pe::{ExportTarget, ImageNtHeaders, Import, PeFile, optional_header_magic};
 use object::{LittleEndian, Object, ObjectSection};
@@ -29,19 +29,23 @@ fn our_lists(bytes: &[u8]) -> Option<[usize; 4]> {
     Some([pe.sections().len(), imports, exports, pe.blocks().len()])
 }
 
-// How many imports and exports a file has by this library's walks. They read it anew, each batch by a call of the
-// library, and use nothing of what was read before but the options.
-fn our_walks(pe: &Pe<'_>) -> Option<[usize; 2]> {
-    let (mut imports, mut exports) = (0, 0);
-    for import in pe.walk_imports() {
+// How many imports, exports and blocks of base relocations a file has by the walks over this library's layout.
+fn our_walks(bytes: &[u8]) -> Option<[usize; 3]> {
+    let layout = Layout::read(bytes, &Options::default()).ok()?;
+    let mut counts = [0; 3];
+    for import in layout.walk_imports() {
         black_box(import.ok()?);
-        imports += 1;
+        counts[0] += 1;
     }
-    for export in pe.walk_exports() {
+    for export in layout.walk_exports() {
         black_box(export.ok()?);
-        exports += 1;
+        counts[1] += 1;
     }
-    Some([imports, exports])
+    for block in layout.walk_blocks() {
+        black_box(block.ok()?);
+        counts[2] += 1;
+    }
+    Some(counts)
 }
 
 // Reads each import, with its library, by object.
@@ -81,6 +85,22 @@ fn exports_of<'a, H: ImageNtHeaders>(
     Ok(())
 }
 
+// Reads each block of base relocations, by its address and size, by object.
+fn blocks_of<H: ImageNtHeaders>(
+    file: &PeFile<'_, H>,
+    bytes: &[u8],
+    mut with: impl FnMut((u32, u32)),
+) -> object::Result<()> {
+    let directories = file.data_directories();
+    let Some(mut blocks) = directories.relocation_blocks(bytes, &file.section_table())? else {
+        return Ok(());
+    };
+    while let Some(block) = blocks.next()? {
+        with((block.virtual_address(), block.size()));
+    }
+    Ok(())
+}
+
 // The counts of `our_lists` by object, with a list of each.
 fn lists<H: ImageNtHeaders>(bytes: &[u8]) -> object::Result<[usize; 4]> {
     let file = PeFile::<H>::parse(bytes)?;
@@ -90,32 +110,29 @@ fn lists<H: ImageNtHeaders>(bytes: &[u8]) -> object::Result<[usize; 4]> {
     }
     imports_of(&file, |it| imports.push(it))?;
     exports_of(&file, |it| exports.push(it))?;
-    let sections = file.section_table();
-    if let Some(mut all) = file
-        .data_directories()
-        .relocation_blocks(bytes, &sections)?
-    {
-        while let Some(block) = all.next()? {
-            blocks.push((block.virtual_address(), block.size()));
-        }
-    }
+    blocks_of(&file, bytes, |it| blocks.push(it))?;
     black_box((&imports, &exports, &blocks));
-    Ok([sections.len(), imports.len(), exports.len(), blocks.len()])
+    let sections = file.section_table().len();
+    Ok([sections, imports.len(), exports.len(), blocks.len()])
 }
 
 // The counts of `our_walks` by object, without lists.
-fn walks<H: ImageNtHeaders>(bytes: &[u8]) -> object::Result<[usize; 2]> {
+fn walks<H: ImageNtHeaders>(bytes: &[u8]) -> object::Result<[usize; 3]> {
     let file = PeFile::<H>::parse(bytes)?;
-    let (mut imports, mut exports) = (0, 0);
+    let mut counts = [0; 3];
     imports_of(&file, |it| {
         black_box(it);
-        imports += 1;
+        counts[0] += 1;
     })?;
     exports_of(&file, |it| {
         black_box(it);
-        exports += 1;
+        counts[1] += 1;
     })?;
-    Ok([imports, exports])
+    blocks_of(&file, bytes, |it| {
+        black_box(it);
+        counts[2] += 1;
+    })?;
+    Ok(counts)
 }
 
 fn is_wide(bytes: &[u8]) -> Option<bool> {
@@ -130,7 +147,7 @@ fn object_lists(bytes: &[u8]) -> Option<[usize; 4]> {
     }
 }
 
-fn object_walks(bytes: &[u8]) -> Option<[usize; 2]> {
+fn object_walks(bytes: &[u8]) -> Option<[usize; 3]> {
     if is_wide(bytes)? {
         walks::<ImageNtHeaders64>(bytes).ok()
     } else {
@@ -147,20 +164,14 @@ fn main() -> Result<(), Box<dyn Error>> {
         ("lists: ours", |file| our_lists(file)),
         ("object", |file| object_lists(file)),
     );
-    let read: Vec<(Pe, &[u8])> = files
-        .iter()
-        .map(|file| Ok((Pe::read(file, &Options::default())?, file.as_slice())))
-        .collect::<Result<_, goblin_pe::Error>>()?;
-    for (pe, bytes) in &read {
-        if our_walks(pe) != object_walks(bytes) {
-            return Err("the walks count otherwise".into());
-        }
+    if files.iter().any(|it| our_walks(it) != object_walks(it)) {
+        return Err("the walks count otherwise".into());
     }
     measure::compare(
-        &read,
+        &files,
         rounds,
-        ("walks: ours", |it| our_walks(&it.0)),
-        ("object", |it| object_walks(it.1)),
+        ("walks: ours", |file| our_walks(file)),
+        ("object", |file| object_walks(file)),
     );
     Ok(())
 }

@@ -67,17 +67,20 @@ module _ {X Y : Type 0} (import_of : ImportValue → X) (exports_of : Part Expor
   third-refused x y e first second h =
       rw ((steps.mapped _ _ x first).is, (steps.mapped _ _ y second).is, h.0) (refl, h.1)
 
+  abbrev parts_of : Part (List X) → Y → Part (List ℕ) → CollectedParts X Y
+  parts_of x y z = record { imports = x; exports = y; relocations = z }
+
   pub all-read : (x : Part (List X)) (y : Y) (z : Part (List ℕ))
       → imports_made.value bytes ≡ Some x → exports_made.value bytes ≡ Some y
       → (relocation_part opts offset_of places).value bytes ≡ Some z
-      → all_made.value bytes ≡ Some ((x, y), z)
+      → all_made.value bytes ≡ Some (parts_of x y z)
   unfolding table_parts
   all-read x y z first second third =
       let m = steps.mapped _ _ x first in
       let n = steps.mapped _ _ y second in
       rw (m.is, n.is, third)
-      (ap (λ (x : Part (List X)). Some ((x, collected_exports exports_of n.value), z)) m.made
-      ∙ ap (λ (y : Y). Some ((x, y), z)) n.made)
+      (ap (λ (x : Part (List X)). Some (parts_of x (collected_exports exports_of n.value) z)) m.made
+      ∙ ap (λ (y : Y). Some (parts_of x y z)) n.made)
 
 module _ {X Y : Type 0} (import_of : ImportValue → X) (exports_of : Part ExportTables → Y) where
   -- what is kept of a file with this header and these sections, and of whose tables this is kept
@@ -85,9 +88,9 @@ module _ {X Y : Type 0} (import_of : ImportValue → X) (exports_of : Part Expor
   file_with h sections t = record {
     header = h;
     sections = sections;
-    imports = t.0.0;
-    exports = t.0.1;
-    relocations = t.1;
+    imports = t.imports;
+    exports = t.exports;
+    relocations = t.relocations;
   }
 
   file-collected : (h : PeHeader) (sections : List Section) (parts : TableParts)

@@ -284,14 +284,18 @@ abbrev pub collected_exports : {Y : Type 0} → (Part ExportTables → Y)
 collected_exports exports_of read = exports_of (part_map (λ read. read.0) read)
 
 -- what is made of the tables of a file
-abbrev pub CollectedParts : Type 0 → Type 0 → Type 0
-CollectedParts X Y = (Part (List X) × Y) × Part (List ℕ)
+pub record CollectedParts (X Y : Type 0) : Type 0 where
+  pub imports : Part (List X)
+  pub exports : Y
+  pub relocations : Part (List ℕ)
 
 abbrev pub collected_tables : {X Y : Type 0} → (ImportValue → X) → (Part ExportTables → Y)
     → TableParts → CollectedParts X Y
-collected_tables import_of exports_of parts =
-    let imports = collected_imports import_of parts.imports in
-    ((imports, collected_exports exports_of parts.exports), parts.relocations)
+collected_tables import_of exports_of parts = record {
+  imports = collected_imports import_of parts.imports;
+  exports = collected_exports exports_of parts.exports;
+  relocations = parts.relocations;
+}
 
 -- a whole file with X made of each of its imports, and Y of its export tables
 pub record CollectedFileValue (X Y : Type 0) : Type 0 where

@@ -122,10 +122,11 @@ records_of_file opts bytes w =
 
 -- the tables as records
 abbrev pub tables_view : FileRecords → CollectedParts ImportSaid ExportsSaid
-tables_view x = (
-  (part_map import_views x.imports, exports_view x.exports),
-  part_map relocation_bytes x.relocations,
-)
+tables_view x = record {
+  imports = part_map import_views x.imports;
+  exports = exports_view x.exports;
+  relocations = part_map relocation_bytes x.relocations;
+}
 
 -- the file, by its header, what its tables are read by and their records
 abbrev pub records_view : Header → Layout → FileRecords → RecordsOfFile
