@@ -123,8 +123,8 @@ pub extern "C" fn goblin_pe_raw_read_damage(
 ) -> PeFault
     ensures { let opts = options_of options.now in
         Reported result
-        (ReadsInto (pe_header (is_strict opts.parse_mode)) (TakesIndex opts bytes.now) (file_layout opts)
-        bytes.now
+        (ReadsInto (pe_header (is_strict opts.parse_mode)) (TakesIndex opts bytes.now)
+        (file_layout opts) bytes.now
         (λ l. RecordsDamage opts l.0 l.1 bytes.now damage.new) (damage.new ≡ damage.old)) }
 {
     status_of(damage::tell(alloc, bytes, &options_of(options), damage))

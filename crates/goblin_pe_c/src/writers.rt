@@ -68,7 +68,8 @@ pub extern "C" fn goblin_pe_raw_write_section(
     ensures written { let old : Output = record { out = out.old; written = written.old } in
         let new : Output = record { out = out.new; written = written.new } in
         Reported result
-        (WritesOut (overwritten out.old 0 (encoding Little (section_fields (section_view section.now))))
+        (WritesOut
+        (overwritten out.old 0 (encoding Little (section_fields (section_view section.now))))
         (λ size. size ≡ 40) (IsSliceFault out.old 0 40) old new) }
     ensures back { SectionWritesBack }
 {

@@ -245,7 +245,8 @@ pub record FillsBlocks (left later : List (Result Block ErrorOf)) (old new : Blo
   pub position : new.position
       ≡ old.position + sum_by (λ (b : Block). b.size) (take count (values_of left))
 
-abbrev pub GivesBlocks : MapOfAddresses → TablePlaces → List ℕ → BlockBatch → BlockBatch → ℕ → Type 0
+abbrev pub GivesBlocks : MapOfAddresses → TablePlaces → List ℕ → BlockBatch → BlockBatch → ℕ
+    → Type 0
 GivesBlocks m places bytes old new count =
     IsSomeAnd ((relocation_part m.opts (offset_of m) places).value bytes) (λ p.
     FillsBlocks (items_from old.position p) (items_from new.position p) old new count)

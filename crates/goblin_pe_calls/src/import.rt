@@ -237,7 +237,8 @@ fn listed_records<'a, 'm>(
     requires { map_of finder.old ≡ layout_map layout.now }
     ensures value { let m = layout_map layout.now in
         ReadsOrMemory (part_map import_views) result
-        (mapped (part_map (map import_said)) (import_list m.opts (offset_of m) (layout_places layout.now)))
+        (mapped (part_map (map import_said))
+        (import_list m.opts (offset_of m) (layout_places layout.now)))
         (layout_bytes layout.now) }
     ensures listed { let m = layout_map layout.now in
         AreListed m.opts (offset_of m) (layout_places layout.now) (layout_bytes layout.now) }

@@ -47,7 +47,8 @@ is_own (Some (ForwarderRVA rva)) = false
 
 abbrev pub leads_to_own : ExportTables → ℕ → Bool
 leads_to_own tables x =
-    is_own (option_and_then (slice_get tables.export_address_table) (slice_get tables.export_ordinal_table x))
+    is_own (option_and_then (slice_get tables.export_address_table)
+    (slice_get tables.export_ordinal_table x))
 
 -- how many of the first n name pointers do
 unfoldable pub own_exports : ExportTables → ℕ → ℕ

@@ -60,7 +60,8 @@ fn forwarder_at(bytes: &[u8], offset: Option<usize>) -> Option<Reexport<'_>>
 #[inline(never)]
 fn forwarded_at(bytes: &[u8], offset: Option<usize>) -> Option<Option<Reexport<'_>>>
     ensures { option_map (option_map forwarder_value) result
-        ≡ option_map (λ f. Some f) (option_and_then (λ p. (forwarder_at p).value bytes.now) offset) }
+        ≡ option_map (λ f. Some f)
+        (option_and_then (λ p. (forwarder_at p).value bytes.now) offset) }
 {
     let forwarder = forwarder_at(bytes, offset)?;
     Some(Some(forwarder))

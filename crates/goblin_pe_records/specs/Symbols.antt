@@ -29,7 +29,8 @@ name_in_piece strings o = if is_in_piece strings o then text_of (stretch strings
 -- Of bytes that are UTF-8 as a whole, these are the texts of the string table that they are.
 abbrev pub NamesOfText : Type 0
 NamesOfText =
-    (strings : List ℕ) (o : ℕ) → is_utf8 strings ≡ true → name_in_piece strings o ≡ rest_at strings o
+    (strings : List ℕ) (o : ℕ) → is_utf8 strings ≡ true
+    → name_in_piece strings o ≡ rest_at strings o
 
 -- the name: if a number is stored in its place, what the string table has at that offset, else the
 -- one in the record

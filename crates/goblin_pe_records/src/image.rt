@@ -42,7 +42,8 @@ pub struct PeText<'a> {
 impl<'a> PeImage<'a> {
     // The file offset of an address; it is refused where there is none.
     fn offset_at(&self, rva: usize) -> Result<usize>
-        ensures { Answers (λ p. p) result (image_map self.now rva) (λ e. e ≡ Malformed (Unmapped rva)) }
+        ensures { Answers (λ p. p) result (image_map self.now rva)
+            (λ e. e ≡ Malformed (Unmapped rva)) }
     {
         self.offset_of(rva)
             .ok_or(Error::Malformed(Cause::Unmapped(rva)))

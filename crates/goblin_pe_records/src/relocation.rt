@@ -111,7 +111,8 @@ pub fn next_relocations(
 ) -> Result<()>
     ensures { ReadsWithout (all_relocations (section_view section.now)) bytes.now
         (λ all. GivesOnward all position.old records.old position.new records.new count.new)
-        ((position.new ≡ position.old) × (records.new ≡ records.old) × (count.new ≡ count.old)) result }
+        ((position.new ≡ position.old) × (records.new ≡ records.old) × (count.new ≡ count.old))
+        result }
 {
     let table = all_records(bytes, section)?;
     *count = fill_onward(|index| relocation_at(table, index), position, records);

@@ -233,7 +233,8 @@ fn write_record(section: &SectionTable, out: &mut [u8], written: &mut usize) -> 
 pub fn write_section(section: &PeSection, out: &mut [u8], written: &mut usize) -> Result<()>
     ensures written { let old : Output = record { out = out.old; written = written.old } in
         let new : Output = record { out = out.new; written = written.new } in
-        WritesOut (overwritten out.old 0 (encoding Little (section_fields (section_view section.now))))
+        WritesOut
+        (overwritten out.old 0 (encoding Little (section_fields (section_view section.now))))
         (λ size. size ≡ 40) (IsSliceFault out.old 0 40) old new result }
     ensures back { SectionWritesBack }
 {

@@ -75,7 +75,8 @@ unfoldable pub file_offset : ParseOptions → List Section → ℕ → ℕ → O
 file_offset opts sections alignment rva =
     if opts.resolve_rva
     then (if is_power_of_two alignment
-    then option_map (λ s. offset_in opts alignment s rva) (find (is_in_window alignment rva) sections)
+    then option_map (λ s. offset_in opts alignment s rva)
+    (find (is_in_window alignment rva) sections)
     else None)
     else Some rva
 

@@ -6,7 +6,8 @@ use Rattle.goblin_pe_sect.specs.declared.address_map.run.Run.{Run}
 -- the file offset of an address of a run
 abbrev pub offset_in_run : Run → ℕ → Option ℕ
 offset_in_run r rva =
-    if nat_le r.first rva && nat_lt (rva - r.first) r.size then Some (r.offset + (rva - r.first)) else None
+    if nat_le r.first rva && nat_lt (rva - r.first) r.size then Some (r.offset + (rva - r.first))
+    else None
 
 -- each address of a run has the offset that the run says, and neither passes 64 bits
 pub record IsRun (offset_of : ℕ → Option ℕ) (r : Run) : Type 0 where

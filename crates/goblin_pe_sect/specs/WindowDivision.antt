@@ -7,7 +7,8 @@ use Rattle.goblin_pe_sect.specs.SectionTable.{Section}
 use Rattle.goblin_pe_sect.specs.WindowIndex.{AreNear, IsCut, begins_of, first_owner, owners_of}
 
 -- the pieces are those of the sections' windows, each with what is kept of its first section
-pub record IsDivision (opts : ParseOptions) (sections : List Section) (alignment : ℕ) (pieces : List Piece) : Type 0 where
+pub record IsDivision (opts : ParseOptions) (sections : List Section) (alignment : ℕ)
+    (pieces : List Piece) : Type 0 where
   pub cut : IsCut sections alignment (begins_of pieces)
   pub near : AreNear sections alignment
   pub owned : owners_of pieces ≡ map (first_owner opts sections alignment) (begins_of pieces)

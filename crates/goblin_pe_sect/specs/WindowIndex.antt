@@ -58,7 +58,8 @@ owner_of_section opts alignment i s =
 -- what an index keeps of the first section whose window holds an address
 abbrev pub first_owner : ParseOptions → List Section → ℕ → ℕ → Option Owner
 first_owner opts sections alignment rva =
-    option_and_then (λ (i : ℕ). option_map (owner_of_section opts alignment i) (slice_get sections i))
+    option_and_then
+    (λ (i : ℕ). option_map (owner_of_section opts alignment i) (slice_get sections i))
     (position (is_in_window alignment rva) sections)
 
 -- ---- what an index returns

@@ -511,7 +511,8 @@ impl SectionTable {
 pub(crate) fn name_in_record(bytes: &[u8], mode: ParseMode) -> Result<Option<usize>>
     requires { length bytes.now ≡ 40 }
     ensures { let name = slice_range bytes.now 0 8 in
-        Answers (λ v. v) result (name_value (is_strict mode) name) (IsNameFault (is_strict mode) name) }
+        Answers (λ v. v) result (name_value (is_strict mode) name)
+        (IsNameFault (is_strict mode) name) }
 {
     if bytes[0] != b'/' {
         return Ok(None);

@@ -169,7 +169,8 @@ impl<'a> Header<'a> {
             (reading.pe_header (is_strict opts.now.parse_mode)) bytes.now }
         ensures padding { OnOk result (IfSome self.new.rich_header PaddingFits) }
         ensures rich { OnOk result
-            (reading.rich_header.value bytes.now ≡ Some (option_map rich_value self.new.rich_header)) }
+            (reading.rich_header.value bytes.now
+            ≡ Some (option_map rich_value self.new.rich_header)) }
         ensures kept { OnErr result (self.new ≡ self.old) }
     {
         let dos_header = DosHeader::parse(bytes)?;

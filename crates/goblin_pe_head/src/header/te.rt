@@ -220,8 +220,9 @@ impl TeHeader {
         bytes: &'a [u8],
         offset: &mut usize,
     ) -> Result<SectionRecords<'a>>
-        ensures value { Reads (λ r. map (section_moved (displacement self.now)) (recorded_sections r))
-            result (mapped (map unnamed) (reading.te_sections_at self.now offset.old)) bytes.now }
+        ensures value { let moved = section_moved (displacement self.now) in
+            Reads (λ r. map moved (recorded_sections r)) result
+            (mapped (map unnamed) (reading.te_sections_at self.now offset.old)) bytes.now }
         ensures ok { OnOk result (offset.new ≡ offset.old + 40 * self.now.number_of_sections) }
         ensures err { OnErr result (offset.new ≡ offset.old) }
     {

@@ -216,7 +216,8 @@ pub(super) fn put_pieces(
     requires room { length begins.now ≤ vec_capacity pieces.old }
     ensures begins { OnOk result (begins_of pieces.new.items ≡ begins.now) }
     ensures owners { OnOk result
-        (owners_of pieces.new.items ≡ map (first_owner opts.now sections.now file_alignment) begins.now) }
+        (owners_of pieces.new.items
+        ≡ map (first_owner opts.now sections.now file_alignment) begins.now) }
     ensures same { OnOk result (vec_capacity pieces.new ≡ vec_capacity pieces.old) }
 {
     let windows = windows_of(alloc, sections, file_alignment, opts)?;
