@@ -59,6 +59,9 @@ pub struct Layout<'a> {
     pub(crate) sections: SectionRecords<'a>,
 }
 
+// How many sections a file may have that is read by one call; few have more.
+const FIRST: usize = 16;
+
 // The records of its sections: memory of this crate's, or a block that the library listed.
 #[derive(Clone)]
 pub(crate) enum SectionRecords<'a> {
@@ -90,11 +93,16 @@ impl<'a> Layout<'a> {
     pub fn read(bytes: &'a [u8], options: &Options) -> Result<Layout<'a>, Error> {
         let mut file = raw::Layout::default();
         let mut directories = [raw::Directory::default(); 16];
-        let fault = raw::read_layout(bytes, options, &mut file, &mut directories, &mut []);
+        let mut first = [raw::Section::default(); FIRST];
+        let fault = raw::read_layout(bytes, options, &mut file, &mut directories, &mut first);
         Error::test(fault)?;
         let mut sections = records(raw::Section::default(), file.sections)?;
-        let fault = raw::read_layout(bytes, options, &mut file, &mut [], &mut sections);
-        Error::test(fault)?;
+        if sections.len() <= FIRST {
+            sections.copy_from_slice(&first[..sections.len()]);
+        } else {
+            let fault = raw::read_layout(bytes, options, &mut file, &mut [], &mut sections);
+            Error::test(fault)?;
+        }
         Ok(Layout {
             bytes,
             options: *options,
