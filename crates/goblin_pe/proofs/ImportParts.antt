@@ -20,7 +20,7 @@ use Rattle.goblin_pe_sect.specs.Options.{is_strict}
 use Rattle.goblin_pe_import.specs.declared.import.directory_entry.ImportDirectoryEntry.{ImportDirectoryEntry}
 use Rattle.goblin_pe_import.specs.ImportEntries.{EntryValue}
 use Rattle.goblin_pe_import.specs.ImportReadings.{import_data, kept_library, libraries_at}
-use Rattle.goblin_pe_import.specs.ImportReadings.{libraries_past_front, library_of}
+use Rattle.goblin_pe_import.specs.ImportReadings.{libraries_if, libraries_past_front, library_of}
 use Rattle.goblin_pe_import.specs.ImportRecords.{ImportedLibrary, import_slots}
 use Rattle.goblin_pe_import.specs.Imports.{ImportValue, kept_imports}
 use Rattle.goblin_pe.specs.declared.whole.Part.{Part}
@@ -38,10 +38,6 @@ use Rattle.goblin_pe.proofs.ListedImports.{data-listed}
 left-there : {A : Type 0} (o : Option A) → IsSome (tables.or_left_out false o)
 left-there None = refl
 left-there (Some x) = refl
-
-picked-there : {A : Type 0} (test : Bool) (r s : Reading A) (bytes : List ℕ) → IsSome (r.value bytes) → IsSome (s.value bytes) → IsSome ((cond test r s).value bytes)
-picked-there true r s bytes first second = first
-picked-there false r s bytes first second = second
 
 placed-there : {A B : Type 0} (d : A) (o : Option A) (f : A → Option B) → ((x : A) → IsSome (f x)) → IsSome (in_its_place false d o >>= f)
 placed-there d None f all = all d
@@ -62,7 +58,12 @@ module _ (format : Format EntryValue) (offset_of : ℕ → Option ℕ) (bytes : 
 
   past-front-there : (o : ℕ) → IsSome ((libraries_past_front false format offset_of o).value bytes)
   unfolding libraries_past_front
-  past-front-there o = picked-there (not false && o == 0) (given []) (libraries_at false format offset_of o) bytes refl (libraries-there o)
+  past-front-there o = by (not false && o == 0)
+    where
+      by : (test : Bool)
+          → IsSome ((libraries_if false format offset_of (cond test None (Some o))).value bytes)
+      by true = cc
+      by false = libraries-there o
 
   pub data-there : (strict : Bool) (rva : ℕ) → strict ≡ false → IsSome ((import_data strict format offset_of rva).value bytes)
   unfolding import_data

@@ -359,7 +359,7 @@ module _ (strict : Bool) (format : Format EntryValue) (offset_of : ℕ → Optio
   unfolding imports.libraries_past_front
   has-libraries o = by (not strict && o == 0)
     where
-      by : (test : Bool) → HasOne (cond test (reads.given []) (imports.libraries_at strict format offset_of o))
+      by : (test : Bool) → HasOne (imports.libraries_if strict format offset_of (cond test None (Some o)))
       by true = has-given []
       by false =
           has-table import_slots strict imports.import_record_at (imports.kept_library strict format offset_of) o

@@ -28,7 +28,8 @@ use Rattle.goblin_pe.specs.declared.whole.Part.TheVariants.{Absent, Refused}
 use Rattle.goblin_pe.specs.declared.whole.Part.TheVariants as part
 use Rattle.goblin_pe_export.specs.ExportReadings.{export_read}
 use Rattle.goblin_pe_import.specs.ImportEntries.{EntryValue}
-use Rattle.goblin_pe_import.specs.ImportReadings.{import_data, libraries_at, libraries_past_front}
+use Rattle.goblin_pe_import.specs.ImportReadings.{import_data, libraries_at, libraries_if}
+use Rattle.goblin_pe_import.specs.ImportReadings.{libraries_past_front}
 use Rattle.goblin_pe_import.specs.ImportRecords.{ImportedLibrary}
 use Rattle.goblin_pe_import.specs.Imports.{ImportValue, imports_of}
 use Rattle.goblin_pe_import.proofs.ImportBound.{pair_of-left, pair_of-right}
@@ -64,11 +65,13 @@ header_in_modes bytes strict permissive h k =
 
 -- ---- import data
 
-past_front : (test : Bool) (r : Reading (List ImportedLibrary)) (bytes : List ℕ)
-    (xs : List ImportedLibrary) → r.value bytes ≡ Some xs
-    → (cond test (given []) r).value bytes ≡ Some (cond test [] xs)
-past_front true r bytes xs is = refl
-past_front false r bytes xs is = is
+past_front : (test : Bool) (format : Format EntryValue) (offset_of : ℕ → Option ℕ)
+    (bytes : List ℕ) (o : ℕ) (xs : List ImportedLibrary)
+    → (libraries_at false format offset_of o).value bytes ≡ Some xs
+    → (libraries_if false format offset_of (cond test None (Some o))).value bytes
+    ≡ Some (cond test [] xs)
+past_front true format offset_of bytes o xs is = refl
+past_front false format offset_of bytes o xs is = is
 
 front_or_not : (format : Format EntryValue) (offset_of : ℕ → Option ℕ) (bytes : List ℕ)
     (place : Option ℕ) (xs : List ImportedLibrary)
@@ -80,7 +83,7 @@ front_or_not : (format : Format EntryValue) (offset_of : ℕ → Option ℕ) (by
 unfolding libraries_past_front
 front_or_not format offset_of bytes None xs is = absurd cc
 front_or_not format offset_of bytes (Some o) xs is =
-    past_front (nat_eq o 0) (libraries_at false format offset_of o) bytes xs
+    past_front (nat_eq o 0) format offset_of bytes o xs
     ((libraries_at-repeats offset_of format o).kept bytes xs is)
 
 -- import data of a directory that is not at the front of the file

@@ -141,11 +141,13 @@ module _ (strict : Bool) (format : Format EntryValue) (offset_of : ℕ → Optio
   unfolding directory.import_data directory.libraries_past_front
   in_directory e Holds none at = by_place strict (offset_of rva) at e
     where
-      by_test : (test : Bool) (libraries : Reading (List ImportedLibrary))
-          → (libraries.value bytes ≡ Some xs → Holds xs)
-          → (cond test (given []) libraries).value bytes ≡ Some xs → Holds xs
-      by_test true libraries here e = subst Holds (same_value [] xs e) none
-      by_test false libraries here e = here e
+      by_test : (mode test : Bool) (o : ℕ)
+          → ((directory.libraries_at mode format offset_of o).value bytes ≡ Some xs → Holds xs)
+          → (directory.libraries_if mode format offset_of (cond test None (Some o))).value bytes
+          ≡ Some xs
+          → Holds xs
+      by_test mode true o here e = subst Holds (same_value [] xs e) none
+      by_test mode false o here e = here e
 
       by_place : (mode : Bool) (place : Option ℕ)
           → ((o : ℕ) → place ≡ Some o
@@ -153,7 +155,7 @@ module _ (strict : Bool) (format : Format EntryValue) (offset_of : ℕ → Optio
           → (in_its_place mode 0 place
           >>= λ o. (directory.libraries_past_front mode format offset_of o).value bytes) ≡ Some xs
           → Holds xs
-      by_place mode (Some o) at e = by_test (not mode && nat_eq o 0) _ (at o refl) e
+      by_place mode (Some o) at e = by_test mode (not mode && nat_eq o 0) o (at o refl) e
       by_place true None at e = absurd cc
       by_place false None at e = subst Holds (same_value [] xs e) none
 

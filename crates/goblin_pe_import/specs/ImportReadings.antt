@@ -60,12 +60,17 @@ abbrev pub first_record_offset : Bool → Option ℕ → Option ℕ
 first_record_offset strict None = None
 first_record_offset strict (Some o) = cond (not strict && o == 0) None (Some o)
 
--- The libraries of the directory at an offset. Permissive mode treats a directory at the front of
--- the file as empty.
+-- the libraries of a directory whose first record is at this offset, if it has one
+abbrev pub libraries_if : Bool → Format EntryValue → (ℕ → Option ℕ) → Option ℕ
+    → Reading (List ImportedLibrary)
+libraries_if strict format offset_of None = given []
+libraries_if strict format offset_of (Some o) = libraries_at strict format offset_of o
+
+-- the libraries of the directory at an offset
 unfoldable pub libraries_past_front : Bool → Format EntryValue → (ℕ → Option ℕ) → ℕ
     → Reading (List ImportedLibrary)
 libraries_past_front strict format offset_of o =
-    cond (not strict && o == 0) (given []) (libraries_at strict format offset_of o)
+    libraries_if strict format offset_of (first_record_offset strict (Some o))
 
 -- The libraries of the directory at an address. Permissive mode treats an address without an offset
 -- as one that leads to the front of the file.
