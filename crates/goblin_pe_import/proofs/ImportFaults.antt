@@ -14,12 +14,12 @@ use Rattle.goblin_pe_import.specs.declared.import.imports.WalkedImport.{WalkedIm
 use Rattle.goblin_pe_sect.specs.Addresses.{map_of, offset_of, reads_strictly}
 use Rattle.goblin_pe_import.specs.ImportEntries.{EntryValue}
 use Rattle.goblin_pe_import.specs.ImportReadings.{import_record_at, libraries_at}
-use Rattle.goblin_pe_import.specs.ImportRecords.{lookup_offset}
+use Rattle.goblin_pe_import.specs.ImportRecords.{address_table_rva, lookup_offset}
 use Rattle.goblin_pe_import.specs.LookupReadings.{lookup_table}
 use Rattle.goblin_pe_import.specs.ImportWalks.{AreImportsOver, GivesImport, IsCauseAt, IsCauseBy, IsEntriesCause, IsLaterCause}
 use Rattle.goblin_pe_import.specs.ImportWalks.{IsAfterImport, IsAtEnd}
 use Rattle.goblin_pe_import.specs.ImportWalks.{IsNamedCause, IsPlaced, IsRecordCause, IsRecordsCause, IsWalkCause}
-use Rattle.goblin_pe_import.specs.ImportWalks.{IsWalkFault, addresses_of, begin_at, entries_from, library_name}
+use Rattle.goblin_pe_import.specs.ImportWalks.{IsWalkFault, begin_at, entries_from, library_name}
 use Rattle.goblin_pe_import.specs.ImportWalks.{untested_table, walk_left, walked_value}
 
 module _ (strict : Bool) (format : Format EntryValue) (offset_of : ℕ → Option ℕ)
@@ -38,7 +38,7 @@ module _ (strict : Bool) (format : Format EntryValue) (offset_of : ℕ → Optio
   named-not_memory slot r p =
       let table = lookup_offset offset_of r in
       let place = begin_at slot table in
-      let addresses = addresses_of format offset_of r in
+      let addresses = untested_table strict format offset_of (Some (address_table_rva r)) in
       let IsLater = IsRecordsCause strict format offset_of bytes p in
       first_no_memory
       (all_of (entries_from strict format offset_of bytes (unwrap_or table 0) place))

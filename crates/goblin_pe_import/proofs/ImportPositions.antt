@@ -67,7 +67,7 @@ module _ (format : Format EntryValue) (w : Walk) where
     parts =
         let entered =
         walk-entered strict format places file l.entry (Some place) at.record_offset w.dll.now l.named
-        l.kept in
+        refl in
         let here : parts_left strict format places file l.entry (Some place) at.record_offset w.dll.now
         l.entry.import_address_table_rva w.table_offset (Some place) w.untested
         ≡ whole strict format places file l.entry (Some place) at.record_offset =
@@ -143,7 +143,7 @@ module _ (format : Format EntryValue) (w : Walk) where
         (subst (λ (slot : Option ℕ). IsCauseIn (Some w.table_offset) w.untested slot) l.first fault)) in
         let whole =
         cause-entered strict format places file l.entry (Some place) at.record_offset w.dll.now l.named
-        l.kept e parts in (
+        refl e parts in (
           whole.0,
           subst IsRecord (sym l.is) (l.going, subst IsWhole (sym (past place at l)) whole.1),
         )
@@ -154,7 +154,7 @@ module _ (format : Format EntryValue) (w : Walk) where
         let here = subst IsRecord l.is fault.1 in
         let parts =
         cause-again strict format places file l.entry (Some place) at.record_offset w.dll.now l.named
-        l.kept e (fault.0, subst IsWhole (past place at l) here.1) in
+        refl e (fault.0, subst IsWhole (past place at l) here.1) in
         subst (λ (slot : Option ℕ). IsCauseIn (Some w.table_offset) w.untested slot) (sym l.first)
         (subst (λ (untested : Option ℕ). IsCauseIn (Some w.table_offset) untested None) (sym l.tested)
         (subst (λ (table : Option ℕ). IsCauseIn table address None) l.table parts))

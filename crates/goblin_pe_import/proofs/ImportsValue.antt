@@ -21,7 +21,7 @@ use Rattle.goblin_base.proofs.Below.{each_below-there, least-before}
 use Rattle.goblin_base.proofs.Records.{record_at-some}
 use Rattle.goblin_base.proofs.Footprints.{same-all_at}
 use Rattle.goblin_base.proofs.Steps.{all_at-more, all_at-zero, same_value, step}
-use Rattle.readings.specs.Reads.{mapped, pair_of, with_slots}
+use Rattle.readings.specs.Reads.{given, mapped, pair_of, pick, with_slots}
 use Rattle.readings.specs.Walks.{IsWalkOf, end_items, items_at, refusal_of, table_walk}
 use Rattle.readings.proofs.WalkValues.{all_of-append, all_of-until, joined-end, walk-holds}
 use Rattle.goblin_pe_import.specs.declared.import.directory_entry.ImportDirectoryEntry.{ImportDirectoryEntry}
@@ -183,6 +183,19 @@ module _ (strict : Bool) (format : Format EntryValue) (offset_of : ℕ → Optio
 
 -- ---- a library
 
+-- a library that is not left out has an address table where strict mode does not need one
+same_refusal : (mode : Bool) (table : Reading (List ℕ)) (bytes : List ℕ)
+    → (not mode && is_none (table.value bytes)) ≡ false
+    → refusal_of {B = ImportValue} ((pick mode table (given [])).value bytes)
+    ≡ refusal_of (table.value bytes)
+same_refusal true table bytes kept = refl
+same_refusal false table bytes kept = none_missing (table.value bytes) kept
+  where
+    none_missing : (found : Option (List ℕ)) → is_none found ≡ false
+        → [] ≡ refusal_of {B = ImportValue} found
+    none_missing None is = absurd cc
+    none_missing (Some x) is = refl
+
 all_of-mapped : {A B : Type 0} (f : A → B) (items : List (Option A))
     → all_of (map (option_map f) items) ≡ option_map (map f) (all_of items)
 unfolding all_of
@@ -322,7 +335,7 @@ module _ (strict : Bool) (format : Format EntryValue) (offset_of : ℕ → Optio
               | inl out ↦ rw out (left-out _ imports_in strict (table.value bytes) _ out)
               | inr kept ↦
                   let same = listed strict format offset_of bytes wide at in
-                  rw (kept, is, same)
+                  rw (kept, is, same, same_refusal strict table bytes kept)
                   (all_of-append (map (option_map (import_in dll)) entries)
                   (refusal_of (table.value bytes))
                   ∙ ap

@@ -1,7 +1,7 @@
 -- The walk over all imports: from one library to the next.
 use Rattle.std.proofs.Common.{◌≡◌, ◌≤◌, ◌+◌, ◌-◌, ◌*◌, ℕ, Bool, true, false, not, ◌&&◌, List, [], ◌∷◌}
 use Rattle.std.proofs.Common.{◌++◌, length, Option, Some, None, refl, sym, ap, subst, ◌∙◌, append_assoc}
-use Rattle.std.proofs.Common.{lit≤, arith}
+use Rattle.std.proofs.Common.{cond, lit≤, arith}
 use Rattle.std.proofs.Math.Nat.{mul-le-mul_left}
 use Rattle.std.specs.Prelude.{Err, IfOk, IfSome, MatchResult, Ok, Result, is_none, option_map}
 use Rattle.std.specs.Prelude.{unwrap_or}
@@ -27,7 +27,7 @@ use Rattle.goblin_pe_import.specs.Imports.{ImportValue}
 use Rattle.goblin_pe_import.specs.ImportWalks.{GivesLibrary, IsCauseAt, IsCauseBy, IsEntriesCause}
 use Rattle.goblin_pe_import.specs.ImportWalks.{IsLaterCause, IsNamedCause, IsRecordCause, IsRecordsCause}
 use Rattle.goblin_pe_import.specs.ImportWalks.{KeptValue, addresses_of, begin_at, bound_at, bound_by}
-use Rattle.goblin_pe_import.specs.ImportWalks.{entries_from, imports_at, one_if, records_bound, slots_bound}
+use Rattle.goblin_pe_import.specs.ImportWalks.{entries_from, imports_at, is_left_out, one_if, records_bound, slots_bound}
 use Rattle.goblin_pe_import.specs.ImportWalks.{walk_bound}
 use Rattle.goblin_pe_import.specs.ImportWalks.{imports_by_slot, imports_from_record, imports_of_entries}
 use Rattle.goblin_pe_import.specs.ImportWalks.{later_items, library_items, library_name, untested_table}
@@ -36,9 +36,14 @@ use Rattle.goblin_pe_import.proofs.PermissiveReads.{name_strict}
 
 -- ---- values that may be missing
 
-permissive_by : (strict b : Bool) → (not strict && b) ≡ true → strict ≡ false
-permissive_by true b e = absurd cc
-permissive_by false b e = refl
+permissive_by : (first strict b : Bool) → (first && not strict && b) ≡ true → strict ≡ false
+permissive_by true true b e = absurd cc
+permissive_by true false b e = refl
+permissive_by false strict b e = absurd cc
+
+never_strictly : (first b : Bool) → (first && false && b) ≡ false
+never_strictly true b = refl
+never_strictly false b = refl
 
 two_maps : {A B C : Type 0} (f : A → B) (h : B → C) (o : Option A)
     → option_map h (option_map f o) ≡ option_map (λ x. h (f x)) o
@@ -163,14 +168,19 @@ module _ (strict : Bool) (format : Format EntryValue) (offset_of : ℕ → Optio
                 (λ _. IsRecordsCause strict format offset_of bytes (p + 20)))) e
             after_name None fault = fault
             after_name (Some text) fault =
-                in_table (lookup_offset offset_of r)
-                (all_of
-                (entries_from strict format offset_of bytes (unwrap_or (lookup_offset offset_of r) 0)
-                (begin_at None (lookup_offset offset_of r))))
-                (FirstFault ((addresses_of format offset_of r).value bytes)
-                ((addresses_of format offset_of r).IsCause bytes)
-                (λ _. IsRecordsCause strict format offset_of bytes (p + 20)))
-                fault
+                let at = lookup_offset offset_of r in
+                let walked =
+                all_of (entries_from strict format offset_of bytes (unwrap_or at 0) (begin_at None at)) in
+                let addresses = addresses_of format offset_of r in
+                let IsLater = IsRecordsCause strict format offset_of bytes (p + 20) in
+                in_table at walked
+                (FirstFault (addresses.value bytes) (addresses.IsCause bytes) (λ _. IsLater))
+                (subst
+                (λ (mode : Bool).
+                let table = pick mode addresses (given []) in
+                FirstFault walked (IsEntriesCause strict format offset_of bytes (begin_at None at))
+                (λ _. FirstFault (table.value bytes) (table.IsCause bytes) (λ _. IsLater)) e)
+                is fault)
 
 -- ---- the library of a record
 
@@ -212,7 +222,7 @@ module _ (strict : Bool) (format : Format EntryValue) (offset_of : ℕ → Optio
       (IsEntriesCause strict format offset_of bytes at)
       (λ _. IsLaterCause strict format offset_of bytes untested after) e
 
-  pub walk-left_out : (not strict && is_none (addresses.value bytes)) ≡ true
+  pub walk-left_out : is_left_out strict format offset_of bytes slot r ≡ true
       → (dll : List ℕ) (rva o : ℕ)
       → (parts_left dll rva o None None ≡ whole)
       × ((e : ErrorOf) → IsPartsCause o None None e → (strict ≡ true) × IsWholeCause e)
@@ -220,7 +230,7 @@ module _ (strict : Bool) (format : Format EntryValue) (offset_of : ℕ → Optio
   walk-left_out out dll rva o = (
     rw out refl,
     λ e fault.
-        let is = permissive_by strict _ out in
+        let is = permissive_by (is_none slot) strict _ out in
         absurd (cc (is, fault.0)),
   )
 
@@ -230,26 +240,18 @@ module _ (strict : Bool) (format : Format EntryValue) (offset_of : ℕ → Optio
   unfolding library_items
   walk-unnamed e none fault =
       let is = name_strict strict _ none in
-      (rw (none, is) refl, is, none, fault)
-
-  -- its address table is needed after its entries, if it was not tested before them
-  same_refusal : (mode : Bool) → (not mode && is_none (addresses.value bytes)) ≡ false
-      → refusal_of {B = ImportValue}
-      ((untested_table mode format offset_of (Some (address_table_rva r))).value bytes)
-      ≡ refusal_of (addresses.value bytes)
-  same_refusal true kept = refl
-  same_refusal false kept = none_missing (addresses.value bytes) kept
-    where
-      none_missing : (table : Option (List ℕ)) → is_none table ≡ false
-          → [] ≡ refusal_of {B = ImportValue} table
-      none_missing None is = absurd cc
-      none_missing (Some x) is = refl
+      let never = never_strictly (is_none slot) (is_none (addresses.value bytes)) in (
+        rw (none, is) (ap (λ (left_out : Bool). cond left_out [] (None ∷ [])) never),
+        is,
+        none,
+        fault,
+      )
 
   abbrev at : Option ℕ
   at = lookup_offset offset_of r
 
   module _ (dll : List ℕ) (named : name.value bytes ≡ Some dll)
-      (kept : (not strict && is_none (addresses.value bytes)) ≡ false) where
+      (kept : is_left_out strict format offset_of bytes slot r ≡ false) where
     -- a library that is walked over
     pub walk-entered : parts_left dll r.import_address_table_rva (unwrap_or at 0) (begin_at slot at)
         (Some (address_table_rva r)) ≡ whole
@@ -258,29 +260,17 @@ module _ (strict : Bool) (format : Format EntryValue) (offset_of : ℕ → Optio
         let imports =
         imports_of_entries strict format offset_of bytes dll r.import_address_table_rva (unwrap_or at 0)
         (begin_at slot at) in
-        let later = imports_from_record strict format offset_of bytes next in
+        let table = untested_table strict format offset_of (Some (address_table_rva r)) in
         rw (kept, named)
         (ap until_refused
-        (ap (λ (items : List (Option ImportValue)). imports ++ (items ++ later))
-        (same_refusal strict kept)
-        ∙ sym (append_assoc imports (refusal_of (addresses.value bytes)) later)))
+        (sym (append_assoc imports (refusal_of (table.value bytes))
+        (imports_from_record strict format offset_of bytes next))))
 
-    -- in strict mode a cause of the one is one of the other
+    -- a cause of the one is one of the other
     pub cause-entered : (e : ErrorOf)
         → IsPartsCause (unwrap_or at 0) (begin_at slot at) (Some (address_table_rva r)) e
         → (strict ≡ true) × IsWholeCause e
-    cause-entered e fault = (
-      fault.0,
-      rw named
-          (subst
-          (λ (mode : Bool). FirstFault
-          (all_of (entries_from strict format offset_of bytes (unwrap_or at 0) (begin_at slot at)))
-          (IsEntriesCause strict format offset_of bytes (begin_at slot at))
-          (λ _. FirstFault ((pick mode addresses (given [])).value bytes)
-          ((pick mode addresses (given [])).IsCause bytes)
-          (λ _. IsRecordsCause strict format offset_of bytes next)) e)
-          fault.0 fault.1),
-    )
+    cause-entered e fault = (fault.0, rw named fault.1)
 
     pub entered : (parts_left dll r.import_address_table_rva (unwrap_or at 0) (begin_at slot at)
         (Some (address_table_rva r)) ≡ whole)
@@ -291,23 +281,7 @@ module _ (strict : Bool) (format : Format EntryValue) (offset_of : ℕ → Optio
 
     pub cause-again : (e : ErrorOf) → (strict ≡ true) × IsWholeCause e
         → IsPartsCause (unwrap_or at 0) (begin_at slot at) (Some (address_table_rva r)) e
-    cause-again e fault =
-        let inside =
-        subst
-        (λ (name_value : Option (List ℕ)). FirstFault name_value (name.IsCause bytes)
-        (λ _. IsNamedCause strict format offset_of bytes slot r
-        (IsRecordsCause strict format offset_of bytes next)) e)
-        named fault.1 in (
-          fault.0,
-          subst
-              (λ (mode : Bool). FirstFault
-              (all_of (entries_from strict format offset_of bytes (unwrap_or at 0) (begin_at slot at)))
-              (IsEntriesCause strict format offset_of bytes (begin_at slot at))
-              (λ _. FirstFault ((pick mode addresses (given [])).value bytes)
-              ((pick mode addresses (given [])).IsCause bytes)
-              (λ _. IsRecordsCause strict format offset_of bytes next)) e)
-              (sym fault.0) inside,
-        )
+    cause-again e fault = (fault.0, rw named at fault.1)
 
 -- ---- once the entries of a library have come
 

@@ -107,6 +107,13 @@ abbrev pub addresses_of : Format EntryValue → (ℕ → Option ℕ) → ImportD
 addresses_of format offset_of r =
     at_address offset_of (address_table_rva r) (address_table format)
 
+-- an address table that is still to be tested, which only strict mode does
+abbrev pub untested_table : Bool → Format EntryValue → (ℕ → Option ℕ) → Option ℕ
+    → Reading (List ℕ)
+untested_table strict format offset_of None = given []
+untested_table strict format offset_of (Some rva) =
+    pick strict (at_address offset_of rva (address_table format)) (given [])
+
 -- the imports of a library of this name from a slot on, and a refusal where it has no address table
 abbrev pub named_items : Bool → Format EntryValue → (ℕ → Option ℕ) → List ℕ → Option ℕ
     → ImportDirectoryEntry → Option (List ℕ) → List (Option ImportValue)
@@ -116,14 +123,20 @@ named_items strict format offset_of bytes slot r (Some dll) =
     imports_of_entries strict format offset_of bytes dll r.import_address_table_rva
     (unwrap_or table 0)
     (begin_at slot table)
-    ++ refusal_of ((addresses_of format offset_of r).value bytes)
+    ++ refusal_of ((untested_table strict format offset_of (Some (address_table_rva r))).value bytes)
+
+-- Permissive mode leaves out a library without an address table; from a slot on it is not tested.
+abbrev pub is_left_out : Bool → Format EntryValue → (ℕ → Option ℕ) → List ℕ → Option ℕ
+    → ImportDirectoryEntry → Bool
+is_left_out strict format offset_of bytes slot r =
+    is_none slot && not strict && is_none ((addresses_of format offset_of r).value bytes)
 
 -- What comes of the library of a record from a slot on: its name is needed, then its imports come,
--- then its address table is needed. Permissive mode leaves out a library without an address table.
+-- then strict mode needs its address table.
 unfoldable pub library_items : Bool → Format EntryValue → (ℕ → Option ℕ) → List ℕ → Option ℕ
     → ImportDirectoryEntry → List (Option ImportValue)
 library_items strict format offset_of bytes slot r =
-    if not strict && is_none ((addresses_of format offset_of r).value bytes) then []
+    if is_left_out strict format offset_of bytes slot r then []
     else named_items strict format offset_of bytes slot r
     ((library_name strict offset_of r).value bytes)
 
@@ -165,7 +178,7 @@ abbrev pub IsNamedCause : Bool → Format EntryValue → (ℕ → Option ℕ) �
 IsNamedCause strict format offset_of bytes slot r IsLater e =
     let table = lookup_offset offset_of r in
     let place = begin_at slot table in
-    let addresses = addresses_of format offset_of r in
+    let addresses = untested_table strict format offset_of (Some (address_table_rva r)) in
     FirstFault (all_of (entries_from strict format offset_of bytes (unwrap_or table 0) place))
     (IsEntriesCause strict format offset_of bytes place)
     (λ _. FirstFault (addresses.value bytes) (addresses.IsCause bytes) (λ _. IsLater)) e
@@ -218,15 +231,8 @@ bound_at bytes (Some at) = bound_by bytes at.record_offset at.slot_offset
 
 -- ---- the walk, by what it holds of the library that it is in
 
--- the address table that strict mode still has to test, if there is one
-abbrev pub untested_table : Bool → Format EntryValue → (ℕ → Option ℕ) → Option ℕ
-    → Reading (List ℕ)
-untested_table strict format offset_of None = given []
-untested_table strict format offset_of (Some rva) =
-    pick strict (at_address offset_of rva (address_table format)) (given [])
-
--- what comes once the entries of a library have come: its address table is needed if it was not
--- tested before, and then the imports from a position on
+-- what comes once the entries of a library have come: its address table is needed where it is still
+-- to be tested, and then the imports from a position on come
 abbrev pub later_items : Bool → Format EntryValue → (ℕ → Option ℕ) → List ℕ → Option ℕ
     → Option ImportPosition → List (Option ImportValue)
 later_items strict format offset_of bytes untested next =
@@ -290,7 +296,6 @@ pub record IsLibrary (strict : Bool) (format : Format EntryValue) (offset_of : �
     pub first : next.slot_offset ≡ None
     pub is : (import_record_at (next.record_offset - 20)).value bytes ≡ Some entry
     pub going : is_last_record entry ≡ false
-    pub kept : (not strict && is_none ((addresses_of format offset_of entry).value bytes)) ≡ false
     pub named : (library_name strict offset_of entry).value bytes ≡ Some dll
     pub addresses : entry.import_address_table_rva ≡ rva
     pub table : lookup_offset offset_of entry ≡ Some offset

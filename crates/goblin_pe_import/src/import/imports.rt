@@ -1,9 +1,9 @@
 //! A walk over all imports of an image.
 
-ghost use Rattle.std.specs.Prelude.{◌≡◌, ◌&&◌, ◌+◌, ◌-◌, ◌<◌, ◌≤◌, ◌^◌, ◌∷◌, ◌++◌, [], IfErr, IfOk};
+ghost use Rattle.std.specs.Prelude.{◌≡◌, ◌+◌, ◌-◌, ◌<◌, ◌≤◌, ◌^◌, ◌∷◌, ◌++◌, [], IfErr, IfOk};
 ghost use Rattle.std.specs.Prelude.{IfSome};
-ghost use Rattle.std.specs.Prelude.{MatchOption, MatchResult, None, Some, false, is_none, length};
-ghost use Rattle.std.specs.Prelude.{not, option_map, true};
+ghost use Rattle.std.specs.Prelude.{MatchOption, MatchResult, None, Some, false, length};
+ghost use Rattle.std.specs.Prelude.{option_map, true};
 ghost use Rattle.std.specs.Prelude.{if◌then◌else◌, IsSome, IsSomeAnd, IsOk, Ok};
 ghost use Rattle.std.specs.Iterator.{UpTo, at_most};
 ghost use Rattle.std.specs.Iterator.SizeHint.{IsWithinCount};
@@ -26,7 +26,7 @@ ghost use Rattle.goblin_pe_import.specs.ImportWalks.{AreImportsOver, IsImportsCa
 ghost use Rattle.goblin_pe_import.specs.ImportWalks.{imports_at, position_by, position_of};
 ghost use Rattle.goblin_pe_import.specs.ImportWalks.{slots_bound};
 ghost use Rattle.goblin_pe_import.specs.ImportWalks.{IsLaterCause, IsNamedCause, IsPlaced};
-ghost use Rattle.goblin_pe_import.specs.ImportWalks.{IsRecordsCause, IsWalkCause, addresses_of};
+ghost use Rattle.goblin_pe_import.specs.ImportWalks.{IsRecordsCause, IsWalkCause, is_left_out};
 ghost use Rattle.goblin_pe_import.specs.ImportWalks.{begin_at, bound_at, imports_bound};
 ghost use Rattle.goblin_pe_import.specs.ImportWalks.{imports_from_record, imports_left};
 ghost use Rattle.goblin_pe_import.specs.ImportWalks.{kept_import};
@@ -67,6 +67,11 @@ pub struct WalkedImport<'a> {
 }
 
 /// A position in the imports of an image, from which a walk can go on.
+///
+/// Any numbers give imports or a refusal. With a slot these are the imports of that record's library
+/// from the slot on, and then of the records after it. What a walk has tested when it came to the
+/// library is not tested again: so permissive mode gives imports of a library that it leaves out, if
+/// the position is not from a walk.
 #[derive(Debug, Copy, Clone, PartialEq, Eq)]
 pub struct ImportPosition {
     /// The file offset of a library's record in the import directory.
@@ -121,17 +126,21 @@ fn test_untested<'a, 'e, T: Bitfield<'a>>(
     test_numbers::<T>(bytes, offset)
 }
 
-// Whether permissive mode leaves out the library of a record: it has no address table.
+// Whether permissive mode leaves out the library of a record: it has no address table. From a slot
+// on it is not tested.
 fn is_left_out<'a, T: Bitfield<'a>>(
     bytes: &'a [u8],
     entry: &ImportDirectoryEntry,
+    slot_offset: Option<usize>,
     address_map: &AddressMap,
 ) -> bool
     ensures { let m = map_of address_map.now in
-        let table = addresses_of T.format (offset_of m) entry.now in
-        result ≡ (not (reads_strictly m) && is_none (table.value bytes.now)) }
+        result
+        ≡ is_left_out (reads_strictly m) T.format (offset_of m) bytes.now slot_offset entry.now }
 {
-    !address_map.reads_strictly() && test_address_table::<T>(bytes, entry, address_map).is_err()
+    slot_offset.is_none()
+        && !address_map.reads_strictly()
+        && test_address_table::<T>(bytes, entry, address_map).is_err()
 }
 
 // Where the entries of a table begin to come: at its first slot, or at a given one.
@@ -280,7 +289,7 @@ impl<'a, 'm> Walk<'a, 'm> {
             record_offset: next,
             slot_offset: None,
         });
-        if is_left_out::<T>(self.bytes, entry, self.finder.address_map()) {
+        if is_left_out::<T>(self.bytes, entry, slot_offset, self.finder.address_map()) {
             self.place = None;
             self.untested = None;
             return Ok(());
