@@ -69,6 +69,13 @@ def imports_in_one_text(base, size):
     return record + entries + "\u00E9".encode() * (count + 2) + b"\0"
 
 
+def one_library(base, size):
+    """A library of imports by ordinal, whose two tables are one."""
+    table, count = base + 56, (size - 60) // 4
+    record = struct.pack("<5I", table, 0, 0, base + 40, table).ljust(40, b"\0") + b"a.dll".ljust(16, b"\0")
+    return record + struct.pack("<I", 0x80000001) * count + bytes(4)
+
+
 def libraries_of_left_out_entries(base, size):
     """Libraries that share one table, of whose entries none has a name that an address leads to."""
     libraries, entries = size // 40, size // 8
@@ -86,11 +93,23 @@ def exports_in_one_text(base, size):
     return record + struct.pack("<%dI" % count, *range(text, text + 2 * count, 2)) + bytes(2 * count) + "\u00E9".encode() * count + b"\0"
 
 
-def read_object(file):
+def many_name_pointers(base, size):
+    """Exports of one address and one name."""
+    count = (size - 56) // 6
+    pointers, ordinals, text = base + 48, base + 48 + 4 * count, base + 48 + 6 * count
+    record = struct.pack("<IIHHIIIIIII", 0, 0, 0, 0, text, 1, 1, count, base + 40, pointers, ordinals) + struct.pack("<II", 0x9000, 0)
+    return record + struct.pack("<I", text) * count + bytes(2 * count) + b"name".ljust(8, b"\0")
+
+
+def read_object(file, room=65535):
     found = records.Object()
-    room = (records.Section * 65535)()
-    fault = LIB.goblin_pe_raw_read_object(file, len(file), c.byref(STRICT), c.byref(found), room, 65535)
+    sections = (records.Section * room)()
+    fault = LIB.goblin_pe_raw_read_object(file, len(file), c.byref(STRICT), c.byref(found), sections, room)
     return fault.status, found.sections
+
+
+def count_sections_of_object(file):
+    return read_object(file, 0)
 
 
 def read_te(file):
@@ -137,10 +156,11 @@ def open_without_imports(file):
     return fault.status, tables.count("exports")
 
 
-def next_imports(file, options=STRICT):
+def next_imports(file, options=STRICT, position=None):
+    """A batch of 256, from a position on."""
     layout, directories = records.Layout(), (records.Directory * 16)()
     LIB.goblin_pe_raw_read_layout(file, len(file), c.byref(options), c.byref(layout), directories, 16, (records.Section * 1)(), 0)
-    position, room, count = records.ImportPosition(), (records.Import * 256)(), c.c_size_t()
+    position, room, count = position or records.ImportPosition(), (records.Import * 256)(), c.c_size_t()
     fault = LIB.goblin_pe_raw_next_imports(
         file, len(file), c.byref(options), c.byref(layout.places), c.byref(position), room, 256, c.byref(count))
     return fault.status, count.value
@@ -150,17 +170,30 @@ def next_imports_permissively(file):
     return next_imports(file, PERMISSIVE)
 
 
+def walk_permissively(file):
+    """All imports, in batches."""
+    position, found = records.ImportPosition(), 0
+    while True:
+        status, count = next_imports(file, PERMISSIVE, position)
+        found += count
+        if status or count < 256:
+            return status, found
+
+
 # A call and its file.
 ROWS = {
     "an object of one long name": (read_object, lambda: object_of_one_name(MIB)),
+    "an object of one long name, without room": (count_sections_of_object, lambda: object_of_one_name(MIB)),
     "a Terse Executable of one long name": (read_te, lambda: te_of_one_name(16 * MIB)),
     "a layout of one long name": (read_layout, lambda: image_of_one_name(MIB)),
+    "a layout of many name pointers": (read_layout, lambda: in_one_section((0x1000, 40, 0, 0), many_name_pointers, 16 * MIB)),
     "a footprint of one long name": (footprint, lambda: image_of_one_name(MIB)),
     "many symbols": (next_symbols, lambda: object_with_symbols(320000)),
     "damage of imports in one text": (read_damage, lambda: in_one_section((0, 0, 0x1000, 40), imports_in_one_text, MIB // 2)),
     "exports in one text": (open_without_imports, lambda: in_one_section((0x1000, 40, 0, 0), exports_in_one_text, MIB // 2)),
     "imports that are all left out": (
         next_imports_permissively, lambda: in_one_section((0, 0, 0x1000, 40), libraries_of_left_out_entries, MIB // 8)),
+    "a permissive walk over one library": (walk_permissively, lambda: in_one_section((0, 0, 0x1000, 40), one_library, 16 * MIB)),
     "a batch of many sections": (next_imports, lambda: bytes(images.hostile_image(64 * (65535 + 16)))),
 }
 

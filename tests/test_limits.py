@@ -11,13 +11,16 @@ ROOM = 400 << 10
 # imports there are, 1 where there are ranges, and 0 where there is no damage.
 ROWS = [
     ("an object of one long name", 4500, 13107),
+    ("an object of one long name, without room", 50, 13107),
     ("a Terse Executable of one long name", 5000, 255),
     ("a layout of one long name", 4500, 13107),
+    ("a layout of many name pointers", 50, 1),
     ("a footprint of one long name", 35000, 1),
     ("many symbols", 200, 320000),
     ("damage of imports in one text", 120000, 0),
     ("exports in one text", 75000, 65465),
     ("imports that are all left out", 10000, 0),
+    ("a permissive walk over one library", 10000, 4194161),
     ("a batch of many sections", 250, 256),
 ]
 

@@ -12,6 +12,8 @@
    into those bytes and a length, so no text is copied, and the texts stay good as long as the bytes do.
    The tables of an image, and the ranges of a footprint, are memory of their own, which the caller may sort and
    change, and goblin_pe_free and goblin_pe_free_ranges give back; all else is filled into the caller's records.
+   (The order of some says something: the first section that has an address maps it, and the index of an export
+   address is its ordinal.)
 
    The file offset of a text is the difference of two pointers: each lies in the file, but for a DOS stub
    that permissive mode replaced. One that is absent, as its record says, or that permissive mode could not
@@ -56,9 +58,9 @@
                                                                            and for what is passed over before it
    read_damage                       the same                              a name for each import and each export, and
                                                                            for what is left out of them
-   open                              its tables, which no n bounds: see    the same
+   open                              its tables, which no n bounds: see    the same, and a name for each section
                                      below
-   footprint                         n / 8 and 8 * n bytes, and such an    the same, and a name for each section
+   footprint                         n / 8 and 8 * n bytes, and such an    the same
                                      index
 
    How much memory a file may take is for the caller to limit, as a small file may list much: its

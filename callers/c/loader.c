@@ -150,16 +150,12 @@ static int map(struct module *m)
     return 0;
 }
 
-/* Opens an image with raw pointers rounded where its sections are aligned to pages, which a first look tells. */
+/* Opens an image by the rule for raw pointers that suits each lawful one. */
 static struct goblin_pe_fault open_image(struct module *m)
 {
     struct goblin_pe_options options = GOBLIN_PE_DEFAULT_OPTIONS;
-    struct goblin_pe_layout look;
-    struct goblin_pe_fault fault = goblin_pe_read_layout(m->bytes, m->length, NULL, &look, NULL, 0, NULL, 0);
-    if (fault.status != GOBLIN_PE_STATUS_OK)
-        return fault;
-    if (is_in_pages(&look.optional_header.windows_fields))
-        options.raw_pointer_rule = GOBLIN_PE_RAW_POINTER_RULE_ROUNDED_TO512;
+    struct goblin_pe_fault fault;
+    options.raw_pointer_rule = GOBLIN_PE_RAW_POINTER_RULE_BY_FILE_ALIGNMENT;
     fault = goblin_pe_open(m->bytes, m->length, &options, &m->file, NULL, 0, &m->tables);
     if (fault.status == GOBLIN_PE_STATUS_OK)
         m->image = goblin_pe_image_of(m->bytes, m->length, &options, &m->file, &m->tables);

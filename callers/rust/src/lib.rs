@@ -28,12 +28,13 @@
 //! | [`Layout::walk_imports`], [`Layout::walk_exports`], [`Layout::walk_blocks`] | as they go on | room for 256 rows; of more than 96 sections for 4,096, and an index |
 //! | [`Layout::walk_libraries`] | a call for each library | an index of more than 96 sections |
 //! | [`Layout::walk_export_addresses`] | as it goes on, a walk over the sections for each forwarder | as the walks above |
-//! | [`Layout::symbols`], [`Section::walk_relocations`] | as they go on | room for 256 rows |
+//! | [`Layout::symbols`], [`Object::symbols`] | as long as the string table, then as they go on | room for 256 rows |
+//! | [`Section::walk_relocations`] | as it goes on | room for 256 rows |
 //! | [`Layout::damage`] | as a read | an index of more than 96 sections |
 //! | [`Layout::footprint`], [`Layout::write_fingerprint_text`] | as two reads | a bit for each byte of the file, and the ranges; an index of more than 96 sections |
 //! | [`Layout::find_offset`] and what is at an address | a walk over the sections | none |
 //! | [`Layout::find_rva`] | a walk over the sections, and one more for each whose data holds the offset | none |
-//! | [`Object::read`], [`Te::read`] | as many sections as there are | a record for each section |
+//! | [`Object::read`], [`Te::read`] | as long as the names of the sections | a record for each section |
 //! | rows, names and texts | none: they are places in the bytes | none |
 //!
 //! ```no_run

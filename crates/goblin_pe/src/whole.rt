@@ -52,7 +52,8 @@ pub enum Part<T> {
 /// A whole file: its header, its sections, and the tables for a loader.
 ///
 /// Source: PE Format, "Overview". Names and data borrow from the file, but for section names from
-/// the string table, which are copies.
+/// the string table, which are copies: together they may have as many bytes as the longest of them,
+/// times the number of sections.
 #[derive(Debug, Drop)]
 pub struct Whole<'a> {
     /// The header: everything before the section table.

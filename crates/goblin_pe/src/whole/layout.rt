@@ -105,7 +105,8 @@ pub fn section_records_of<'a>(
 }
 
 /// The sections of a file with this header, in the order of their records, with their names from
-/// the string table, in memory of their own.
+/// the string table, in memory of their own: as much as
+/// [`CoffHeader::sections_with_opts`](goblin_pe_head::CoffHeader::sections_with_opts) says.
 ///
 /// Source: PE Format, "Section Table (Section Headers)".
 ///

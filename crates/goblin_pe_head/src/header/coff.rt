@@ -145,7 +145,8 @@ impl CoffHeader {
 
     /// Reads the section table, whose records follow one another from the file offset `offset` on,
     /// and moves `offset` past it. In an image it follows the optional header. Indirect names are
-    /// looked up in the string table after the symbol table.
+    /// looked up in the string table after the symbol table, and copied: all together may take as
+    /// many bytes as the longest of them has, times the number of sections.
     ///
     /// Source: PE Format, "Section Table (Section Headers)".
     ///

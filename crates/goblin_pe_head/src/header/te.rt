@@ -172,7 +172,8 @@ impl TeHeader {
     /// Reads the section table, whose records follow one another from the file offset `offset` on,
     /// and moves `offset` past it. The address of each section, and each of its three pointers that
     /// is not 0, is adjusted as in [`TeHeader::parse`]. An indirect name would be in a string table
-    /// at the front of the file.
+    /// at the front of the file, and is copied, as
+    /// [`CoffHeader::sections_with_opts`](crate::CoffHeader::sections_with_opts) says.
     ///
     /// Source: PE Format, "Section Table (Section Headers)".
     ///
