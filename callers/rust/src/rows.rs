@@ -151,7 +151,9 @@ pub struct Damage {
     pub left_out_entries: usize,
     /// How many name pointers of the export directory give no export, in either mode: there is no
     /// ordinal, the ordinal lies past the address table, or it leads to a forwarder whose text can't be
-    /// read. 0 where the exports are refused.
+    /// read. 0 where the exports are refused. Their indexes are the hints that no export has, and
+    /// [`Layout::bytes_at`](crate::Layout::bytes_at) reads such a pointer at the record's `name_pointer_rva` and four
+    /// times its index.
     pub left_out_exports: usize,
 }
 
@@ -576,6 +578,8 @@ pub struct Export<'a> {
     pub ordinal: usize,
     /// The index of its name pointer, by which others name it as a hint.
     pub hint: usize,
+    /// The address of its name, where [`Layout::bytes_at`](crate::Layout::bytes_at) reads one that is not UTF-8.
+    pub name_rva: u32,
     /// The file offset of `rva`, as [`Layout::find_offset`](crate::Layout::find_offset) gives it.
     pub offset: Option<usize>,
     /// The address, relative to the image's base; of a forwarder that of its text.
@@ -593,6 +597,7 @@ impl<'a> From<&raw::Export<'a>> for Export<'a> {
             name: x.has_name.then(|| Text(x.name.get())),
             ordinal: x.ordinal,
             hint: x.hint,
+            name_rva: x.name_rva,
             offset: x.has_offset.then_some(x.offset),
             rva: x.rva,
             forwarder: match Forwards::try_from(u32::from(x.forwards)) {

@@ -297,6 +297,7 @@ fn exports_are_found_by_name_and_by_ordinal() {
     let base = pe.export_directory().unwrap().table.ordinal_base as usize;
     for export in pe.exports() {
         assert_eq!(pe.find_export(export.name.unwrap()), Some(export));
+        assert_eq!(pe.text_at(export.name_rva as usize).ok(), export.name);
         let found = pe.find_export_by_ordinal(export.ordinal).unwrap();
         assert_eq!(
             (found.ordinal, found.rva as usize, found.forwards),

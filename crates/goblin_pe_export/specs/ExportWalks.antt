@@ -11,14 +11,15 @@ use Rattle.goblin_pe_export.specs.declared.export.exports.WalkedExport.{WalkedEx
 
 -- ---- the exports with their numbers
 
--- an export, with the index of its name pointer and its own ordinal
+-- an export, with the index of its name pointer, its own ordinal and the address of its name
 pub record NumberedExport : Type 0 where
   pub hint : ℕ
   pub ordinal : ℕ
+  pub name_rva : ℕ
   pub row : ExportRow
 
 -- The export of the name pointer at index x, where that has one. Its ordinal is the entry of the
--- ordinal table at x, and the ordinal base added; an export has that entry.
+-- ordinal table at x, and the ordinal base added; an export has both entries at x.
 unfoldable pub numbered_export : (ℕ → Option ℕ) → List ℕ → ExportTables → ℕ
     → Option NumberedExport
 numbered_export offset_of bytes tables x =
@@ -26,6 +27,7 @@ numbered_export offset_of bytes tables x =
       hint = x;
       ordinal = tables.export_directory_table.ordinal_base
           + unwrap_or (slice_get tables.export_ordinal_table x) 0;
+      name_rva = unwrap_or (slice_get tables.export_name_pointer_table x) 0;
       row = row;
     })
     (export_row offset_of bytes tables x)
@@ -40,7 +42,8 @@ numbered_from offset_of bytes tables x =
 
 -- an export that a walk yields
 abbrev pub walked_export : WalkedExport → NumberedExport
-walked_export x = record { hint = x.hint; ordinal = x.ordinal; row = x.export }
+walked_export x =
+    record { hint = x.hint; ordinal = x.ordinal; name_rva = x.name_rva; row = x.export }
 
 -- the tables that a walk reads
 abbrev pub walked_tables : Exports → ExportTables

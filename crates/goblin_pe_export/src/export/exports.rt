@@ -33,6 +33,8 @@ pub struct WalkedExport<'a> {
     pub hint: usize,
     /// Its own ordinal: the index of its address, and the ordinal base added.
     pub ordinal: usize,
+    /// The address of its name, as its name pointer says, also where no name can be read.
+    pub name_rva: u32,
     /// The export itself.
     pub export: Export<'a>,
 }
@@ -155,24 +157,30 @@ impl<'a, 'm> Exports<'a, 'm> {
         self.tables.address(index)
     }
 
-    // An export with its numbers: the index of its name pointer, and its entry of the ordinal table
-    // with the base added.
+    // An export with its numbers: the index of its name pointer, this itself, and its entry of the
+    // ordinal table with the base added.
     #[inline(always)]
     fn numbered(
         tables: &TablesInFile<'a>,
         index: usize,
+        pointer: u32,
         ordinal: u16,
         export: Export<'a>,
     ) -> WalkedExport<'a>
         ensures { let base = (tables_in tables.now).export_directory_table.ordinal_base in
-            let made : NumberedExport =
-            record { hint = index; ordinal = base + ordinal; row = export.entry } in
+            let made : NumberedExport = record {
+              hint = index;
+              ordinal = base + ordinal;
+              name_rva = pointer;
+              row = export.entry;
+            } in
             walked_export result ≡ made }
     {
         let base = tables.export_directory_table.ordinal_base;
         WalkedExport {
             hint: index,
             ordinal: base as usize + usize::from(ordinal),
+            name_rva: pointer,
             export,
         }
     }
@@ -191,8 +199,8 @@ impl<'a, 'm> Exports<'a, 'm> {
             ≡ numbered_export (offset_of m) bytes.now (tables_in tables.now) index }
         ensures same { finder.new ≡ finder.old }
     {
-        let (ordinal, export) = Export::of_pointer(bytes, tables, index, finder)?;
-        Some(Exports::numbered(tables, index, ordinal, export))
+        let ((pointer, ordinal), export) = Export::of_pointer(bytes, tables, index, finder)?;
+        Some(Exports::numbered(tables, index, pointer, ordinal, export))
     }
 
     // The same, where it is plain, as `Export::plain_of_address` says; else `None`, which says
@@ -216,7 +224,7 @@ impl<'a, 'm> Exports<'a, 'm> {
         let Some(export) = Export::plain_of_address(bytes, pointer, address, finder) else {
             return None;
         };
-        Some(Exports::numbered(tables, index, ordinal, export))
+        Some(Exports::numbered(tables, index, pointer, ordinal, export))
     }
 
     /// The next export, where it is plain: no forwarder, with an address and a name that lie among
