@@ -1,5 +1,5 @@
 -- The walk over the exports of an image: what is still to come.
-use Rattle.std.specs.Prelude.{◌≡◌, ℕ, ◌+◌, ◌-◌, ◌/◌, List, Option, filter_map, length}
+use Rattle.std.specs.Prelude.{◌≡◌, ℕ, ◌+◌, ◌-◌, ◌/◌, IfSome, List, Option, filter_map, length}
 use Rattle.std.specs.Prelude.{option_map, slice_get, unwrap_or}
 use Rattle.std.specs.Iterator.{YieldsFirstBy}
 use Rattle.std.specs.List.{range_with_len}
@@ -54,9 +54,13 @@ abbrev pub exports_at : Exports → ℕ → List NumberedExport
 exports_at walk x =
     numbered_from (offset_of (map_of walk.finder)) walk.bytes.now (walked_tables walk) x
 
+-- where a walk is: the index of the name pointer that is read next
+abbrev pub exports_position : Exports → ℕ
+exports_position walk = walk.next
+
 -- what is still to come
 abbrev pub exports_left : Exports → List NumberedExport
-exports_left walk = exports_at walk walk.next
+exports_left walk = exports_at walk (exports_position walk)
 
 -- the walk is over these bytes, whose addresses are mapped so
 abbrev pub AreExportsOver : List ℕ → MapOfAddresses → Exports → Type 0
@@ -67,9 +71,12 @@ abbrev pub KeepsOver : Exports → Exports → Type 0
 KeepsOver s t =
     AreExportsOver s.bytes.now (map_of s.finder) t × (walked_tables t ≡ walked_tables s)
 
--- A call of `next` gives the next export; it keeps what is walked over.
+-- A call of `next` gives the next export; it keeps what is walked over, and goes on behind the name
+-- pointer of that export.
 abbrev pub GivesExport : Exports → Option WalkedExport → Exports → Type 0
-GivesExport s result t = YieldsFirstBy walked_export exports_left s result t × KeepsOver s t
+GivesExport s result t =
+    YieldsFirstBy walked_export exports_left s result t × KeepsOver s t
+    × IfSome result (λ x. exports_position t ≡ x.hint + 1)
 
 -- no more than this comes
 abbrev pub exports_bound : Exports → ℕ

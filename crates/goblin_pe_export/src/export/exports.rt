@@ -2,14 +2,14 @@
 
 ghost use Rattle.std.specs.Prelude.{◌≡◌, ◌≤◌, ◌+◌, IfOk, IfSome, MatchOption, None, Some, length};
 ghost use Rattle.std.specs.Prelude.{map, option_map, slice_get};
-ghost use Rattle.std.specs.Iterator.{UpTo, YieldsFirstBy, at_most};
+ghost use Rattle.std.specs.Iterator.{UpTo, at_most};
 ghost use Rattle.std.specs.Iterator.SizeHint.{IsWithinCount};
 ghost use Rattle.goblin_base.specs.Reading.{Reads};
 ghost use Rattle.goblin_pe_sect.specs.Addresses.{map_of, offset_of};
 ghost use Rattle.goblin_pe_export.specs.ExportReadings.{export_read};
 ghost use Rattle.goblin_pe_export.specs.ExportRecords.{tables_in};
 ghost use Rattle.goblin_pe_export.specs.ExportWalks.{AreExportsOver, GivesExport, KeepsOver};
-ghost use Rattle.goblin_pe_export.specs.ExportWalks.{exports_at};
+ghost use Rattle.goblin_pe_export.specs.ExportWalks.{exports_at, exports_position};
 ghost use Rattle.goblin_pe_export.specs.ExportWalks.{NumberedExport, exports_bound, exports_left};
 ghost use Rattle.goblin_pe_export.specs.ExportWalks.{numbered_export};
 ghost use Rattle.goblin_pe_export.specs.ExportWalks.{numbered_from, walked_export, walked_tables};
@@ -110,6 +110,7 @@ impl<'a, 'm> Exports<'a, 'm> {
     /// there.
     pub fn from_position(self, position: usize) -> Exports<'a, 'm>
         ensures left { exports_left result ≡ exports_at self.entry position }
+        ensures at { exports_position result ≡ position }
         ensures over { KeepsOver self.entry result }
     {
         Exports {
@@ -120,10 +121,10 @@ impl<'a, 'm> Exports<'a, 'm> {
         }
     }
 
-    /// Where the walk is, the index of the name pointer that is read next: what is still to come is
-    /// what comes from it on.
+    /// Where the walk is, the index of the name pointer that is read next: after an export its hint
+    /// and one. What is still to come is what comes from it on.
     pub fn position(&self) -> usize
-        ensures { exports_left self.now ≡ exports_at self.now result }
+        ensures { result ≡ exports_position self.now }
     {
         self.next
     }
@@ -197,6 +198,7 @@ impl<'a, 'm> Exports<'a, 'm> {
         ensures value { let m = map_of finder.old in
             option_map walked_export result
             ≡ numbered_export (offset_of m) bytes.now (tables_in tables.now) index }
+        ensures hint { IfSome result (λ x. x.hint ≡ index) }
         ensures same { finder.new ≡ finder.old }
     {
         let ((pointer, ordinal), export) = Export::of_pointer(bytes, tables, index, finder)?;
@@ -216,6 +218,7 @@ impl<'a, 'm> Exports<'a, 'm> {
         ensures value { let m = map_of finder.now in
             let export = numbered_export (offset_of m) bytes.now (tables_in tables.now) index in
             IfSome result (λ x. export ≡ Some (walked_export x)) }
+        ensures hint { IfSome result (λ x. x.hint ≡ index) }
         ensures plain { IfSome result (λ x. (walked_export x).row.reexport ≡ None) }
     {
         let pointer = tables.pointer(index)?;
@@ -235,9 +238,8 @@ impl<'a, 'm> Exports<'a, 'm> {
     #[tactic(auto, using(crate::proofs::ExportWalk::from_export))]
     pub fn next_plain(&mut self) -> Option<WalkedExport<'a>>
         ensures steps { MatchOption result (self.new ≡ self.old)
-            (λ x. YieldsFirstBy walked_export exports_left self.old (Some x) self.new) }
+            (λ x. GivesExport self.old (Some x) self.new) }
         ensures plain { IfSome result (λ x. (walked_export x).row.reexport ≡ None) }
-        ensures over { KeepsOver self.old self.new }
     {
         let index = self.next;
         if self.tables.pointers() <= index {
