@@ -1,6 +1,5 @@
 //! What was read, row by row. Rows live as long as the bytes of the file.
 
-use crate::constants::MAGIC_64;
 use crate::error::Error;
 use crate::iterators::{WalkRelocations, Words};
 use crate::memory::records;
@@ -21,7 +20,7 @@ use std::io::Write;
 /// let mut header = pe.header();
 /// header.coff_header.time_date_stamp = 0;
 /// let (mut out, table) = (bytes.clone(), header.section_table());
-/// let mut written = vec![0; header.size()];
+/// let mut written = vec![0; header.write(&mut [])?];
 /// let size = header.write(&mut written)?.min(table).min(out.len());
 /// out[..size].copy_from_slice(&written[..size]);
 /// # Ok::<(), goblin_pe::Error>(())
@@ -55,25 +54,6 @@ impl Header<'_> {
         section_table(&self.dos_header, &self.coff_header)
     }
 
-    /// How many bytes [`Header::write`] writes.
-    ///
-    /// ```no_run
-    /// # let bytes = [];
-    /// let header = goblin_pe::Pe::parse(&bytes)?.header();
-    /// let mut out = vec![0; header.size()];
-    /// header.write(&mut out)?;
-    /// # Ok::<(), goblin_pe::Error>(())
-    /// ```
-    #[must_use]
-    pub fn size(&self) -> usize {
-        let optional = match self.optional_header {
-            None => 0,
-            Some(it) if it.standard_fields.magic == MAGIC_64 => OPTIONAL_HEADER_64,
-            Some(_) => OPTIONAL_HEADER_32,
-        };
-        DOS_HEADER + self.dos_stub.len() + SIGNATURE_AND_COFF_HEADER + optional
-    }
-
     /// Writes the header to the front of `out`, and returns how many bytes it has: all sixteen data
     /// directories are written, zeros for those that are not there. Where strict mode read it, these are
     /// the bytes of the file up to the last directory that the file has. In the file the section table may
@@ -83,15 +63,16 @@ impl Header<'_> {
     /// The PE signature follows the stub, whatever `pe_pointer` says: where permissive mode replaced the
     /// stub, the headers after it do not stand at their places.
     ///
+    /// Where `out` is empty, nothing is written, and what is returned is how many bytes are needed.
+    ///
     /// # Errors
-    /// Too little room, of which [`Header::size`] tells how much is needed, or a field that does not fit the width of
-    /// the optional header; nothing is written then.
+    /// Too little room, or a field that does not fit the width of the optional header; nothing is written then.
     ///
     /// ```no_run
     /// # let bytes = [];
-    /// let pe = goblin_pe::Pe::read(&bytes, &goblin_pe::Options::default())?;
-    /// let mut out = [0; 1024];
-    /// let size = pe.header().write(&mut out)?;
+    /// let header = goblin_pe::Pe::read(&bytes, &goblin_pe::Options::default())?.header();
+    /// let mut out = vec![0; header.write(&mut [])?];
+    /// let size = header.write(&mut out)?;
     /// # Ok::<(), goblin_pe::Error>(())
     /// ```
     pub fn write(&self, out: &mut [u8]) -> Result<usize, Error> {
@@ -116,12 +97,8 @@ impl Header<'_> {
     }
 }
 
-// The sizes of the DOS header, of the PE signature and the COFF header, and of the optional header of either width
-// with sixteen data directories, in bytes.
-const DOS_HEADER: usize = 64;
+// The size of the PE signature and the COFF header, in bytes.
 const SIGNATURE_AND_COFF_HEADER: usize = 24;
-const OPTIONAL_HEADER_32: usize = 224;
-const OPTIONAL_HEADER_64: usize = 240;
 
 // The file offset of the section table of an image.
 pub(crate) fn section_table(dos_header: &DosHeader, coff_header: &CoffHeader) -> usize {
