@@ -153,8 +153,9 @@ WRITTEN = (
 UNWRITTEN = (
     ("a byte of room is missing", 0x10B, 0, TABLE - 1, ("READ", "TOO_BIG", 0, 0)),
     ("a field for 32 bits is too wide", 0x10B, 1 << 32, TABLE, ("MALFORMED", "FIELD_TOO_WIDE", 0, 0)),
-    ("width is tested before room", 0x10B, 1 << 32, 0, ("MALFORMED", "FIELD_TOO_WIDE", 0, 0)),
-    ("magic is tested before both", 0x107, 1 << 32, 0, ("BAD_MAGIC", 0, 0x107, 0)),
+    ("width is tested before room", 0x10B, 1 << 32, 1, ("MALFORMED", "FIELD_TOO_WIDE", 0, 0)),
+    ("magic is tested before both", 0x107, 1 << 32, 1, ("BAD_MAGIC", 0, 0x107, 0)),
+    ("both are tested where there is no room at all", 0x107, 1 << 32, 0, ("BAD_MAGIC", 0, 0x107, 0)),
 )
 
 # Names in the records of sections, and what they say in both modes, where b"MZ" stands at 0 and b"twelve" at 12; or why they are
@@ -309,6 +310,7 @@ class Written(unittest.TestCase):
     def test_a_header_is_written_and_nothing_after_it(self):
         for name, file, (mode,), wanted in WRITTEN:
             with self.subTest(name):
+                self.assertEqual(written(opened(file, mode), 0), (None, len(wanted), b""))
                 for more in (0, 8):
                     self.assertEqual(written(opened(file, mode), len(wanted) + more), (None, len(wanted), wanted + b"\xAA" * more))
 

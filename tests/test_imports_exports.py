@@ -31,9 +31,9 @@ def packed_sample(length):
 # Its imports: the library, the name, the hint or the ordinal, the address of the slot, that of the name, and the slot.
 GO = (b"a.dll", b"Go", 5, 0x1060, 0x1090, 0)
 SEVEN = (b"a.dll", None, 7, 0x1064, 0, 1)
-# Its exports: the name, the ordinal, the hint, the address, its file offset, and the forwarder.
-PLAIN = (b"f", 1, 0, 0x1010, 0x210, None)
-FORWARDED = (b"a.dll", 2, 1, 0x10E0, 0x2E0, (b"b", 12))
+# Its exports: the name, the ordinal, the hint, the address, its file offset, the forwarder, and the address of the name.
+PLAIN = (b"f", 1, 0, 0x1010, 0x210, None, 0x10F0)
+FORWARDED = (b"a.dll", 2, 1, 0x10E0, 0x2E0, (b"b", 12), 0x1080)
 
 # Files, and their imports in both modes.
 IMPORTED = [
@@ -63,9 +63,10 @@ REFUSED_IMPORTS = [
 EXPORTED = [
     ("the sample", sample(), [PLAIN, FORWARDED]),
     ("another ordinal base", sample((0x2B0, b"\0\x01")),
-     [(b"f", 256, 0, 0x1010, 0x210, None), (b"a.dll", 257, 1, 0x10E0, 0x2E0, (b"b", 12))]),
-    ("a name that no section maps", sample((0x2D0, b"\0\x90")), [(None, 1, 0, 0x1010, 0x210, None), FORWARDED]),
-    ("two names of one address", sample((0x2D8, b"\x01")), [(b"f", 2, 0, 0x10E0, 0x2E0, (b"b", 12)), FORWARDED]),
+     [(b"f", 256, 0, 0x1010, 0x210, None, 0x10F0), (b"a.dll", 257, 1, 0x10E0, 0x2E0, (b"b", 12), 0x1080)]),
+    ("a name that no section maps", sample((0x2D0, b"\0\x90")), [(None, 1, 0, 0x1010, 0x210, None, 0x9000), FORWARDED]),
+    ("a name that is not UTF-8", sample((0x2F0, b"\xFF")), [(None, 1, 0, 0x1010, 0x210, None, 0x10F0), FORWARDED]),
+    ("two names of one address", sample((0x2D8, b"\x01")), [(b"f", 2, 0, 0x10E0, 0x2E0, (b"b", 12), 0x10F0), FORWARDED]),
     ("an ordinal without an address", sample((0x2D8, b"\x02")), [FORWARDED]),
     ("a forwarder without a dot", sample((0x2E1, b"-")), [PLAIN]),
 ]
@@ -301,5 +302,5 @@ class OverlappingSections(Read):
             self.assertEqual(pe.find_offset(rva), begin + rva - 0x1200)
         self.assert_imports(pe, [(name, imported, hint, 0x1220, 0x1250, 0)])
         self.assertEqual(pe.bytes_at(pe.imports[0].slot_rva, 4), struct.pack("<I", address))
-        self.assert_exports(pe, [(name, 0, 0, exported, begin + exported - 0x1200, None)])
+        self.assert_exports(pe, [(name, 0, 0, exported, begin + exported - 0x1200, None, 0x1240)])
         self.assertEqual(pe.export_directory.name, name)

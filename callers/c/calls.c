@@ -133,14 +133,15 @@ static bool is_sound(void)
            !damage.left_out_libraries && !damage.left_out_entries && !damage.left_out_exports;
 }
 
-/* Whether a header takes as many bytes as is told, in no less room, and the section table follows those that it has. */
+/* Whether a header takes as many bytes as is told without room, in no less room, and the section table follows those
+   that it has. */
 static bool is_written(const struct goblin_pe_file *file, const struct goblin_pe_directory *directories,
                        const struct goblin_pe_tables *tables)
 {
     static uint8_t out[1 << 16];
-    size_t size = goblin_pe_header_size(file, tables->dos_stub.length), written = 7;
-    size_t table = goblin_pe_section_table(file);
-    return size <= sizeof out && table <= length - 40 * tables->section_count &&
+    size_t size = 0, written = 7, table = goblin_pe_section_table(file);
+    return is_ok(goblin_pe_write_header(file, directories, file->directories, tables->dos_stub, NULL, 0, &size)) &&
+           size <= sizeof out && table <= length - 40 * tables->section_count &&
            !is_ok(goblin_pe_write_header(file, directories, file->directories, tables->dos_stub, out, size - 1,
                                          &written)) &&
            written == 7 &&

@@ -240,7 +240,8 @@ static inline bool goblin_pe_import_record_at(
 
 /* Goes on with the walk over the exports of an image, as goblin_pe_next_imports does over imports. The
    position is the index of a name pointer, 0 at the beginning. There are none where permissive mode passes over
-   a refused directory; strict mode refuses it at once. */
+   a refused directory; strict mode refuses it at once. A name pointer gives no export where no export has its index as
+   hint: goblin_pe_bytes_at reads it at name_pointer_rva of the export directory's record, and four times that index. */
 static inline struct goblin_pe_fault goblin_pe_next_exports(
     const uint8_t *bytes, size_t length, const struct goblin_pe_options *options, const struct goblin_pe_places *places,
     size_t *position, struct goblin_pe_export *exports, size_t room, size_t *count)
@@ -545,24 +546,16 @@ static inline size_t goblin_pe_section_table(const struct goblin_pe_file *file)
     return signature + 24 + file->coff_header.size_of_optional_header;
 }
 
-/* How many bytes goblin_pe_write_header writes of a header with a stub of so many bytes. */
-static inline size_t goblin_pe_header_size(const struct goblin_pe_file *file, size_t stub_length)
-{
-    /* (the DOS header, the PE signature and the COFF header; the fields of the two widths, and sixteen directories) */
-    bool is_wide = file->optional_header.standard_fields.magic == GOBLIN_PE_MAGIC_64;
-    return 64 + stub_length + 24 + (file->directories ? (is_wide ? 112u : 96u) + 16 * 8 : 0);
-}
-
 /* Writes the header of an image to the front of `out`, and says in `written` how many bytes it has: the DOS
    header, the stub, the PE signature, the COFF header, and an optional header with sixteen data directories
    unless file->directories is 0. Where strict mode read them, these are the bytes of the file up to the last
    of its directories, and zeros for those that it lacks of sixteen. In the file the section table may stand
    where these zeros are. So write elsewhere, and copy at most the bytes before goblin_pe_section_table into the
    file, as patch.c does. The signature follows the stub, whatever pe_pointer says: where permissive mode replaced
-   the stub, the headers after it do not stand at their places. The stub may not lie in `out`. Refused are a magic
-   that is neither of the two, a field that does not fit an optional header for 32 bits, and too little room;
-   nothing is written then, `written` neither: unlike other calls, one without room does not tell how much is
-   needed, but goblin_pe_header_size does. */
+   the stub, the headers after it do not stand at their places. The stub may not lie in `out`. A call without any room
+   writes no byte, and says how many are needed. Refused are a magic that is neither of the two, a field that does not
+   fit an optional header for 32 bits, and too little room: a part of a header is none. Nothing is written then,
+   `written` neither. */
 static inline struct goblin_pe_fault goblin_pe_write_header(
     const struct goblin_pe_file *file, const struct goblin_pe_directory *directories, size_t directory_count,
     struct goblin_pe_text stub, uint8_t *out, size_t room, size_t *written)

@@ -667,11 +667,10 @@ struct goblin_pe_export {
     bool has_offset;
     /* What it forwards to, by the numbers of `goblin_pe_forwards`. */
     uint8_t forwards;
-    /* Zero. With `reserved2` it stands where padding would be, so that each byte of the record is
-       defined. */
+    /* Zero. It stands where padding would be, so that each byte of the record is defined. */
     uint8_t reserved;
-    /* Zero. */
-    uint32_t reserved2;
+    /* The address of its name, as its name pointer says, also where no name can be read. */
+    uint32_t name_rva;
 };
 
 /* An entry of the export address table. Its index and the ordinal base are the ordinal that it
@@ -1357,7 +1356,7 @@ GOBLIN_PE_IS_AT(export, has_name, 88);
 GOBLIN_PE_IS_AT(export, has_offset, 89);
 GOBLIN_PE_IS_AT(export, forwards, 90);
 GOBLIN_PE_IS_AT(export, reserved, 91);
-GOBLIN_PE_IS_AT(export, reserved2, 92);
+GOBLIN_PE_IS_AT(export, name_rva, 92);
 
 GOBLIN_PE_HAS_SIZE(export_address, 8, 4);
 GOBLIN_PE_IS_AT(export_address, rva, 0);

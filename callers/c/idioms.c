@@ -151,16 +151,17 @@ static bool flags(void)
         && (layout.coff_header.characteristics & GOBLIN_PE_IMAGE_FILE_DLL) != 0;
 }
 
-/* A header is changed, and written into room that a call tells of. */
+/* A header is changed, and written into room that a first call tells of. */
 static bool a_changed_header(void)
 {
     struct goblin_pe_file file;
     struct goblin_pe_directory directories[16];
     struct goblin_pe_tables tables;
-    size_t written = 0;
+    size_t room = 0, written = 0;
     if (goblin_pe_open(bytes, length, NULL, &file, directories, 16, &tables).status)
         return false;
-    size_t room = goblin_pe_header_size(&file, tables.dos_stub.length);
+    if (goblin_pe_write_header(&file, directories, file.directories, tables.dos_stub, NULL, 0, &room).status)
+        return goblin_pe_free(&tables), false;
     uint8_t *out = malloc(room);
     file.coff_header.time_date_stamp = 7;
     bool is_written = out && !goblin_pe_write_header(&file, directories, file.directories, tables.dos_stub, out, room, &written).status

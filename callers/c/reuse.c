@@ -113,6 +113,7 @@ static bool walks_over_exports(const struct goblin_pe_places *places, const stru
             return false;
         for (size_t i = 0; i < count; i++, found++)
             if (found >= tables->export_count || exports[i].ordinal != tables->exports[found].ordinal ||
+                exports[i].name_rva != tables->exports[found].name_rva ||
                 exports[i].name.bytes != tables->exports[found].name.bytes)
                 return false;
     } while (count);

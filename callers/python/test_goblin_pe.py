@@ -536,7 +536,7 @@ class Files(unittest.TestCase):
         self.assertEqual(min(addresses), pe.export_directory.table.ordinal_base)
         for x in pe.exports:
             self.assertEqual((x.rva, x.forwarder is not None), addresses[x.ordinal][1:])
-            self.assertEqual(pe.exports[x.hint], x)
+            self.assertEqual((pe.exports[x.hint], pe.text_at(x.name_rva)), (x, x.name))
 
     def test_headers_and_sections_are_written(self):
         for name in os.listdir(SAMPLES):

@@ -175,7 +175,9 @@ class Damage(_t.NamedTuple):
     left_out_libraries: how many libraries permissive mode leaves out of the imports: those without an address table.
     left_out_entries: how many entries of the other libraries it leaves out.
     left_out_exports: how many name pointers of the export directory give no export, in either mode: there is no ordinal, it lies
-        past the address table, or it leads to a forwarder whose text can't be read. 0 where the exports are refused.
+        past the address table, or it leads to a forwarder whose text can't be read. 0 where the exports are refused. Their
+        indexes are the hints that no export has, and bytes_at reads such a pointer at the record's name_pointer_rva and four
+        times its index.
     """
 
     dos_stub: _t.Optional[Refused]

@@ -544,9 +544,8 @@ class Export(Record):
     has_offset: Whether `rva` has a file offset: a section maps it and the file alignment is a power
         of two, or the options say that addresses are offsets.
     forwards: What it forwards to, by the numbers of `Forwards`.
-    reserved: Zero. With `reserved2` it stands where padding would be, so that each byte of the
-        record is defined.
-    reserved2: Zero.
+    reserved: Zero. It stands where padding would be, so that each byte of the record is defined.
+    name_rva: The address of its name, as its name pointer says, also where no name can be read.
     """
 
     name: Text
@@ -561,7 +560,7 @@ class Export(Record):
     has_offset: Annotated[bool, c.c_bool]
     forwards: Annotated[int, c.c_uint8]
     reserved: Annotated[int, c.c_uint8]
-    reserved2: Annotated[int, c.c_uint32]
+    name_rva: Annotated[int, c.c_uint32]
 
 
 @record

@@ -108,7 +108,7 @@ class Library(NamedTuple):
 class Export(NamedTuple):
     """An export: its name, its own ordinal, the index of its name pointer, its address and the file offset of that. A name
     that can't be read is None, and so is the offset of an address that no section maps. The forwarder is None, or the pair
-    (library, name or ordinal)."""
+    (library, name or ordinal). The name_rva is the address of the name, where bytes_at reads one that is not UTF-8."""
 
     name: Optional[bytes]
     ordinal: int
@@ -116,6 +116,7 @@ class Export(NamedTuple):
     rva: int
     offset: Optional[int]
     forwarder: Optional[Tuple[bytes, Union[bytes, int]]]
+    name_rva: int
 
 
 class ExportAddress(NamedTuple):
@@ -313,7 +314,7 @@ class Rows:
         what: Union[bytes, int] = self.text(x.forward_name) if x.forwards == Forwards.NAME else x.forward_ordinal
         forwarder = (self.text(x.forward_lib), what) if x.forwards else None
         offset = x.offset if x.has_offset else None
-        return Export(self.text(x.name) if x.has_name else None, x.ordinal, x.hint, x.rva, offset, forwarder)
+        return Export(self.text(x.name) if x.has_name else None, x.ordinal, x.hint, x.rva, offset, forwarder, x.name_rva)
 
     def forwarder(self, f: records.Forwarder) -> Tuple[bytes, Union[bytes, int]]:
         """The library and the name or ordinal of a forwarder."""

@@ -301,7 +301,7 @@ impl<'a> Layout<'a> {
     /// ```no_run
     /// # let bytes = [];
     /// let layout = goblin_pe::Layout::read(&bytes, &goblin_pe::Options::default())?;
-    /// let mut out = vec![0; layout.header().size()];
+    /// let mut out = vec![0; layout.write_header(&mut [])?];
     /// let size = layout.write_header(&mut out)?;
     /// # Ok::<(), goblin_pe::Error>(())
     /// ```

@@ -481,11 +481,10 @@ pub struct Export<'a> {
     pub has_offset: bool,
     /// What it forwards to, by the numbers of `Forwards`.
     pub forwards: u8,
-    /// Zero. With `reserved2` it stands where padding would be, so that each byte of the record is
-    /// defined.
+    /// Zero. It stands where padding would be, so that each byte of the record is defined.
     pub reserved: u8,
-    /// Zero.
-    pub reserved2: u32,
+    /// The address of its name, as its name pointer says, also where no name can be read.
+    pub name_rva: u32,
 }
 
 /// An entry of the export address table. Its index and the ordinal base are the ordinal that it
@@ -1075,7 +1074,7 @@ const _: () = {
     assert!(offset_of!(Export, has_offset) == 89);
     assert!(offset_of!(Export, forwards) == 90);
     assert!(offset_of!(Export, reserved) == 91);
-    assert!(offset_of!(Export, reserved2) == 92);
+    assert!(offset_of!(Export, name_rva) == 92);
     assert!(size_of::<ExportAddress>() == 8 && align_of::<ExportAddress>() == 4);
     assert!(offset_of!(ExportAddress, rva) == 0);
     assert!(offset_of!(ExportAddress, forwards) == 4);

@@ -1,6 +1,5 @@
 //! What was read, row by row. Rows live as long as the bytes of the file.
 
-use crate::constants::MAGIC_64;
 use crate::error::Error;
 use crate::iterators::{WalkRelocations, Words};
 use crate::memory::records;
@@ -21,7 +20,7 @@ use std::io::Write;
 /// let mut header = pe.header();
 /// header.coff_header.time_date_stamp = 0;
 /// let (mut out, table) = (bytes.clone(), header.section_table());
-/// let mut written = vec![0; header.size()];
+/// let mut written = vec![0; header.write(&mut [])?];
 /// let size = header.write(&mut written)?.min(table).min(out.len());
 /// out[..size].copy_from_slice(&written[..size]);
 /// # Ok::<(), goblin_pe::Error>(())
@@ -55,25 +54,6 @@ impl Header<'_> {
         section_table(&self.dos_header, &self.coff_header)
     }
 
-    /// How many bytes [`Header::write`] writes.
-    ///
-    /// ```no_run
-    /// # let bytes = [];
-    /// let header = goblin_pe::Pe::parse(&bytes)?.header();
-    /// let mut out = vec![0; header.size()];
-    /// header.write(&mut out)?;
-    /// # Ok::<(), goblin_pe::Error>(())
-    /// ```
-    #[must_use]
-    pub fn size(&self) -> usize {
-        let optional = match self.optional_header {
-            None => 0,
-            Some(it) if it.standard_fields.magic == MAGIC_64 => OPTIONAL_HEADER_64,
-            Some(_) => OPTIONAL_HEADER_32,
-        };
-        DOS_HEADER + self.dos_stub.len() + SIGNATURE_AND_COFF_HEADER + optional
-    }
-
     /// Writes the header to the front of `out`, and returns how many bytes it has: all sixteen data
     /// directories are written, zeros for those that are not there. Where strict mode read it, these are
     /// the bytes of the file up to the last directory that the file has. In the file the section table may
@@ -83,15 +63,16 @@ impl Header<'_> {
     /// The PE signature follows the stub, whatever `pe_pointer` says: where permissive mode replaced the
     /// stub, the headers after it do not stand at their places.
     ///
+    /// Where `out` is empty, nothing is written, and what is returned is how many bytes are needed.
+    ///
     /// # Errors
-    /// Too little room, of which [`Header::size`] tells how much is needed, or a field that does not fit the width of
-    /// the optional header; nothing is written then.
+    /// Too little room, or a field that does not fit the width of the optional header; nothing is written then.
     ///
     /// ```no_run
     /// # let bytes = [];
-    /// let pe = goblin_pe::Pe::read(&bytes, &goblin_pe::Options::default())?;
-    /// let mut out = [0; 1024];
-    /// let size = pe.header().write(&mut out)?;
+    /// let header = goblin_pe::Pe::read(&bytes, &goblin_pe::Options::default())?.header();
+    /// let mut out = vec![0; header.write(&mut [])?];
+    /// let size = header.write(&mut out)?;
     /// # Ok::<(), goblin_pe::Error>(())
     /// ```
     pub fn write(&self, out: &mut [u8]) -> Result<usize, Error> {
@@ -116,12 +97,8 @@ impl Header<'_> {
     }
 }
 
-// The sizes of the DOS header, of the PE signature and the COFF header, and of the optional header of either width
-// with sixteen data directories, in bytes.
-const DOS_HEADER: usize = 64;
+// The size of the PE signature and the COFF header, in bytes.
 const SIGNATURE_AND_COFF_HEADER: usize = 24;
-const OPTIONAL_HEADER_32: usize = 224;
-const OPTIONAL_HEADER_64: usize = 240;
 
 // The file offset of the section table of an image.
 pub(crate) fn section_table(dos_header: &DosHeader, coff_header: &CoffHeader) -> usize {
@@ -151,7 +128,9 @@ pub struct Damage {
     pub left_out_entries: usize,
     /// How many name pointers of the export directory give no export, in either mode: there is no
     /// ordinal, the ordinal lies past the address table, or it leads to a forwarder whose text can't be
-    /// read. 0 where the exports are refused.
+    /// read. 0 where the exports are refused. Their indexes are the hints that no export has, and
+    /// [`Layout::bytes_at`](crate::Layout::bytes_at) reads such a pointer at the record's `name_pointer_rva` and four
+    /// times its index.
     pub left_out_exports: usize,
 }
 
@@ -576,6 +555,8 @@ pub struct Export<'a> {
     pub ordinal: usize,
     /// The index of its name pointer, by which others name it as a hint.
     pub hint: usize,
+    /// The address of its name, where [`Layout::bytes_at`](crate::Layout::bytes_at) reads one that is not UTF-8.
+    pub name_rva: u32,
     /// The file offset of `rva`, as [`Layout::find_offset`](crate::Layout::find_offset) gives it.
     pub offset: Option<usize>,
     /// The address, relative to the image's base; of a forwarder that of its text.
@@ -593,6 +574,7 @@ impl<'a> From<&raw::Export<'a>> for Export<'a> {
             name: x.has_name.then(|| Text(x.name.get())),
             ordinal: x.ordinal,
             hint: x.hint,
+            name_rva: x.name_rva,
             offset: x.has_offset.then_some(x.offset),
             rva: x.rva,
             forwarder: match Forwards::try_from(u32::from(x.forwards)) {

@@ -297,6 +297,7 @@ fn exports_are_found_by_name_and_by_ordinal() {
     let base = pe.export_directory().unwrap().table.ordinal_base as usize;
     for export in pe.exports() {
         assert_eq!(pe.find_export(export.name.unwrap()), Some(export));
+        assert_eq!(pe.text_at(export.name_rva as usize).ok(), export.name);
         let found = pe.find_export_by_ordinal(export.ordinal).unwrap();
         assert_eq!(
             (found.ordinal, found.rva as usize, found.forwards),
@@ -320,7 +321,7 @@ fn headers_and_sections_are_written_back() {
         let pe = Pe::read(&bytes, &Options::default()).unwrap();
         let mut out = vec![0; bytes.len()];
         let written = pe.write_header(&mut out).unwrap();
-        assert_eq!(written, pe.header().size());
+        assert_eq!(pe.write_header(&mut []), Ok(written));
         assert_eq!(out[..written], bytes[..written], "{name}");
         for section in pe.sections() {
             let mut record = [0; 40];

@@ -1,17 +1,15 @@
 //! The calls that write a header and the records of sections.
 
-ghost use Rattle.std.specs.Prelude.{◌≡◌, IsSomeAnd, length, option_and_then};
+ghost use Rattle.std.specs.Prelude.{◌≡◌};
 ghost use Rattle.goblin_base.specs.declared.endian.Endian.TheVariants.{Little};
-ghost use Rattle.goblin_base.specs.Answers.{FirstFault, IsSliceFault};
+ghost use Rattle.goblin_base.specs.Answers.{IsSliceFault};
 ghost use Rattle.goblin_base.specs.Bytes.{overwritten};
 ghost use Rattle.goblin_base.specs.Record.{encoding};
 ghost use Rattle.goblin_pe_sect.specs.SectionReadings.{SectionWritesBack};
 ghost use Rattle.goblin_pe_sect.specs.SectionTable.{section_fields};
-ghost use Rattle.goblin_pe_head.specs.PeHeader.{IsUnwrittenPart, header_bytes};
 ghost use Rattle.goblin_pe_records.specs.Calls.{Reported};
 ghost use Rattle.goblin_pe_records.specs.Sections.{section_view};
-ghost use Rattle.goblin_pe_records.specs.Written.{Output, SetsName, WritesOut};
-ghost use Rattle.goblin_pe_records.specs.Written.{header_said, optional_said};
+ghost use Rattle.goblin_pe_records.specs.Written.{Output, SetsName, WritesHeader, WritesOut};
 ghost use Rattle.goblin_pe_calls.specs.Written.{OpenedWritesBack};
 
 use goblin_pe_calls::write_header::write_header;
@@ -30,8 +28,9 @@ use goblin_pe_records::section::{PeSection, set_name_offset, write_section};
 /// What strict mode read is written as the bytes of the file up to the header's end, and zeros for
 /// the directories that it lacks.
 ///
-/// Refused are, in this order, an optional header of unknown magic, one for 32 bits with a Windows
-/// field that does not fit, and where there is no room; nothing is changed then.
+/// Without any room nothing is written, and `written` tells how much is needed. Refused are, in
+/// this order, an optional header of unknown magic, one for 32 bits with a Windows field that does
+/// not fit, and too little room; nothing is changed then.
 #[unsafe(no_mangle)]
 pub extern "C" fn goblin_pe_raw_write_header(
     file: &PeFile,
@@ -42,13 +41,7 @@ pub extern "C" fn goblin_pe_raw_write_header(
 ) -> PeFault
     ensures written { let old : Output = record { out = out.old; written = written.old } in
         let new : Output = record { out = out.new; written = written.new } in
-        let made = header_bytes Little (header_said file.now directories.now stub.now) in
-        Reported result
-        (WritesOut (option_and_then (overwritten out.old 0) made)
-        (λ size. IsSomeAnd made (λ bytes. size ≡ length bytes))
-        (FirstFault made (IsUnwrittenPart (optional_said file.now directories.now))
-        (λ bytes. IsSliceFault out.old 0 (length bytes)))
-        old new) }
+        Reported result (WritesHeader file.now directories.now stub.now old new) }
     ensures back { OpenedWritesBack }
 {
     status_of(write_header(file, directories, stub, out, written))

@@ -32,7 +32,8 @@ pub record ExportSaid : Type 0 where
   pub has_name : Bool
   pub has_offset : Bool
   pub forwards : ℕ
-  pub reserved : ℕ × ℕ
+  pub reserved : ℕ
+  pub name_rva : ℕ
 
 -- a forwarder's numbers and texts: its kind, its library, and its name or its ordinal there
 pub record ForwarderSaid : Type 0 where
@@ -70,7 +71,8 @@ said_with x forwarder = record {
   has_name = is_some x.row.name;
   has_offset = is_some x.row.offset;
   forwards = forwarder.kind;
-  reserved = (0, 0);
+  reserved = 0;
+  name_rva = x.name_rva;
 }
 
 -- the record of an export
@@ -95,7 +97,8 @@ export_view x = record {
   has_name = x.has_name;
   has_offset = x.has_offset;
   forwards = x.forwards;
-  reserved = (x.reserved, x.reserved2);
+  reserved = x.reserved;
+  name_rva = x.name_rva;
 }
 
 -- what a list of records holds

@@ -69,11 +69,10 @@ pub struct PeExport<'a> {
     pub has_offset: bool,
     /// What it forwards to, by the numbers of [`Forwards`].
     pub forwards: u8,
-    /// Zero. With `reserved2` it stands where padding would be, so that each byte of the record is
-    /// defined.
+    /// Zero. It stands where padding would be, so that each byte of the record is defined.
     pub reserved: u8,
-    /// Zero.
-    pub reserved2: u32,
+    /// The address of its name, as its name pointer says, also where no name can be read.
+    pub name_rva: u32,
 }
 
 // The record of an export that is no forwarder.
@@ -101,7 +100,7 @@ pub(crate) fn plain_record<'a>(bytes: &'a [u8], walked: &WalkedExport<'a>) -> Pe
         has_offset: export.offset.is_some(),
         forwards: Forwards::None as u8,
         reserved: 0,
-        reserved2: 0,
+        name_rva: walked.name_rva,
     }
 }
 

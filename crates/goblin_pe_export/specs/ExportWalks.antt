@@ -1,5 +1,5 @@
 -- The walk over the exports of an image: what is still to come.
-use Rattle.std.specs.Prelude.{◌≡◌, ℕ, ◌+◌, ◌-◌, ◌/◌, List, Option, filter_map, length}
+use Rattle.std.specs.Prelude.{◌≡◌, ℕ, ◌+◌, ◌-◌, ◌/◌, IfSome, List, Option, filter_map, length}
 use Rattle.std.specs.Prelude.{option_map, slice_get, unwrap_or}
 use Rattle.std.specs.Iterator.{YieldsFirstBy}
 use Rattle.std.specs.List.{range_with_len}
@@ -11,14 +11,15 @@ use Rattle.goblin_pe_export.specs.declared.export.exports.WalkedExport.{WalkedEx
 
 -- ---- the exports with their numbers
 
--- an export, with the index of its name pointer and its own ordinal
+-- an export, with the index of its name pointer, its own ordinal and the address of its name
 pub record NumberedExport : Type 0 where
   pub hint : ℕ
   pub ordinal : ℕ
+  pub name_rva : ℕ
   pub row : ExportRow
 
 -- The export of the name pointer at index x, where that has one. Its ordinal is the entry of the
--- ordinal table at x, and the ordinal base added; an export has that entry.
+-- ordinal table at x, and the ordinal base added; an export has both entries at x.
 unfoldable pub numbered_export : (ℕ → Option ℕ) → List ℕ → ExportTables → ℕ
     → Option NumberedExport
 numbered_export offset_of bytes tables x =
@@ -26,6 +27,7 @@ numbered_export offset_of bytes tables x =
       hint = x;
       ordinal = tables.export_directory_table.ordinal_base
           + unwrap_or (slice_get tables.export_ordinal_table x) 0;
+      name_rva = unwrap_or (slice_get tables.export_name_pointer_table x) 0;
       row = row;
     })
     (export_row offset_of bytes tables x)
@@ -40,7 +42,8 @@ numbered_from offset_of bytes tables x =
 
 -- an export that a walk yields
 abbrev pub walked_export : WalkedExport → NumberedExport
-walked_export x = record { hint = x.hint; ordinal = x.ordinal; row = x.export }
+walked_export x =
+    record { hint = x.hint; ordinal = x.ordinal; name_rva = x.name_rva; row = x.export }
 
 -- the tables that a walk reads
 abbrev pub walked_tables : Exports → ExportTables
@@ -51,9 +54,13 @@ abbrev pub exports_at : Exports → ℕ → List NumberedExport
 exports_at walk x =
     numbered_from (offset_of (map_of walk.finder)) walk.bytes.now (walked_tables walk) x
 
+-- where a walk is: the index of the name pointer that is read next
+abbrev pub exports_position : Exports → ℕ
+exports_position walk = walk.next
+
 -- what is still to come
 abbrev pub exports_left : Exports → List NumberedExport
-exports_left walk = exports_at walk walk.next
+exports_left walk = exports_at walk (exports_position walk)
 
 -- the walk is over these bytes, whose addresses are mapped so
 abbrev pub AreExportsOver : List ℕ → MapOfAddresses → Exports → Type 0
@@ -64,9 +71,12 @@ abbrev pub KeepsOver : Exports → Exports → Type 0
 KeepsOver s t =
     AreExportsOver s.bytes.now (map_of s.finder) t × (walked_tables t ≡ walked_tables s)
 
--- A call of `next` gives the next export; it keeps what is walked over.
+-- A call of `next` gives the next export; it keeps what is walked over, and goes on behind the name
+-- pointer of that export.
 abbrev pub GivesExport : Exports → Option WalkedExport → Exports → Type 0
-GivesExport s result t = YieldsFirstBy walked_export exports_left s result t × KeepsOver s t
+GivesExport s result t =
+    YieldsFirstBy walked_export exports_left s result t × KeepsOver s t
+    × IfSome result (λ x. exports_position t ≡ x.hint + 1)
 
 -- no more than this comes
 abbrev pub exports_bound : Exports → ℕ

@@ -376,8 +376,8 @@ impl<'a> Export<'a> {
         })
     }
 
-    // The export of the name pointer at an index, with its entry of the ordinal table, where its
-    // ordinal, its address and, of a forwarder, the text are there.
+    // The export of the name pointer at an index, with that and its entry of the ordinal table,
+    // where its ordinal, its address and, of a forwarder, the text are there.
     #[inline(always)]
     #[tactic(auto, unfolding(crate::specs::ExportReadings::export_row))]
     fn of_pointer<T: Entries>(
@@ -385,19 +385,20 @@ impl<'a> Export<'a> {
         tables: &T,
         index: usize,
         finder: &mut Finder<'_>,
-    ) -> Option<(u16, Export<'a>)>
+    ) -> Option<((u32, u16), Export<'a>)>
         ensures value { let m = map_of finder.old in
             let t = T.entries tables.now in
             let row = export_row (offset_of m) bytes.now t index in
             MatchOption result (row ≡ None)
-            (λ x. (row ≡ Some x.1) × (slice_get t.export_ordinal_table index ≡ Some x.0)) }
+            (λ x. (row ≡ Some x.1) × (slice_get t.export_name_pointer_table index ≡ Some x.0.0)
+            × (slice_get t.export_ordinal_table index ≡ Some x.0.1)) }
         ensures same { finder.new ≡ finder.old }
     {
         let pointer = tables.pointer(index)?;
         let ordinal = tables.ordinal(index)?;
         let address = tables.address(usize::from(ordinal))?;
         let export = Export::of_address(bytes, pointer, address, finder)?;
-        Some((ordinal, export))
+        Some(((pointer, ordinal), export))
     }
 
     /// The exports that export data lists, as [`Export::parse_with_opts`] reads them by the default

@@ -1,11 +1,15 @@
 -- What is written of the records of a caller.
 use Rattle.std.specs.Prelude.{◌≡◌, ◌++◌, ◌-◌, ◌==◌, if◌then◌else◌, ℕ, Bool, List, length, map}
-use Rattle.std.specs.Prelude.{Option, None, Some, Result, Ok, Err, replicate, take}
+use Rattle.std.specs.Prelude.{IsSomeAnd, Option, None, Some, Result, Ok, Err, option_and_then}
+use Rattle.std.specs.Prelude.{replicate, take}
+use Rattle.goblin_base.specs.declared.endian.Endian.TheVariants.{Little}
 use Rattle.goblin_base.specs.declared.error.ErrorOf.{ErrorOf}
+use Rattle.goblin_base.specs.Answers.{FirstFault, IsSliceFault}
+use Rattle.goblin_base.specs.Bytes.{overwritten}
 use Rattle.goblin_pe_sect.specs.declared.data_directories.DataDirectory.{DataDirectory}
 use Rattle.goblin_pe_sect.specs.SectionName.{IsNameOffsetFault, indirect_name, name_value}
 use Rattle.goblin_pe_head.specs.declared.optional_header.OptionalHeader.{OptionalHeader}
-use Rattle.goblin_pe_head.specs.PeHeader.{PeHeader}
+use Rattle.goblin_pe_head.specs.PeHeader.{IsUnwrittenPart, PeHeader, header_bytes}
 use Rattle.goblin_pe_records.specs.declared.directory.PeDirectory.{PeDirectory}
 use Rattle.goblin_pe_records.specs.declared.file.PeFile.{PeFile}
 use Rattle.goblin_pe_records.specs.declared.section.PeSection.{PeSection}
@@ -56,6 +60,22 @@ abbrev pub WritesOut : Option (List ℕ) → (ℕ → Type 0) → (ErrorOf → T
     → Result Unit ErrorOf → Type 0
 WritesOut change IsSize IsCause old new (Ok x) = (change ≡ Some new.out) × IsSize new.written
 WritesOut change IsSize IsCause old new (Err e) = (change ≡ None) × IsCause e × (new ≡ old)
+
+-- The front of bytes is a header's, where there is room for it; without any room they stay.
+abbrev pub with_header : List ℕ → List ℕ → Option (List ℕ)
+with_header out header = if length out == 0 then Some out else overwritten out 0 header
+
+-- A call has written the header that records say to the front of bytes, and told how many it takes;
+-- without any room it told that alone.
+abbrev pub WritesHeader : PeFile → List PeDirectory → List ℕ → Output → Output
+    → Result Unit ErrorOf → Type 0
+WritesHeader file directories stub old new =
+    let made = header_bytes Little (header_said file directories stub) in
+    WritesOut (option_and_then (with_header old.out) made)
+    (λ size. IsSomeAnd made (λ header. size ≡ length header))
+    (FirstFault made (IsUnwrittenPart (optional_said file directories))
+    (λ header. IsSliceFault old.out 0 (length header)))
+    old new
 
 -- A call has set the eight bytes of a section's name to those that hold a number, which readers
 -- find there; or none hold it, the cause is true, and everything is unchanged.

@@ -2,14 +2,14 @@
 
 ghost use Rattle.std.specs.Prelude.{◌≡◌, ◌≤◌, ◌+◌, IfOk, IfSome, MatchOption, None, Some, length};
 ghost use Rattle.std.specs.Prelude.{map, option_map, slice_get};
-ghost use Rattle.std.specs.Iterator.{UpTo, YieldsFirstBy, at_most};
+ghost use Rattle.std.specs.Iterator.{UpTo, at_most};
 ghost use Rattle.std.specs.Iterator.SizeHint.{IsWithinCount};
 ghost use Rattle.goblin_base.specs.Reading.{Reads};
 ghost use Rattle.goblin_pe_sect.specs.Addresses.{map_of, offset_of};
 ghost use Rattle.goblin_pe_export.specs.ExportReadings.{export_read};
 ghost use Rattle.goblin_pe_export.specs.ExportRecords.{tables_in};
 ghost use Rattle.goblin_pe_export.specs.ExportWalks.{AreExportsOver, GivesExport, KeepsOver};
-ghost use Rattle.goblin_pe_export.specs.ExportWalks.{exports_at};
+ghost use Rattle.goblin_pe_export.specs.ExportWalks.{exports_at, exports_position};
 ghost use Rattle.goblin_pe_export.specs.ExportWalks.{NumberedExport, exports_bound, exports_left};
 ghost use Rattle.goblin_pe_export.specs.ExportWalks.{numbered_export};
 ghost use Rattle.goblin_pe_export.specs.ExportWalks.{numbered_from, walked_export, walked_tables};
@@ -33,6 +33,8 @@ pub struct WalkedExport<'a> {
     pub hint: usize,
     /// Its own ordinal: the index of its address, and the ordinal base added.
     pub ordinal: usize,
+    /// The address of its name, as its name pointer says, also where no name can be read.
+    pub name_rva: u32,
     /// The export itself.
     pub export: Export<'a>,
 }
@@ -108,6 +110,7 @@ impl<'a, 'm> Exports<'a, 'm> {
     /// there.
     pub fn from_position(self, position: usize) -> Exports<'a, 'm>
         ensures left { exports_left result ≡ exports_at self.entry position }
+        ensures at { exports_position result ≡ position }
         ensures over { KeepsOver self.entry result }
     {
         Exports {
@@ -118,10 +121,10 @@ impl<'a, 'm> Exports<'a, 'm> {
         }
     }
 
-    /// Where the walk is, the index of the name pointer that is read next: what is still to come is
-    /// what comes from it on.
+    /// Where the walk is, the index of the name pointer that is read next: after an export its hint
+    /// and one. What is still to come is what comes from it on.
     pub fn position(&self) -> usize
-        ensures { exports_left self.now ≡ exports_at self.now result }
+        ensures { result ≡ exports_position self.now }
     {
         self.next
     }
@@ -155,24 +158,30 @@ impl<'a, 'm> Exports<'a, 'm> {
         self.tables.address(index)
     }
 
-    // An export with its numbers: the index of its name pointer, and its entry of the ordinal table
-    // with the base added.
+    // An export with its numbers: the index of its name pointer, this itself, and its entry of the
+    // ordinal table with the base added.
     #[inline(always)]
     fn numbered(
         tables: &TablesInFile<'a>,
         index: usize,
+        pointer: u32,
         ordinal: u16,
         export: Export<'a>,
     ) -> WalkedExport<'a>
         ensures { let base = (tables_in tables.now).export_directory_table.ordinal_base in
-            let made : NumberedExport =
-            record { hint = index; ordinal = base + ordinal; row = export.entry } in
+            let made : NumberedExport = record {
+              hint = index;
+              ordinal = base + ordinal;
+              name_rva = pointer;
+              row = export.entry;
+            } in
             walked_export result ≡ made }
     {
         let base = tables.export_directory_table.ordinal_base;
         WalkedExport {
             hint: index,
             ordinal: base as usize + usize::from(ordinal),
+            name_rva: pointer,
             export,
         }
     }
@@ -189,10 +198,11 @@ impl<'a, 'm> Exports<'a, 'm> {
         ensures value { let m = map_of finder.old in
             option_map walked_export result
             ≡ numbered_export (offset_of m) bytes.now (tables_in tables.now) index }
+        ensures hint { IfSome result (λ x. x.hint ≡ index) }
         ensures same { finder.new ≡ finder.old }
     {
-        let (ordinal, export) = Export::of_pointer(bytes, tables, index, finder)?;
-        Some(Exports::numbered(tables, index, ordinal, export))
+        let ((pointer, ordinal), export) = Export::of_pointer(bytes, tables, index, finder)?;
+        Some(Exports::numbered(tables, index, pointer, ordinal, export))
     }
 
     // The same, where it is plain, as `Export::plain_of_address` says; else `None`, which says
@@ -208,6 +218,7 @@ impl<'a, 'm> Exports<'a, 'm> {
         ensures value { let m = map_of finder.now in
             let export = numbered_export (offset_of m) bytes.now (tables_in tables.now) index in
             IfSome result (λ x. export ≡ Some (walked_export x)) }
+        ensures hint { IfSome result (λ x. x.hint ≡ index) }
         ensures plain { IfSome result (λ x. (walked_export x).row.reexport ≡ None) }
     {
         let pointer = tables.pointer(index)?;
@@ -216,7 +227,7 @@ impl<'a, 'm> Exports<'a, 'm> {
         let Some(export) = Export::plain_of_address(bytes, pointer, address, finder) else {
             return None;
         };
-        Some(Exports::numbered(tables, index, ordinal, export))
+        Some(Exports::numbered(tables, index, pointer, ordinal, export))
     }
 
     /// The next export, where it is plain: no forwarder, with an address and a name that lie among
@@ -227,9 +238,8 @@ impl<'a, 'm> Exports<'a, 'm> {
     #[tactic(auto, using(crate::proofs::ExportWalk::from_export))]
     pub fn next_plain(&mut self) -> Option<WalkedExport<'a>>
         ensures steps { MatchOption result (self.new ≡ self.old)
-            (λ x. YieldsFirstBy walked_export exports_left self.old (Some x) self.new) }
+            (λ x. GivesExport self.old (Some x) self.new) }
         ensures plain { IfSome result (λ x. (walked_export x).row.reexport ≡ None) }
-        ensures over { KeepsOver self.old self.new }
     {
         let index = self.next;
         if self.tables.pointers() <= index {

@@ -269,6 +269,20 @@ impl<'a> Header<'a> {
         Ok(size)
     }
 
+    /// How many bytes [`Header::try_into_ctx`] writes.
+    ///
+    /// # Errors
+    /// As `try_into_ctx` of an optional header that can't be written.
+    #[tactic(auto, unfolding(crate::specs::PeHeader::header_bytes))]
+    pub fn size_with(&self, endian: Endian) -> Result<usize>
+        ensures { Answers (λ n. n) result
+            (option_map (λ written. length written) (header_bytes endian (header_value self.now)))
+            (IsUnwrittenPart self.now.optional_header) }
+    {
+        let optional = optional_bytes(&self.optional_header, endian)?;
+        Ok(self.written_size(optional.as_slice()))
+    }
+
     // How many bytes the parts take, the optional header as these bytes.
     #[tactic(auto, using(crate::proofs::WrittenForm::length_header_parts))]
     fn written_size(&self, optional: &[u8]) -> usize

@@ -10,4 +10,4 @@ pub plain-preserved : goal.plain-preserved
 plain-preserved c =
     let further = c.plain.invariant.1 in
     let given = c.in-Some-next_plain in
-    (exports-more c.args.exports.now c.args.records.now c.plain.exports c.plain.records c.plain.count c.plain.invariant.0 given.export c.next_plain.new.self c.plain_record.result given.ensures.steps given.ensures.over c.plain-test.true (c.plain_record.ensures.plain given.ensures.plain), omega (arith, further))
+    (exports-more c.args.exports.now c.args.records.now c.plain.exports c.plain.records c.plain.count c.plain.invariant.0 given.export c.next_plain.new.self c.plain_record.result given.ensures.steps.0 given.ensures.steps.1 c.plain-test.true (c.plain_record.ensures.plain given.ensures.plain), omega (arith, further))

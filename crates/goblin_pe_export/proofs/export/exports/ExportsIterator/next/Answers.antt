@@ -35,6 +35,7 @@ returns-in-Some-clause-steps c =
           ∙ ap (λ (m : AddressMap). walked_export c.in-Some.export ∷ numbered_from (offset_of (map_of m)) c.pointers.self.bytes.now (tables_in c.pointers.self.tables) (c.pointers.index + 1))
           (sym same),
       ((before.over.0.0, ap map_of same ∙ before.over.0.1), before.over.1),
+      omega (arith, c.in-Some.ensures.hint),
     )
 
 pub returns-in-Some-clause-goes : goal.returns-in-Some-clause-goes
@@ -55,4 +56,4 @@ returns-clause-steps c =
     let count = ap (λ (t : ExportTables). length t.export_name_pointer_table) before.over.1 in
     let past = from_end _ _ _ c.pointers.index (omega (arith, c.pointers-test.false, c.pointers-index-end.ensures, count)) in
     let none = from_end _ _ _ c.pointers.self.next (omega (arith, before.at, c.pointers-test.false, c.pointers-index-end.ensures, count)) in
-    ((before.left ∙ past, none), before.over)
+    ((before.left ∙ past, none), before.over, tt)
