@@ -97,8 +97,8 @@ impl<'a> Layout<'a> {
         let fault = raw::read_layout(bytes, options, &mut file, &mut directories, &mut first);
         Error::test(fault)?;
         let mut sections = records(raw::Section::default(), file.sections)?;
-        if sections.len() <= FIRST {
-            sections.copy_from_slice(&first[..sections.len()]);
+        if let Some(all) = first.get(..file.sections) {
+            sections.copy_from_slice(all);
         } else {
             let fault = raw::read_layout(bytes, options, &mut file, &mut [], &mut sections);
             Error::test(fault)?;
