@@ -237,7 +237,8 @@ struct Batches<T, P> {
     position: P,
     next: usize,
     count: usize,
-    was_refused: bool,
+    // Whether no more are read: after a refusal, and where the file has no such table.
+    is_over: bool,
 }
 
 impl<T: Copy + Default, P: Position> Batches<T, P> {
@@ -249,14 +250,18 @@ impl<T: Copy + Default, P: Position> Batches<T, P> {
             position: P::default(),
             next: 0,
             count: 0,
-            was_refused: false,
+            is_over: false,
         }
     }
 
-    // From the beginning, in a file with so many sections.
-    fn by_sections(sections: usize) -> Self {
-        let is_indexed = sections > MOST_UNINDEXED;
-        Self::new(if is_indexed { INDEXED_BATCH } else { BATCH })
+    // From the beginning of a table, if there is one, in a file whose sections lie there.
+    fn of_table(places: &raw::Places, is_there: bool) -> Self {
+        let is_indexed = usize::from(places.number_of_sections) > MOST_UNINDEXED;
+        let batches = Self::new(if is_indexed { INDEXED_BATCH } else { BATCH });
+        Batches {
+            is_over: !is_there,
+            ..batches
+        }
     }
 
     // The next record, or the refusal that ends the walk. Where those that were read are taken, and others may
@@ -266,7 +271,7 @@ impl<T: Copy + Default, P: Position> Batches<T, P> {
         call: impl FnOnce(&mut P, &mut [T], &mut usize) -> Fault,
     ) -> Option<Result<&T, Error>> {
         let room = self.records.len();
-        let is_taken = self.next == self.count && !self.was_refused;
+        let is_taken = self.next == self.count && !self.is_over;
         if is_taken && (room == 0 || !self.position.is_end(self.count, room)) {
             if let Err(error) = self.fill(call) {
                 return Some(Err(error));
@@ -285,18 +290,18 @@ impl<T: Copy + Default, P: Position> Batches<T, P> {
     ) -> Result<(), Error> {
         let is_first = self.records.is_empty();
         let room = if is_first { FIRST } else { self.most };
-        (self.next, self.count, self.was_refused) = (0, 0, true);
+        (self.next, self.count, self.is_over) = (0, 0, true);
         grown(&mut self.records, T::default(), room)?;
         let fault = call(&mut self.position, &mut self.records, &mut self.count);
         Error::test(fault)?;
-        self.was_refused = false;
+        self.is_over = false;
         Ok(())
     }
 }
 
 // Walks whose items are rows or the refusal that ends them.
 macro_rules! walks {
-    ($($(#[$of:meta])* $name:ident by $call:path, $record:ident from $position:ty => $item:ty;)*) => {$(
+    ($($(#[$of:meta])* $name:ident by $call:path, $record:ident from $position:ty, $is_there:ident => $item:ty;)*) => {$(
         $(#[$of])*
         #[derive(Clone)]
         pub struct $name<'a> {
@@ -309,7 +314,7 @@ macro_rules! walks {
         impl<'a> $name<'a> {
             // From the beginning, in a file whose sections and tables lie there.
             pub(crate) fn of(bytes: &'a [u8], options: Options, places: raw::Places) -> Self {
-                let batches = Batches::by_sections(usize::from(places.number_of_sections));
+                let batches = Batches::of_table(&places, places.$is_there);
                 $name { bytes, options, places, batches }
             }
         }
@@ -338,14 +343,14 @@ macro_rules! walks {
 walks! {
     /// A walk over the imports of an image, in constant memory. A copy has room of its own; where memory for it is
     /// refused, the process ends as it does for a [`Vec`].
-    WalkImports by raw::next_imports, Import from raw::ImportPosition => Import<'a>;
+    WalkImports by raw::next_imports, Import from raw::ImportPosition, has_imports => Import<'a>;
 
     /// A walk over the exports of an image, in constant memory. A copy is as that of [`WalkImports`].
-    WalkExports by raw::next_exports, Export from usize => Export<'a>;
+    WalkExports by raw::next_exports, Export from usize, has_exports => Export<'a>;
 
     /// A walk over the blocks of base relocations of an image, in constant memory. A copy is as that of
     /// [`WalkImports`].
-    WalkBlocks by next_blocks, Block from BlockPosition => Block<'a>;
+    WalkBlocks by next_blocks, Block from BlockPosition, has_relocations => Block<'a>;
 }
 
 // The call of the walk over blocks, as those of the other walks are.
@@ -374,11 +379,11 @@ pub struct WalkExportAddresses<'p, 'a> {
 impl<'p, 'a> WalkExportAddresses<'p, 'a> {
     // From the beginning, whose entry has this ordinal.
     pub(crate) fn of(layout: &'p Layout<'a>, ordinal: usize) -> Self {
-        let sections = layout.file.places.number_of_sections;
+        let places = &layout.file.places;
         WalkExportAddresses {
             layout,
             ordinal,
-            batches: Batches::by_sections(usize::from(sections)),
+            batches: Batches::of_table(places, places.has_exports),
         }
     }
 

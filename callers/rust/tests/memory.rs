@@ -81,6 +81,11 @@ fn refused_memory_is_an_error() {
     assert_eq!(refused(|| pe.symbols()), memory);
     assert_eq!(refused(|| pe.walk_imports().next().unwrap()), memory);
     assert_eq!(refused(|| pe.walk_exports().next().unwrap()), memory);
+    assert_eq!(
+        refused(|| pe.walk_export_addresses().next().unwrap()),
+        memory
+    );
+    assert_eq!(refused(|| pe.walk_blocks().next().unwrap()), memory);
     let refused_relocations = |section: goblin_pe::Section| {
         let walked = || section.walk_relocations(&object).next().unwrap();
         section.number_of_relocations == 0
