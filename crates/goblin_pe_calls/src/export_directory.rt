@@ -44,6 +44,8 @@ pub struct PeExportDirectory<'a> {
     pub table: ExportDirectoryTable,
     /// Whether there is a text at the name's address.
     pub has_name: bool,
+    /// Whether the exports are read.
+    pub is_read: bool,
 }
 
 // The record of an entry.
@@ -92,6 +94,7 @@ pub fn directory_record<'a>(bytes: &'a [u8], exports: &Exports<'a, '_>) -> PeExp
         },
         table: *exports.directory_table(),
         has_name: name.is_some(),
+        is_read: true,
     }
 }
 
@@ -103,6 +106,7 @@ pub fn no_export_directory<'a>(bytes: &'a [u8]) -> PeExportDirectory<'a>
         name: &bytes[..0],
         table: ExportDirectoryTable::default(),
         has_name: false,
+        is_read: false,
     }
 }
 
