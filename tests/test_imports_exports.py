@@ -275,6 +275,30 @@ class WholeFiles(Read):
         self.assertEqual(pe.export_addresses, [(1, 0x1010, False), (2, 0x10E0, True)])
         self.assertEqual(list(pe.walk_export_addresses()), [(1, 0x1010, False, None), (2, 0x10E0, True, (b"b", 12))])
 
+    def test_an_export_directory_that_passes_the_window_of_its_section(self):
+        """It begins 8 bytes before the window's end, and the next window stands elsewhere in the file: no address within the
+        record but its first leads to the record. Its ordinal base is 100."""
+        headers = bytearray(images.image_headers(0x200, 2, 0x10000, ((0, 0x1000, 40),)))
+        struct.pack_into("<II", headers, 0x78, 1, 1)  # (the alignments)
+        for index, section in enumerate(((8, 0x1000, 8, 0x200), (0x100, 0x1008, 0x80, 0x280))):
+            struct.pack_into("<4I", headers, 0x150 + 40 * index, *section)
+        record = struct.pack("<2I2H7I", 0, 0, 0, 0, 0x1050, 100, 2, 0, 0x1040, 0, 0)
+        data = images.with_parts(headers + bytes(0x100), (0x200, record), (0x2B8, struct.pack("<2I", 0x1100, 0x1104)), (0x2C8, b"own"))
+        for kind in (package().Pe, package().Layout):
+            found = kind(data)
+            self.assertEqual([it[:2] for it in found.walk_export_addresses()], [(100, 0x1100), (101, 0x1104)])
+            self.assertEqual((found.name, found.export_directory.table.ordinal_base), (b"own", 100))
+
+    def test_a_layout_tells_whether_the_exports_are_read(self):
+        """A directory of zeros is read. One that no section maps is refused, and passed over in permissive mode."""
+        for exports, is_read in ((struct.pack("<2I", 0x1010, 40), True), (struct.pack("<2I", 0x9000, 40), False), (bytes(8), False)):
+            layout = package().Layout(sample((0xB8, exports), (0x210, bytes(0xF0))), options(is_permissive=True))
+            with self.subTest(exports):
+                self.assertEqual((layout.export_directory is not None, layout.name), (is_read, None))
+        strict = package().Layout(sample((0xB8, struct.pack("<2I", 0x9000, 40))))
+        for ask in (lambda: strict.export_directory, lambda: strict.name, lambda: next(strict.walk_export_addresses())):
+            self.assertEqual(refusal(ask), ("MALFORMED", "UNMAPPED", 0x9000, 0))
+
     def test_a_raw_pointer_that_is_no_multiple_of_512_is_rounded_where_that_is_asked_for(self):
         data = sample((0x14C, b"\x10"))
         for is_permissive in (False, True):

@@ -52,8 +52,10 @@
      forwarder_at                    none                                  the sections, and one text
    find_rva                          none                                  the sections, and these once more for each
                                                                            whose data holds the offset
-   next_export_addresses,            none, or for more than 96 sections    the sections, and the records
-     next_blocks                     an index of some 300 bytes for each
+   next_blocks                       none, or for more than 96 sections    the sections, and the records
+                                     an index of some 300 bytes for each
+   read_export_directory             the same                              the sections, and one text
+   next_export_addresses             the same                              the sections, one text, and the records
    next_imports, next_exports        the same                              the sections, and a name for each record
                                                                            and for what is passed over before it
    read_damage                       the same                              a name for each import and each export, and
@@ -251,10 +253,21 @@ static inline struct goblin_pe_fault goblin_pe_next_exports(
         GOBLIN_PE_SOME(struct goblin_pe_export, exports), room, count);
 }
 
+/* Reads what the export directory of an image says, with its ordinal base: the record that goblin_pe_open puts beside its
+   tables. It is zeros where the image has none, and where permissive mode passes over a refused one; strict mode refuses
+   it. It lies at `places`, as for goblin_pe_next_imports, and so do the sections; memory is as there. */
+static inline struct goblin_pe_fault goblin_pe_read_export_directory(
+    const uint8_t *bytes, size_t length, const struct goblin_pe_options *options, const struct goblin_pe_places *places,
+    struct goblin_pe_export_directory *directory)
+{
+    return goblin_pe_raw_read_export_directory(
+        GOBLIN_PE_BYTES(bytes), length, goblin_pe_options_or_default(options), places, directory);
+}
+
 /* Goes on with the walk over the entries of the export address table of an image, as goblin_pe_next_exports does over
    exports: the records that goblin_pe_open puts into a table. The position is the index of an entry, 0 at the
-   beginning; with the ordinal base it is the ordinal that the entry stands for. goblin_pe_forwarder_at reads the
-   forwarder of one. */
+   beginning; with the ordinal base, which goblin_pe_read_export_directory reads, it is the ordinal that the entry stands
+   for. goblin_pe_forwarder_at reads the forwarder of one. */
 static inline struct goblin_pe_fault goblin_pe_next_export_addresses(
     const uint8_t *bytes, size_t length, const struct goblin_pe_options *options, const struct goblin_pe_places *places,
     size_t *position, struct goblin_pe_export_address *addresses, size_t room, size_t *count)

@@ -673,6 +673,48 @@ struct goblin_pe_export {
     uint32_t name_rva;
 };
 
+/* The record that an image's exports begin with.
+
+   Source: PE Format, "Export Directory Table". Numbers are as stored; the record has 40 bytes, and
+   `at` gives a field's offset in it. Addresses are relative to the image's base. */
+struct goblin_pe_export_directory_table {
+    /* Reserved, 0, at 0. */
+    uint32_t export_flags;
+    /* When the exports were made, in seconds since the start of 1970, at 4. */
+    uint32_t time_date_stamp;
+    /* The major version, at 8. It is the maker's own. */
+    uint16_t major_version;
+    /* The minor version, at 10. */
+    uint16_t minor_version;
+    /* The address of the library's name, at 12. */
+    uint32_t name_rva;
+    /* The ordinal of the first entry of the address table, at 16; mostly 1. It is added to an index
+       to make an ordinal, and counts in no table. */
+    uint32_t ordinal_base;
+    /* How many entries the address table has, at 20. */
+    uint32_t address_table_entries;
+    /* How many entries the name pointer table has, and as many has the ordinal table, at 24. */
+    uint32_t number_of_name_pointers;
+    /* The address of the address table, at 28. */
+    uint32_t export_address_table_rva;
+    /* The address of the name pointer table, at 32. */
+    uint32_t name_pointer_rva;
+    /* The address of the ordinal table, at 36. */
+    uint32_t ordinal_table_rva;
+};
+
+/* What the export directory says of the library; zeros where the exports are not read. */
+struct goblin_pe_export_directory {
+    /* The library's own name, as it was linked, where there is a text at its address. */
+    struct goblin_pe_text name;
+    /* The record itself. */
+    struct goblin_pe_export_directory_table table;
+    /* Whether there is a text at the name's address. */
+    bool has_name;
+    /* Whether the exports are read. */
+    bool is_read;
+};
+
 /* An entry of the export address table. Its index and the ordinal base are the ordinal that it
    stands for. */
 struct goblin_pe_export_address {
@@ -935,46 +977,6 @@ struct goblin_pe_rich_metadata {
     uint32_t use_count;
 };
 
-/* The record that an image's exports begin with.
-
-   Source: PE Format, "Export Directory Table". Numbers are as stored; the record has 40 bytes, and
-   `at` gives a field's offset in it. Addresses are relative to the image's base. */
-struct goblin_pe_export_directory_table {
-    /* Reserved, 0, at 0. */
-    uint32_t export_flags;
-    /* When the exports were made, in seconds since the start of 1970, at 4. */
-    uint32_t time_date_stamp;
-    /* The major version, at 8. It is the maker's own. */
-    uint16_t major_version;
-    /* The minor version, at 10. */
-    uint16_t minor_version;
-    /* The address of the library's name, at 12. */
-    uint32_t name_rva;
-    /* The ordinal of the first entry of the address table, at 16; mostly 1. It is added to an index
-       to make an ordinal, and counts in no table. */
-    uint32_t ordinal_base;
-    /* How many entries the address table has, at 20. */
-    uint32_t address_table_entries;
-    /* How many entries the name pointer table has, and as many has the ordinal table, at 24. */
-    uint32_t number_of_name_pointers;
-    /* The address of the address table, at 28. */
-    uint32_t export_address_table_rva;
-    /* The address of the name pointer table, at 32. */
-    uint32_t name_pointer_rva;
-    /* The address of the ordinal table, at 36. */
-    uint32_t ordinal_table_rva;
-};
-
-/* What the export directory says of the library; zeros where the exports are not read. */
-struct goblin_pe_export_directory {
-    /* The library's own name, as it was linked, where there is a text at its address. */
-    struct goblin_pe_text name;
-    /* The record itself. */
-    struct goblin_pe_export_directory_table table;
-    /* Whether there is a text at the name's address. */
-    bool has_name;
-};
-
 /* The tables of an image. Each that is not empty is a block of memory of its own, and the texts in
    it are in the file's bytes. */
 struct goblin_pe_tables {
@@ -1122,6 +1124,9 @@ struct goblin_pe_fault goblin_pe_raw_next_exports(
     const uint8_t *bytes, size_t byte_count, const struct goblin_pe_options *options,
     const struct goblin_pe_places *places, size_t *position, struct goblin_pe_export *records,
     size_t record_room, size_t *count);
+struct goblin_pe_fault goblin_pe_raw_read_export_directory(
+    const uint8_t *bytes, size_t byte_count, const struct goblin_pe_options *options,
+    const struct goblin_pe_places *places, struct goblin_pe_export_directory *directory);
 struct goblin_pe_fault goblin_pe_raw_next_export_addresses(
     const uint8_t *bytes, size_t byte_count, const struct goblin_pe_options *options,
     const struct goblin_pe_places *places, size_t *position,
@@ -1358,6 +1363,25 @@ GOBLIN_PE_IS_AT(export, forwards, 90);
 GOBLIN_PE_IS_AT(export, reserved, 91);
 GOBLIN_PE_IS_AT(export, name_rva, 92);
 
+GOBLIN_PE_HAS_SIZE(export_directory_table, 40, 4);
+GOBLIN_PE_IS_AT(export_directory_table, export_flags, 0);
+GOBLIN_PE_IS_AT(export_directory_table, time_date_stamp, 4);
+GOBLIN_PE_IS_AT(export_directory_table, major_version, 8);
+GOBLIN_PE_IS_AT(export_directory_table, minor_version, 10);
+GOBLIN_PE_IS_AT(export_directory_table, name_rva, 12);
+GOBLIN_PE_IS_AT(export_directory_table, ordinal_base, 16);
+GOBLIN_PE_IS_AT(export_directory_table, address_table_entries, 20);
+GOBLIN_PE_IS_AT(export_directory_table, number_of_name_pointers, 24);
+GOBLIN_PE_IS_AT(export_directory_table, export_address_table_rva, 28);
+GOBLIN_PE_IS_AT(export_directory_table, name_pointer_rva, 32);
+GOBLIN_PE_IS_AT(export_directory_table, ordinal_table_rva, 36);
+
+GOBLIN_PE_HAS_SIZE(export_directory, 64, 8);
+GOBLIN_PE_IS_AT(export_directory, name, 0);
+GOBLIN_PE_IS_AT(export_directory, table, 16);
+GOBLIN_PE_IS_AT(export_directory, has_name, 56);
+GOBLIN_PE_IS_AT(export_directory, is_read, 57);
+
 GOBLIN_PE_HAS_SIZE(export_address, 8, 4);
 GOBLIN_PE_IS_AT(export_address, rva, 0);
 GOBLIN_PE_IS_AT(export_address, forwards, 4);
@@ -1469,24 +1493,6 @@ GOBLIN_PE_HAS_SIZE(rich_metadata, 8, 4);
 GOBLIN_PE_IS_AT(rich_metadata, build, 0);
 GOBLIN_PE_IS_AT(rich_metadata, product, 2);
 GOBLIN_PE_IS_AT(rich_metadata, use_count, 4);
-
-GOBLIN_PE_HAS_SIZE(export_directory_table, 40, 4);
-GOBLIN_PE_IS_AT(export_directory_table, export_flags, 0);
-GOBLIN_PE_IS_AT(export_directory_table, time_date_stamp, 4);
-GOBLIN_PE_IS_AT(export_directory_table, major_version, 8);
-GOBLIN_PE_IS_AT(export_directory_table, minor_version, 10);
-GOBLIN_PE_IS_AT(export_directory_table, name_rva, 12);
-GOBLIN_PE_IS_AT(export_directory_table, ordinal_base, 16);
-GOBLIN_PE_IS_AT(export_directory_table, address_table_entries, 20);
-GOBLIN_PE_IS_AT(export_directory_table, number_of_name_pointers, 24);
-GOBLIN_PE_IS_AT(export_directory_table, export_address_table_rva, 28);
-GOBLIN_PE_IS_AT(export_directory_table, name_pointer_rva, 32);
-GOBLIN_PE_IS_AT(export_directory_table, ordinal_table_rva, 36);
-
-GOBLIN_PE_HAS_SIZE(export_directory, 64, 8);
-GOBLIN_PE_IS_AT(export_directory, name, 0);
-GOBLIN_PE_IS_AT(export_directory, table, 16);
-GOBLIN_PE_IS_AT(export_directory, has_name, 56);
 
 GOBLIN_PE_HAS_SIZE(tables, 176, 8);
 GOBLIN_PE_IS_AT(tables, rich_entries, 0);

@@ -1,8 +1,8 @@
 /* Makes a call with its first growth of memory refused, then its second, and so on, until one meets no refusal:
-   growths CALL FILE, where CALL is open, layout, damage, footprint, imports, exports, object, symbols or te. The
-   status is 0 where each refused growth is answered as such, changes no record and leaves no block behind, and where
-   all blocks of the last call are freed with what it filled. Then it prints how many growths it refused. It stands
-   before malloc, realloc and free of glibc. */
+   growths CALL FILE, where CALL is open, layout, damage, footprint, imports, exports, directory, addresses, blocks,
+   object, symbols or te. The status is 0 where each refused growth is answered as such, changes no record and leaves
+   no block behind, and where all blocks of the last call are freed with what it filled. Then it prints how many
+   growths it refused. It stands before malloc, realloc and free of glibc. */
 #include "goblin_pe.h"
 
 #include <stdio.h>
@@ -61,6 +61,9 @@ struct records {
     struct goblin_pe_import_position place;
     struct goblin_pe_import imports[4];
     struct goblin_pe_export exports[4];
+    struct goblin_pe_export_directory directory;
+    struct goblin_pe_export_address addresses[4];
+    struct goblin_pe_block blocks[4];
     size_t position, count;
     struct goblin_pe_object object;
     struct goblin_pe_symbol_table symbol_table;
@@ -80,6 +83,21 @@ static struct goblin_pe_fault read_symbols(struct records *r)
     return fault;
 }
 
+/* A call by the places of an image. */
+static struct goblin_pe_fault called_by_places(const char *name, struct records *r)
+{
+    const struct goblin_pe_places *places = &layout.places;
+    if (!strcmp(name, "imports"))
+        return goblin_pe_next_imports(bytes, length, NULL, places, &r->place, r->imports, 4, &r->count);
+    if (!strcmp(name, "exports"))
+        return goblin_pe_next_exports(bytes, length, NULL, places, &r->position, r->exports, 4, &r->count);
+    if (!strcmp(name, "directory"))
+        return goblin_pe_read_export_directory(bytes, length, NULL, places, &r->directory);
+    if (!strcmp(name, "addresses"))
+        return goblin_pe_next_export_addresses(bytes, length, NULL, places, &r->position, r->addresses, 4, &r->count);
+    return goblin_pe_next_blocks(bytes, length, NULL, places, &r->position, r->blocks, 4, &r->count);
+}
+
 static struct goblin_pe_fault called(const char *name, struct records *r)
 {
     if (!strcmp(name, "open"))
@@ -90,15 +108,13 @@ static struct goblin_pe_fault called(const char *name, struct records *r)
         return goblin_pe_read_damage(bytes, length, NULL, &r->damage);
     if (!strcmp(name, "footprint"))
         return goblin_pe_footprint(bytes, length, NULL, &r->ranges);
-    if (!strcmp(name, "imports"))
-        return goblin_pe_next_imports(bytes, length, NULL, &layout.places, &r->place, r->imports, 4, &r->count);
-    if (!strcmp(name, "exports"))
-        return goblin_pe_next_exports(bytes, length, NULL, &layout.places, &r->position, r->exports, 4, &r->count);
     if (!strcmp(name, "symbols"))
         return read_symbols(r);
     if (!strcmp(name, "object"))
         return goblin_pe_read_object(bytes, length, NULL, &r->object, r->sections, 4);
-    return goblin_pe_read_te(bytes, length, &r->te_header, r->sections, 4);
+    if (!strcmp(name, "te"))
+        return goblin_pe_read_te(bytes, length, &r->te_header, r->sections, 4);
+    return called_by_places(name, r);
 }
 
 int main(int argc, char **argv)
@@ -112,6 +128,7 @@ int main(int argc, char **argv)
     goblin_pe_read_layout(bytes, length, NULL, &layout, NULL, 0, NULL, 0);
     old.file.sections = old.directories[15].end = old.damage.left_out_entries = old.object.sections = old.count = 7;
     old.te_header.machine = old.sections[3].number_of_relocations = 7;
+    old.directory.table.ordinal_base = old.addresses[3].rva = old.blocks[3].rva = 7;
     for (size_t growth = 1;; growth++) {
         memcpy(&new, &old, sizeof new);
         left = growth;

@@ -138,6 +138,18 @@ static bool walks_over_addresses(const struct goblin_pe_places *places, const st
     return position == tables->export_address_count;
 }
 
+/* Whether what the export directory says is read by these places as it stands beside the tables. */
+static bool has_directory(const struct goblin_pe_places *places, const struct goblin_pe_tables *tables)
+{
+    const struct goblin_pe_export_directory *listed = &tables->export_directory;
+    struct goblin_pe_export_directory read;
+    memset(&read, 0xff, sizeof read);
+    return goblin_pe_read_export_directory(bytes, length, NULL, places, &read).status == GOBLIN_PE_STATUS_OK &&
+           read.is_read == listed->is_read && read.has_name == listed->has_name &&
+           read.name.bytes == listed->name.bytes && read.name.length == listed->name.length &&
+           !memcmp(&read.table, &listed->table, sizeof read.table);
+}
+
 /* Whether a walk gives the blocks that are listed, and then the refusal of a rest, where there is one. */
 static bool walks_over_blocks(const struct goblin_pe_file *file, const struct goblin_pe_tables *tables)
 {
@@ -211,7 +223,8 @@ int main(int argc, char **argv)
         if (!are_in_file(&tables) || !has_footprint() || !has_addresses(&tables))
             return 5;
         if (!walks_over_imports(&file.places, &tables) || !walks_over_exports(&file.places, &tables) ||
-            !walks_over_addresses(&file.places, &tables) || !walks_over_blocks(&file, &tables))
+            !walks_over_addresses(&file.places, &tables) || !has_directory(&file.places, &tables) ||
+            !walks_over_blocks(&file, &tables))
             return 6;
         if (has_header && !is_written(&file, directories, &tables))
             return 7;

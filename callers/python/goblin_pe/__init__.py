@@ -46,7 +46,6 @@ import hashlib as _hashlib
 import itertools as _itertools
 import operator as _operator
 import os as _os
-import struct as _struct
 import types as _types
 import typing as _t
 
@@ -238,8 +237,8 @@ class Layout:
     made where `sections` is asked for. The Rich header is no part of it: Pe has it.
 
     It keeps `data`, or the copy of a buffer that could be written, until close() or the end of a `with`. Sections that were not
-    asked for before, symbols, damage and the methods raise ValueError then, but find_offset needs the bytes no longer. A copy, as
-    it is sent to another process, has all but `data`.
+    asked for before, the export directory and the name in it, symbols, damage and the methods raise ValueError then, but
+    find_offset needs the bytes no longer. A copy, as it is sent to another process, has all but `data`.
     """
 
     def __init__(self, data: Data, options: _t.Optional[Options] = None):
@@ -489,19 +488,37 @@ class Layout:
         return _walk(self._bytes(), records.Export, "exported", lambda address, length, *to: _LIB.goblin_pe_raw_next_exports(
             address, length, _c.byref(self._options), _c.byref(self._places), *to), _c.c_size_t(), self._batch())
 
+    @property
+    def export_directory(self) -> _t.Optional[ExportDirectory]:
+        """The record of the exports; None where there are none, and where permissive mode passes over a refused directory. A
+        Pe has it from its read, a Layout reads it each time: Refused is raised where strict mode refuses it."""
+        return self._read_directory(self._bytes())
+
+    def _read_directory(self, data: _Kept) -> _t.Optional[ExportDirectory]:
+        directory = records.ExportDirectory()
+        with _held(data) as (address, length):
+            _test(_LIB.goblin_pe_raw_read_export_directory(
+                address, length, _c.byref(self._options), _c.byref(self._places), _c.byref(directory)))
+            return _Rows(data, address).export_directory(directory)
+
+    @property
+    def name(self) -> _t.Optional[bytes]:
+        """The name with which it was linked as a library; None where it has none. It is that of export_directory."""
+        directory = self.export_directory
+        return directory.name if directory else None
+
     def walk_export_addresses(self) -> _t.Iterator[ExportEntry]:
         """The entries of the export address table one by one, by rising ordinals, also those without a name, each with its
         forwarder. None is kept. Refused is raised where it would be of the exports."""
-        data, found = self._bytes(), _room(records.ExportAddress, self._batch())
-        directory = self.bytes_at(self._places.exports.virtual_address, 40)  # (where it is refused, no entry comes)
-        base, = _struct.unpack_from("<I", directory, 16) if directory else (0,)
+        return self._export_entries(self._bytes())
+
+    def _export_entries(self, data: _Kept) -> _t.Iterator[ExportEntry]:
+        directory, found = self._read_directory(data), _room(records.ExportAddress, self._batch())
+        ordinals = _itertools.count(directory.table.ordinal_base if directory else 0)
         batches = _batches(data, found, lambda address, length, *to: _LIB.goblin_pe_raw_next_export_addresses(
             address, length, _c.byref(self._options), _c.byref(self._places), *to), _c.c_size_t())
-        addresses = _itertools.chain.from_iterable(found[:count] for _, count in batches)
-        return map(self._export_entry, _itertools.count(base), addresses)
-
-    def _export_entry(self, ordinal: int, it: records.ExportAddress) -> ExportEntry:
-        return ExportEntry(ordinal, it.rva, it.forwards, self.forwarder_at(it.rva) if it.forwards else None)
+        for it in _itertools.chain.from_iterable(found[:count] for _, count in batches):
+            yield ExportEntry(next(ordinals), it.rva, it.forwards, self.forwarder_at(it.rva) if it.forwards else None)
 
     def walk_blocks(self) -> _t.Iterator[Block]:
         """The blocks of base relocations one by one, of which none is kept. Where a rest of their directory is no block, Refused
@@ -595,11 +612,6 @@ class Pe(Layout):
         self._states = State(file.imports.state), State(file.exports.state), State(file.relocations.blocks.state)
 
     @property
-    def name(self) -> _t.Optional[bytes]:
-        """The name with which it was linked as a library; None where it has none."""
-        return self.export_directory.name if self.export_directory else None
-
-    @property
     def libraries(self) -> _t.List[bytes]:
         """The names of the libraries of which something is imported, sorted, each once."""
         return sorted({x.dll for x in self.imports})
@@ -642,7 +654,7 @@ class Pe(Layout):
     @property
     def export_directory(self) -> _t.Optional[ExportDirectory]:
         """The record of the exports; None where these were not read."""
-        return self._export_directory if self.export_table == State.READ else None
+        return self._export_directory
 
     @property
     def export_addresses(self) -> _t.List[ExportAddress]:
@@ -668,7 +680,7 @@ class Pe(Layout):
         # the rows of a table, one by one (the tables stay while they are gone through)
         tables, data = self._tables, self._bytes()
         rows = _Rows(data, self._address, most_kept)
-        ordinals = _itertools.count(self._export_directory.table.ordinal_base)
+        ordinals = _itertools.count(self._export_directory.table.ordinal_base if self._export_directory else 0)
         rows_of: _t.Dict[str, _t.Callable[[_t.Any], _t.Any]] = {
             "rich_entries": lambda entry: _laid_out.read(RichMetadata, entry), "sections": rows.section, "imports": rows.imported,
             "exports": rows.exported, "export_addresses": lambda it: ExportAddress(next(ordinals), it.rva, it.forwards),

@@ -563,6 +563,57 @@ class Export(Record):
     name_rva: Annotated[int, c.c_uint32]
 
 
+@header
+class ExportDirectoryTable(NamedTuple):
+    """The record that an image's exports begin with.
+
+    Source: PE Format, "Export Directory Table". Numbers are as stored; the record has 40 bytes, and
+    `at` gives a field's offset in it. Addresses are relative to the image's base.
+
+    export_flags: Reserved, 0, at 0.
+    time_date_stamp: When the exports were made, in seconds since the start of 1970, at 4.
+    major_version: The major version, at 8. It is the maker's own.
+    minor_version: The minor version, at 10.
+    name_rva: The address of the library's name, at 12.
+    ordinal_base: The ordinal of the first entry of the address table, at 16; mostly 1. It is added
+        to an index to make an ordinal, and counts in no table.
+    address_table_entries: How many entries the address table has, at 20.
+    number_of_name_pointers: How many entries the name pointer table has, and as many has the
+        ordinal table, at 24.
+    export_address_table_rva: The address of the address table, at 28.
+    name_pointer_rva: The address of the name pointer table, at 32.
+    ordinal_table_rva: The address of the ordinal table, at 36.
+    """
+
+    export_flags: Annotated[int, c.c_uint32]
+    time_date_stamp: Annotated[int, c.c_uint32]
+    major_version: Annotated[int, c.c_uint16]
+    minor_version: Annotated[int, c.c_uint16]
+    name_rva: Annotated[int, c.c_uint32]
+    ordinal_base: Annotated[int, c.c_uint32]
+    address_table_entries: Annotated[int, c.c_uint32]
+    number_of_name_pointers: Annotated[int, c.c_uint32]
+    export_address_table_rva: Annotated[int, c.c_uint32]
+    name_pointer_rva: Annotated[int, c.c_uint32]
+    ordinal_table_rva: Annotated[int, c.c_uint32]
+
+
+@record
+class ExportDirectory(Record):
+    """What the export directory says of the library; zeros where the exports are not read.
+
+    name: The library's own name, as it was linked, where there is a text at its address.
+    table: The record itself.
+    has_name: Whether there is a text at the name's address.
+    is_read: Whether the exports are read.
+    """
+
+    name: Text
+    table: ExportDirectoryTable
+    has_name: Annotated[bool, c.c_bool]
+    is_read: Annotated[bool, c.c_bool]
+
+
 @record
 class ExportAddress(Record):
     """An entry of the export address table. Its index and the ordinal base are the ordinal that it
@@ -885,55 +936,6 @@ class RichMetadata(NamedTuple):
     use_count: Annotated[int, c.c_uint32]
 
 
-@header
-class ExportDirectoryTable(NamedTuple):
-    """The record that an image's exports begin with.
-
-    Source: PE Format, "Export Directory Table". Numbers are as stored; the record has 40 bytes, and
-    `at` gives a field's offset in it. Addresses are relative to the image's base.
-
-    export_flags: Reserved, 0, at 0.
-    time_date_stamp: When the exports were made, in seconds since the start of 1970, at 4.
-    major_version: The major version, at 8. It is the maker's own.
-    minor_version: The minor version, at 10.
-    name_rva: The address of the library's name, at 12.
-    ordinal_base: The ordinal of the first entry of the address table, at 16; mostly 1. It is added
-        to an index to make an ordinal, and counts in no table.
-    address_table_entries: How many entries the address table has, at 20.
-    number_of_name_pointers: How many entries the name pointer table has, and as many has the
-        ordinal table, at 24.
-    export_address_table_rva: The address of the address table, at 28.
-    name_pointer_rva: The address of the name pointer table, at 32.
-    ordinal_table_rva: The address of the ordinal table, at 36.
-    """
-
-    export_flags: Annotated[int, c.c_uint32]
-    time_date_stamp: Annotated[int, c.c_uint32]
-    major_version: Annotated[int, c.c_uint16]
-    minor_version: Annotated[int, c.c_uint16]
-    name_rva: Annotated[int, c.c_uint32]
-    ordinal_base: Annotated[int, c.c_uint32]
-    address_table_entries: Annotated[int, c.c_uint32]
-    number_of_name_pointers: Annotated[int, c.c_uint32]
-    export_address_table_rva: Annotated[int, c.c_uint32]
-    name_pointer_rva: Annotated[int, c.c_uint32]
-    ordinal_table_rva: Annotated[int, c.c_uint32]
-
-
-@record
-class ExportDirectory(Record):
-    """What the export directory says of the library; zeros where the exports are not read.
-
-    name: The library's own name, as it was linked, where there is a text at its address.
-    table: The record itself.
-    has_name: Whether there is a text at the name's address.
-    """
-
-    name: Text
-    table: ExportDirectoryTable
-    has_name: Annotated[bool, c.c_bool]
-
-
 class Tables(HandedOver):
     """The tables of an image. Each that is not empty is a block of memory of its own, and the texts
     in it are in the file's bytes.
@@ -1080,6 +1082,8 @@ CALLS: Dict[str, Tuple[Any, List[Any]]] = {
         (Fault, [c.c_void_p, c.c_size_t, to(Options), to(Places), to(ImportPosition), to(Import), c.c_size_t, to(c.c_size_t)]),
     "goblin_pe_raw_next_exports":
         (Fault, [c.c_void_p, c.c_size_t, to(Options), to(Places), to(c.c_size_t), to(Export), c.c_size_t, to(c.c_size_t)]),
+    "goblin_pe_raw_read_export_directory":
+        (Fault, [c.c_void_p, c.c_size_t, to(Options), to(Places), to(ExportDirectory)]),
     "goblin_pe_raw_next_export_addresses":
         (Fault, [c.c_void_p, c.c_size_t, to(Options), to(Places), to(c.c_size_t), to(ExportAddress), c.c_size_t, to(c.c_size_t)]),
     "goblin_pe_raw_next_blocks":

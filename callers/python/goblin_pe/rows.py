@@ -320,9 +320,9 @@ class Rows:
         """The library and the name or ordinal of a forwarder."""
         return self.text(f.lib), self.text(f.name) if f.forwards == Forwards.NAME else f.ordinal
 
-    def export_directory(self, d: records.ExportDirectory) -> ExportDirectory:
-        """The row of the record of the exports."""
-        return ExportDirectory(self.text(d.name) if d.has_name else None, d.table)
+    def export_directory(self, d: records.ExportDirectory) -> Optional[ExportDirectory]:
+        """The row of the record of the exports; None where these are not read."""
+        return ExportDirectory(self.text(d.name) if d.has_name else None, d.table) if d.is_read else None
 
     def block(self, b: records.Block) -> Block:
         """The row of a block."""

@@ -282,6 +282,11 @@ impl<T: Copy + Default, P: Position> Batches<T, P> {
         Some(Ok(record))
     }
 
+    // Gives no more.
+    fn end(&mut self) {
+        (self.next, self.count, self.is_over) = (0, 0, true);
+    }
+
     // Reads the next records, and answers whether that was refused. Where only memory for more of them is refused, it
     // reads as many as before.
     fn fill(
@@ -290,7 +295,7 @@ impl<T: Copy + Default, P: Position> Batches<T, P> {
     ) -> Result<(), Error> {
         let is_first = self.records.is_empty();
         let room = if is_first { FIRST } else { self.most };
-        (self.next, self.count, self.is_over) = (0, 0, true);
+        self.end();
         grown(&mut self.records, T::default(), room)?;
         let fault = call(&mut self.position, &mut self.records, &mut self.count);
         Error::test(fault)?;
@@ -366,64 +371,82 @@ fn next_blocks<'a>(
     raw::next_blocks(bytes, options, places, &mut position.0, blocks, count)
 }
 
-/// A walk over the entries of the export address table of an image, each with its forwarder, in constant memory. A copy
-/// is as that of [`WalkImports`].
+/// A walk over the entries of the export address table of an image, each with its forwarder, in constant memory but for
+/// the records of the sections, where an entry is a forwarder. A copy is as that of [`WalkImports`].
 #[derive(Clone)]
-pub struct WalkExportAddresses<'p, 'a> {
-    layout: &'p Layout<'a>,
-    // The ordinal of the next entry.
+pub struct WalkExportAddresses<'a> {
+    bytes: &'a [u8],
+    options: Options,
+    places: raw::Places,
+    // The ordinal of the next entry, once one was read.
     ordinal: usize,
     batches: Batches<raw::ExportAddress, usize>,
+    // By which forwarders are read, once there is one.
+    layout: Option<Layout<'a>>,
 }
 
-impl<'p, 'a> WalkExportAddresses<'p, 'a> {
-    // From the beginning, whose entry has this ordinal.
-    pub(crate) fn of(layout: &'p Layout<'a>, ordinal: usize) -> Self {
-        let places = &layout.file.places;
+impl<'a> WalkExportAddresses<'a> {
+    // From the beginning, in a file whose sections and tables lie there.
+    pub(crate) fn of(bytes: &'a [u8], options: Options, places: raw::Places) -> Self {
         WalkExportAddresses {
-            layout,
-            ordinal,
-            batches: Batches::of_table(places, places.has_exports),
+            bytes,
+            options,
+            places,
+            ordinal: 0,
+            batches: Batches::of_table(&places, places.has_exports),
+            layout: None,
         }
+    }
+
+    // The next entry without its forwarder. Before the first the ordinal base is read.
+    fn next_address(&mut self) -> Option<Result<raw::ExportAddress, Error>> {
+        let (bytes, options, places) = (self.bytes, &self.options, &self.places);
+        let ordinal = &mut self.ordinal;
+        let found = self.batches.next(|position, records, count| {
+            if *position == 0 {
+                let mut directory = raw::ExportDirectory::default();
+                let fault = raw::read_export_directory(bytes, options, places, &mut directory);
+                if Error::of(fault).is_some() {
+                    return fault;
+                }
+                *ordinal = directory.table.ordinal_base as usize;
+            }
+            raw::next_export_addresses(bytes, options, places, position, records, count)
+        })?;
+        Some(found.copied())
     }
 
     // An entry with its forwarder.
-    fn read(layout: &Layout<'a>, ordinal: usize, entry: raw::ExportAddress) -> ExportEntry<'a> {
+    fn read(&mut self, entry: raw::ExportAddress) -> Result<ExportEntry<'a>, Error> {
         let raw::ExportAddress { rva, forwards } = entry;
-        let forwarder = forwards.then(|| layout.forwarder_at(rva as usize).ok());
-        ExportEntry {
+        let ordinal = self.ordinal;
+        self.ordinal += 1;
+        if forwards && self.layout.is_none() {
+            let layout = Layout::read(self.bytes, &self.options);
+            self.layout = Some(layout.inspect_err(|_| self.batches.end())?);
+        }
+        let layout = self.layout.as_ref().filter(|_| forwards);
+        Ok(ExportEntry {
             ordinal,
             rva,
             forwards,
-            forwarder: forwarder.flatten(),
-        }
+            forwarder: layout.and_then(|it| it.forwarder_at(rva as usize).ok()),
+        })
     }
 }
 
-impl<'a> Iterator for WalkExportAddresses<'_, 'a> {
+impl<'a> Iterator for WalkExportAddresses<'a> {
     type Item = Result<ExportEntry<'a>, Error>;
 
     fn next(&mut self) -> Option<Result<ExportEntry<'a>, Error>> {
-        let (layout, ordinal) = (self.layout, self.ordinal);
-        let found = self.batches.next(|position, records, count| {
-            let places = &layout.file.places;
-            raw::next_export_addresses(
-                layout.bytes,
-                &layout.options,
-                places,
-                position,
-                records,
-                count,
-            )
-        })?;
-        self.ordinal += 1;
-        Some(found.map(|it| Self::read(layout, ordinal, *it)))
+        let found = self.next_address()?;
+        Some(found.and_then(|entry| self.read(entry)))
     }
 }
 
-impl FusedIterator for WalkExportAddresses<'_, '_> {}
+impl FusedIterator for WalkExportAddresses<'_> {}
 
-impl fmt::Debug for WalkExportAddresses<'_, '_> {
+impl fmt::Debug for WalkExportAddresses<'_> {
     fn fmt(&self, f: &mut fmt::Formatter<'_>) -> fmt::Result {
         f.debug_struct("WalkExportAddresses")
             .finish_non_exhaustive()

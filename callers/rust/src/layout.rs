@@ -15,7 +15,7 @@ use crate::memory::records;
 use crate::numbers::DirectoryType;
 use crate::pe::Pe;
 use crate::raw::{self, CoffHeader, DataDirectory, DosHeader, OptionalHeader, Options};
-use crate::rows::{Damage, Header, Section, section_table};
+use crate::rows::{Damage, ExportDirectory, Header, Section, section_table};
 use crate::text::Text;
 
 /// An image by its header and its sections. Nothing of it is listed, so it takes memory for its sections alone,
@@ -389,8 +389,44 @@ impl<'a> Layout<'a> {
         WalkExports::of(self.bytes, self.options, self.file.places)
     }
 
+    /// The record of the exports, read anew by each call; `None` where there are none, and where permissive mode passes
+    /// over a refused directory. [`Pe::export_directory`] has it from the read.
+    ///
+    /// # Errors
+    /// Where strict mode refuses the directory, and memory, as of the walks.
+    ///
+    /// ```no_run
+    /// # let bytes = [];
+    /// # let layout = goblin_pe::Layout::read(&bytes, &goblin_pe::Options::permissive())?;
+    /// let base = layout.export_directory()?.map(|it| it.table.ordinal_base);
+    /// # Ok::<(), goblin_pe::Error>(())
+    /// ```
+    pub fn export_directory(&self) -> Result<Option<ExportDirectory<'a>>, Error> {
+        let mut directory = raw::ExportDirectory::default();
+        let places = &self.file.places;
+        let fault = raw::read_export_directory(self.bytes, &self.options, places, &mut directory);
+        Error::test(fault)?;
+        Ok(ExportDirectory::of(&directory))
+    }
+
+    /// The name with which it was linked as a library; `None` where it has none. [`Pe::name`] has it from the read.
+    ///
+    /// # Errors
+    /// As of [`export_directory`](Self::export_directory).
+    ///
+    /// ```no_run
+    /// # let bytes = [];
+    /// # let layout = goblin_pe::Layout::read(&bytes, &goblin_pe::Options::permissive())?;
+    /// println!("{}", layout.name()?.unwrap_or_default());
+    /// # Ok::<(), goblin_pe::Error>(())
+    /// ```
+    pub fn name(&self) -> Result<Option<Text<'a>>, Error> {
+        Ok(self.export_directory()?.and_then(|it| it.name))
+    }
+
     /// A walk over the entries of the export address table, by rising ordinals, also those without a name, each with its
-    /// forwarder. What is refused of the exports ends it.
+    /// forwarder: for the first of these it reads the sections anew, of which it keeps the records. What is refused of
+    /// the exports ends it.
     ///
     /// ```no_run
     /// # let bytes = [];
@@ -402,12 +438,8 @@ impl<'a> Layout<'a> {
     /// # Ok::<(), goblin_pe::Error>(())
     /// ```
     #[must_use]
-    pub fn walk_export_addresses(&self) -> WalkExportAddresses<'_, 'a> {
-        // (where the directory is refused, no entry comes)
-        let directory = self.file.places.exports.virtual_address as usize;
-        let stored = self.bytes_at(directory + ORDINAL_BASE, 4).ok();
-        let base = stored.and_then(|it| it.first_chunk().copied());
-        WalkExportAddresses::of(self, base.map_or(0, u32::from_le_bytes) as usize)
+    pub fn walk_export_addresses(&self) -> WalkExportAddresses<'a> {
+        WalkExportAddresses::of(self.bytes, self.options, self.file.places)
     }
 
     /// A walk over the blocks of base relocations, in constant memory, which reads the file as it goes on. Where a rest
@@ -530,9 +562,6 @@ impl fmt::Debug for Layout<'_> {
             .finish_non_exhaustive()
     }
 }
-
-// Where the ordinal base stands in the record of the exports, in bytes.
-const ORDINAL_BASE: usize = 16;
 
 impl<'a> From<Pe<'a>> for Layout<'a> {
     /// The image without its lists, whose memory is given back.

@@ -368,11 +368,7 @@ impl<'a> Pe<'a> {
     /// ```
     #[must_use]
     pub fn export_directory(&self) -> Option<ExportDirectory<'a>> {
-        let directory = &self.tables.export_directory;
-        (self.export_table() == Part::Read).then(|| ExportDirectory {
-            name: directory.has_name.then(|| Text(directory.name.get())),
-            table: directory.table,
-        })
+        ExportDirectory::of(&self.tables.export_directory)
     }
 
     /// How the base relocations stand.

@@ -373,6 +373,20 @@ pub fn next_exports<'a>(
     }
 }
 
+/// Reads what the export directory says.
+pub fn read_export_directory<'a>(
+    bytes: &'a [u8],
+    options: &Options,
+    places: &Places,
+    directory: &mut ExportDirectory<'a>,
+) -> Fault {
+    test_interface();
+    // SAFETY: as in `open`.
+    unsafe {
+        goblin_pe_raw_read_export_directory(bytes.as_ptr(), bytes.len(), options, places, directory)
+    }
+}
+
 /// Goes on with the walk over the entries of the export address table; fills the records as far as there is room,
 /// and says how many.
 pub fn next_export_addresses(

@@ -487,6 +487,52 @@ pub struct Export<'a> {
     pub name_rva: u32,
 }
 
+/// The record that an image's exports begin with.
+///
+/// Source: PE Format, "Export Directory Table". Numbers are as stored; the record has 40 bytes, and
+/// `at` gives a field's offset in it. Addresses are relative to the image's base.
+#[repr(C)]
+#[derive(Clone, Copy, Default, Debug, PartialEq, Eq, PartialOrd, Ord, Hash)]
+pub struct ExportDirectoryTable {
+    /// Reserved, 0, at 0.
+    pub export_flags: u32,
+    /// When the exports were made, in seconds since the start of 1970, at 4.
+    pub time_date_stamp: u32,
+    /// The major version, at 8. It is the maker's own.
+    pub major_version: u16,
+    /// The minor version, at 10.
+    pub minor_version: u16,
+    /// The address of the library's name, at 12.
+    pub name_rva: u32,
+    /// The ordinal of the first entry of the address table, at 16; mostly 1. It is added to an
+    /// index to make an ordinal, and counts in no table.
+    pub ordinal_base: u32,
+    /// How many entries the address table has, at 20.
+    pub address_table_entries: u32,
+    /// How many entries the name pointer table has, and as many has the ordinal table, at 24.
+    pub number_of_name_pointers: u32,
+    /// The address of the address table, at 28.
+    pub export_address_table_rva: u32,
+    /// The address of the name pointer table, at 32.
+    pub name_pointer_rva: u32,
+    /// The address of the ordinal table, at 36.
+    pub ordinal_table_rva: u32,
+}
+
+/// What the export directory says of the library; zeros where the exports are not read.
+#[repr(C)]
+#[derive(Clone, Copy, Default)]
+pub struct ExportDirectory<'a> {
+    /// The library's own name, as it was linked, where there is a text at its address.
+    pub name: Slice<'a>,
+    /// The record itself.
+    pub table: ExportDirectoryTable,
+    /// Whether there is a text at the name's address.
+    pub has_name: bool,
+    /// Whether the exports are read.
+    pub is_read: bool,
+}
+
 /// An entry of the export address table. Its index and the ordinal base are the ordinal that it
 /// stands for.
 #[repr(C)]
@@ -775,50 +821,6 @@ pub struct RichMetadata {
     pub use_count: u32,
 }
 
-/// The record that an image's exports begin with.
-///
-/// Source: PE Format, "Export Directory Table". Numbers are as stored; the record has 40 bytes, and
-/// `at` gives a field's offset in it. Addresses are relative to the image's base.
-#[repr(C)]
-#[derive(Clone, Copy, Default, Debug, PartialEq, Eq, PartialOrd, Ord, Hash)]
-pub struct ExportDirectoryTable {
-    /// Reserved, 0, at 0.
-    pub export_flags: u32,
-    /// When the exports were made, in seconds since the start of 1970, at 4.
-    pub time_date_stamp: u32,
-    /// The major version, at 8. It is the maker's own.
-    pub major_version: u16,
-    /// The minor version, at 10.
-    pub minor_version: u16,
-    /// The address of the library's name, at 12.
-    pub name_rva: u32,
-    /// The ordinal of the first entry of the address table, at 16; mostly 1. It is added to an
-    /// index to make an ordinal, and counts in no table.
-    pub ordinal_base: u32,
-    /// How many entries the address table has, at 20.
-    pub address_table_entries: u32,
-    /// How many entries the name pointer table has, and as many has the ordinal table, at 24.
-    pub number_of_name_pointers: u32,
-    /// The address of the address table, at 28.
-    pub export_address_table_rva: u32,
-    /// The address of the name pointer table, at 32.
-    pub name_pointer_rva: u32,
-    /// The address of the ordinal table, at 36.
-    pub ordinal_table_rva: u32,
-}
-
-/// What the export directory says of the library; zeros where the exports are not read.
-#[repr(C)]
-#[derive(Clone, Copy, Default)]
-pub struct ExportDirectory<'a> {
-    /// The library's own name, as it was linked, where there is a text at its address.
-    pub name: Slice<'a>,
-    /// The record itself.
-    pub table: ExportDirectoryTable,
-    /// Whether there is a text at the name's address.
-    pub has_name: bool,
-}
-
 /// The tables of an image. Each that is not empty is a block of memory of its own, and the texts in
 /// it are in the file's bytes.
 #[repr(C)]
@@ -1075,6 +1077,23 @@ const _: () = {
     assert!(offset_of!(Export, forwards) == 90);
     assert!(offset_of!(Export, reserved) == 91);
     assert!(offset_of!(Export, name_rva) == 92);
+    assert!(size_of::<ExportDirectoryTable>() == 40 && align_of::<ExportDirectoryTable>() == 4);
+    assert!(offset_of!(ExportDirectoryTable, export_flags) == 0);
+    assert!(offset_of!(ExportDirectoryTable, time_date_stamp) == 4);
+    assert!(offset_of!(ExportDirectoryTable, major_version) == 8);
+    assert!(offset_of!(ExportDirectoryTable, minor_version) == 10);
+    assert!(offset_of!(ExportDirectoryTable, name_rva) == 12);
+    assert!(offset_of!(ExportDirectoryTable, ordinal_base) == 16);
+    assert!(offset_of!(ExportDirectoryTable, address_table_entries) == 20);
+    assert!(offset_of!(ExportDirectoryTable, number_of_name_pointers) == 24);
+    assert!(offset_of!(ExportDirectoryTable, export_address_table_rva) == 28);
+    assert!(offset_of!(ExportDirectoryTable, name_pointer_rva) == 32);
+    assert!(offset_of!(ExportDirectoryTable, ordinal_table_rva) == 36);
+    assert!(size_of::<ExportDirectory>() == 64 && align_of::<ExportDirectory>() == 8);
+    assert!(offset_of!(ExportDirectory, name) == 0);
+    assert!(offset_of!(ExportDirectory, table) == 16);
+    assert!(offset_of!(ExportDirectory, has_name) == 56);
+    assert!(offset_of!(ExportDirectory, is_read) == 57);
     assert!(size_of::<ExportAddress>() == 8 && align_of::<ExportAddress>() == 4);
     assert!(offset_of!(ExportAddress, rva) == 0);
     assert!(offset_of!(ExportAddress, forwards) == 4);
@@ -1174,22 +1193,6 @@ const _: () = {
     assert!(offset_of!(RichMetadata, build) == 0);
     assert!(offset_of!(RichMetadata, product) == 2);
     assert!(offset_of!(RichMetadata, use_count) == 4);
-    assert!(size_of::<ExportDirectoryTable>() == 40 && align_of::<ExportDirectoryTable>() == 4);
-    assert!(offset_of!(ExportDirectoryTable, export_flags) == 0);
-    assert!(offset_of!(ExportDirectoryTable, time_date_stamp) == 4);
-    assert!(offset_of!(ExportDirectoryTable, major_version) == 8);
-    assert!(offset_of!(ExportDirectoryTable, minor_version) == 10);
-    assert!(offset_of!(ExportDirectoryTable, name_rva) == 12);
-    assert!(offset_of!(ExportDirectoryTable, ordinal_base) == 16);
-    assert!(offset_of!(ExportDirectoryTable, address_table_entries) == 20);
-    assert!(offset_of!(ExportDirectoryTable, number_of_name_pointers) == 24);
-    assert!(offset_of!(ExportDirectoryTable, export_address_table_rva) == 28);
-    assert!(offset_of!(ExportDirectoryTable, name_pointer_rva) == 32);
-    assert!(offset_of!(ExportDirectoryTable, ordinal_table_rva) == 36);
-    assert!(size_of::<ExportDirectory>() == 64 && align_of::<ExportDirectory>() == 8);
-    assert!(offset_of!(ExportDirectory, name) == 0);
-    assert!(offset_of!(ExportDirectory, table) == 16);
-    assert!(offset_of!(ExportDirectory, has_name) == 56);
     assert!(size_of::<Tables>() == 176 && align_of::<Tables>() == 8);
     assert!(offset_of!(Tables, rich_entries) == 0);
     assert!(offset_of!(Tables, sections) == 16);
@@ -1380,6 +1383,14 @@ unsafe extern "C" {
         records: *mut Export<'_>,
         record_room: usize,
         count: &mut usize,
+    ) -> Fault;
+
+    pub fn goblin_pe_raw_read_export_directory(
+        bytes: *const u8,
+        byte_count: usize,
+        options: &Options,
+        places: &Places,
+        directory: &mut ExportDirectory<'_>,
     ) -> Fault;
 
     pub fn goblin_pe_raw_next_export_addresses(

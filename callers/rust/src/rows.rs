@@ -623,6 +623,16 @@ pub struct ExportDirectory<'a> {
     pub table: ExportDirectoryTable,
 }
 
+impl<'a> ExportDirectory<'a> {
+    // What a record says; `None` where the exports are not read.
+    pub(crate) fn of(d: &raw::ExportDirectory<'a>) -> Option<ExportDirectory<'a>> {
+        d.is_read.then(|| ExportDirectory {
+            name: d.has_name.then(|| Text(d.name.get())),
+            table: d.table,
+        })
+    }
+}
+
 /// A block of base relocations, for one page of the image in memory.
 #[derive(Clone, Copy, Debug, PartialEq, Eq, PartialOrd, Ord, Hash)]
 #[non_exhaustive]

@@ -1,8 +1,8 @@
 //! Reads samples, and what is no image.
 use goblin_pe::constants::{COFF_MACHINE_X86_64, IMAGE_SCN_LNK_NRELOC_OVFL};
 use goblin_pe::{
-    Cause, DirectoryType, ErrorKind, Forwarder, Imported, Kind, Layout, Object, Options, Part, Pe,
-    RawPointerRule, ReadFault, Te, Text,
+    Cause, DirectoryType, Error, ErrorKind, Forwarder, Imported, Kind, Layout, Object, Options,
+    Part, Pe, RawPointerRule, ReadFault, Te, Text,
 };
 
 fn sample(name: &str) -> Vec<u8> {
@@ -784,6 +784,90 @@ fn each_forwarder_is_at_its_address() {
     let entries = pe.walk_export_addresses().map(Result::unwrap);
     let addresses = entries.map(|it| (it.ordinal, it.rva));
     assert!(addresses.eq(pe.export_addresses().map(|it| (it.ordinal, it.rva))));
+}
+
+// A library whose export directory begins 8 bytes before the end of its section's window, and whose ordinal base is 100: a
+// second section's window follows in memory, and elsewhere in the file. So no address within the record but its first leads
+// to the record.
+fn library_with_a_cut_window() -> Vec<u8> {
+    let mut bytes = vec![0; 0x300];
+    let mut put = |at: usize, words: &[u32]| {
+        for (field, word) in bytes[at..].chunks_exact_mut(4).zip(words) {
+            field.copy_from_slice(&word.to_le_bytes());
+        }
+    };
+    put(0, &[0x5A4D]);
+    put(0x3C, &[0x40, 0x4550, 0x0002_8664]);
+    put(0x54, &[0x2022_00F0, 0x20B]);
+    // The alignments, the number of directories and that of the exports.
+    put(0x78, &[1, 1]);
+    put(0xC4, &[16, 0x1000, 40]);
+    put(0x150, &[8, 0x1000, 8, 0x200]);
+    put(0x178, &[0x100, 0x1008, 0x80, 0x280]);
+    // The record, of which the name, the base, the counts and the table are set, and the table in the second section.
+    put(0x20C, &[0x1050, 100, 2, 0, 0x1040]);
+    put(0x2B8, &[0x1100, 0x1104]);
+    put(0x2C8, &[u32::from_le_bytes(*b"own\0")]);
+    bytes
+}
+
+#[test]
+fn the_ordinal_base_is_read_as_a_whole_record() {
+    let bytes = library_with_a_cut_window();
+    let pe = Pe::parse(&bytes).unwrap();
+    let entries: Vec<_> = pe.walk_export_addresses().map(Result::unwrap).collect();
+    let found = entries.iter().map(|it| (it.ordinal, it.rva));
+    assert!(found.eq([(100, 0x1100), (101, 0x1104)]));
+    let directory = pe.export_directory().unwrap();
+    assert_eq!(
+        (directory.table.ordinal_base, directory.name),
+        (100, Some(Text(b"own")))
+    );
+    let layout = Layout::read(&bytes, &Options::default()).unwrap();
+    assert_eq!(layout.export_directory(), Ok(Some(directory)));
+    assert_eq!(layout.name(), Ok(pe.name()));
+}
+
+// Whether the exports are read.
+fn are_exports_read(bytes: &[u8], options: &Options) -> Result<bool, Error> {
+    let layout = Layout::read(bytes, options).unwrap();
+    Ok(layout.export_directory()?.is_some())
+}
+
+// A directory of zeros is one that is read; one that no section maps is refused, and passed over in permissive mode.
+#[test]
+fn a_layout_tells_whether_the_exports_are_read() {
+    let (strict, permissive) = (Options::default(), Options::permissive());
+    let mut bytes = library_with_a_cut_window();
+    bytes[0x200..0x228].fill(0);
+    assert_eq!(are_exports_read(&bytes, &permissive), Ok(true));
+    bytes[0xC8..0xCC].copy_from_slice(&0x9000u32.to_le_bytes());
+    assert_eq!(are_exports_read(&bytes, &permissive), Ok(false));
+    let refused = Pe::parse(&bytes).err().unwrap();
+    assert_eq!(refused.named_cause(), Some(Cause::Unmapped));
+    assert_eq!(are_exports_read(&bytes, &strict), Err(refused));
+    let layout = Layout::read(&bytes, &strict).unwrap();
+    let mut walk = layout.walk_export_addresses();
+    assert_eq!(walk.next(), Some(Err(refused)));
+    assert_eq!(walk.next(), None);
+    bytes[0xC8..0xD0].fill(0);
+    assert_eq!(are_exports_read(&bytes, &strict), Ok(false));
+}
+
+// A walk over addresses outlives the layout, as the other walks do, and reads forwarders without it.
+#[test]
+fn a_walk_outlives_its_layout() {
+    let bytes = sample("forwarders_x64.dll");
+    let walk = Layout::read(&bytes, &Options::default())
+        .unwrap()
+        .walk_export_addresses();
+    let forwarders = walk.filter_map(|it| it.unwrap().forwarder);
+    assert!(
+        forwarders.eq(Pe::parse(&bytes)
+            .unwrap()
+            .exports()
+            .filter_map(|x| x.forwarder))
+    );
 }
 
 // What takes a layout takes an image, and what has its lists can give them up.

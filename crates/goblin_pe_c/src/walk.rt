@@ -1,5 +1,6 @@
-//! The calls that walk over a table, from any position on: as many records as there is room for.
-//! They take no memory, but for an index where a file has more than 96 sections.
+//! The calls that walk over a table, from any position on: as many records as there is room for; and
+//! the one that reads what the export directory says. They take no memory, but for an index where a
+//! file has more than 96 sections.
 
 ghost use Rattle.std.specs.Prelude.{◌≡◌};
 ghost use Rattle.goblin_pe_calls.specs.Batches.{AddressBatch, BlockBatch, ExportBatch};
@@ -7,7 +8,8 @@ ghost use Rattle.goblin_pe_calls.specs.Batches.{GivesAddresses};
 ghost use Rattle.goblin_pe_calls.specs.Batches.{GivesBatch, GivesBlocks, GivesExports};
 ghost use Rattle.goblin_pe_calls.specs.Batches.{GivesImports};
 ghost use Rattle.goblin_pe_calls.specs.Batches.{ImportBatch, IsBlocksFault, IsExportsFault};
-ghost use Rattle.goblin_pe_calls.specs.Batches.{IsImportsFault};
+ghost use Rattle.goblin_pe_calls.specs.Batches.{IsImportsFault, SaysDirectory};
+ghost use Rattle.goblin_pe_calls.specs.ExportDirectories.{directory_view};
 ghost use Rattle.goblin_pe_records.specs.Calls.{ReadsWithout, Reported};
 ghost use Rattle.goblin_pe_records.specs.Onward.{GivesOnward};
 ghost use Rattle.goblin_pe_records.specs.Options.{options_of};
@@ -17,7 +19,9 @@ ghost use Rattle.goblin_pe_records.specs.Words.{block_words};
 
 use goblin_pe_calls::block::give_blocks;
 use goblin_pe_calls::export::PeExport;
-use goblin_pe_calls::export_directory::{PeExportAddress, give_addresses};
+use goblin_pe_calls::export_directory::{
+    PeExportAddress, PeExportDirectory, give_addresses, give_directory,
+};
 use goblin_pe_calls::import::PeImport;
 use goblin_pe_calls::next::{PeImportPosition, give_exports, give_imports};
 use goblin_pe_records::block::PeBlock;
@@ -104,6 +108,33 @@ pub extern "C" fn goblin_pe_raw_next_exports<'a>(
 {
     let opts = options_of(options);
     status_of(give_exports(alloc, bytes, &opts, places, position, records, count))
+}
+
+/// Puts into `directory` what the export directory of a file says, which lists no export: the record
+/// that [`goblin_pe_raw_open`](crate::whole_file::goblin_pe_raw_open) has beside its lists. Of a
+/// file without an export directory, and in permissive mode of one whose directory is refused, it
+/// is zeros. The sections and the directory lie where `places` says, as for
+/// [`goblin_pe_raw_next_imports`].
+///
+/// Refused, with nothing changed, are sections as by that call, and in strict mode the export
+/// directory. Memory as there.
+#[unsafe(no_mangle)]
+pub extern "C" fn goblin_pe_raw_read_export_directory<'a>(
+    alloc: Global,
+    bytes: &'a [u8],
+    options: &PeOptions,
+    places: &PePlaces,
+    directory: &mut PeExportDirectory<'a>,
+) -> PeFault
+    ensures { let opts = options_of options.now in
+        Reported result
+        (GivesBatch opts places.now bytes.now
+        (λ m places. SaysDirectory m places bytes.now (directory_view directory.new))
+        (λ m places. IsExportsFault m places bytes.now)
+        (directory.new ≡ directory.old)) }
+{
+    let opts = options_of(options);
+    status_of(give_directory(alloc, bytes, &opts, places, directory))
 }
 
 /// Fills `records` with the entries of the export address table of a file from the index `position`

@@ -27,7 +27,8 @@ use Rattle.goblin_pe_calls.specs.declared.export.PeExport.{PeExport}
 use Rattle.goblin_pe_calls.specs.declared.export_directory.PeExportAddress.{PeExportAddress}
 use Rattle.goblin_pe_calls.specs.declared.import.PeImport.{PeImport}
 use Rattle.goblin_pe_calls.specs.declared.next.PeImportPosition.{PeImportPosition}
-use Rattle.goblin_pe_calls.specs.ExportDirectories.{address_said}
+use Rattle.goblin_pe_calls.specs.ExportDirectories.{DirectorySaid, address_said, directory_said}
+use Rattle.goblin_pe_calls.specs.ExportDirectories.{no_export_directory}
 use Rattle.goblin_pe_calls.specs.Exports.{export_said, export_view}
 use Rattle.goblin_pe_calls.specs.Imports.{GivesHere, import_said, import_view}
 use Rattle.goblin_pe_calls.specs.Places.{TakesIndexAt, map_at, placed_sections, places_said}
@@ -194,6 +195,18 @@ abbrev pub IsExportsFault : MapOfAddresses → TablePlaces → List ℕ → Erro
 IsExportsFault m places bytes e =
     let read = export_part m.opts (offset_of m) places in
     (read.value bytes ≡ None) × read.IsCause bytes e
+
+-- ---- what the export directory says
+
+-- its record, zeros where the exports are not read
+abbrev pub directory_in : Part (ExportTables × List ExportRow) → DirectorySaid
+directory_in Absent = no_export_directory
+directory_in (part.Read read) = directory_said read.0
+directory_in Refused = no_export_directory
+
+abbrev pub SaysDirectory : MapOfAddresses → TablePlaces → List ℕ → DirectorySaid → Type 0
+SaysDirectory m places bytes said =
+    IsSomeAnd ((export_part m.opts (offset_of m) places).value bytes) (λ p. said ≡ directory_in p)
 
 -- ---- entries of the export address table
 

@@ -19,12 +19,14 @@ pub record DirectorySaid : Type 0 where
   pub name : List ℕ
   pub table : ExportDirectoryTable
   pub has_name : Bool
+  pub is_read : Bool
 
 abbrev pub directory_said : ExportTables → DirectorySaid
 directory_said tables = record {
   name = unwrap_or tables.name [];
   table = tables.export_directory_table;
   has_name = is_some tables.name;
+  is_read = true;
 }
 
 -- zeros, where the exports are not read
@@ -45,8 +47,14 @@ no_export_directory = record {
     ordinal_table_rva = 0;
   };
   has_name = false;
+  is_read = false;
 }
 
 -- what a record holds
 abbrev pub directory_view : PeExportDirectory → DirectorySaid
-directory_view d = record { name = d.name.now; table = d.table; has_name = d.has_name }
+directory_view d = record {
+  name = d.name.now;
+  table = d.table;
+  has_name = d.has_name;
+  is_read = d.is_read;
+}

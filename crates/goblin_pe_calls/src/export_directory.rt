@@ -9,7 +9,7 @@ ghost use Rattle.goblin_pe.specs.Layouts.{layout_bytes, layout_map, layout_place
 ghost use Rattle.goblin_pe_records.specs.Blocked.{HasNoSpareRoom};
 ghost use Rattle.goblin_pe_records.specs.Onward.{GivesOnward};
 ghost use Rattle.goblin_pe_calls.specs.Batches.{AddressBatch, GivesAddresses, GivesBatch};
-ghost use Rattle.goblin_pe_calls.specs.Batches.{IsExportsFault};
+ghost use Rattle.goblin_pe_calls.specs.Batches.{IsExportsFault, SaysDirectory};
 ghost use Rattle.goblin_pe_calls.specs.ExportDirectories.{address_said, directory_said};
 ghost use Rattle.goblin_pe_calls.specs.ExportDirectories.{directory_view};
 ghost use Rattle.goblin_pe_calls.specs.ExportDirectories.{no_export_directory};
@@ -44,6 +44,8 @@ pub struct PeExportDirectory<'a> {
     pub table: ExportDirectoryTable,
     /// Whether there is a text at the name's address.
     pub has_name: bool,
+    /// Whether the exports are read.
+    pub is_read: bool,
 }
 
 // The record of an entry.
@@ -92,6 +94,7 @@ pub fn directory_record<'a>(bytes: &'a [u8], exports: &Exports<'a, '_>) -> PeExp
         },
         table: *exports.directory_table(),
         has_name: name.is_some(),
+        is_read: true,
     }
 }
 
@@ -103,7 +106,45 @@ pub fn no_export_directory<'a>(bytes: &'a [u8]) -> PeExportDirectory<'a>
         name: &bytes[..0],
         table: ExportDirectoryTable::default(),
         has_name: false,
+        is_read: false,
     }
+}
+
+// The record of what the export directory of a file says.
+#[tactic(auto, unfolding(goblin_pe::specs::Whole::part_map))]
+fn directory_of<'a>(layout: &Layout<'a>) -> Result<PeExportDirectory<'a>>
+    ensures { let m = layout_map layout.now in
+        let places = layout_places layout.now in
+        let bytes = layout_bytes layout.now in
+        MatchResult result (λ d. SaysDirectory m places bytes (directory_view d))
+        (λ e. IsExportsFault m places bytes e) }
+{
+    match layout.exports()? {
+        Part::Read(exports) => Ok(directory_record(layout.bytes(), &exports)),
+        Part::Absent | Part::Refused => Ok(no_export_directory(layout.bytes())),
+    }
+}
+
+/// Puts into `directory` what the export directory says of a file whose tables lie at these places;
+/// zeros where its exports are not read.
+///
+/// # Errors
+/// As [`layout_at`]; in strict mode the export directory. Nothing is then changed.
+pub fn give_directory<'a>(
+    alloc: Global,
+    bytes: &'a [u8],
+    opts: &ParseOptions,
+    places: &PePlaces,
+    directory: &mut PeExportDirectory<'a>,
+) -> Result<()>
+    ensures { GivesBatch opts.now places.now bytes.now
+        (λ m places. SaysDirectory m places bytes.now (directory_view directory.new))
+        (λ m places. IsExportsFault m places bytes.now)
+        (directory.new ≡ directory.old) result }
+{
+    let layout = layout_at(alloc, bytes, places, opts)?;
+    *directory = directory_of(&layout)?;
+    Ok(())
 }
 
 // The record of the entry at an index, where there is one.
