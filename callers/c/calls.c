@@ -204,12 +204,13 @@ static bool is_laid_out(const struct goblin_pe_file *file, const struct goblin_p
            file->places.section_table == layout.places.section_table;
 }
 
-/* Whether walks over imports and exports by places that are not those of the image answer what these lead to. */
+/* Whether calls by places that are not those of the image answer what these lead to. */
 static bool goes_by_places(const struct goblin_pe_places *own)
 {
     struct goblin_pe_import_position first = { 0, 0 };
     struct goblin_pe_import import;
     struct goblin_pe_export export;
+    struct goblin_pe_export_directory directory;
     struct goblin_pe_places places = *own;
     size_t index = 0, count = 77;
     places.number_of_sections = 1;
@@ -230,11 +231,14 @@ static bool goes_by_places(const struct goblin_pe_places *own)
                   GOBLIN_PE_STATUS_MALFORMED, GOBLIN_PE_CAUSE_UNMAPPED) ||
         !is_fault(goblin_pe_next_exports(bytes, length, NULL, &places, &index, &export, 1, &count),
                   GOBLIN_PE_STATUS_MALFORMED, GOBLIN_PE_CAUSE_UNMAPPED) ||
+        !is_fault(goblin_pe_read_export_directory(bytes, length, NULL, &places, &directory),
+                  GOBLIN_PE_STATUS_MALFORMED, GOBLIN_PE_CAUSE_UNMAPPED) ||
         count != 77)
         return false;
     places.has_imports = places.has_exports = false;
     return is_ok(goblin_pe_next_imports(bytes, length, NULL, &places, &first, &import, 1, &count)) && !count &&
-           is_ok(goblin_pe_next_exports(bytes, length, NULL, &places, &index, &export, 1, &count)) && !count;
+           is_ok(goblin_pe_next_exports(bytes, length, NULL, &places, &index, &export, 1, &count)) && !count &&
+           is_ok(goblin_pe_read_export_directory(bytes, length, NULL, &places, &directory)) && !directory.is_read;
 }
 
 static bool is_image(void)

@@ -81,10 +81,9 @@ fn refused_memory_is_an_error() {
     assert_eq!(refused(|| pe.symbols()), memory);
     assert_eq!(refused(|| pe.walk_imports().next().unwrap()), memory);
     assert_eq!(refused(|| pe.walk_exports().next().unwrap()), memory);
-    assert_eq!(
-        refused(|| pe.walk_export_addresses().next().unwrap()),
-        memory
-    );
+    let walk = || pe.walk_export_addresses().next().unwrap();
+    assert_eq!(refused(walk), memory);
+    assert_eq!(refused(|| layout.export_directory()), None);
     assert_eq!(refused(|| pe.walk_blocks().next().unwrap()), memory);
     let refused_relocations = |section: goblin_pe::Section| {
         let walked = || section.walk_relocations(&object).next().unwrap();
@@ -105,6 +104,21 @@ fn a_walk_that_is_refused_memory_ends_with_it() {
     assert!(without_memory(
         || walk.next().unwrap().is_err() && walk.next().is_none()
     ));
+}
+
+// The walk reads the sections once there is a forwarder.
+#[test]
+fn a_forwarder_whose_sections_are_refused_memory_ends_the_walk() {
+    let image = sample("forwarders_x64.dll");
+    let pe = Pe::read(&image, &Options::default()).unwrap();
+    let mut walk = pe.walk_export_addresses();
+    let first = walk.next().unwrap().unwrap();
+    assert!(!first.forwards);
+    let mut rest = walk.clone();
+    let found = without_memory(|| rest.find_map(Result::err));
+    assert_eq!(found.map(|error| error.kind()), Some(ErrorKind::Memory));
+    assert!(rest.next().is_none());
+    assert!(walk.all(|it| it.is_ok()));
 }
 
 // An image, read without its sections, whose exports are so many: each has the name and the address of all.
