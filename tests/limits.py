@@ -69,11 +69,11 @@ def imports_in_one_text(base, size):
     return record + entries + "\u00E9".encode() * (count + 2) + b"\0"
 
 
-def one_library(base, size):
-    """A library of imports by ordinal, whose two tables are one."""
-    table, count = base + 56, (size - 60) // 4
+def imports_of_one_library(base, size):
+    """A library with as many imports as there is room for."""
+    table = base + 56
     record = struct.pack("<5I", table, 0, 0, base + 40, table).ljust(40, b"\0") + b"a.dll".ljust(16, b"\0")
-    return record + struct.pack("<I", 0x80000001) * count + bytes(4)
+    return record + struct.pack("<I", 1 << 31) * ((size - 60) // 4) + bytes(4)
 
 
 def libraries_of_left_out_entries(base, size):
@@ -156,28 +156,23 @@ def open_without_imports(file):
     return fault.status, tables.count("exports")
 
 
-def next_imports(file, options=STRICT, position=None):
-    """A batch of 256, from a position on."""
+def next_imports(file, options=STRICT, batches=1):
     layout, directories = records.Layout(), (records.Directory * 16)()
     LIB.goblin_pe_raw_read_layout(file, len(file), c.byref(options), c.byref(layout), directories, 16, (records.Section * 1)(), 0)
-    position, room, count = position or records.ImportPosition(), (records.Import * 256)(), c.c_size_t()
-    fault = LIB.goblin_pe_raw_next_imports(
-        file, len(file), c.byref(options), c.byref(layout.places), c.byref(position), room, 256, c.byref(count))
-    return fault.status, count.value
+    position, room, count, found = records.ImportPosition(), (records.Import * 256)(), c.c_size_t(), 0
+    for _ in range(batches):
+        fault = LIB.goblin_pe_raw_next_imports(
+            file, len(file), c.byref(options), c.byref(layout.places), c.byref(position), room, 256, c.byref(count))
+        found += count.value
+    return fault.status, found
 
 
 def next_imports_permissively(file):
     return next_imports(file, PERMISSIVE)
 
 
-def walk_permissively(file):
-    """All imports, in batches."""
-    position, found = records.ImportPosition(), 0
-    while True:
-        status, count = next_imports(file, PERMISSIVE, position)
-        found += count
-        if status or count < 256:
-            return status, found
+def all_imports_permissively(file):
+    return next_imports(file, PERMISSIVE, len(file) // 4 // 256)
 
 
 # A call and its file.
@@ -193,7 +188,8 @@ ROWS = {
     "exports in one text": (open_without_imports, lambda: in_one_section((0x1000, 40, 0, 0), exports_in_one_text, MIB // 2)),
     "imports that are all left out": (
         next_imports_permissively, lambda: in_one_section((0, 0, 0x1000, 40), libraries_of_left_out_entries, MIB // 8)),
-    "a permissive walk over one library": (walk_permissively, lambda: in_one_section((0, 0, 0x1000, 40), one_library, 16 * MIB)),
+    "many batches of one library": (
+        all_imports_permissively, lambda: in_one_section((0, 0, 0x1000, 40), imports_of_one_library, 4 * MIB)),
     "a batch of many sections": (next_imports, lambda: bytes(images.hostile_image(64 * (65535 + 16)))),
 }
 

@@ -28,9 +28,10 @@ def packed_sample(length):
     return sample((0xB8, bytes(8)), (0x200, record), (0x228, b"\x90\x10\0\0\x07\0\0\x80\0\0\0\0a.dll"))[:length]
 
 
-# Its imports: the library, the name, the hint or the ordinal, the address of the slot, that of the name, and the slot.
-GO = (b"a.dll", b"Go", 5, 0x1060, 0x1090, 0)
-SEVEN = (b"a.dll", None, 7, 0x1064, 0, 1)
+# Its imports: the library, the name, the hint or the ordinal, the address of the slot, that of the name, the slot, and the
+# index of the library's record.
+GO = (b"a.dll", b"Go", 5, 0x1060, 0x1090, 0, 0)
+SEVEN = (b"a.dll", None, 7, 0x1064, 0, 1, 0)
 # Its exports: the name, the ordinal, the hint, the address, its file offset, the forwarder, and the address of the name.
 PLAIN = (b"f", 1, 0, 0x1010, 0x210, None, 0x10F0)
 FORWARDED = (b"a.dll", 2, 1, 0x10E0, 0x2E0, (b"b", 12), 0x1080)
@@ -41,21 +42,22 @@ IMPORTED = [
     ("no text after the NUL of the library's name", sample((0x28A, b"\xFF")), [GO, SEVEN]),
     ("no lookup table, so that the address table is read in its place", sample((0x200, b"\0\0")), [GO, SEVEN]),
     ("a lookup table at the directory, whose entry leads to its own bytes", sample((0x200, b"\0\x10")),
-     [(b"a.dll", b"", 4096, 0x1060, 0x1000, 0)]),
+     [(b"a.dll", b"", 4096, 0x1060, 0x1000, 0, 0)]),
     ("a hint that no section maps", sample((0x240, b"\0\x90")), [SEVEN]),
     ("a name that reaches the end", sample((0xB8, bytes(8)))[:0x292] + b"A" * 366,
-     [(b"a.dll", b"A" * 366, 5, 0x1060, 0x1090, 0), SEVEN]),
-    ("entries of eight bytes", wide_sample(), [(b"a.dll", None, 4240, 0x1060, 0, 0)]),
+     [(b"a.dll", b"A" * 366, 5, 0x1060, 0x1090, 0, 0), SEVEN]),
+    ("entries of eight bytes", wide_sample(), [(b"a.dll", None, 4240, 0x1060, 0, 0, 0)]),
 ]
 # A record of the sample's library whose address table no section maps, from the end of it on, and the sample's own record.
 TWO_RECORDS = struct.pack("<6I", 0x9000, 0x1040, 0, 0, 0x1080, 0x1060)
 # Files, why strict mode refuses their imports, and those in permissive mode.
 REFUSED_IMPORTS = [
-    ("a hint without a name", sample((0x240, b"\xFE\x10")), ("READ", "BAD_OFFSET", 0, 0), [(b"a.dll", b"", 0, 0x1060, 0x10FE, 0), SEVEN]),
+    ("a hint without a name", sample((0x240, b"\xFE\x10")), ("READ", "BAD_OFFSET", 0, 0), [(b"a.dll", b"", 0, 0x1060, 0x10FE, 0, 0), SEVEN]),
     ("a hint that is not whole", sample((0x240, b"\xFF\x10")), ("MALFORMED", "HINT_ENTRY", 0x2FF, 0), [SEVEN]),
-    ("an address table that no section maps", sample((0x210, TWO_RECORDS)), ("MALFORMED", "UNMAPPED", 0x9000, 0), [GO, SEVEN]),
+    ("an address table that no section maps", sample((0x210, TWO_RECORDS)), ("MALFORMED", "UNMAPPED", 0x9000, 0),
+     [(*GO[:6], 1), (*SEVEN[:6], 1)]),
     ("the end after two entries, where the names would stand", packed_sample(0x248), ("MALFORMED", "HINT_ENTRY", 0x290, 0),
-     [(b"a.dll", None, 7, 0x102C, 0, 1)]),
+     [(b"a.dll", None, 7, 0x102C, 0, 1, 0)]),
     ("the end within the second entry", packed_sample(0x247), ("MALFORMED", "HINT_ENTRY", 0x290, 0), []),
 ]
 
@@ -324,7 +326,7 @@ class OverlappingSections(Read):
     def assert_found(self, pe, begin, name, address, hint, imported, exported):
         for rva in (0x1210, 0x1220, 0x1240, 0x1250, 0x1280):
             self.assertEqual(pe.find_offset(rva), begin + rva - 0x1200)
-        self.assert_imports(pe, [(name, imported, hint, 0x1220, 0x1250, 0)])
+        self.assert_imports(pe, [(name, imported, hint, 0x1220, 0x1250, 0, 0)])
         self.assertEqual(pe.bytes_at(pe.imports[0].slot_rva, 4), struct.pack("<I", address))
         self.assert_exports(pe, [(name, 0, 0, exported, begin + exported - 0x1200, None, 0x1240)])
         self.assertEqual(pe.export_directory.name, name)

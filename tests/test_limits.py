@@ -20,7 +20,7 @@ ROWS = [
     ("damage of imports in one text", 120000, 0),
     ("exports in one text", 75000, 65465),
     ("imports that are all left out", 10000, 0),
-    ("a permissive walk over one library", 10000, 4194161),
+    ("many batches of one library", 1000, 1048433),
     ("a batch of many sections", 250, 256),
 ]
 

@@ -613,6 +613,8 @@ struct goblin_pe_import_position {
     size_t record_offset;
     /* The file offset of the slot that is read next, or 0 before the library's first. */
     size_t slot_offset;
+    /* The file offset of the directory's first record, from which records are counted. */
+    size_t first_record;
 };
 
 /* An import. */
@@ -624,21 +626,20 @@ struct goblin_pe_import {
     /* The address (not the file offset) of its own entry in the address table, where the loader
        puts the address of what is imported. */
     size_t slot_rva;
-    /* The address of the hint and the name; 0 of an import by ordinal. */
-    size_t rva;
+    /* The index of the library's record in the import directory. Records that are left out count. */
+    size_t library;
     /* The index of its entry, in the file, in the lookup table and in the address table. Entries
        that are left out count. */
     size_t slot;
+    /* The address of the hint and the name; 0 of an import by ordinal. */
+    uint32_t rva;
     /* The ordinal; of an import by name, the hint, at which index of the library's names the loader
        looks first. */
     uint16_t ordinal;
     /* Whether the import is by name. */
     bool is_by_name;
-    /* Zero. With `reserved2` it stands where padding would be, so that each byte of the record is
-       defined. */
+    /* Zero. It stands where padding would be, so that each byte of the record is defined. */
     uint8_t reserved;
-    /* Zero. */
-    uint32_t reserved2;
 };
 
 /* An export. */
@@ -1333,20 +1334,21 @@ GOBLIN_PE_IS_AT(places, has_exports, 40);
 GOBLIN_PE_IS_AT(places, has_imports, 41);
 GOBLIN_PE_IS_AT(places, has_relocations, 42);
 
-GOBLIN_PE_HAS_SIZE(import_position, 16, 8);
+GOBLIN_PE_HAS_SIZE(import_position, 24, 8);
 GOBLIN_PE_IS_AT(import_position, record_offset, 0);
 GOBLIN_PE_IS_AT(import_position, slot_offset, 8);
+GOBLIN_PE_IS_AT(import_position, first_record, 16);
 
 GOBLIN_PE_HAS_SIZE(import, 64, 8);
 GOBLIN_PE_IS_AT(import, name, 0);
 GOBLIN_PE_IS_AT(import, dll, 16);
 GOBLIN_PE_IS_AT(import, slot_rva, 32);
-GOBLIN_PE_IS_AT(import, rva, 40);
+GOBLIN_PE_IS_AT(import, library, 40);
 GOBLIN_PE_IS_AT(import, slot, 48);
-GOBLIN_PE_IS_AT(import, ordinal, 56);
-GOBLIN_PE_IS_AT(import, is_by_name, 58);
-GOBLIN_PE_IS_AT(import, reserved, 59);
-GOBLIN_PE_IS_AT(import, reserved2, 60);
+GOBLIN_PE_IS_AT(import, rva, 56);
+GOBLIN_PE_IS_AT(import, ordinal, 60);
+GOBLIN_PE_IS_AT(import, is_by_name, 62);
+GOBLIN_PE_IS_AT(import, reserved, 63);
 
 GOBLIN_PE_HAS_SIZE(export, 96, 8);
 GOBLIN_PE_IS_AT(export, name, 0);

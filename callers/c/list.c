@@ -85,7 +85,7 @@ static void put_imports(const struct goblin_pe_import *imports, size_t count, si
 {
     for (size_t i = 0; i < count; i++) {
         const struct goblin_pe_import *x = &imports[i];
-        printf("import offset=0x%zx ordinal=%u rva=0x%zx size=%zu slot=%zu", x->slot_rva,
+        printf("import offset=0x%zx ordinal=%u rva=0x%x size=%zu slot=%zu", x->slot_rva,
                x->ordinal, x->rva, size, x->slot);
         put(" dll=", x->dll);
         if (x->is_by_name)

@@ -84,12 +84,13 @@ static bool has_footprint(void)
 static bool is_import(const struct goblin_pe_import *x, const struct goblin_pe_import *y)
 {
     return x->name.length == y->name.length && x->dll.bytes == y->dll.bytes && x->slot_rva == y->slot_rva &&
-           x->rva == y->rva && x->slot == y->slot && x->ordinal == y->ordinal && x->is_by_name == y->is_by_name;
+           x->rva == y->rva && x->slot == y->slot && x->library == y->library && x->ordinal == y->ordinal &&
+           x->is_by_name == y->is_by_name;
 }
 
 static bool walks_over_imports(const struct goblin_pe_places *places, const struct goblin_pe_tables *tables)
 {
-    struct goblin_pe_import_position position = { 0, 0 };
+    struct goblin_pe_import_position position = { 0 };
     struct goblin_pe_import imports[2];
     size_t found = 0, count = 0;
     do {

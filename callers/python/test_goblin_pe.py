@@ -471,7 +471,19 @@ class Files(unittest.TestCase):
         begin = len(data)
         libraries = [(*x[:4], layout.text_at(x.name_rva), x.index) for x in layout.walk_libraries()]
         self.assertEqual(libraries, [(b"a.dll", begin, 0, 0, b"a.dll", 0), (b"c.dll", begin + 40, 2, 0, b"c.dll", 2)])
-        self.assertEqual([(x.dll, x.name, x.ordinal) for x in layout.walk_imports()], [(b"a.dll", None, 7), (b"c.dll", None, 7)])
+        imports = [(x.dll, x.name, x.ordinal, x.library) for x in layout.walk_imports()]
+        self.assertEqual(imports, [(b"a.dll", None, 7, 0), (b"c.dll", None, 7, 2)])
+
+    def test_records_that_are_left_out_count(self):
+        """The second of three has no address table."""
+        start = sample("forwarders_x64.dll")
+        data = bytearray(with_libraries(start, [b"a.dll", b"b.dll", b"c.dll"], [2, 1, 1]))
+        struct.pack_into("<I", data, len(start) + 20 + 16, len(data))
+        pe = Pe(data, Options(is_permissive=True, resolve_rva=False))
+        wanted = [(b"a.dll", 0), (b"a.dll", 0), (b"c.dll", 2)]
+        self.assertEqual([(x.dll, x.library) for x in pe.imports], wanted)
+        self.assertEqual([(x.dll, x.library) for x in pe.walk_imports()], wanted)
+        self.assertEqual([(x.name, x.index) for x in pe.walk_libraries()], [(b"a.dll", 0), (b"c.dll", 2)])
 
     def test_a_call_gives_more_where_it_makes_an_index(self):
         for sections, calls in (96, 3), (97, 2):

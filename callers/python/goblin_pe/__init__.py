@@ -474,13 +474,12 @@ class Layout:
     def _libraries(self, data: _Kept, call: _t.Callable[..., records.Fault]) -> _t.Iterator[Library]:
         # of each library the first import is read, and then the next record
         position, first = records.ImportPosition(), _room(records.Import, 1)
-        begin = self.find_offset(self._places.imports.virtual_address) or 0
         for address, _ in _batches(data, first, call, position):
             offset, record = position.record_offset, _laid_out.laid_out(records.ImportDirectoryEntry)()
             with _held(data) as (here, length):
                 _LIB.goblin_pe_raw_import_record_at(here, length, offset, _c.byref(record))
             yield Library(_Rows(data, address).text(first[0].dll), offset, record.time_date_stamp, record.forwarder_chain,
-                          record.name_rva, (offset - begin) // 20)
+                          record.name_rva, first[0].library)
             position.record_offset, position.slot_offset = offset + 20, 0
 
     def walk_exports(self) -> _t.Iterator[Export]:

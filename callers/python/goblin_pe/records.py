@@ -491,10 +491,12 @@ class ImportPosition(Record):
     record_offset: The file offset of a library's record; the greatest number once the end has been
         reached, also of a file without imports.
     slot_offset: The file offset of the slot that is read next, or 0 before the library's first.
+    first_record: The file offset of the directory's first record, from which records are counted.
     """
 
     record_offset: Annotated[int, c.c_size_t]
     slot_offset: Annotated[int, c.c_size_t]
+    first_record: Annotated[int, c.c_size_t]
 
 
 @record
@@ -505,26 +507,26 @@ class Import(Record):
     dll: The name of the library; empty where permissive mode could not read it.
     slot_rva: The address (not the file offset) of its own entry in the address table, where the
         loader puts the address of what is imported.
-    rva: The address of the hint and the name; 0 of an import by ordinal.
+    library: The index of the library's record in the import directory. Records that are left out
+        count.
     slot: The index of its entry, in the file, in the lookup table and in the address table. Entries
         that are left out count.
+    rva: The address of the hint and the name; 0 of an import by ordinal.
     ordinal: The ordinal; of an import by name, the hint, at which index of the library's names the
         loader looks first.
     is_by_name: Whether the import is by name.
-    reserved: Zero. With `reserved2` it stands where padding would be, so that each byte of the
-        record is defined.
-    reserved2: Zero.
+    reserved: Zero. It stands where padding would be, so that each byte of the record is defined.
     """
 
     name: Text
     dll: Text
     slot_rva: Annotated[int, c.c_size_t]
-    rva: Annotated[int, c.c_size_t]
+    library: Annotated[int, c.c_size_t]
     slot: Annotated[int, c.c_size_t]
+    rva: Annotated[int, c.c_uint32]
     ordinal: Annotated[int, c.c_uint16]
     is_by_name: Annotated[bool, c.c_bool]
     reserved: Annotated[int, c.c_uint8]
-    reserved2: Annotated[int, c.c_uint32]
 
 
 @record

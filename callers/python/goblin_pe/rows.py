@@ -81,7 +81,8 @@ class Section(NamedTuple):
 class Import(NamedTuple):
     """An import. One by ordinal has the name None; of one by name the ordinal is the hint. The dll is empty where permissive
     mode could not read it. The slot_rva is the address of its own entry in the address table, and slot the index of that entry
-    there and in the lookup table; entries that are left out count."""
+    there and in the lookup table; library is the index of its library's record in the import directory. Entries and records that
+    are left out count."""
 
     dll: bytes
     name: Optional[bytes]
@@ -89,6 +90,7 @@ class Import(NamedTuple):
     slot_rva: int
     rva: int
     slot: int
+    library: int
 
 
 class Library(NamedTuple):
@@ -307,7 +309,8 @@ class Rows:
 
     def imported(self, x: records.Import) -> Import:
         """The row of an import."""
-        return Import(self.text(x.dll), self.text(x.name) if x.is_by_name else None, x.ordinal, x.slot_rva, x.rva, x.slot)
+        name = self.text(x.name) if x.is_by_name else None
+        return Import(self.text(x.dll), name, x.ordinal, x.slot_rva, x.rva, x.slot, x.library)
 
     def exported(self, x: records.Export) -> Export:
         """The row of an export."""

@@ -460,24 +460,16 @@ pub struct WalkLibraries<'a> {
     bytes: &'a [u8],
     options: Options,
     places: raw::Places,
-    // The file offset of the import directory.
-    directory: usize,
     position: Option<raw::ImportPosition>,
 }
 
 impl<'a> WalkLibraries<'a> {
-    // From the beginning, of a file whose tables lie at these places, and whose import directory at this offset.
-    pub(crate) fn of(
-        bytes: &'a [u8],
-        options: Options,
-        places: raw::Places,
-        directory: usize,
-    ) -> Self {
+    // From the beginning, of a file whose tables lie at these places.
+    pub(crate) fn of(bytes: &'a [u8], options: Options, places: raw::Places) -> Self {
         WalkLibraries {
             bytes,
             options,
             places,
-            directory,
             position: Some(raw::ImportPosition::default()),
         }
     }
@@ -507,7 +499,7 @@ impl<'a> WalkLibraries<'a> {
         let library = Library {
             name: Text(first[0].dll.get()),
             name_rva: record.name_rva,
-            index: (record_offset - self.directory) / IMPORT_RECORD,
+            index: first[0].library,
             record_offset,
             time_date_stamp: record.time_date_stamp,
             forwarder_chain: record.forwarder_chain,
@@ -515,6 +507,7 @@ impl<'a> WalkLibraries<'a> {
         let next = raw::ImportPosition {
             record_offset: record_offset + IMPORT_RECORD,
             slot_offset: 0,
+            ..position
         };
         Ok(Some((library, next)))
     }

@@ -363,14 +363,10 @@ impl<'a> Layout<'a> {
     /// ```
     #[must_use]
     pub fn walk_libraries(&self) -> WalkLibraries<'a> {
-        let directory = self.file.places.imports.virtual_address;
-        // (without an offset there are no libraries)
-        let offset = self.find_offset(directory as usize);
         WalkLibraries::of(
             self.bytes,
             self.options.with_parse_imports(true),
             self.file.places,
-            offset.unwrap_or(0),
         )
     }
 

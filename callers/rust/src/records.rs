@@ -423,6 +423,8 @@ pub struct ImportPosition {
     pub record_offset: usize,
     /// The file offset of the slot that is read next, or 0 before the library's first.
     pub slot_offset: usize,
+    /// The file offset of the directory's first record, from which records are counted.
+    pub first_record: usize,
 }
 
 /// An import.
@@ -436,21 +438,20 @@ pub struct Import<'a> {
     /// The address (not the file offset) of its own entry in the address table, where the loader
     /// puts the address of what is imported.
     pub slot_rva: usize,
-    /// The address of the hint and the name; 0 of an import by ordinal.
-    pub rva: usize,
+    /// The index of the library's record in the import directory. Records that are left out count.
+    pub library: usize,
     /// The index of its entry, in the file, in the lookup table and in the address table. Entries
     /// that are left out count.
     pub slot: usize,
+    /// The address of the hint and the name; 0 of an import by ordinal.
+    pub rva: u32,
     /// The ordinal; of an import by name, the hint, at which index of the library's names the
     /// loader looks first.
     pub ordinal: u16,
     /// Whether the import is by name.
     pub is_by_name: bool,
-    /// Zero. With `reserved2` it stands where padding would be, so that each byte of the record is
-    /// defined.
+    /// Zero. It stands where padding would be, so that each byte of the record is defined.
     pub reserved: u8,
-    /// Zero.
-    pub reserved2: u32,
 }
 
 /// An export.
@@ -1050,19 +1051,20 @@ const _: () = {
     assert!(offset_of!(Places, has_exports) == 40);
     assert!(offset_of!(Places, has_imports) == 41);
     assert!(offset_of!(Places, has_relocations) == 42);
-    assert!(size_of::<ImportPosition>() == 16 && align_of::<ImportPosition>() == 8);
+    assert!(size_of::<ImportPosition>() == 24 && align_of::<ImportPosition>() == 8);
     assert!(offset_of!(ImportPosition, record_offset) == 0);
     assert!(offset_of!(ImportPosition, slot_offset) == 8);
+    assert!(offset_of!(ImportPosition, first_record) == 16);
     assert!(size_of::<Import>() == 64 && align_of::<Import>() == 8);
     assert!(offset_of!(Import, name) == 0);
     assert!(offset_of!(Import, dll) == 16);
     assert!(offset_of!(Import, slot_rva) == 32);
-    assert!(offset_of!(Import, rva) == 40);
+    assert!(offset_of!(Import, library) == 40);
     assert!(offset_of!(Import, slot) == 48);
-    assert!(offset_of!(Import, ordinal) == 56);
-    assert!(offset_of!(Import, is_by_name) == 58);
-    assert!(offset_of!(Import, reserved) == 59);
-    assert!(offset_of!(Import, reserved2) == 60);
+    assert!(offset_of!(Import, rva) == 56);
+    assert!(offset_of!(Import, ordinal) == 60);
+    assert!(offset_of!(Import, is_by_name) == 62);
+    assert!(offset_of!(Import, reserved) == 63);
     assert!(size_of::<Export>() == 96 && align_of::<Export>() == 8);
     assert!(offset_of!(Export, name) == 0);
     assert!(offset_of!(Export, forward_lib) == 16);

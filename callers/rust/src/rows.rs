@@ -476,6 +476,8 @@ pub struct Import<'a> {
     /// The index of its entry, in the file, in the lookup table and in the address table. Entries
     /// that are left out count.
     pub slot: usize,
+    /// The index of the library's record in the import directory. Records that are left out count.
+    pub library: usize,
 }
 
 impl<'a> From<&raw::Import<'a>> for Import<'a> {
@@ -492,8 +494,9 @@ impl<'a> From<&raw::Import<'a>> for Import<'a> {
             },
             dll: Text(x.dll.get()),
             slot_rva: x.slot_rva,
-            rva: x.rva,
+            rva: x.rva as usize,
             slot: x.slot,
+            library: x.library,
         }
     }
 }

@@ -34,7 +34,8 @@ fn imports_by_name_and_by_ordinal() {
             ..
         }
     ));
-    assert_eq!((import.dll, import.slot), (Text(b"KERNEL32.dll"), 0));
+    let place = (import.dll, import.library, import.slot);
+    assert_eq!(place, (Text(b"KERNEL32.dll"), 0, 0));
     let bytes = sample("imports_by_ordinal_x86.dll");
     let pe = Pe::read(&bytes, &Options::default()).unwrap();
     assert_eq!(pe.imports().next().unwrap().name, Imported::Ordinal(901));

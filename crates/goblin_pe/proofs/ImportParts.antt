@@ -11,7 +11,7 @@ use Rattle.goblin_base.specs.Tables as tables
 use Rattle.goblin_base.specs.Tables.{Format, ends_table, made_of, slot_at, slot_table, stop}
 use Rattle.goblin_base.proofs.Below.{each_below-there, least-before}
 use Rattle.goblin_base.proofs.Steps.{unmapped}
-use Rattle.readings.specs.Reads.{given, in_its_place, mapped}
+use Rattle.readings.specs.Reads.{given, in_its_place, mapped, with_slots}
 use Rattle.readings.specs.Walks.{IsWalkOf, Walks}
 use Rattle.goblin_pe_sect.specs.declared.data_directories.DataDirectory.{DataDirectory}
 use Rattle.goblin_pe_sect.specs.declared.options.ParseOptions.{ParseOptions}
@@ -43,18 +43,23 @@ placed-there : {A B : Type 0} (d : A) (o : Option A) (f : A → Option B) → ((
 placed-there d None f all = all d
 placed-there d (Some x) f all = all x
 
+indexed-there : {A B : Type 0} (kept : List ℕ) (f : A × List ℕ → B) (o : Option A) → IsSome o → IsSome (option_map f (with_slots kept o))
+indexed-there kept f None there = absurd (cc there)
+indexed-there kept f (Some x) there = refl
+
 module _ (format : Format EntryValue) (offset_of : ℕ → Option ℕ) (bytes : List ℕ) where
   slot-there : (slot : Option ImportDirectoryEntry) → ends_table import_slots.is_last slot ≡ false → IsSome (slot >>= λ r. (kept_library false format offset_of r).value bytes)
   slot-there None e = absurd cc
   slot-there (Some r) e = left-there ((library_of false format offset_of r).value bytes)
 
   libraries-there : (o : ℕ) → IsSome ((libraries_at false format offset_of o).value bytes)
-  unfolding slot_table stop
+  unfolding libraries_at slot_table stop
   libraries-there o =
-      each_below-there (made_of import_slots (λ r. (kept_library false format offset_of r).value bytes) bytes o) (stop import_slots bytes o)
+      indexed-there _ _ _
+      (each_below-there (made_of import_slots (λ r. (kept_library false format offset_of r).value bytes) bytes o) (stop import_slots bytes o)
       (λ j below.
       slot-there (slot_at import_slots bytes o j)
-      (least-before (λ i. ends_table import_slots.is_last (slot_at import_slots bytes o i)) (length bytes) j below))
+      (least-before (λ i. ends_table import_slots.is_last (slot_at import_slots bytes o i)) (length bytes) j below)))
 
   past-front-there : (o : ℕ) → IsSome ((libraries_past_front false format offset_of o).value bytes)
   unfolding libraries_past_front

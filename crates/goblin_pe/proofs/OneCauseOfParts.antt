@@ -356,14 +356,15 @@ module _ (strict : Bool) (format : Format EntryValue) (offset_of : ℕ → Optio
       (has-at (address_table_rva r) (lookup.address_table format) has-addresses))
 
   has-libraries : (o : ℕ) → HasOne (imports.libraries_past_front strict format offset_of o)
-  unfolding imports.libraries_past_front
+  unfolding imports.libraries_past_front imports.libraries_at
   has-libraries o = by (not strict && o == 0)
     where
       by : (test : Bool) → HasOne (imports.libraries_if strict format offset_of (cond test None (Some o)))
       by true = has-given []
-      by false =
-          has-table import_slots strict imports.import_record_at (imports.kept_library strict format offset_of) o
-          (λ p. has-because (ImportRecordEnd p) (reads.record_at 20 (import_record Little) p)) (λ r. has-or_left_out strict (imports.library_of strict format offset_of r) (has-library r))
+      by false = record {
+        one = (has-table import_slots strict imports.import_record_at (imports.kept_library strict format offset_of) o
+            (λ p. has-because (ImportRecordEnd p) (reads.record_at 20 (import_record Little) p)) (λ r. has-or_left_out strict (imports.library_of strict format offset_of r) (has-library r))).one;
+      }
 
   pub has-import_data : (rva : ℕ) → HasOne (imports.import_data strict format offset_of rva)
   unfolding imports.import_data

@@ -39,8 +39,8 @@ use std::alloc::Global;
 /// any, a `count` of 0 is the end. Zeros are the position of the first import; a file without an
 /// import directory, or imports that are not asked for, have none, and in permissive mode neither
 /// has a directory without a file offset, or at the offset 0. Where nothing is left, and there
-/// is room for more, the position's `record_offset` is then the greatest number, and its
-/// `slot_offset` 0; without room the position stays.
+/// is room for more, the position's `record_offset` is then the greatest number, and its other
+/// fields are 0; without room the position stays.
 ///
 /// The sections and the import directory lie where `places` says, as
 /// [`goblin_pe_raw_read_layout`](crate::whole_file::goblin_pe_raw_read_layout) and

@@ -39,13 +39,14 @@ not_first : {X : Type 0} (b : Bool) (x y : X) → (if b && false then x else y) 
 not_first true x y = refl
 not_first false x y = refl
 
-said-in : (r : ℕ) (slot : Option ℕ) → r < 2 ^ 63 → IsSomeAnd slot (λ s. 0 < s)
-    → position_said (record { record_offset = r; slot_offset = unwrap_or slot 0 }) ≡ Some (Some (record { record_offset = r; slot_offset = slot }))
-said-in r None below some = absurd some
-said-in r (Some s) below some =
+said-in : (first r : ℕ) (slot : Option ℕ) → r < 2 ^ 63 → IsSomeAnd slot (λ s. 0 < s)
+    → position_said (record { record_offset = r; slot_offset = unwrap_or slot 0; first_record = first })
+    ≡ Some (Some (record { first_record = first; record_offset = r; slot_offset = slot }))
+said-in first r None below some = absurd some
+said-in first r (Some s) below some =
     let going : (s == 0) ≡ false = ne_eqb s 0 (λ none. omega (arith, some, none)) in
     let before : (r == 0xFFFFFFFFFFFFFFFF) ≡ false = ne_eqb r 0xFFFFFFFFFFFFFFFF (λ end. omega (arith, below, end)) in
-    let here : Option (Option ImportPosition) = Some (Some (record { record_offset = r; slot_offset = Some s })) in
+    let here : Option (Option ImportPosition) = Some (Some (record { first_record = first; record_offset = r; slot_offset = Some s })) in
     rw going (not_first (r == 0) None (if r == 0xFFFFFFFFFFFFFFFF then Some None else here) ∙ rw before refl)
 
 said-again : (bytes : List ℕ) (position : Option ImportPosition) → length bytes < 2 ^ 63 → IsInTable bytes position
@@ -53,7 +54,7 @@ said-again : (bytes : List ℕ) (position : Option ImportPosition) → length by
 said-again bytes None most inside = absurd inside
 said-again bytes (Some at) most inside =
     let there = inside.0 in
-    said-in at.record_offset at.slot_offset (omega (arith, most, there)) inside.1
+    said-in at.first_record at.record_offset at.slot_offset (omega (arith, most, there)) inside.1
 
 -- ---- a walk goes on
 

@@ -79,15 +79,20 @@ position_said p =
     if p.record_offset == 0 && p.slot_offset == 0 then None
     else if p.record_offset == 0xFFFFFFFFFFFFFFFF then Some None
     else Some (Some (record {
+      first_record = p.first_record;
       record_offset = p.record_offset;
       slot_offset = if p.slot_offset == 0 then None else Some p.slot_offset;
     }))
 
 -- the numbers of a position
 abbrev pub position_numbers : Option ImportPosition → PeImportPosition
-position_numbers None = record { record_offset = 0xFFFFFFFFFFFFFFFF; slot_offset = 0 }
-position_numbers (Some at) =
-    record { record_offset = at.record_offset; slot_offset = unwrap_or at.slot_offset 0 }
+position_numbers None =
+    record { record_offset = 0xFFFFFFFFFFFFFFFF; slot_offset = 0; first_record = 0 }
+position_numbers (Some at) = record {
+  record_offset = at.record_offset;
+  slot_offset = unwrap_or at.slot_offset 0;
+  first_record = at.first_record;
+}
 
 -- the imports from where they start
 abbrev pub imports_from_start : MapOfAddresses → ℕ → List ℕ → Part (Option ImportPosition)

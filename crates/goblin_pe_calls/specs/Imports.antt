@@ -15,24 +15,26 @@ use Rattle.goblin_pe_calls.specs.declared.import.PeImport.{PeImport}
 pub record ImportSaid : Type 0 where
   pub name : List ℕ
   pub dll : List ℕ
+  pub library : ℕ
   pub slot_rva : ℕ
   pub rva : ℕ
   pub slot : ℕ
   pub ordinal : ℕ
   pub is_by_name : Bool
-  pub reserved : ℕ × ℕ
+  pub reserved : ℕ
 
 -- the record of an import, which is by name where its name is in the file; by ordinal it has none
 abbrev pub import_said : ImportValue → ImportSaid
 import_said x = record {
   name = if x.is_borrowed then x.name else [];
   dll = x.dll;
+  library = x.library;
   slot_rva = x.offset;
   rva = x.rva;
   slot = x.slot;
   ordinal = x.ordinal;
   is_by_name = x.is_borrowed;
-  reserved = (0, 0);
+  reserved = 0;
 }
 
 -- what a record holds
@@ -40,12 +42,13 @@ abbrev pub import_view : PeImport → ImportSaid
 import_view x = record {
   name = x.name.now;
   dll = x.dll.now;
+  library = x.library;
   slot_rva = x.slot_rva;
   rva = x.rva;
   slot = x.slot;
   ordinal = x.ordinal;
   is_by_name = x.is_by_name;
-  reserved = (x.reserved, x.reserved2);
+  reserved = x.reserved;
 }
 
 -- what a list of records holds

@@ -40,21 +40,20 @@ pub struct PeImport<'a> {
     /// The address (not the file offset) of its own entry in the address table, where the loader
     /// puts the address of what is imported.
     pub slot_rva: usize,
-    /// The address of the hint and the name; 0 of an import by ordinal.
-    pub rva: usize,
+    /// The index of the library's record in the import directory. Records that are left out count.
+    pub library: usize,
     /// The index of its entry, in the file, in the lookup table and in the address table. Entries
     /// that are left out count.
     pub slot: usize,
+    /// The address of the hint and the name; 0 of an import by ordinal.
+    pub rva: u32,
     /// The ordinal; of an import by name, the hint, at which index of the library's names the
     /// loader looks first.
     pub ordinal: u16,
     /// Whether the import is by name.
     pub is_by_name: bool,
-    /// Zero. With `reserved2` it stands where padding would be, so that each byte of the record is
-    /// defined.
+    /// Zero. It stands where padding would be, so that each byte of the record is defined.
     pub reserved: u8,
-    /// Zero.
-    pub reserved2: u32,
 }
 
 // The record of an import, with what its entry says: its name, the address of this, its ordinal or
@@ -63,31 +62,32 @@ pub struct PeImport<'a> {
 fn record_by<'a>(
     import: &WalkedImport<'a>,
     name: &'a [u8],
-    rva: usize,
+    rva: u32,
     ordinal: u16,
     is_by_name: bool,
 ) -> PeImport<'a>
     ensures { import_view result ≡ record {
       name = name.now;
       dll = import.now.dll.now;
+      library = import.now.library;
       slot_rva = import.now.slot_rva;
       rva = rva;
       slot = import.now.slot;
       ordinal = ordinal;
       is_by_name = is_by_name;
-      reserved = (0, 0);
+      reserved = 0;
     } }
 {
     PeImport {
         name,
         dll: import.dll.as_bytes(),
         slot_rva: import.slot_rva,
-        rva,
+        library: import.library,
         slot: import.slot,
+        rva,
         ordinal,
         is_by_name,
         reserved: 0,
-        reserved2: 0,
     }
 }
 
@@ -104,7 +104,7 @@ pub fn put_import<'a>(place: &mut PeImport<'a>, bytes: &'a [u8], import: &Walked
         }
         SyntheticImportLookupTableEntry::HintNameTableRVA((rva, named)) => {
             let name = named.name.as_bytes();
-            *place = record_by(import, name, *rva as usize, named.hint, true);
+            *place = record_by(import, name, *rva, named.hint, true);
         }
     }
 }
@@ -129,7 +129,7 @@ fn push_within<'a>(records: &mut Vec<PeImport<'a>>, bytes: &'a [u8], import: &Wa
         }
         SyntheticImportLookupTableEntry::HintNameTableRVA((rva, named)) => {
             let name = named.name.as_bytes();
-            records.push_reserved(record_by(import, name, *rva as usize, named.hint, true));
+            records.push_reserved(record_by(import, name, *rva, named.hint, true));
         }
     }
 }

@@ -37,6 +37,8 @@ pub struct PeImportPosition {
     pub record_offset: usize,
     /// The file offset of the slot that is read next, or 0 before the library's first.
     pub slot_offset: usize,
+    /// The file offset of the directory's first record, from which records are counted.
+    pub first_record: usize,
 }
 
 // The position that these numbers say; none is the beginning.
@@ -46,6 +48,7 @@ fn position_of(position: &PeImportPosition) -> Option<Option<ImportPosition>>
     let PeImportPosition {
         record_offset,
         slot_offset,
+        first_record,
     } = *position;
     if record_offset == 0 && slot_offset == 0 {
         return None;
@@ -59,6 +62,7 @@ fn position_of(position: &PeImportPosition) -> Option<Option<ImportPosition>>
         Some(slot_offset)
     };
     Some(Some(ImportPosition {
+        first_record,
         record_offset,
         slot_offset,
     }))
@@ -72,10 +76,12 @@ fn position_record(position: Option<ImportPosition>) -> PeImportPosition
         Some(at) => PeImportPosition {
             record_offset: at.record_offset,
             slot_offset: at.slot_offset.unwrap_or(0),
+            first_record: at.first_record,
         },
         None => PeImportPosition {
             record_offset: usize::MAX,
             slot_offset: 0,
+            first_record: 0,
         },
     }
 }

@@ -21,8 +21,8 @@ use Rattle.goblin_pe_import.specs.Imports.{ImportValue}
 use Rattle.goblin_pe_import.specs.ImportWalks.{IsCauseAt, IsEntriesCause, IsInTable, IsLaterCause}
 use Rattle.goblin_pe_import.specs.ImportWalks.{IsLibraryBy, IsPlaced, IsWalkCause, entries_from}
 use Rattle.goblin_pe_import.specs.ImportWalks.{IsRecordCause, imports_at, imports_from_record}
-use Rattle.goblin_pe_import.specs.ImportWalks.{imports_of_entries, later_items, library_items}
-use Rattle.goblin_pe_import.specs.ImportWalks.{begin_at, position_by, walk_left}
+use Rattle.goblin_pe_import.specs.ImportWalks.{imports_of_entries, later_items, library_items, record_index}
+use Rattle.goblin_pe_import.specs.ImportWalks.{begin_at, position_by, walk_left, walk_origin}
 use Rattle.goblin_pe_import.proofs.ImportsWalk.{IsWholeCause, cause-again, cause-entered}
 use Rattle.goblin_pe_import.proofs.ImportsWalk.{from_record, imports-once, parts_left, walk-entered, whole}
 
@@ -40,7 +40,7 @@ module _ (format : Format EntryValue) (w : Walk) where
   abbrev left_by : Option ℕ → Option ImportPosition → List (Option ImportValue)
   left_by place next =
       until_refused
-      (imports_of_entries strict format places file w.dll.now w.rva w.table_offset place
+      (imports_of_entries strict format places file (walk_origin w) w.rva w.table_offset place
       ++ later_items strict format places file w.untested next)
 
   abbrev IsCauseBy : Option ℕ → Option ImportPosition → ErrorOf → Type 0
@@ -62,35 +62,41 @@ module _ (format : Format EntryValue) (w : Walk) where
 
     -- the walk by what its library's record says
     parts : left_by (Some place) (Some at)
-        ≡ whole strict format places file l.entry (Some place) at.record_offset
+        ≡ whole strict format places file at.first_record w.library l.entry (Some place) at.record_offset
     unfolding imports_at
     parts =
         let entered =
-        walk-entered strict format places file l.entry (Some place) at.record_offset w.dll.now l.named
-        refl in
-        let here : parts_left strict format places file l.entry (Some place) at.record_offset w.dll.now
-        l.entry.import_address_table_rva w.table_offset (Some place) w.untested
-        ≡ whole strict format places file l.entry (Some place) at.record_offset =
+        walk-entered strict format places file at.first_record w.library l.entry (Some place)
+        at.record_offset w.dll.now l.named refl in
+        let here : parts_left strict format places file at.first_record w.library l.entry (Some place)
+        at.record_offset (walk_origin w) l.entry.import_address_table_rva w.table_offset (Some place) w.untested
+        ≡ whole strict format places file at.first_record w.library l.entry (Some place) at.record_offset =
         rw (l.tested)
         (subst
         (λ (table : Option ℕ).
-        parts_left strict format places file l.entry (Some place) at.record_offset w.dll.now
-        l.entry.import_address_table_rva (unwrap_or table 0) (begin_at (Some place) table) (Some (address_table_rva l.entry))
-        ≡ whole strict format places file l.entry (Some place) at.record_offset)
+        parts_left strict format places file at.first_record w.library l.entry (Some place)
+        at.record_offset (walk_origin w) l.entry.import_address_table_rva (unwrap_or table 0) (begin_at (Some place) table) (Some (address_table_rva l.entry))
+        ≡ whole strict format places file at.first_record w.library l.entry (Some place) at.record_offset)
         l.table entered) in
         rw (← l.addresses, l.first) here
+
+    -- what comes of the library, and of those after it
+    abbrev items : ℕ → ℕ → List (Option ImportValue)
+    items index p =
+        until_refused
+        (library_items strict format places file index (Some place) l.entry
+        ++ imports_from_record strict format places file at.first_record p)
 
     placed-in : left_by (Some place) (Some at)
         ≡ imports_at strict format places file (position_by (Some place) (Some at))
     unfolding imports_at
     placed-in =
         parts
-        ∙ sym (ap (from_record strict format places file begin (Some place)) l.is
-        ∙ slot-going strict is_last_record (library_items strict format places file (Some place))
-        (imports_from_record strict format places file (begin + 20)) l.entry l.going
-        ∙ ap
-        (λ (p : ℕ). until_refused (library_items strict format places file (Some place) l.entry
-        ++ imports_from_record strict format places file p)) past)
+        ∙ sym (ap (from_record strict format places file at.first_record begin (Some place)) l.is
+        ∙ slot-going strict is_last_record
+        (library_items strict format places file (record_index at.first_record begin) (Some place))
+        (imports_from_record strict format places file at.first_record (begin + 20)) l.entry l.going
+        ∙ ap (λ (index : ℕ). items index (begin + 20)) l.indexed ∙ ap (items w.library) past)
 
   placed-by : (place : Option ℕ) (next : Option ImportPosition) → IsLibraryBy format w place next
       → (place ≡ None → w.untested ≡ None)
@@ -106,7 +112,7 @@ module _ (format : Format EntryValue) (w : Walk) where
           → until_refused (imports_at strict format places file next)
           ≡ imports_at strict format places file next
       once None = refl
-      once (Some at) = imports-once strict format places file at.record_offset at.slot_offset
+      once (Some at) = imports-once strict format places file at.first_record at.record_offset at.slot_offset
   placed-by (Some place) None l tested = absurd l
   placed-by (Some place) (Some at) l tested = placed-in place at l
 
@@ -122,7 +128,7 @@ module _ (format : Format EntryValue) (w : Walk) where
         (entries_from strict format places file (unwrap_or table 0) (begin_at (Some place) table)))
         (IsEntriesCause strict format places file (begin_at (Some place) table))
         (λ _. IsLaterCause strict format places file untested
-        (Some (record { record_offset = at.record_offset; slot_offset = slot }))) e
+        (Some (record at { slot_offset = slot }))) e
 
     abbrev address : Option ℕ
     address = Some (address_table_rva l.entry)
@@ -132,7 +138,7 @@ module _ (format : Format EntryValue) (w : Walk) where
         IsRecordCause strict format places file (Some place) (begin place at l) entry e
 
     abbrev IsWhole : ℕ → Type 0
-    IsWhole p = IsWholeCause strict format places file l.entry (Some place) p e
+    IsWhole p = IsWholeCause strict format places file at.first_record w.library l.entry (Some place) p e
 
     cause-in : IsCauseBy (Some place) (Some at) e
         → IsCauseOf (position_by (Some place) (Some at)) e
@@ -142,8 +148,8 @@ module _ (format : Format EntryValue) (w : Walk) where
         (subst (λ (untested : Option ℕ). IsCauseIn (Some w.table_offset) untested None) l.tested
         (subst (λ (slot : Option ℕ). IsCauseIn (Some w.table_offset) w.untested slot) l.first fault)) in
         let whole =
-        cause-entered strict format places file l.entry (Some place) at.record_offset w.dll.now l.named
-        refl e parts in (
+        cause-entered strict format places file at.first_record w.library l.entry (Some place)
+        at.record_offset w.dll.now l.named refl e parts in (
           whole.0,
           subst IsRecord (sym l.is) (l.going, subst IsWhole (sym (past place at l)) whole.1),
         )
@@ -153,8 +159,8 @@ module _ (format : Format EntryValue) (w : Walk) where
     cause-out fault =
         let here = subst IsRecord l.is fault.1 in
         let parts =
-        cause-again strict format places file l.entry (Some place) at.record_offset w.dll.now l.named
-        refl e (fault.0, subst IsWhole (past place at l) here.1) in
+        cause-again strict format places file at.first_record w.library l.entry (Some place)
+        at.record_offset w.dll.now l.named refl e (fault.0, subst IsWhole (past place at l) here.1) in
         subst (λ (slot : Option ℕ). IsCauseIn (Some w.table_offset) w.untested slot) (sym l.first)
         (subst (λ (untested : Option ℕ). IsCauseIn (Some w.table_offset) untested None) (sym l.tested)
         (subst (λ (table : Option ℕ). IsCauseIn table address None) l.table parts))

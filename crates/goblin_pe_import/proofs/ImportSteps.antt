@@ -14,7 +14,7 @@ use Rattle.goblin_pe_import.specs.ImportEntries.{EntryValue}
 use Rattle.goblin_pe_import.specs.Imports.{ImportValue}
 use Rattle.goblin_pe_import.specs.ImportWalks.{GivesLibrary, IsEntriesCause, IsInLibrary, IsLaterCause}
 use Rattle.goblin_pe_import.specs.ImportWalks.{IsPlaced, IsWalkCause, KeptValue, bound_at}
-use Rattle.goblin_pe_import.specs.ImportWalks.{entries_from, imports_at, kept_import, kept_value, later_items, walk_answer, walk_at}
+use Rattle.goblin_pe_import.specs.ImportWalks.{entries_from, imports_at, kept_import, kept_value, later_items, walk_answer, walk_at, walk_origin}
 use Rattle.goblin_pe_import.specs.ImportWalks.{place_after, walk_bound, walk_left}
 
 one_before : {A : Type 0} (x : A) (o : Option (List A)) (IsNow IsNext IsLater : ErrorOf → Type 0)
@@ -98,7 +98,7 @@ module _ (format : Format EntryValue) (start s : Walk) (h : AtImports format sta
         steps = subst (λ (q : Result KeptEntry ErrorOf). Steps (Some q)) is given
 
         abbrev item : ImportValue
-        item = kept_import format.width s.dll.now s.rva s.table_offset (kept_value kept)
+        item = kept_import format.width (walk_origin s) s.rva s.table_offset (kept_value kept)
 
         pub next-one : (walk_left format start ≡ Some item ∷ walk_left format (walk_at s place))
             × ((e : ErrorOf) → IsWalkCause format (walk_at s place) e → IsWalkCause format start e)

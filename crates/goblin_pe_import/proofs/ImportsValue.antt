@@ -1,7 +1,7 @@
 -- What a walk over all imports collects is what import data has.
 use Rattle.std.proofs.Common.{◌≡◌, ◌<◌, ◌≤◌, ◌+◌, ◌-◌, ◌*◌, ◌^◌, ℕ, Bool, true, false, cond, List}
 use Rattle.std.proofs.Common.{[], ◌∷◌, ◌++◌, map, length, Option, Some, None, refl, sym, ap, subst, ◌∙◌}
-use Rattle.std.proofs.Common.{append-nil, arith, zero, suc, IsSome, not, ◌&&◌, inl, inr}
+use Rattle.std.proofs.Common.{append-nil, arith, lit≤, zero, suc, IsSome, not, ◌&&◌, inl, inr}
 use Rattle.std.specs.Prelude.{is_none, option_map, slice_get, unwrap_or}
 use Rattle.std.specs.List.{flat_map}
 use Rattle.std.specs.Option.{is_some}
@@ -27,17 +27,21 @@ use Rattle.readings.proofs.WalkValues.{all_of-append, all_of-until, joined-end, 
 use Rattle.goblin_pe_import.specs.declared.import.directory_entry.ImportDirectoryEntry.{ImportDirectoryEntry}
 use Rattle.goblin_pe_sect.specs.Addresses.{offset_of}
 use Rattle.goblin_pe_import.specs.ImportEntries.{EntryValue, LookupEntry, entry_slots}
-use Rattle.goblin_pe_import.specs.ImportReadings.{kept_library, libraries_at}
+use Rattle.goblin_pe_import.specs.ImportPositions.{first_at}
+use Rattle.goblin_pe_import.specs.ImportReadings.{at_index, kept_library, libraries_at}
 use Rattle.goblin_pe_import.specs.ImportReadings.{library_of, lookup_if}
 use Rattle.goblin_pe_import.specs.ImportRecords.{ImportedLibrary, import_record, import_slots, lookup_offset}
-use Rattle.goblin_pe_import.specs.Imports.{ImportValue, import_at, import_of, imports_by, kept_imports}
+use Rattle.goblin_pe_import.specs.Imports.{ImportValue, Origin, import_at, import_of, imports_by, kept_imports}
+use Rattle.goblin_pe_import.specs.Imports.{origin}
 use Rattle.goblin_pe_import.specs.ImportWalks.{IsCauseAt, KeptValue, addresses_of}
 use Rattle.goblin_pe_import.specs.ImportWalks.{begin_at, entries_from, imports_at, imports_from_record}
 use Rattle.goblin_pe_import.specs.ImportWalks.{kept_at, kept_import, library_items}
-use Rattle.goblin_pe_import.specs.ImportWalks.{library_name}
+use Rattle.goblin_pe_import.specs.ImportWalks.{library_name, record_index}
 use Rattle.goblin_pe_import.specs.LookupReadings.{kept_entry}
 use Rattle.goblin_pe_import.proofs.ImportBound.{kept_entry-few}
 use Rattle.goblin_pe_import.proofs.ImportsWalk.{in_two_if, listed}
+use Rattle.goblin_pe_import.proofs.LibraryIndexes.{few, libraries-value, numbered_at}
+use Rattle.goblin_pe_import.proofs.LibraryIndexes as indexes
 use Rattle.goblin_pe_import.proofs.ListedImports.{address-low}
 use Rattle.goblin_pe_import.proofs.LookupWalk.{by_index, in_slot, in_two}
 use Rattle.goblin_pe_import.proofs.PermissiveReads.{entry-never, name_strict}
@@ -59,18 +63,18 @@ last_read xs x n long =
     ∙ ap (λ y. Some y) (get_or-append_seam xs x [] x)
 
 -- the imports of one more entry, which has a slot
-imports_by-more : (size : ℕ) (dll : List ℕ) (rva : ℕ) (entries : List LookupEntry) (slots : List ℕ)
+imports_by-more : (size : ℕ) (from : Origin) (rva : ℕ) (entries : List LookupEntry) (slots : List ℕ)
     (made : List ImportValue) (entry : LookupEntry) (slot offset : ℕ)
     → length entries ≡ length slots → offset ≡ rva + size * slot → offset < 2 ^ 64
-    → imports_by size dll rva entries slots ≡ Some made
-    → imports_by size dll rva (entries ++ entry ∷ []) (slots ++ slot ∷ [])
-    ≡ Some (made ++ import_of dll slot offset size entry ∷ [])
+    → imports_by size from rva entries slots ≡ Some made
+    → imports_by size from rva (entries ++ entry ∷ []) (slots ++ slot ∷ [])
+    ≡ Some (made ++ import_of from slot offset size entry ∷ [])
 unfolding imports_by
-imports_by-more size dll rva entries slots made entry slot offset counted at low so_far =
+imports_by-more size from rva entries slots made entry slot offset counted at low so_far =
     let n = length entries in
-    let before : ℕ → Option ImportValue = import_at size dll rva entries slots in
+    let before : ℕ → Option ImportValue = import_at size from rva entries slots in
     let now : ℕ → Option ImportValue =
-    import_at size dll rva (entries ++ entry ∷ []) (slots ++ slot ∷ []) in
+    import_at size from rva (entries ++ entry ∷ []) (slots ++ slot ∷ []) in
     let below : rva + size * slot < 2 ^ 64 = omega (arith, at, low) in
     let same : all_at before n ≡ all_at now n =
     same-all_at before now n (λ j within.
@@ -78,7 +82,7 @@ imports_by-more size dll rva entries slots made entry slot offset counted at low
     rw (one_read entries entry j within, one_read slots slot j in_slots) refl) in
     let in_slot = last_read slots slot n (sym counted) in
     let fits = lt-ltb (rva + size * slot) (2 ^ 64) below in
-    let x : ImportValue = import_of dll slot offset size entry in
+    let x : ImportValue = import_of from slot offset size entry in
     let here : now n ≡ Some x = rw (last_read entries entry n refl, in_slot, fits, at) refl in
     let long : length (entries ++ entry ∷ []) ≡ n + 1 =
     omega (arith, length-append entries (entry ∷ [])) in
@@ -87,15 +91,15 @@ imports_by-more size dll rva entries slots made entry slot offset counted at low
 -- ---- the imports of a lookup table
 
 module _ (strict : Bool) (format : Format EntryValue) (offset_of : ℕ → Option ℕ)
-    (bytes : List ℕ) (o : ℕ) (wide : 1 ≤ format.width) (dll : List ℕ) (rva : ℕ)
+    (bytes : List ℕ) (o : ℕ) (wide : 1 ≤ format.width) (from : Origin) (rva : ℕ)
     (short : length bytes < 2 ^ 63) (low : rva < 2 ^ 32) where
   -- the imports of these kept entries
   abbrev imports : List KeptValue → List ImportValue
-  imports kept = map (kept_import format.width dll rva o) kept
+  imports kept = map (kept_import format.width from rva o) kept
 
   abbrev AreImports : List KeptValue → Type 0
   AreImports kept =
-      imports_by format.width dll rva (in_two kept).0 (in_two kept).1 ≡ Some (imports kept)
+      imports_by format.width from rva (in_two kept).0 (in_two kept).1 ≡ Some (imports kept)
 
   abbrev made : ℕ → Option (List LookupEntry)
   made i =
@@ -119,12 +123,12 @@ module _ (strict : Bool) (format : Format EntryValue) (offset_of : ℕ → Optio
       length-map kept (λ (k : KeptValue). k.entry)
       ∙ sym (length-map kept (λ (k : KeptValue). k.slot)) in
       let longer =
-      imports_by-more format.width dll rva (map (λ k. k.entry) kept) (map (λ k. k.slot) kept)
+      imports_by-more format.width from rva (map (λ k. k.entry) kept) (map (λ k. k.slot) kept)
       (imports kept) x n (rva + format.width * n) counted refl below so_far in
       rw (
         map-append (λ (k : KeptValue). k.entry) kept (item n x ∷ []),
         map-append (λ (k : KeptValue). k.slot) kept (item n x ∷ []),
-        map-append (kept_import format.width dll rva o) kept (item n x ∷ []),
+        map-append (kept_import format.width from rva o) kept (item n x ∷ []),
         slot,
         distance,
       )
@@ -137,7 +141,7 @@ module _ (strict : Bool) (format : Format EntryValue) (offset_of : ℕ → Optio
       → AreImports kept
   unfolding imports_by
   entries-imports kept e =
-      walk-holds item made AreImports (all_at-zero (import_at format.width dll rva [] []))
+      walk-holds item made AreImports (all_at-zero (import_at format.width from rva [] []))
       (λ n items xs is so_far.
       let s = step (slot_at (entry_slots format) bytes o n)
       (λ v. (kept_entry strict offset_of v).value bytes) xs is in
@@ -267,7 +271,11 @@ module _ (strict : Bool) (format : Format EntryValue) (offset_of : ℕ → Optio
   abbrev imports_in : ImportedLibrary → List ImportValue
   imports_in = kept_imports (λ x. x) format.width
 
-  module _ (r : ImportDirectoryEntry) (low : r.import_address_table_rva < 2 ^ 32) where
+  module _ (index : ℕ) (r : ImportDirectoryEntry) (low : r.import_address_table_rva < 2 ^ 32) where
+    -- the imports of a library with this index
+    abbrev imports_here : ImportedLibrary → List ImportValue
+    imports_here library = imports_in (at_index index library)
+
     abbrev at : Option ℕ
     at = lookup_offset offset_of r
 
@@ -275,10 +283,12 @@ module _ (strict : Bool) (format : Format EntryValue) (offset_of : ℕ → Optio
     entries = entries_from strict format offset_of bytes (unwrap_or at 0) (begin_at None at)
 
     abbrev import_in : List ℕ → KeptValue → ImportValue
-    import_in dll = kept_import format.width dll r.import_address_table_rva (unwrap_or at 0)
+    import_in dll =
+        kept_import format.width (origin index dll) r.import_address_table_rva (unwrap_or at 0)
 
     abbrev library : List ℕ → Option (List LookupEntry) × List ℕ → List ℕ → ImportedLibrary
     library dll both addresses = record {
+      index = 0;
       import_directory_entry = r;
       name = dll;
       import_lookup_table = both.0;
@@ -298,41 +308,42 @@ module _ (strict : Bool) (format : Format EntryValue) (offset_of : ℕ → Optio
     library-imports : (dll : List ℕ) (place : Option ℕ) (ks : List KeptValue) (addresses : List ℕ)
         → all_of (entries_from strict format offset_of bytes (unwrap_or place 0) (begin_at None place))
         ≡ Some ks
-        → imports_in (library dll (in_two_if place ks) addresses)
-        ≡ map (kept_import format.width dll r.import_address_table_rva (unwrap_or place 0)) ks
+        → imports_here (library dll (in_two_if place ks) addresses)
+        ≡ map
+        (kept_import format.width (origin index dll) r.import_address_table_rva (unwrap_or place 0)) ks
     unfolding entries_from all_of imports_by
     library-imports dll None ks addresses e =
         let none = same_value [] ks e in
-        by_count true (imports_by format.width dll r.import_address_table_rva [] []) _ refl
-        (all_at-zero (import_at format.width dll r.import_address_table_rva [] [])
+        by_count true (imports_by format.width (origin index dll) r.import_address_table_rva [] []) _ refl
+        (all_at-zero (import_at format.width (origin index dll) r.import_address_table_rva [] [])
         ∙ ap
         (λ (ks : List KeptValue). Some
-        (map (kept_import format.width dll r.import_address_table_rva 0) ks))
+        (map (kept_import format.width (origin index dll) r.import_address_table_rva 0) ks))
         none)
     library-imports dll (Some o) ks addresses e =
         let counted =
         length-map ks (λ (k : KeptValue). k.entry)
         ∙ sym (length-map ks (λ (k : KeptValue). k.slot)) in
-        by_count _ (imports_by format.width dll r.import_address_table_rva (in_two ks).0 (in_two ks).1) _
+        by_count _ (imports_by format.width (origin index dll) r.import_address_table_rva (in_two ks).0 (in_two ks).1) _
         (eq-eqb (length (in_two ks).0) (length (in_two ks).1) counted)
-        (entries-imports strict format offset_of bytes o wide dll r.import_address_table_rva short
+        (entries-imports strict format offset_of bytes o wide (origin index dll) r.import_address_table_rva short
         low ks e)
 
     -- collecting what comes of a record gives the imports of its library
-    record-value : all_of (library_items strict format offset_of bytes None r)
-        ≡ option_map (flat_map imports_in) ((kept_library strict format offset_of r).value bytes)
+    record-value : all_of (library_items strict format offset_of bytes index None r)
+        ≡ option_map (flat_map imports_here) ((kept_library strict format offset_of r).value bytes)
     unfolding library_items library_of
     record-value = by_name ((library_name strict offset_of r).value bytes) refl
       where
         by_name : (name : Option (List ℕ))
             → (library_name strict offset_of r).value bytes ≡ name
-            → all_of (library_items strict format offset_of bytes None r)
-            ≡ option_map (flat_map imports_in)
+            → all_of (library_items strict format offset_of bytes index None r)
+            ≡ option_map (flat_map imports_here)
             ((kept_library strict format offset_of r).value bytes)
-        by_name None is = rw is (unnamed imports_in strict _ (name_strict strict _ is))
+        by_name None is = rw is (unnamed imports_here strict _ (name_strict strict _ is))
         by_name (Some dll) is =
             elim (cases_Bool (not strict && is_none (table.value bytes))) [
-              | inl out ↦ rw out (left-out _ imports_in strict (table.value bytes) _ out)
+              | inl out ↦ rw out (left-out _ imports_here strict (table.value bytes) _ out)
               | inr kept ↦
                   let same = listed strict format offset_of bytes wide at in
                   rw (kept, is, same, same_refusal strict table bytes kept)
@@ -342,7 +353,7 @@ module _ (strict : Bool) (format : Format EntryValue) (offset_of : ℕ → Optio
                   (λ (o : Option (List ImportValue)). join o
                   (all_of {A = ImportValue} (refusal_of (table.value bytes))))
                   (all_of-mapped (import_in dll) entries)
-                  ∙ library-value strict _ (in_two_if at) (map (import_in dll)) imports_in dll
+                  ∙ library-value strict _ (in_two_if at) (map (import_in dll)) imports_here dll
                   (all_of entries) (table.value bytes) kept
                   (λ permissive.
                   subst IsSome same (table-there strict format offset_of bytes permissive at))
@@ -351,35 +362,55 @@ module _ (strict : Bool) (format : Format EntryValue) (offset_of : ℕ → Optio
 
   -- ---- the directory
 
+  -- what is kept of libraries with an index
+  indexed-map : (i : ℕ) (kept : Option (List ImportedLibrary))
+      → option_map (flat_map (λ library. imports_in (at_index i library))) kept
+      ≡ option_map (flat_map imports_in) (option_map (map (at_index i)) kept)
+  indexed-map i None = refl
+  indexed-map i (Some ls) = ap (λ (xs : List ImportValue). Some xs) (each ls)
+    where
+      each : (ls : List ImportedLibrary)
+          → flat_map (λ library. imports_in (at_index i library)) ls
+          ≡ flat_map imports_in (map (at_index i) ls)
+      each [] = refl
+      each (l ∷ ls) = ap (λ (xs : List ImportValue). imports_in (at_index i l) ++ xs) (each ls)
+
   module _ (octets : IsBytes bytes) (o : ℕ) where
     abbrev record_at : ℕ → Option ImportDirectoryEntry
     record_at i = slot_at import_slots bytes o i
 
-    abbrev piece : ImportDirectoryEntry → Option (List ImportedLibrary)
-    piece r = (kept_library strict format offset_of r).value bytes
+    abbrev pieces : ℕ → Option (List ImportedLibrary)
+    pieces = numbered_at (indexes.kept_at strict format offset_of bytes o) (few strict format offset_of bytes o)
+
+    abbrev items : ℕ → ImportDirectoryEntry → List (Option ImportValue)
+    items p r = library_items strict format offset_of bytes (record_index o p) None r
 
     abbrev comes_of : ℕ → List (Option ImportValue)
-    comes_of i =
-        items_at (λ p r. library_items strict format offset_of bytes None r) (slot_place import_slots o i)
-        (record_at i)
+    comes_of i = items_at items (slot_place import_slots o i) (record_at i)
 
-    slot-value : (i : ℕ) (slot : Option ImportDirectoryEntry) → record_at i ≡ slot
-        → all_of
-        (items_at (λ p r. library_items strict format offset_of bytes None r)
-        (slot_place import_slots o i) slot)
-        ≡ option_map (flat_map imports_in) (slot >>= piece)
+    slot-value : (i : ℕ) → all_of (comes_of i) ≡ option_map (flat_map imports_in) (pieces i)
     unfolding all_of
-    slot-value i None is = refl
-    slot-value i (Some r) is =
-        let there = record_at-some 20 (import_record Little) bytes (slot_place import_slots o i) r is
-        in
-        let low : r.import_address_table_rva < 2 ^ 32 =
-        subst (λ (r : ImportDirectoryEntry). r.import_address_table_rva < 2 ^ 32) (sym there.is)
-        (address-low strict format offset_of bytes octets (slot_place import_slots o i)) in
-        record-value r low
+    slot-value i = by_slot (record_at i) refl
+      where
+        by_slot : (slot : Option ImportDirectoryEntry) → record_at i ≡ slot
+            → all_of (items_at items (slot_place import_slots o i) slot)
+            ≡ option_map (flat_map imports_in)
+            (option_map (map (at_index i))
+            (slot >>= λ r. (kept_library strict format offset_of r).value bytes))
+        by_slot None is = refl
+        by_slot (Some r) is =
+            let there =
+            record_at-some 20 (import_record Little) bytes (slot_place import_slots o i) r is in
+            let low : r.import_address_table_rva < 2 ^ 32 =
+            subst (λ (r : ImportDirectoryEntry). r.import_address_table_rva < 2 ^ 32) (sym there.is)
+            (address-low strict format offset_of bytes octets (slot_place import_slots o i)) in
+            ap
+            (λ (index : ℕ). all_of (library_items strict format offset_of bytes index None r))
+            (in_slot 20 o i (lit≤ tt))
+            ∙ record-value i r low ∙ indexed-map i ((kept_library strict format offset_of r).value bytes)
 
     below-value : (n : ℕ) → all_of (concat_below comes_of n)
-        ≡ option_map (flat_map imports_in) (each_below (λ i. record_at i >>= piece) n)
+        ≡ option_map (flat_map imports_in) (each_below pieces n)
     unfolding concat_below each_below all_of
     below-value zero = refl
     below-value (suc n) =
@@ -387,14 +418,14 @@ module _ (strict : Bool) (format : Format EntryValue) (offset_of : ℕ → Optio
         ∙ ap (λ (o : Option (List ImportValue)). join o (all_of (comes_of n))) (below-value n)
         ∙ ap
         (λ (o : Option (List ImportValue)).
-        join (option_map (flat_map imports_in) (each_below (λ i. record_at i >>= piece) n)) o)
-        (slot-value n (record_at n) refl)
-        ∙ join-mapped imports_in (each_below (λ i. record_at i >>= piece) n) (record_at n >>= piece)
+        join (option_map (flat_map imports_in) (each_below pieces n)) o)
+        (slot-value n)
+        ∙ join-mapped imports_in (each_below pieces n) (pieces n)
 
     -- collecting a walk over all imports gives those of the directory's libraries
-    pub imports-value : all_of (imports_from_record strict format offset_of bytes o)
+    pub imports-value : all_of (imports_from_record strict format offset_of bytes o o)
         ≡ (mapped (flat_map imports_in) (libraries_at strict format offset_of o)).value bytes
-    unfolding imports_from_record table_walk slot_table
+    unfolding imports_from_record table_walk
     imports-value =
         let n = stop import_slots bytes o in
         let end = record_at n in
@@ -404,8 +435,8 @@ module _ (strict : Bool) (format : Format EntryValue) (offset_of : ℕ → Optio
         ∙ ap
         (λ (o : Option (List ImportValue)). cond (strict && not (is_some end)) None o)
         (below-value n)
-        ∙ test-mapped (flat_map imports_in) (strict && not (is_some end))
-        (each_below (λ i. record_at i >>= piece) n)
+        ∙ test-mapped (flat_map imports_in) (strict && not (is_some end)) (each_below pieces n)
+        ∙ ap (option_map (flat_map imports_in)) (sym (libraries-value strict format offset_of bytes o))
 
 same_option : {A : Type 0} (o : Option A) → option_map (λ x. x) o ≡ o
 same_option None = refl
@@ -415,10 +446,10 @@ same_option (Some x) = refl
 pub imports-walked : (strict : Bool) (format : Format EntryValue) (offset_of : ℕ → Option ℕ)
     (bytes : List ℕ) (o : ℕ) → 1 ≤ format.width → length bytes < 2 ^ 63 → IsBytes bytes
     → (left : List (Option ImportValue)) (IsCause : ErrorOf → Type 0)
-    → left ≡ imports_at strict format offset_of bytes (Some (record { record_offset = o; slot_offset = None }))
+    → left ≡ imports_at strict format offset_of bytes (Some (first_at o))
     → ((e : ErrorOf) → IsCause e
     → (strict ≡ true)
-    × IsCauseAt strict format offset_of bytes (Some (record { record_offset = o; slot_offset = None })) e)
+    × IsCauseAt strict format offset_of bytes (Some (first_at o)) e)
     → IsWalkOf (λ xs. xs)
     (mapped (flat_map (kept_imports (λ x. x) format.width)) (libraries_at strict format offset_of o))
     bytes left IsCause

@@ -20,16 +20,16 @@ use Rattle.goblin_pe_import.specs.declared.import.directory_entry.ImportDirector
 use Rattle.goblin_pe_import.specs.declared.import.imports.ImportPosition.{ImportPosition}
 use Rattle.goblin_pe_import.specs.declared.import.imports.Walk.{Walk}
 use Rattle.goblin_pe_import.specs.ImportEntries.{EntryValue, LookupEntry}
-use Rattle.goblin_pe_import.specs.ImportReadings.{import_record_at, kept_library, library_of, lookup_if}
+use Rattle.goblin_pe_import.specs.ImportReadings.{import_record_at, kept_library, libraries_at, library_of, lookup_if}
 use Rattle.goblin_pe_import.specs.ImportRecords.{address_table_rva, import_slots, is_last_record}
 use Rattle.goblin_pe_import.specs.ImportRecords.{lookup_offset}
-use Rattle.goblin_pe_import.specs.Imports.{ImportValue}
+use Rattle.goblin_pe_import.specs.Imports.{ImportValue, Origin, origin}
 use Rattle.goblin_pe_import.specs.ImportWalks.{GivesLibrary, IsCauseAt, IsCauseBy, IsEntriesCause}
 use Rattle.goblin_pe_import.specs.ImportWalks.{IsLaterCause, IsNamedCause, IsRecordCause, IsRecordsCause}
 use Rattle.goblin_pe_import.specs.ImportWalks.{KeptValue, addresses_of, begin_at, bound_at, bound_by}
 use Rattle.goblin_pe_import.specs.ImportWalks.{entries_from, imports_at, is_left_out, one_if, records_bound, slots_bound}
 use Rattle.goblin_pe_import.specs.ImportWalks.{walk_bound}
-use Rattle.goblin_pe_import.specs.ImportWalks.{imports_by_slot, imports_from_record, imports_of_entries}
+use Rattle.goblin_pe_import.specs.ImportWalks.{imports_by_slot, imports_from_record, imports_of_entries, record_index}
 use Rattle.goblin_pe_import.specs.ImportWalks.{later_items, library_items, library_name, untested_table}
 use Rattle.goblin_pe_import.proofs.LookupWalk.{in_two, lookup_walked}
 use Rattle.goblin_pe_import.proofs.PermissiveReads.{name_strict}
@@ -90,36 +90,39 @@ module _ (strict : Bool) (format : Format EntryValue) (offset_of : ℕ → Optio
       (sym (lookup_walked strict format offset_of bytes o wide).value)
       ∙ two_maps in_two (λ both. (Some both.0, both.1)) _
 
-  module _ (p : ℕ) where
+  module _ (first p : ℕ) where
     abbrev slots : Option ImportDirectoryEntry
     slots = (import_record_at p).value bytes
 
     -- what comes from a slot of the library of the record at p on
     abbrev pub from_record : Option ℕ → Option ImportDirectoryEntry → List (Option ImportValue)
     from_record slot entry =
-        from_slot strict is_last_record (library_items strict format offset_of bytes slot)
-        (imports_from_record strict format offset_of bytes (p + 20)) entry
+        from_slot strict is_last_record
+        (library_items strict format offset_of bytes (record_index first p) slot)
+        (imports_from_record strict format offset_of bytes first (p + 20)) entry
 
     pub imports-slot : (slot : Option ℕ)
-        → imports_by_slot strict format offset_of bytes p slot ≡ from_record slot slots
+        → imports_by_slot strict format offset_of bytes first p slot ≡ from_record slot slots
     unfolding imports_from_record
     imports-slot None =
-        walk-slot import_slots (λ p r. library_items strict format offset_of bytes None r) bytes strict
+        walk-slot import_slots
+        (λ p r. library_items strict format offset_of bytes (record_index first p) None r) bytes strict
         (lit≤ tt) p slots refl
     imports-slot (Some place) = refl
 
     pub imports-once : (slot : Option ℕ)
-        → until_refused (imports_by_slot strict format offset_of bytes p slot)
-        ≡ imports_by_slot strict format offset_of bytes p slot
+        → until_refused (imports_by_slot strict format offset_of bytes first p slot)
+        ≡ imports_by_slot strict format offset_of bytes first p slot
     imports-once slot =
-        rw (imports-slot slot) (slot-once strict is_last_record (library_items strict format offset_of bytes slot)
-        (imports_from_record strict format offset_of bytes (p + 20)) slots)
+        rw (imports-slot slot) (slot-once strict is_last_record
+        (library_items strict format offset_of bytes (record_index first p) slot)
+        (imports_from_record strict format offset_of bytes first (p + 20)) slots)
 
     -- a cause that is true of the rest of a directory from its first entry on is true of it
     pub cause-record : 1 ≤ format.width → strict ≡ true → (slot : Option ℕ) (e : ErrorOf)
         → IsRecordCause strict format offset_of bytes slot p slots e
         → IsCauseBy strict format offset_of bytes p slot e
-    unfolding library_of lookup_if
+    unfolding libraries_at library_of lookup_if
     cause-record wide is (Some place) e fault = fault
     cause-record wide is None e fault =
         cause-slot import_slots (kept_library strict format offset_of) bytes strict import_record_at
@@ -185,103 +188,104 @@ module _ (strict : Bool) (format : Format EntryValue) (offset_of : ℕ → Optio
 -- ---- the library of a record
 
 module _ (strict : Bool) (format : Format EntryValue) (offset_of : ℕ → Option ℕ)
-    (bytes : List ℕ) (r : ImportDirectoryEntry) (slot : Option ℕ) (next : ℕ) where
-  abbrev name : Reading (List ℕ)
-  name = library_name strict offset_of r
+    (bytes : List ℕ) (first index : ℕ) (r : ImportDirectoryEntry) (slot : Option ℕ) (next : ℕ)
+  where
+    abbrev name : Reading (List ℕ)
+    name = library_name strict offset_of r
 
-  abbrev addresses : Reading (List ℕ)
-  addresses = addresses_of format offset_of r
+    abbrev addresses : Reading (List ℕ)
+    addresses = addresses_of format offset_of r
 
-  -- what comes of the library, and then of those whose records are in the directory from `next` on
-  abbrev pub whole : List (Option ImportValue)
-  whole =
-      until_refused
-      (library_items strict format offset_of bytes slot r
-      ++ imports_from_record strict format offset_of bytes next)
+    -- what comes of the library, and then of those whose records are in the directory from `next` on
+    abbrev pub whole : List (Option ImportValue)
+    whole =
+        until_refused
+        (library_items strict format offset_of bytes index slot r
+        ++ imports_from_record strict format offset_of bytes first next)
 
-  abbrev pub IsWholeCause : ErrorOf → Type 0
-  IsWholeCause e =
-      FirstFault (name.value bytes) (name.IsCause bytes)
-      (λ _. IsNamedCause strict format offset_of bytes slot r
-      (IsRecordsCause strict format offset_of bytes next)) e
+    abbrev pub IsWholeCause : ErrorOf → Type 0
+    IsWholeCause e =
+        FirstFault (name.value bytes) (name.IsCause bytes)
+        (λ _. IsNamedCause strict format offset_of bytes slot r
+        (IsRecordsCause strict format offset_of bytes next)) e
 
-  abbrev after : Option ImportPosition
-  after = Some (record { record_offset = next; slot_offset = None })
+    abbrev after : Option ImportPosition
+    after = Some (record { first_record = first; record_offset = next; slot_offset = None })
 
-  -- what is left of a walk of these parts
-  abbrev pub parts_left : List ℕ → ℕ → ℕ → Option ℕ → Option ℕ → List (Option ImportValue)
-  parts_left dll rva o at untested =
-      until_refused
-      (imports_of_entries strict format offset_of bytes dll rva o at
-      ++ later_items strict format offset_of bytes untested after)
+    -- what is left of a walk of these parts
+    abbrev pub parts_left : Origin → ℕ → ℕ → Option ℕ → Option ℕ → List (Option ImportValue)
+    parts_left from rva o at untested =
+        until_refused
+        (imports_of_entries strict format offset_of bytes from rva o at
+        ++ later_items strict format offset_of bytes untested after)
 
-  abbrev pub IsPartsCause : ℕ → Option ℕ → Option ℕ → ErrorOf → Type 0
-  IsPartsCause o at untested e =
-      (strict ≡ true)
-      × FirstFault (all_of (entries_from strict format offset_of bytes o at))
-      (IsEntriesCause strict format offset_of bytes at)
-      (λ _. IsLaterCause strict format offset_of bytes untested after) e
+    abbrev pub IsPartsCause : ℕ → Option ℕ → Option ℕ → ErrorOf → Type 0
+    IsPartsCause o at untested e =
+        (strict ≡ true)
+        × FirstFault (all_of (entries_from strict format offset_of bytes o at))
+        (IsEntriesCause strict format offset_of bytes at)
+        (λ _. IsLaterCause strict format offset_of bytes untested after) e
 
-  pub walk-left_out : is_left_out strict format offset_of bytes slot r ≡ true
-      → (dll : List ℕ) (rva o : ℕ)
-      → (parts_left dll rva o None None ≡ whole)
-      × ((e : ErrorOf) → IsPartsCause o None None e → (strict ≡ true) × IsWholeCause e)
-  unfolding entries_from library_items imports_at
-  walk-left_out out dll rva o = (
-    rw out refl,
-    λ e fault.
-        let is = permissive_by (is_none slot) strict _ out in
-        absurd (cc (is, fault.0)),
-  )
+    pub walk-left_out : is_left_out strict format offset_of bytes slot r ≡ true
+        → (from : Origin) (rva o : ℕ)
+        → (parts_left from rva o None None ≡ whole)
+        × ((e : ErrorOf) → IsPartsCause o None None e → (strict ≡ true) × IsWholeCause e)
+    unfolding entries_from library_items imports_at
+    walk-left_out out from rva o = (
+      rw out refl,
+      λ e fault.
+          let is = permissive_by (is_none slot) strict _ out in
+          absurd (cc (is, fault.0)),
+    )
 
-  pub walk-unnamed : (e : ErrorOf) → name.value bytes ≡ None → name.IsCause bytes e
-      → (library_items strict format offset_of bytes slot r ≡ None ∷ []) × (strict ≡ true)
-      × (name.value bytes ≡ None) × name.IsCause bytes e
-  unfolding library_items
-  walk-unnamed e none fault =
-      let is = name_strict strict _ none in
-      let never = never_strictly (is_none slot) (is_none (addresses.value bytes)) in (
-        rw (none, is) (ap (λ (left_out : Bool). cond left_out [] (None ∷ [])) never),
-        is,
-        none,
-        fault,
-      )
+    pub walk-unnamed : (e : ErrorOf) → name.value bytes ≡ None → name.IsCause bytes e
+        → (library_items strict format offset_of bytes index slot r ≡ None ∷ []) × (strict ≡ true)
+        × (name.value bytes ≡ None) × name.IsCause bytes e
+    unfolding library_items
+    walk-unnamed e none fault =
+        let is = name_strict strict _ none in
+        let never = never_strictly (is_none slot) (is_none (addresses.value bytes)) in (
+          rw (none, is) (ap (λ (left_out : Bool). cond left_out [] (None ∷ [])) never),
+          is,
+          none,
+          fault,
+        )
 
-  abbrev at : Option ℕ
-  at = lookup_offset offset_of r
+    abbrev at : Option ℕ
+    at = lookup_offset offset_of r
 
-  module _ (dll : List ℕ) (named : name.value bytes ≡ Some dll)
-      (kept : is_left_out strict format offset_of bytes slot r ≡ false) where
-    -- a library that is walked over
-    pub walk-entered : parts_left dll r.import_address_table_rva (unwrap_or at 0) (begin_at slot at)
-        (Some (address_table_rva r)) ≡ whole
-    unfolding library_items imports_at
-    walk-entered =
-        let imports =
-        imports_of_entries strict format offset_of bytes dll r.import_address_table_rva (unwrap_or at 0)
-        (begin_at slot at) in
-        let table = untested_table strict format offset_of (Some (address_table_rva r)) in
-        rw (kept, named)
-        (ap until_refused
-        (sym (append_assoc imports (refusal_of (table.value bytes))
-        (imports_from_record strict format offset_of bytes next))))
+    module _ (dll : List ℕ) (named : name.value bytes ≡ Some dll)
+        (kept : is_left_out strict format offset_of bytes slot r ≡ false) where
+      -- a library that is walked over
+      pub walk-entered : parts_left (origin index dll) r.import_address_table_rva (unwrap_or at 0) (begin_at slot at)
+          (Some (address_table_rva r)) ≡ whole
+      unfolding library_items imports_at
+      walk-entered =
+          let imports =
+          imports_of_entries strict format offset_of bytes (origin index dll) r.import_address_table_rva (unwrap_or at 0)
+          (begin_at slot at) in
+          let table = untested_table strict format offset_of (Some (address_table_rva r)) in
+          rw (kept, named)
+          (ap until_refused
+          (sym (append_assoc imports (refusal_of (table.value bytes))
+          (imports_from_record strict format offset_of bytes first next))))
 
-    -- a cause of the one is one of the other
-    pub cause-entered : (e : ErrorOf)
-        → IsPartsCause (unwrap_or at 0) (begin_at slot at) (Some (address_table_rva r)) e
-        → (strict ≡ true) × IsWholeCause e
-    cause-entered e fault = (fault.0, rw named fault.1)
+      -- a cause of the one is one of the other
+      pub cause-entered : (e : ErrorOf)
+          → IsPartsCause (unwrap_or at 0) (begin_at slot at) (Some (address_table_rva r)) e
+          → (strict ≡ true) × IsWholeCause e
+      cause-entered e fault = (fault.0, rw named fault.1)
 
-    pub entered : (parts_left dll r.import_address_table_rva (unwrap_or at 0) (begin_at slot at)
-        (Some (address_table_rva r)) ≡ whole)
-        × ((e : ErrorOf)
-        → IsPartsCause (unwrap_or at 0) (begin_at slot at) (Some (address_table_rva r)) e
-        → (strict ≡ true) × IsWholeCause e)
-    entered = (walk-entered, cause-entered)
+      pub entered : (parts_left (origin index dll) r.import_address_table_rva (unwrap_or at 0) (begin_at slot at)
+          (Some (address_table_rva r)) ≡ whole)
+          × ((e : ErrorOf)
+          → IsPartsCause (unwrap_or at 0) (begin_at slot at) (Some (address_table_rva r)) e
+          → (strict ≡ true) × IsWholeCause e)
+      entered = (walk-entered, cause-entered)
 
-    pub cause-again : (e : ErrorOf) → (strict ≡ true) × IsWholeCause e
-        → IsPartsCause (unwrap_or at 0) (begin_at slot at) (Some (address_table_rva r)) e
-    cause-again e fault = (fault.0, rw named at fault.1)
+      pub cause-again : (e : ErrorOf) → (strict ≡ true) × IsWholeCause e
+          → IsPartsCause (unwrap_or at 0) (begin_at slot at) (Some (address_table_rva r)) e
+      cause-again e fault = (fault.0, rw named at fault.1)
 
 -- ---- once the entries of a library have come
 
@@ -335,20 +339,23 @@ module _ (strict : Bool) (format : Format EntryValue) (offset_of : ℕ → Optio
       abbrev p : ℕ
       p = next.record_offset
 
+      abbrev index : ℕ
+      index = record_index next.first_record p
+
       abbrev of_library : ImportDirectoryEntry → List (Option ImportValue)
-      of_library = library_items strict format offset_of bytes next.slot_offset
+      of_library = library_items strict format offset_of bytes index next.slot_offset
 
       abbrev from_next : List (Option ImportValue)
-      from_next = imports_from_record strict format offset_of bytes (p + 20)
+      from_next = imports_from_record strict format offset_of bytes next.first_record (p + 20)
 
       by_record : (entry : Option ImportDirectoryEntry) → reads import_slots bytes p ≡ entry
           → later (Some next)
-          ≡ from_record strict format offset_of bytes p next.slot_offset entry
+          ≡ from_record strict format offset_of bytes next.first_record p next.slot_offset entry
       unfolding imports_at
       by_record entry r =
-          later-from (Some next) ∙ imports-once strict format offset_of bytes p next.slot_offset
-          ∙ imports-slot strict format offset_of bytes p next.slot_offset
-          ∙ ap (from_record strict format offset_of bytes p next.slot_offset) r
+          later-from (Some next) ∙ imports-once strict format offset_of bytes next.first_record p next.slot_offset
+          ∙ imports-slot strict format offset_of bytes next.first_record p next.slot_offset
+          ∙ ap (from_record strict format offset_of bytes next.first_record p next.slot_offset) r
 
       by_cause : (entry : Option ImportDirectoryEntry) → reads import_slots bytes p ≡ entry
           → strict ≡ true → (e : ErrorOf)
@@ -356,7 +363,7 @@ module _ (strict : Bool) (format : Format EntryValue) (offset_of : ℕ → Optio
           → IsCause (Some next) e
       by_cause entry r is e fault =
           later-cause (Some next) e
-          (cause-record strict format offset_of bytes p wide is next.slot_offset e
+          (cause-record strict format offset_of bytes next.first_record p wide is next.slot_offset e
           (subst
           (λ (entry : Option ImportDirectoryEntry).
           IsRecordCause strict format offset_of bytes next.slot_offset p entry e) (sym r) fault))
@@ -381,10 +388,10 @@ module _ (strict : Bool) (format : Format EntryValue) (offset_of : ℕ → Optio
           → is_last_record v ≡ false → {S : Type 0} (left : S → List (Option ImportValue))
           (IsLeft : S → ErrorOf → Type 0) (result : Result S ErrorOf)
           → MatchResult result
-          (λ t. (left t ≡ whole strict format offset_of bytes v next.slot_offset (p + 20))
+          (λ t. (left t ≡ whole strict format offset_of bytes next.first_record index v next.slot_offset (p + 20))
           × ((e : ErrorOf) → IsLeft t e
-          → (strict ≡ true) × IsWholeCause strict format offset_of bytes v next.slot_offset (p + 20) e))
-          (λ e. (library_items strict format offset_of bytes next.slot_offset v ≡ None ∷ [])
+          → (strict ≡ true) × IsWholeCause strict format offset_of bytes next.first_record index v next.slot_offset (p + 20) e))
+          (λ e. (library_items strict format offset_of bytes index next.slot_offset v ≡ None ∷ [])
           × (strict ≡ true)
           × ((library_name strict offset_of v).value bytes ≡ None)
           × (library_name strict offset_of v).IsCause bytes e)
@@ -401,7 +408,7 @@ module _ (strict : Bool) (format : Format EntryValue) (offset_of : ℕ → Optio
         by_record (Some v) r ∙ slot-going strict is_last_record of_library from_next v going
             ∙ ap
             (λ (xs : List (Option ImportValue)). until_refused
-            (xs ++ imports_from_record strict format offset_of bytes (p + 20)))
+            (xs ++ imports_from_record strict format offset_of bytes next.first_record (p + 20)))
             h.0,
         (h.1, by_cause (Some v) r h.1 e (going, rw (h.2) (h.3))),
       )
@@ -427,7 +434,7 @@ fewer n p x y inside few one =
 -- a walk that goes on in the library of the record at a position
 pub bound-given : (bytes : List ℕ) (at : ImportPosition) → at.record_offset + 20 ≤ length bytes
     → (r : Result Walk ErrorOf) → IfOk r (λ t. t.bytes.now ≡ bytes)
-    → IfOk r (λ t. t.next ≡ Some (record { record_offset = at.record_offset + 20; slot_offset = None }))
+    → IfOk r (λ t. t.next ≡ Some (record at { record_offset = at.record_offset + 20; slot_offset = None }))
     → IfOk r (λ t. IfSome t.place (λ place. IfSome at.slot_offset (λ slot. place ≡ slot)))
     → IfOk r (λ t. walk_bound t ≤ bound_at bytes (Some at))
 bound-given bytes at inside (Err e) same next place = tt

@@ -11,6 +11,7 @@ pub mod LeftOutLibraries
 pub mod LibraryNames
 mod Listed
 pub mod ListedImports
+pub mod LibraryIndexes
 pub mod LookupSlots
 pub mod LookupWalk
 pub mod Modes

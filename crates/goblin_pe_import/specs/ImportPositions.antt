@@ -15,11 +15,15 @@ use Rattle.goblin_pe_import.specs.declared.import.imports.Imports.{Imports}
 
 -- ---- where imports begin
 
+-- the position of the first record of a directory, which is at this offset
+abbrev pub first_at : ℕ → ImportPosition
+first_at p = record { first_record = p; record_offset = p; slot_offset = None }
+
 -- the position of the first import of a directory at an offset: at its first record, where it has
 -- one
 abbrev pub first_position : Bool → ℕ → Option ImportPosition
 first_position strict o =
-    option_map (λ p. record { record_offset = p; slot_offset = None }) (first_record_offset strict (Some o))
+    option_map (λ p. first_at p) (first_record_offset strict (Some o))
 
 -- The position of the first import of a directory at an address. Permissive mode treats an address
 -- without an offset as one that leads to the front of the file.

@@ -1,12 +1,12 @@
 -- The import directory: its records, and the library that each leads to, over a map of addresses to
 -- file offsets.
-use Rattle.std.specs.Prelude.{ℕ, ◌==◌, Bool, ◌&&◌, not, cond, List, [], Option, Some, None}
+use Rattle.std.specs.Prelude.{ℕ, ◌==◌, Bool, ◌&&◌, not, cond, List, [], ◌∷◌, Option, Some, None}
 use Rattle.goblin_base.specs.declared.endian.Endian.TheVariants.{Little}
 use Rattle.goblin_base.specs.declared.error.CauseOf.TheVariants.{ImportRecordEnd}
 use Rattle.goblin_base.specs.Reading.{Reading}
 use Rattle.goblin_base.specs.Tables.{Format}
 use Rattle.readings.specs.Reads.{◌>>=◌, ◌beside◌, because, given, mapped, or_else, or_left_out}
-use Rattle.readings.specs.Reads.{record_at, table}
+use Rattle.readings.specs.Reads.{record_at, table_with_slots}
 use Rattle.goblin_pe_sect.specs.AddressReadings.{at_address, name_at, offset_at}
 use Rattle.goblin_pe_import.specs.ImportEntries.{EntryValue, LookupEntry}
 use Rattle.goblin_pe_import.specs.ImportRecords.{ImportedLibrary, address_table_rva}
@@ -26,11 +26,12 @@ lookup_if strict format offset_of (Some o) =
     mapped (λ both. (Some both.0, both.1)) (lookup_with_slots strict format offset_of o)
 
 -- What a record leads to: its name, its lookup table and its address table. Permissive mode takes
--- the empty name if there is none.
+-- the empty name if there is none. Read by itself it counts as the first record.
 unfoldable pub library_of : Bool → Format EntryValue → (ℕ → Option ℕ) → ImportDirectoryEntry
     → Reading ImportedLibrary
 library_of strict format offset_of r =
     mapped (λ parts. record {
+      index = 0;
       import_directory_entry = r;
       name = parts.0.0;
       import_lookup_table = parts.0.1.0;
@@ -46,13 +47,29 @@ abbrev pub kept_library : Bool → Format EntryValue → (ℕ → Option ℕ) �
     → Reading (List ImportedLibrary)
 kept_library strict format offset_of r = or_left_out strict (library_of strict format offset_of r)
 
+-- libraries with the indexes of their records
+abbrev pub at_index : ℕ → ImportedLibrary → ImportedLibrary
+at_index index library = record library { index = index }
+
+unfoldable pub numbered : List ImportedLibrary → List ℕ → List ImportedLibrary
+numbered [] indexes = []
+numbered (library ∷ libraries) [] = []
+numbered (library ∷ libraries) (index ∷ indexes) =
+    at_index index library ∷ numbered libraries indexes
+
+-- what the records of the directory at an offset lead to, and the indexes of those that are kept
+abbrev pub indexed_at : Bool → Format EntryValue → (ℕ → Option ℕ) → ℕ
+    → Reading (List ImportedLibrary × List ℕ)
+indexed_at strict format offset_of o =
+    table_with_slots import_slots strict import_record_at (kept_library strict format offset_of) o
+
 -- The libraries of the directory at an offset: those of the records before the first that is not in
 -- the file or ends the directory. Strict mode needs that record, and a library for each. Permissive
 -- mode leaves out records that lead to none.
-abbrev pub libraries_at : Bool → Format EntryValue → (ℕ → Option ℕ) → ℕ
+unfoldable pub libraries_at : Bool → Format EntryValue → (ℕ → Option ℕ) → ℕ
     → Reading (List ImportedLibrary)
 libraries_at strict format offset_of o =
-    table import_slots strict import_record_at (kept_library strict format offset_of) o
+    mapped (λ both. numbered both.0 both.1) (indexed_at strict format offset_of o)
 
 -- The offset of the first record of a directory that has this offset, where it has one. Permissive
 -- mode treats a directory at the front of the file as empty.

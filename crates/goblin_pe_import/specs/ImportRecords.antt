@@ -39,8 +39,9 @@ import_slots =
       is_last = is_last_record;
     }
 
--- what a record leads to
+-- what a record leads to, and the record's index in the directory
 pub record ImportedLibrary : Type 0 where
+  pub index : ℕ
   pub import_directory_entry : ImportDirectoryEntry
   pub name : List ℕ
   pub import_lookup_table : Option (List LookupEntry)

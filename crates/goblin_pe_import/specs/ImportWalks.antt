@@ -18,7 +18,7 @@ use Rattle.goblin_pe_import.specs.ImportLookup.{entry_view}
 use Rattle.goblin_pe_import.specs.ImportReadings.{import_record_at, libraries_at}
 use Rattle.goblin_pe_import.specs.ImportRecords.{address_table_rva, import_slots, is_last_record}
 use Rattle.goblin_pe_import.specs.ImportRecords.{lookup_offset}
-use Rattle.goblin_pe_import.specs.Imports.{ImportValue, import_of}
+use Rattle.goblin_pe_import.specs.Imports.{ImportValue, Origin, import_of, origin}
 use Rattle.goblin_pe_import.specs.LookupReadings.{address_table, kept_entry, lookup_table}
 use Rattle.goblin_pe_import.specs.declared.import.directory_entry.ImportDirectoryEntry.{ImportDirectoryEntry}
 use Rattle.goblin_pe_import.specs.declared.import.kept.KeptEntry.{KeptEntry}
@@ -78,19 +78,20 @@ place_after width (Some (Err e)) = None
 
 -- an import that a walk yields
 abbrev pub walked_value : WalkedImport → ImportValue
-walked_value x = import_of x.dll.now x.slot x.slot_rva x.size (entry_view x.entry)
+walked_value x =
+    import_of (origin x.library x.dll.now) x.slot x.slot_rva x.size (entry_view x.entry)
 
--- the import of an entry that the lookup table at o keeps, of the library `dll`, whose address
--- table is at `rva` and has entries of `width` bytes
-abbrev pub kept_import : ℕ → List ℕ → ℕ → ℕ → KeptValue → ImportValue
-kept_import width dll rva o kept =
-    import_of dll kept.slot (rva + (kept.place - o)) width kept.entry
+-- the import of an entry that the lookup table at o keeps, of a library whose address table is at
+-- `rva` and has entries of `width` bytes
+abbrev pub kept_import : ℕ → Origin → ℕ → ℕ → KeptValue → ImportValue
+kept_import width from rva o kept =
+    import_of from kept.slot (rva + (kept.place - o)) width kept.entry
 
 -- the imports of the entries from a place on
-abbrev pub imports_of_entries : Bool → Format EntryValue → (ℕ → Option ℕ) → List ℕ → List ℕ → ℕ → ℕ
+abbrev pub imports_of_entries : Bool → Format EntryValue → (ℕ → Option ℕ) → List ℕ → Origin → ℕ → ℕ
     → Option ℕ → List (Option ImportValue)
-imports_of_entries strict format offset_of bytes dll rva o place =
-    map (option_map (kept_import format.width dll rva o))
+imports_of_entries strict format offset_of bytes from rva o place =
+    map (option_map (kept_import format.width from rva o))
     (entries_from strict format offset_of bytes o place)
 
 -- where the entries of a table at this offset begin to come: at its first slot, or at a given one
@@ -115,12 +116,12 @@ untested_table strict format offset_of (Some rva) =
     pick strict (at_address offset_of rva (address_table format)) (given [])
 
 -- the imports of a library of this name from a slot on, and a refusal where it has no address table
-abbrev pub named_items : Bool → Format EntryValue → (ℕ → Option ℕ) → List ℕ → Option ℕ
+abbrev pub named_items : Bool → Format EntryValue → (ℕ → Option ℕ) → List ℕ → ℕ → Option ℕ
     → ImportDirectoryEntry → Option (List ℕ) → List (Option ImportValue)
-named_items strict format offset_of bytes slot r None = None ∷ []
-named_items strict format offset_of bytes slot r (Some dll) =
+named_items strict format offset_of bytes index slot r None = None ∷ []
+named_items strict format offset_of bytes index slot r (Some dll) =
     let table = lookup_offset offset_of r in
-    imports_of_entries strict format offset_of bytes dll r.import_address_table_rva
+    imports_of_entries strict format offset_of bytes (origin index dll) r.import_address_table_rva
     (unwrap_or table 0)
     (begin_at slot table)
     ++ refusal_of ((untested_table strict format offset_of (Some (address_table_rva r))).value bytes)
@@ -131,38 +132,45 @@ abbrev pub is_left_out : Bool → Format EntryValue → (ℕ → Option ℕ) →
 is_left_out strict format offset_of bytes slot r =
     is_none slot && not strict && is_none ((addresses_of format offset_of r).value bytes)
 
--- What comes of the library of a record from a slot on: its name is needed, then its imports come,
--- then strict mode needs its address table.
-unfoldable pub library_items : Bool → Format EntryValue → (ℕ → Option ℕ) → List ℕ → Option ℕ
+-- What comes of the library of the record with an index, from a slot on: its name is needed, then
+-- its imports come, then strict mode needs its address table.
+unfoldable pub library_items : Bool → Format EntryValue → (ℕ → Option ℕ) → List ℕ → ℕ → Option ℕ
     → ImportDirectoryEntry → List (Option ImportValue)
-library_items strict format offset_of bytes slot r =
+library_items strict format offset_of bytes index slot r =
     if is_left_out strict format offset_of bytes slot r then []
-    else named_items strict format offset_of bytes slot r
+    else named_items strict format offset_of bytes index slot r
     ((library_name strict offset_of r).value bytes)
 
 -- ---- all imports
 
--- the imports of the libraries whose records are in the directory from a place on
-unfoldable pub imports_from_record : Bool → Format EntryValue → (ℕ → Option ℕ) → List ℕ → ℕ
+-- the index of the record at p in a directory whose first record is at `first`
+abbrev pub record_index : ℕ → ℕ → ℕ
+record_index first p = (p - first) / 20
+
+-- the imports of the libraries whose records are in this directory from a place on
+unfoldable pub imports_from_record : Bool → Format EntryValue → (ℕ → Option ℕ) → List ℕ → ℕ → ℕ
     → List (Option ImportValue)
-imports_from_record strict format offset_of bytes p =
-    table_walk import_slots strict (λ p r. library_items strict format offset_of bytes None r) bytes p
+imports_from_record strict format offset_of bytes first p =
+    table_walk import_slots strict
+    (λ p r. library_items strict format offset_of bytes (record_index first p) None r) bytes p
 
 -- The imports from a position on: all from a record on, or those of its library from a slot on and
 -- then all from the next record on.
-abbrev pub imports_by_slot : Bool → Format EntryValue → (ℕ → Option ℕ) → List ℕ → ℕ → Option ℕ
+abbrev pub imports_by_slot : Bool → Format EntryValue → (ℕ → Option ℕ) → List ℕ → ℕ → ℕ → Option ℕ
     → List (Option ImportValue)
-imports_by_slot strict format offset_of bytes p None =
-    imports_from_record strict format offset_of bytes p
-imports_by_slot strict format offset_of bytes p (Some place) =
-    from_slot strict is_last_record (library_items strict format offset_of bytes (Some place))
-    (imports_from_record strict format offset_of bytes (p + 20)) ((import_record_at p).value bytes)
+imports_by_slot strict format offset_of bytes first p None =
+    imports_from_record strict format offset_of bytes first p
+imports_by_slot strict format offset_of bytes first p (Some place) =
+    from_slot strict is_last_record
+    (library_items strict format offset_of bytes (record_index first p) (Some place))
+    (imports_from_record strict format offset_of bytes first (p + 20))
+    ((import_record_at p).value bytes)
 
 unfoldable pub imports_at : Bool → Format EntryValue → (ℕ → Option ℕ) → List ℕ
     → Option ImportPosition → List (Option ImportValue)
 imports_at strict format offset_of bytes None = []
 imports_at strict format offset_of bytes (Some at) =
-    imports_by_slot strict format offset_of bytes at.record_offset at.slot_offset
+    imports_by_slot strict format offset_of bytes at.first_record at.record_offset at.slot_offset
 
 -- which cause is true if one of the libraries whose records are in the directory from a place on is
 -- refused
@@ -246,13 +254,17 @@ IsLaterCause strict format offset_of bytes untested next e =
     FirstFault (table.value bytes) (table.IsCause bytes)
     (λ _. IsCauseAt strict format offset_of bytes next) e
 
+-- what the imports of the library that it is in are from
+abbrev pub walk_origin : Walk → Origin
+walk_origin w = origin w.library w.dll.now
+
 -- what is still to come
 abbrev pub walk_left : Format EntryValue → Walk → List (Option ImportValue)
 walk_left format w =
     let m = map_of w.finder in
     let strict = reads_strictly m in
     until_refused
-    (imports_of_entries strict format (offset_of m) w.bytes.now w.dll.now w.rva
+    (imports_of_entries strict format (offset_of m) w.bytes.now (walk_origin w) w.rva
     w.table_offset w.place
     ++ later_items strict format (offset_of m) w.bytes.now w.untested w.next)
 
@@ -285,18 +297,20 @@ abbrev pub position_by : Option ℕ → Option ImportPosition → Option ImportP
 position_by None next = next
 position_by (Some place) None = None
 position_by (Some place) (Some at) =
-    Some (record { record_offset = at.record_offset - 20; slot_offset = Some place })
+    Some (record at { record_offset = at.record_offset - 20; slot_offset = Some place })
 
 -- the library whose record stands before a position has this name and these tables
 pub record IsLibrary (strict : Bool) (format : Format EntryValue) (offset_of : ℕ → Option ℕ)
-    (bytes dll : List ℕ) (rva offset : ℕ) (untested : Option ℕ) (next : ImportPosition) : Type 0
+    (bytes : List ℕ) (from : Origin) (rva offset : ℕ) (untested : Option ℕ)
+    (next : ImportPosition) : Type 0
   where
     pub entry : ImportDirectoryEntry
     pub past : 20 ≤ next.record_offset
     pub first : next.slot_offset ≡ None
     pub is : (import_record_at (next.record_offset - 20)).value bytes ≡ Some entry
     pub going : is_last_record entry ≡ false
-    pub named : (library_name strict offset_of entry).value bytes ≡ Some dll
+    pub named : (library_name strict offset_of entry).value bytes ≡ Some from.dll
+    pub indexed : record_index next.first_record (next.record_offset - 20) ≡ from.index
     pub addresses : entry.import_address_table_rva ≡ rva
     pub table : lookup_offset offset_of entry ≡ Some offset
     pub tested : untested ≡ Some (address_table_rva entry)
@@ -306,7 +320,7 @@ IsLibraryBy format w None next = Unit {0}
 IsLibraryBy format w (Some place) None = ⊥
 IsLibraryBy format w (Some place) (Some at) =
     let m = map_of w.finder in
-    IsLibrary (reads_strictly m) format (offset_of m) w.bytes.now w.dll.now w.rva w.table_offset
+    IsLibrary (reads_strictly m) format (offset_of m) w.bytes.now (walk_origin w) w.rva w.table_offset
     w.untested at
 
 -- where a walk is among the entries of a library, it holds what its record says

@@ -16,11 +16,20 @@ use Rattle.goblin_pe_import.specs.ImportDirectory.{ImportedLibrary}
 
 -- Source: PE Format, "The .idata Section".
 
+-- what an import is from: the index of the library's record in the directory, and its name
+pub record Origin : Type 0 where
+  pub index : ℕ
+  pub dll : List ℕ
+
+abbrev pub origin : ℕ → List ℕ → Origin
+origin index dll = record { index = index; dll = dll }
+
 -- an import, its texts as their bytes; and whether its name is a text in the file, not a copy
 pub record ImportValue : Type 0 where
   pub name : List ℕ
   pub is_borrowed : Bool
   pub dll : List ℕ
+  pub library : ℕ
   pub ordinal : ℕ
   pub offset : ℕ
   pub rva : ℕ
@@ -50,11 +59,12 @@ entry_name_rva (ByOrdinal ordinal) = 0
 entry_name_rva (ByName rva named) = rva
 
 -- the import of an entry, from this library, with its slot's index and offset, and with this size
-abbrev pub import_of : List ℕ → ℕ → ℕ → ℕ → LookupEntry → ImportValue
-import_of dll slot offset size entry = record {
+abbrev pub import_of : Origin → ℕ → ℕ → ℕ → LookupEntry → ImportValue
+import_of from slot offset size entry = record {
   name = entry_name entry;
   is_borrowed = entry_has_name entry;
-  dll = dll;
+  dll = from.dll;
+  library = from.index;
   ordinal = entry_ordinal entry;
   offset = offset;
   rva = entry_name_rva entry;
@@ -69,18 +79,18 @@ import_offset rva size slot =
     if nat_lt (rva + size * slot) (2 ^ 64) then Some (rva + size * slot) else None
 
 -- the import of the entry at a position, by its slot
-abbrev pub import_at : ℕ → List ℕ → ℕ → List LookupEntry → List ℕ → ℕ → Option ImportValue
-import_at size dll rva entries slots position = do
+abbrev pub import_at : ℕ → Origin → ℕ → List LookupEntry → List ℕ → ℕ → Option ImportValue
+import_at size from rva entries slots position = do
   entry ← slice_get entries position
   slot ← slice_get slots position
   offset ← import_offset rva size slot
-  Some (import_of dll slot offset size entry)
+  Some (import_of from slot offset size entry)
 
 -- the imports of the entries that a lookup table keeps, if none has an offset that overflows 64
 -- bits
-unfoldable pub imports_by : ℕ → List ℕ → ℕ → List LookupEntry → List ℕ → Option (List ImportValue)
-imports_by size dll rva entries slots =
-    all_at (import_at size dll rva entries slots) (length entries)
+unfoldable pub imports_by : ℕ → Origin → ℕ → List LookupEntry → List ℕ → Option (List ImportValue)
+imports_by size from rva entries slots =
+    all_at (import_at size from rva entries slots) (length entries)
 
 -- the entries that a library's lookup table keeps
 abbrev pub kept_entries : ImportedLibrary → List LookupEntry
@@ -98,7 +108,7 @@ has_slots library = length (kept_entries library) == length library.import_looku
 abbrev pub library_imports : ℕ → ImportedLibrary → Option (List ImportValue)
 library_imports size library =
     if has_slots library
-    then imports_by size library.name library.import_directory_entry.import_address_table_rva
+    then imports_by size (origin library.index library.name) library.import_directory_entry.import_address_table_rva
     (kept_entries library) library.import_lookup_slots
     else None
 

@@ -4,7 +4,8 @@
 //! library. Each leads to a lookup table and an address table, whose entries with one index are one
 //! import: the lookup table says which, and the loader puts its address into the other.
 
-ghost use Rattle.std.specs.Prelude.{◌≡◌, ◌++◌, ◌⊎◌, IfErr, IsSomeAnd, false, option_to_list, true};
+ghost use Rattle.std.specs.Prelude.{◌≡◌, ◌++◌, ◌⊎◌, IfErr, IsSomeAnd, false, map, option_to_list};
+ghost use Rattle.std.specs.Prelude.{true};
 ghost use Rattle.goblin_base.specs.Answers.{IsMemory};
 ghost use Rattle.goblin_base.specs.Reading.{ReadsOrMemory};
 ghost use Rattle.readings.specs.Reads.{mapped};
@@ -66,24 +67,35 @@ impl<'a> Model for ImportData<'a> {
     ghost view = { λ imports. imports.import_data.items };
 }
 
-// Reads the library of a record, and appends it if it is kept.
+// A library with the index of its record.
+fn at_index(index: usize, library: SyntheticImportDirectoryEntry) -> SyntheticImportDirectoryEntry
+    ensures { result ≡ reading.at_index index library.entry }
+{
+    let mut library = library;
+    library.index = index;
+    library
+}
+
+// Reads the library of the record with an index, and appends it if it is kept.
 fn add_library<'a, 'e, T: Bitfield<'a>>(
     libraries: &mut Vec<SyntheticImportDirectoryEntry<'a>>,
     bytes: &'a [u8],
+    index: usize,
     entry: ImportDirectoryEntry,
     address_map: &AddressMap,
 ) -> ResultOf<'e, ()>
     ensures value { let m = map_of address_map.now in
         ReadsOrMemory (λ _. libraries.new.items) result
-        (mapped (λ more. libraries.old.items ++ more)
+        (mapped (λ more. libraries.old.items ++ map (reading.at_index index) more)
         (reading.kept_library (reads_strictly m) T.format (offset_of m) entry)) bytes.now }
     ensures grown { let m = map_of address_map.now in
         IfErr result (λ e. IsMemory e
         → TakesLibrary (reads_strictly m) T.format (offset_of m) bytes.now entry) }
+    ensures permissive { reads_strictly (map_of address_map.now) ≡ false → IfErr result IsMemory }
 {
     let alloc = *libraries.allocator();
     match SyntheticImportDirectoryEntry::parse_by::<T>(alloc, bytes, entry, address_map) {
-        Ok(library) => libraries.push(library)?,
+        Ok(library) => libraries.push(at_index(index, library))?,
         Err(error) if is_passed_over(&error, !address_map.reads_strictly()) => (),
         Err(error) => return Err(error),
     }
@@ -103,12 +115,14 @@ fn libraries<'a, 'e, T: Bitfield<'a>>(
     ensures grown { let m = map_of address_map.now in
         IfErr result (λ e. IsMemory e
         → TakesLibraries (reads_strictly m) T.format (offset_of m) bytes.now offset) }
+    ensures permissive { reads_strictly (map_of address_map.now) ≡ false → IfErr result IsMemory }
 {
     let size = SIZEOF_IMPORT_DIRECTORY_ENTRY;
     let mut libraries = Vec::new(alloc);
     let mut place = offset;
     'records: while let Some(record) = next_record(bytes, place) {
-        add_library::<T>(&mut libraries, bytes, record, address_map)?;
+        let index = place.saturating_sub(offset) / size;
+        add_library::<T>(&mut libraries, bytes, index, record, address_map)?;
         place += size;
     }
     if may_end(bytes, place, size, address_map.reads_strictly()) {

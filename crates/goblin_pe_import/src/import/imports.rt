@@ -14,11 +14,11 @@ ghost use Rattle.goblin_base.specs.Reading.{Reads};
 ghost use Rattle.readings.specs.Reads.{mapped};
 ghost use Rattle.readings.specs.Walks.{GivesNext, IsWalkOf, Walks, until_refused};
 ghost use Rattle.goblin_pe_sect.specs.Addresses.{map_of, offset_of, reads_strictly};
-ghost use Rattle.goblin_pe_import.specs.ImportPositions.{BeginsAt, GoesOnAt, first_import};
+ghost use Rattle.goblin_pe_import.specs.ImportPositions.{BeginsAt, GoesOnAt, first_at, first_import};
 ghost use Rattle.goblin_pe_import.specs.ImportReadings.{import_data, import_record_at};
 ghost use Rattle.goblin_pe_import.specs.ImportReadings.{libraries_at};
 ghost use Rattle.goblin_pe_import.specs.ImportRecords.{is_last_record};
-ghost use Rattle.goblin_pe_import.specs.Imports.{kept_imports};
+ghost use Rattle.goblin_pe_import.specs.Imports.{kept_imports, origin};
 ghost use Rattle.goblin_pe_import.specs.ImportWalks.{GivesImport, GivesLibrary, GivesPlain};
 ghost use Rattle.goblin_pe_import.specs.ImportWalks.{HasPosition};
 ghost use Rattle.goblin_pe_import.specs.ImportWalks.{IsCauseAt, plain_at, walk_answer, walk_at};
@@ -32,7 +32,7 @@ ghost use Rattle.goblin_pe_import.specs.ImportWalks.{imports_from_record, import
 ghost use Rattle.goblin_pe_import.specs.ImportWalks.{kept_import};
 ghost use Rattle.goblin_pe_import.specs.ImportWalks.{kept_value, later_items, library_items};
 ghost use Rattle.goblin_pe_import.specs.ImportWalks.{library_name, one_if, records_bound};
-ghost use Rattle.goblin_pe_import.specs.ImportWalks.{records_left};
+ghost use Rattle.goblin_pe_import.specs.ImportWalks.{record_index, records_left};
 ghost use Rattle.goblin_pe_import.specs.ImportWalks.{untested_table, walk_bound, walk_left};
 ghost use Rattle.goblin_pe_import.specs.ImportWalks.{walked_value};
 
@@ -57,6 +57,8 @@ pub struct WalkedImport<'a> {
     pub entry: SyntheticImportLookupTableEntry<'a>,
     /// The name of the library; empty if permissive mode could not read it.
     pub dll: &'a str,
+    /// The index of the library's record in the import directory. Records that are left out count.
+    pub library: usize,
     /// The index of its entry, in the file, in the lookup table and in the address table. Entries
     /// that are left out count.
     pub slot: usize,
@@ -74,6 +76,8 @@ pub struct WalkedImport<'a> {
 /// the position is not from a walk.
 #[derive(Debug, Copy, Clone, PartialEq, Eq)]
 pub struct ImportPosition {
+    /// The file offset of the directory's first record, from which records are counted.
+    pub first_record: usize,
     /// The file offset of a library's record in the import directory.
     pub record_offset: usize,
     /// The file offset of the slot in its lookup table that is read next; `None` before the first.
@@ -85,8 +89,9 @@ pub struct ImportPosition {
 struct Walk<'a, 'm> {
     bytes: &'a [u8],
     finder: Finder<'m>,
-    // The library's name, and the address of its address table.
+    // The library's name, the index of its record, and the address of its address table.
     dll: &'a str,
+    library: usize,
     rva: u32,
     // The file offset of its lookup table, and that of the slot that comes next; `None` between two
     // libraries.
@@ -151,28 +156,38 @@ fn begin_at(slot_offset: Option<usize>, table: Option<usize>) -> Option<usize>
     Some(slot_offset.unwrap_or(offset))
 }
 
-// The import of an entry of the library `dll`, whose lookup table is at a file offset and whose
-// address table is at the address `rva`.
+// The import of an entry of the library `dll`, whose record has an index, whose lookup table is at a
+// file offset, and whose address table is at the address `rva`.
 #[inline(always)]
 fn import_of<'a, T: Bitfield<'a>>(
     kept: KeptEntry<'a>,
     dll: &'a str,
+    library: usize,
     rva: u32,
     table_offset: usize,
 ) -> WalkedImport<'a>
     requires { kept.place < 2 ^ 63 }
     ensures { walked_value result
-        ≡ kept_import T.format.width dll.now rva table_offset (kept_value kept.entry) }
+        ≡ kept_import T.format.width (origin library dll.now) rva table_offset
+        (kept_value kept.entry) }
 {
     let KeptEntry { slot, place, entry } = kept;
     let size = T::size_of();
     WalkedImport {
         entry,
         dll,
+        library,
         slot,
         slot_rva: rva as usize + place.saturating_sub(table_offset),
         size,
     }
+}
+
+// The index of a record of a directory whose first record is at a file offset.
+fn record_index(first: usize, offset: usize) -> usize
+    ensures { result ≡ record_index first offset }
+{
+    offset.saturating_sub(first) / SIZEOF_IMPORT_DIRECTORY_ENTRY
 }
 
 // No more entries come from the slot at a place on than this.
@@ -226,6 +241,7 @@ impl<'a, 'm> Walk<'a, 'm> {
             bytes,
             finder,
             dll: "",
+            library: 0,
             rva: 0,
             table_offset: 0,
             place: None,
@@ -247,58 +263,61 @@ impl<'a, 'm> Walk<'a, 'm> {
         self.next = None;
     }
 
-    // Leads the walk to the library of a record, from the slot at a file offset on, and then to
-    // those whose records are in the directory from the offset `next` on.
+    // Leads the walk to the library of the record at a position, from its slot on, and then to those
+    // whose records are in the directory from the offset `next` on.
     #[inline(always)]
     fn enter<'e, T: Bitfield<'a>>(
         &mut self,
         entry: &ImportDirectoryEntry,
-        slot_offset: Option<usize>,
+        at: ImportPosition,
         next: usize,
     ) -> ResultOf<'e, ()>
         ensures gives { let m = map_of self.old.finder in
             let strict = reads_strictly m in
             let bytes = self.old.bytes.now in
             let name = library_name strict (offset_of m) entry.now in
+            let slot = at.slot_offset in
+            let index = record_index at.first_record at.record_offset in
+            let items = library_items strict T.format (offset_of m) bytes index slot entry.now in
             MatchResult (walk_answer self.new result)
             (λ t.
             (walk_left T.format t
             ≡ until_refused
-            (library_items strict T.format (offset_of m) bytes slot_offset entry.now
-            ++ imports_from_record strict T.format (offset_of m) bytes next))
+            (items ++ imports_from_record strict T.format (offset_of m) bytes at.first_record next))
             × ((e : ErrorOf) → IsWalkCause T.format t e
             → (strict ≡ true)
             × FirstFault (name.value bytes) (name.IsCause bytes)
-            (λ _. IsNamedCause strict T.format (offset_of m) bytes slot_offset entry.now
+            (λ _. IsNamedCause strict T.format (offset_of m) bytes slot entry.now
             (IsRecordsCause strict T.format (offset_of m) bytes next)) e))
-            (λ e.
-            (library_items strict T.format (offset_of m) bytes slot_offset entry.now ≡ None ∷ [])
+            (λ e. (items ≡ None ∷ [])
             × (strict ≡ true) × (name.value bytes ≡ None) × name.IsCause bytes e) }
-        ensures placed { IfOk (walk_answer self.new result) (λ t.
-            20 ≤ next → (import_record_at (next - 20)).value self.old.bytes.now ≡ Some entry.now
+        ensures placed { IfOk (walk_answer self.new result) (λ t. at.record_offset + 20 ≡ next
+            → (import_record_at at.record_offset).value self.old.bytes.now ≡ Some entry.now
             → is_last_record entry.now ≡ false → IsInLibrary T.format t) }
         ensures bytes { self.new.bytes.now ≡ self.old.bytes.now }
         ensures finder { self.new.finder ≡ self.old.finder }
         ensures next { IfOk (walk_answer self.new result) (λ t.
-            t.next ≡ Some (record { record_offset = next; slot_offset = None })) }
+            t.next ≡ Some (record at { record_offset = next; slot_offset = None })) }
         ensures place { IfOk (walk_answer self.new result)
-            (λ t. IfSome t.place (λ place. IfSome slot_offset (λ slot.
+            (λ t. IfSome t.place (λ place. IfSome at.slot_offset (λ slot.
             place ≡ slot))) }
     {
         self.next = Some(ImportPosition {
+            first_record: at.first_record,
             record_offset: next,
             slot_offset: None,
         });
-        if is_left_out::<T>(self.bytes, entry, slot_offset, self.finder.address_map()) {
+        if is_left_out::<T>(self.bytes, entry, at.slot_offset, self.finder.address_map()) {
             self.place = None;
             self.untested = None;
             return Ok(());
         }
         self.dll = library_name(self.bytes, entry.name_rva, &mut self.finder)?;
+        self.library = record_index(at.first_record, at.record_offset);
         let table = lookup_offset(entry, &mut self.finder);
         self.rva = entry.import_address_table_rva;
         self.table_offset = table.unwrap_or(0);
-        self.place = begin_at(slot_offset, table);
+        self.place = begin_at(at.slot_offset, table);
         self.untested = Some(address_table_rva(entry));
         Ok(())
     }
@@ -339,7 +358,7 @@ impl<'a, 'm> Walk<'a, 'm> {
             }
             return Some(Err(Error::Malformed(Cause::ImportRecordEnd(offset))));
         };
-        Some(self.enter::<T>(&record, at.slot_offset, offset + size))
+        Some(self.enter::<T>(&record, at, offset + size))
     }
 
     // Where the walk is.
@@ -351,6 +370,7 @@ impl<'a, 'm> Walk<'a, 'm> {
         };
         let next = self.next?;
         Some(ImportPosition {
+            first_record: next.first_record,
             record_offset: next
                 .record_offset
                 .saturating_sub(SIZEOF_IMPORT_DIRECTORY_ENTRY),
@@ -381,7 +401,7 @@ impl<'a, 'm> Walk<'a, 'm> {
         let Some(kept) = plain_kept::<T>(self.bytes, self.table_offset, place, &self.finder) else {
             return None;
         };
-        Some(import_of::<T>(kept, self.dll, self.rva, self.table_offset))
+        Some(import_of::<T>(kept, self.dll, self.library, self.rva, self.table_offset))
     }
 
     // A copy of the walk.
@@ -392,6 +412,7 @@ impl<'a, 'm> Walk<'a, 'm> {
             bytes: self.bytes,
             finder: self.finder.again(),
             dll: self.dll,
+            library: self.library,
             rva: self.rva,
             table_offset: self.table_offset,
             place: self.place,
@@ -417,7 +438,8 @@ impl<'a, 'm> Walk<'a, 'm> {
             match next_kept::<T>(self.bytes, self.table_offset, self.place, &mut self.finder) {
                 Some(Ok(kept)) => {
                     self.place = Some(kept.place + T::size_of());
-                    let import = import_of::<T>(kept, self.dll, self.rva, self.table_offset);
+                    let (dll, library) = (self.dll, self.library);
+                    let import = import_of::<T>(kept, dll, library, self.rva, self.table_offset);
                     return Some(Ok(import));
                 }
                 Some(Err(error)) => {
@@ -499,11 +521,12 @@ impl<'a, 'm, 'e, T: Bitfield<'a>> Imports<'a, 'm, 'e, T> {
             (mapped (flat_map (kept_imports (λ x. x) T.format.width)) libraries) bytes.now
             (imports_left T.format result) (IsImportsCause T.format result) }
         ensures begins { GoesOnAt (map_of finder.entry) T.format bytes.now
-            (Some (record { record_offset = offset; slot_offset = None })) result }
+            (Some (first_at offset)) result }
         ensures over { AreImportsOver bytes.now (map_of finder.entry) result }
         ensures position { HasPosition T.format result }
     {
         let begin = ImportPosition {
+            first_record: offset,
             record_offset: offset,
             slot_offset: None,
         };
