@@ -1,6 +1,6 @@
-//! The calls that walk over a table, from any position on: as many records as there is room for; and
-//! the one that reads what the export directory says. They take no memory, but for an index where a
-//! file has more than 96 sections.
+//! The calls that walk over a table, from any position on: as many records as there is room for;
+//! and the one that reads what the export directory says. They take no memory, but for an index
+//! where a file has more than 96 sections.
 
 ghost use Rattle.std.specs.Prelude.{◌≡◌};
 ghost use Rattle.goblin_pe_calls.specs.Batches.{AddressBatch, BlockBatch, ExportBatch};
@@ -110,7 +110,7 @@ pub extern "C" fn goblin_pe_raw_next_exports<'a>(
     status_of(give_exports(alloc, bytes, &opts, places, position, records, count))
 }
 
-/// Puts into `directory` what the export directory of a file says, which lists no export: the record
+/// Puts into `directory` what the export directory of a file says, and lists no export: the record
 /// that [`goblin_pe_raw_open`](crate::whole_file::goblin_pe_raw_open) has beside its lists. Of a
 /// file without an export directory, and in permissive mode of one whose directory is refused, it
 /// is zeros. The sections and the directory lie where `places` says, as for
