@@ -217,6 +217,12 @@ def pointers_to_nowhere(count):
     return headers + data + bytes(-len(data) % 0x200)
 
 
+def pointers_to_one_name(count):
+    """The same, but that each pointer leads to an address, and those past the first 16 to one name."""
+    image = pointers_to_nowhere(count)
+    return with_parts(image, (0x240, struct.pack("<I", 0x1028) * (count - 16)), (0x200 + 4 * count, bytes(2 * count)))
+
+
 def image_headers(length, sections, image_size, directories):
     """The headers of an image for 64 bits, with room for the records of its sections up to this length."""
     headers = bytearray(length)

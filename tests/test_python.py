@@ -34,22 +34,38 @@ struct goblin_pe_fault goblin_pe_raw_read_te(
     return (struct goblin_pe_fault) { 0 };
 }
 """
-# Walks over each file, with 100 MB more than Python and the file have.
+# Walks over each file, with 100 MB more than Python and the file have, and tells how many rows come, up to a number.
 WALKS = """import itertools, resource, sys
-from goblin_pe import Layout, Options
+from goblin_pe import Kind, Layout, ObjectFile, Options, Te, kind
 
-for path in sys.argv[1:]:
+def walks(data, maps):
+    if kind(data) == Kind.IMAGE:
+        it = Layout(data, Options(is_permissive=True, resolve_rva=maps))
+        return it.walk_imports, it.walk_libraries, it.walk_exports, it.walk_export_addresses, it.walk_blocks, it.walk_symbols
+    return (ObjectFile(data).walk_symbols,) if kind(data) == Kind.OBJECT else (lambda: Te(data).sections,)
+
+for path, most in zip(sys.argv[1::2], map(int, sys.argv[2::2])):
     with open(path, "rb") as file:
         data = file.read()
     with open("/proc/self/statm") as numbers:
         size = int(numbers.read().split()[0]) * resource.getpagesize()
     resource.setrlimit(resource.RLIMIT_AS, (size + (100 << 20), resource.RLIM_INFINITY))
-    maps = path.rpartition("/")[2] != "names"
-    layout = Layout(data, Options(is_permissive=True, resolve_rva=maps))
-    walks = itertools.islice(layout.walk_imports(), 200000), layout.walk_exports()
-    print(path, *(sum(1 for _ in it) for it in walks))
-    del layout
+    found = [sum(1 for _ in itertools.islice(walk(), most)) for walk in walks(data, path.rpartition("/")[2] != "names")]
+    print(path.rpartition("/")[2], *found, sep=",")
     resource.setrlimit(resource.RLIMIT_AS, (resource.RLIM_INFINITY,) * 2)
+"""
+# The command, which is refused memory as it writes the first line of JSON.
+WITHOUT_MEMORY = """import json, runpy, sys
+dumps, refused = json.dumps, [MemoryError]
+
+def dumps_but_once(value):
+    if refused:
+        raise refused.pop()
+    return dumps(value)
+
+json.dumps = dumps_but_once
+sys.argv = ["goblin_pe", "--json", *sys.argv[1:]]
+runpy.run_module("goblin_pe", run_name="__main__")
 """
 # A program whose types are right.
 TYPED = b"""from typing import List, Mapping, Optional
@@ -127,6 +143,24 @@ def setUpModule():
     library()
 
 
+def forwarders_in_one_text(count, length):
+    """An image with so many entries of the export address table, the forwarders of which begin at each byte of one long text."""
+    record = struct.pack("<IIHHIIIIIII", 0, 0, 0, 0, 0, 1, count, 0, 0x1028, 0, 0)
+    text = 0x1000 + len(record) + 4 * count
+    data = record + struct.pack("<%dI" % count, *range(text, text + count)) + b"a" * length + b".b\0"
+    headers = images.image_headers(0x200, 1, 0x7FFFF000, ((0, 0x1000, len(data)),))
+    images.put_section(headers, 0x148, b".edata", data, 0x1000, 0x200)
+    return headers + data + bytes(-len(data) % 0x200)
+
+
+def many_blocks(count, size):
+    """An image with so many blocks of base relocations of two words, and one of many more."""
+    data = struct.pack("<IIHH", 0x1000, 12, 0xA000, 0xA008) * count + struct.pack("<II", 0x1000, size + 8) + b"\x23\xA1" * (size // 2)
+    headers = images.image_headers(0x200, 1, 0x7FFFF000, ((5, 0x1000, len(data)),))
+    images.put_section(headers, 0x148, b".reloc", data, 0x1000, 0x200)
+    return headers + data + bytes(-len(data) % 0x200)
+
+
 def triaged_by_pefile(pefile, data):
     """What pefile tells of an image, by the names of the example."""
     pe = pefile.PE(data=bytes(data))
@@ -197,12 +231,14 @@ class Triage(Case):
         self.written("refused.dll", b"MZ" + bytes(100))
         self.written("object.obj", OBJECTS[0].read_bytes())
         self.written("hostile.dll", images.own_tables(1609))
+        self.written("names.dll", images.pointers_to_one_name(150000))
         found = self.triaged()
         self.assertEqual((list(found["damaged.dll"]["damage"]), found["damaged.dll"]["exports"]), (["exports"], 0))
         self.assertIn("empty", found["empty.dll"]["refused"])
         self.assertEqual(found["refused.dll"], {"refused": "the DOS header leads to 0x5a4d in place of the PE signature"})
         self.assertEqual(found["object.obj"], {"kind": "object"})
         self.assertEqual((sum(found["hostile.dll"]["libraries"].values()), found["hostile.dll"]["imphash"]), (100000, None))
+        self.assertEqual(found["names.dll"]["exports"], 100000)
 
 
 class Package(Case):
@@ -262,11 +298,33 @@ class Package(Case):
                          (None, "UNMAPPED", "REFUSED", 1))
         words = ["--json", "--permissive", "--no-imports", "--raw-pointers", "rounded"]
         found = json.loads(succeed([*LISTS, *words, image], env=self.env))
-        self.assertEqual((found["import_table"], found["imports"], found["damage"]["left_out_entries"]), ("ABSENT", [], 0))
+        self.assertEqual((found["import_table"], found["imports"], found["damage"]["left_out_entries"], found["imphash"]),
+                         ("ABSENT", [], 0, None))
         by_name = json.loads(succeed([*LISTS, "--json", *words[2:], BY_NAME], env=self.env))
         told = json.loads(succeed([sys.executable, "-c", "import sys; from goblin_pe import *; print(to_json(Pe.open(sys.argv[1], "
                                    "Options(parse_imports=False))))", BY_NAME], env=self.env))
         self.assertEqual({**by_name, "file": None}, {**told, "file": None})
+
+    def test_json_without_imports_looks_at_none(self):
+        """Neither where they are damaged, nor where there are a billion."""
+        for name, data in (("damaged.dll", images.with_directory(BY_NAME.read_bytes(), 1, 0x9000, 40)),
+                           ("hostile.dll", images.shared_image(libraries=20000, functions=50000))):
+            found = json.loads(succeed([*LISTS, "--json", "--no-imports", self.written(name, data)], env=self.env, timeout=20))
+            self.assertEqual((found["import_table"], found["imphash"]), ("ABSENT", None))
+
+    def test_what_is_refused_memory_has_a_line(self):
+        """A file with more bytes than there is memory for; and a file whose line is longer than that."""
+        with open(self.folder / "large.dll", "wb") as file:
+            file.truncate(1 << 32)
+        words = [sys.executable, "-m", "goblin_pe"]
+        status, out, said = run(with_memory(1000000, [*words, self.folder / "large.dll"]), env=self.env)
+        self.assertEqual((status, out, said), (1, b"", b"read failed: out of memory\n"))
+        for command, file in ((with_memory(1000000, [*words, "--json"]), self.folder / "large.dll"),
+                              ([sys.executable, "-c", WITHOUT_MEMORY], BY_NAME)):
+            status, out, said = run([*command, file, BY_NAME], env=self.env)
+            first, second = map(json.loads, out.splitlines())
+            self.assertEqual((status, said, first), (1, b"", {"file": str(file), "error": "out of memory"}))
+            self.assertEqual((second["file"], len(second["imports"])), (str(BY_NAME), 1))
 
     def test_a_terminal_is_told_how_far_it_is(self):
         terminal, end = pty.openpty()
@@ -317,6 +375,10 @@ class Package(Case):
         status, out, said = run(lines, env=self.env)
         self.assertEqual((status, out.splitlines()[2], out.count(b"\nimport offset")), (0, b"imports 100000000", 997))
         self.assertEqual(said, b"write failed: [Errno 32] Broken pipe\n")
+        lines[-1] = self.written("names.dll", images.pointers_to_one_name(4000000))
+        status, out, said = run(lines, env=self.env)
+        self.assertEqual((status, out.splitlines()[3], out.count(b"\nexport rva")), (0, b"exports 4000000", 996))
+        self.assertEqual(said, b"write failed: [Errno 32] Broken pipe\n")
 
     def test_an_image_that_is_refused_late_has_no_lines(self):
         """In strict mode, where the name of the third of four libraries stands at an address that no section maps."""
@@ -340,11 +402,23 @@ class Package(Case):
         text = struct.pack("<IIHHIIIIIII", 0, 0, 0, 0, 0x400, 1, 1, names, 0x400, 0x408, 0x408 + 4 * names) + bytes(8)
         text += struct.pack("<%dI" % names, *range(0x408 + 6 * names, 0x408 + 7 * names)) + bytes(2 * names) + b"n" * (2 * names)
         long_names = images.image_headers(0x3D8, 0, 0x1000, ((0, 0x3D8, 40),)) + text
-        files = {"shared": (images.shared_image(libraries=20000, functions=50000), 200000, 0),
-                 "own": (images.own_tables(1609), 200000, 0), "nowhere": (images.pointers_to_nowhere(1000000), 0, 1),
-                 "names": (long_names, 0, names), "sections": (images.one_long_name(60000, 1 << 16), 0, 0)}
-        told = succeed([*PYTHON, "-c", WALKS, *(self.written(name, data) for name, (data, *_) in files.items())], env=self.env)
-        self.assertEqual(told.splitlines(), ["%s %d %d" % (self.folder / name, *counts) for name, (_, *counts) in files.items()])
+        package()
+        limits = importlib.import_module("tests.limits")
+        rows = [  # (the most rows of a walk; imports, libraries, exports, their addresses, blocks and symbols)
+            ("shared", images.shared_image(libraries=3000, functions=50000), 300000, "300000,3000,0,0,0,0"),
+            ("own", images.own_tables(1609), 100000, "100000,1609,0,0,0,0"),
+            ("nowhere", images.pointers_to_nowhere(1000000), 1000000, "0,0,1,1,0,0"),
+            ("names", long_names, 10000, "0,0,10000,1,0,0"),
+            ("sections", images.one_long_name(60000, 1 << 16), 1, "0,0,0,0,0,0"),
+            ("forwarders", forwarders_in_one_text(20000, 1 << 16), 10000, "0,0,0,10000,0,0"),
+            ("blocks", many_blocks(100000, 1 << 20), 200000, "0,0,0,0,100001,0")]
+        told = {"an object of one long name": "0", "a Terse Executable of one long name": "255", "many symbols": "70000",
+                "damage of imports in one text": "1000,1,0,0,0,0", "exports in one text": "0,0,1000,1,0,0",
+                "a batch of many sections": "65535,1,0,0,0,0"}
+        for name, (_, make) in limits.ROWS.items():
+            rows.append((name, make(), 1000 if "one text" in name else 70000, told.get(name, "0,0,0,0,0,0")))
+        words = [it for name, data, most, _ in rows for it in (self.written(name, data), str(most))]
+        self.assertEqual(succeed([sys.executable, "-c", WALKS, *words], env=self.env).splitlines(), ["%s,%s" % (row[0], row[3]) for row in rows])
 
     def test_a_closed_output(self):
         for words in [], ["--json"]:

@@ -54,8 +54,7 @@ class Crate(Case):
         hostile = [self.written(f"{name}.dll", image) for name, image in (
             ("own", images.own_tables(1609)), ("shared", images.shared_image(libraries=20000, functions=50000)),
             ("nowhere", images.pointers_to_nowhere(1000000)), ("sections", images.one_long_name(60000, 1 << 16)),
-            ("exports", images.with_parts(images.pointers_to_nowhere(150000),  # (which lead to one name now, and one address)
-                                          (0x240, b"\x28\x10\0\0" * 149984), (0x200 + 600000, bytes(300000)))))]
+            ("exports", images.pointers_to_one_name(150000)))]
         files = [*IMAGES, *IMAGES, *hostile, damaged, CALLERS / "build", lost]
         lines = succeed(with_memory(200000, [example("scan"), *files])).splitlines()
         for sample, line in zip(IMAGES * 2, lines):

@@ -223,7 +223,7 @@ class Buffers(unittest.TestCase):
     def test_what_was_read_is_shown_by_its_numbers(self):
         shown = (Pe(sample("imports_by_name_x64.dll")), ObjectFile(sample("object_x64.obj")), Te(sample("firmware_x64.te")))
         for read, wanted in zip(shown, ("<Pe machine=0x8664 sections=4 imports=1 exports=2 blocks=1>",
-                                        r"<ObjectFile machine=0x8664 sections=\d+ symbols=\d+>", r"<Te machine=0x8664 sections=\d+>")):
+                                        r"<ObjectFile machine=0x8664 sections=\d+>", r"<Te machine=0x8664 sections=\d+>")):
             self.assertRegex(repr(read), wanted)
 
 
@@ -327,6 +327,23 @@ class Memory(unittest.TestCase):
         self.assertLess(self.most(lambda: (found.symbol_at(1), repr(found), [None for _ in found.walk_symbols()])), 3)
         self.assertEqual([len(s.name) for s in found.walk_symbols()], [length - i for i in range(count)])
         self.assertEqual((len(found.symbol_at(7).name), found.symbol_at(7).value), (length - 7, 7))
+
+    def test_damage_and_symbols_are_read_once(self):
+        data = sample("imports_by_name_x64.dll")
+        for read in Layout, Pe:
+            with self.subTest(read), read(data) as image:
+                call = goblin_pe._LIB.goblin_pe_raw_read_damage
+                with unittest.mock.patch.object(goblin_pe._LIB, "goblin_pe_raw_read_damage", wraps=call) as counted:
+                    self.assertEqual((image.damage.imports, image.damage.exports, counted.call_count), (None, None, 1))
+                self.assertIs(image.symbols, image.symbols)
+                again = pickle.loads(pickle.dumps(image))
+            self.assertEqual((image.damage, image.symbols), (again.damage, again.symbols))
+
+    def test_many_short_texts_take_little_memory(self):
+        data = bytes(100000)
+        address = ctypes.cast(data, ctypes.c_void_p).value
+        rows = Rows(data, address, 1 << 20)
+        self.assertLess(self.most(lambda: [None for i in range(len(data)) if rows.text(Text(address + i, 1))]), 3)
 
     def test_a_text_of_one_place_is_one_object(self):
         data = with_names(count=2, length=10)
@@ -486,11 +503,17 @@ class Files(unittest.TestCase):
         self.assertEqual([(x.name, x.index) for x in pe.walk_libraries()], [(b"a.dll", 0), (b"c.dll", 2)])
 
     def test_a_call_gives_more_where_it_makes_an_index(self):
-        for sections, calls in (96, 3), (97, 2):
-            layout = Layout(with_libraries(with_section_names(sections, 200), [b"a.dll"], [300]), Options(resolve_rva=False))
-            call = goblin_pe._LIB.goblin_pe_raw_next_imports
-            with unittest.mock.patch.object(goblin_pe._LIB, "goblin_pe_raw_next_imports", wraps=call) as counted:
-                self.assertEqual((sum(1 for _ in layout.walk_imports()), counted.call_count), (300, calls))
+        for sections, imports, calls in (96, 300, 3), (97, 300, 2), (97, 30000, 4), (97, 90000, 5):
+            layout = Layout(with_libraries(with_section_names(sections, 200), [b"a.dll"], [imports]), Options(resolve_rva=False))
+            self.assertEqual(self.walked(layout), (imports, calls))
+        with unittest.mock.patch.object(goblin_pe.rows, "room", side_effect=MemoryError):
+            self.assertEqual(self.walked(layout), (90000, 23))  # (as many as at first)
+
+    def walked(self, layout):
+        """How many imports a walk gives, and in how many calls."""
+        call = goblin_pe._LIB.goblin_pe_raw_next_imports
+        with unittest.mock.patch.object(goblin_pe._LIB, "goblin_pe_raw_next_imports", wraps=call) as counted:
+            return sum(1 for _ in layout.walk_imports()), counted.call_count
 
     def test_a_walk_ends_with_the_refusal_of_a_read(self):
         data = bytearray(sample("imports_by_name_x64.dll"))

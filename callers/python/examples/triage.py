@@ -1,5 +1,6 @@
-"""Tells of each file of a folder what analysts compare, a line of JSON each: triage.py FOLDER. Four threads look at them, and of
-none is more read than a limit says. What can't be read has a line, too, that says why."""
+"""Tells of each file of a folder what analysts compare, a line of JSON each: triage.py FOLDER. Four threads look at them. Of no
+file are more imports or exports counted than a limit says; but what is left out counts for no limit, `damage` looks at all
+exports, and all sections are told. What can't be read has a line, too, that says why."""
 import concurrent.futures
 import hashlib
 import itertools
@@ -13,8 +14,8 @@ from typing import Any, Dict, Iterator, Optional
 
 from goblin_pe import Kind, Layout, Options, Pe, Refused, kind, names_of
 
-# Of no file are more imports read.
-MOST_IMPORTS = 100_000
+# Of no file are more imports counted, and no more exports.
+MOST = 100_000
 
 
 def entropy(data: bytes) -> float:
@@ -52,9 +53,9 @@ def sections(layout: Layout) -> Iterator[Dict[str, Any]]:
 
 
 def image(data: Any) -> Dict[str, Any]:
-    """What is told of an image; its imports are counted up to the limit."""
+    """What is told of an image; its imports and its exports are counted up to the limit."""
     with Pe(data, Options(is_permissive=True, parse_imports=False)) as pe:
-        walked = itertools.islice(pe.walk_imports(), MOST_IMPORTS)
+        walked = itertools.islice(pe.walk_imports(), MOST)
         libraries: Counter[bytes] = Counter(it.dll.lower() for it in walked)
         damage = pe.damage
         return {
@@ -62,8 +63,8 @@ def image(data: Any) -> Dict[str, Any]:
             "is_64": pe.is_64, "is_lib": pe.is_lib, "entry": pe.entry, "image_base": pe.image_base,
             "subsystem": pe.optional_header and names_of(pe.optional_header.windows_fields.subsystem, "subsystem")[0],
             "libraries": {name.decode("utf-8", "backslashreplace"): count for name, count in sorted(libraries.items())},
-            "imphash": pe.imphash() if sum(libraries.values()) < MOST_IMPORTS else None,
-            "exports": sum(1 for _ in pe.walk_exports()), "rich_hash": rich_hash(pe, data), "overlay": overlay(pe, data),
+            "imphash": pe.imphash() if sum(libraries.values()) < MOST else None,
+            "exports": sum(1 for _ in itertools.islice(pe.walk_exports(), MOST)), "rich_hash": rich_hash(pe, data), "overlay": overlay(pe, data),
             "sections": list(sections(pe)), "damage": {part: str(why) for part, why in zip(damage._fields[:5], damage) if why}}
 
 

@@ -70,7 +70,7 @@ from .rows import (
     ExportDirectory as ExportDirectory, ExportEntry as ExportEntry, Import as Import, Library as Library, Range as Range,
     RichHeader as RichHeader, Rows as _Rows,
     Section as Section, SectionData as SectionData, Symbol as Symbol, batches as _batches, data_of as _data_of,
-    record_of as _section_record, room as _room)
+    growing_batches as _growing_batches, record_of as _section_record, room as _room)
 
 __version__ = "0.3.0"
 
@@ -102,8 +102,8 @@ def _size(number: int) -> int:
     return number
 
 
-# How many rows of a walk are read at once, and how many where a call takes long, or no row is made.
-_BATCH, _LARGE_BATCH = 256, 4096
+# How many rows of a walk are read at once; and how many where a call takes long, or no row is made: at first, and at last.
+_BATCH, _LARGE_BATCH, _LARGEST_BATCH = 256, 4096, 65536
 
 # How many sections the library walks over; of more it makes an index in each call.
 _MOST_WITHOUT_INDEX = 96
@@ -114,11 +114,10 @@ _MOST_KEPT = 1 << 20
 
 def _walk(data: _Kept, kind: _t.Any, row: str, call: _t.Callable[..., records.Fault], position: _t.Any,
           most: int = _BATCH) -> _t.Iterator[_t.Any]:
-    # the rows of a walk, each made when it is asked for
-    found = _room(kind, most)
-    batches = _batches(data, found, call, position)
+    # the rows of a walk, each made when it is asked for; large batches grow
+    batches = _growing_batches(data, _room(kind, most), call, position, _LARGEST_BATCH if most > _BATCH else 0)
     return _itertools.chain.from_iterable(
-        map(getattr(_Rows(data, address, _MOST_KEPT), row), found[:count]) for address, count in batches)
+        map(getattr(_Rows(data, address, _MOST_KEPT), row), _laid_out.first_of(found, count)) for address, count, found in batches)
 
 
 def _symbol_table(data: _Kept, header: CoffHeader) -> records.SymbolTable:
@@ -227,7 +226,13 @@ def _record_of(how: _t.Optional[Options]) -> records.Options:
     return records.Options(how.is_permissive, how.resolve_rva, how.raw_pointer_rule, how.parse_imports)
 
 
-_L = _t.TypeVar("_L", bound="Layout")
+_L, _V = _t.TypeVar("_L", bound="Layout"), _t.TypeVar("_V")
+
+# Of each table that walks go over: the call, its records, and what says where it goes on.
+_WALKED: _t.Dict[DirectoryType, _t.Tuple[str, _t.Any, _t.Any]] = {
+    DirectoryType.IMPORT_TABLE: ("goblin_pe_raw_next_imports", records.Import, records.ImportPosition),
+    DirectoryType.EXPORT_TABLE: ("goblin_pe_raw_next_exports", records.Export, _c.c_size_t),
+    DirectoryType.BASE_RELOCATION_TABLE: ("goblin_pe_raw_next_blocks", records.Block, _c.c_size_t)}
 
 
 class Layout:
@@ -236,9 +241,10 @@ class Layout:
     records of its sections alone, however much its tables list: these are walked over, or looked up. Of the sections rows are
     made where `sections` is asked for. The Rich header is no part of it: Pe has it.
 
-    It keeps `data`, or the copy of a buffer that could be written, until close() or the end of a `with`. Sections that were not
-    asked for before, the export directory and the name in it, symbols, damage and the methods raise ValueError then, but
-    find_offset needs the bytes no longer. A copy, as it is sent to another process, has all but `data`.
+    It keeps `data`, or the copy of a buffer that could be written, until close() or the end of a `with`. Sections, symbols and
+    damage that were not asked for before, the export directory and the name in it, and the methods raise ValueError then, but
+    find_offset needs the bytes no longer. A copy, as it is sent to another process, has all but `data`; symbols and damage where
+    they were asked for.
     """
 
     def __init__(self, data: Data, options: _t.Optional[Options] = None):
@@ -255,8 +261,9 @@ class Layout:
 
     def _hold(self, data: Data, options: _t.Optional[Options]) -> None:
         self._data: _t.Optional[_Kept] = _kept(data)
-        self._options = _record_of(options)
-        self._made: _t.Dict[str, _t.List[_t.Any]] = {}  # (the rows that were asked for)
+        how = self._options = _record_of(options)
+        self._with_imports = records.Options(how.is_permissive, how.resolve_rva, how.raw_pointer_rule, True)
+        self._made: _t.Dict[str, _t.Any] = {}  # (the rows that were asked for, and the damage)
         self._symbol_table: _t.Optional[records.SymbolTable] = None  # (until a symbol is asked for)
 
     def _take_headers(self, file: _t.Union[records.File, records.Layout], directories: _t.List[records.Directory]) -> None:
@@ -277,9 +284,14 @@ class Layout:
 
     def _rows(self, table: str) -> _t.List[_t.Any]:
         # the rows of a table, made when they are first asked for
-        if table not in self._made:
-            self._made[table] = list(self._each(table, None)) if self._counts[table] else []
-        return self._made[table]
+        return self._once(table, lambda: list(self._each(table, None)) if self._counts[table] else [])
+
+    def _once(self, name: str, make: _t.Callable[[], _V]) -> _V:
+        # what is made when it is first asked for
+        if name not in self._made:
+            self._made[name] = make()
+        found: _V = self._made[name]
+        return found
 
     @property
     def sections(self) -> _t.List[Section]:
@@ -291,8 +303,9 @@ class Layout:
 
     def __getstate__(self) -> _t.Dict[str, _t.Any]:
         # (of a closed one, the rows that were asked for)
-        rows = self._made if self._data is None else {name: getattr(self, name) for name in self._counts}
-        return {**self.__dict__, "_made": rows, "_data": None, "_sections": None, "_mapping": bytes(self._mapping)}
+        rows = {} if self._data is None else {name: getattr(self, name) for name in self._counts}
+        made = {**self._made, **rows}
+        return {**self.__dict__, "_made": made, "_data": None, "_sections": None, "_mapping": bytes(self._mapping)}
 
     def __setstate__(self, state: _t.Dict[str, _t.Any]) -> None:
         self.__dict__.update(state)
@@ -445,31 +458,59 @@ class Layout:
         # how many rows of a walk over imports or exports are read at once
         return _LARGE_BATCH if self._counts["sections"] > _MOST_WITHOUT_INDEX else _BATCH
 
-    def _next_imports(self) -> _t.Callable[..., records.Fault]:
-        # the call of walks over imports, by the options, but with imports
-        how = self._options
-        asked = records.Options(how.is_permissive, how.resolve_rva, how.raw_pointer_rule, True)
-        return lambda address, length, *to: _LIB.goblin_pe_raw_next_imports(
-            address, length, _c.byref(asked), _c.byref(self._places), *to)
+    def _next(self, table: DirectoryType, options: _t.Optional[records.Options] = None) -> _t.Callable[..., records.Fault]:
+        # the call of walks over a table, by others than the layout's options, or by these, but with imports
+        call, asked = getattr(_LIB, _WALKED[table][0]), options or self._with_imports
+        return lambda address, length, *to: call(address, length, _c.byref(asked), _c.byref(self._places), *to)
 
-    def _count_imports(self) -> _t.Optional[int]:
-        # how many the walk over imports gives, of which none becomes a row; None where the file has no table of them
-        if DirectoryType.IMPORT_TABLE not in self._directories:
-            return None
-        found = _room(records.Import, _LARGE_BATCH)
-        return sum(count for _, count in _batches(self._bytes(), found, self._next_imports(), records.ImportPosition()))
+    def _walked(self, table: DirectoryType, row: str) -> _t.Iterator[_t.Any]:
+        # the rows of a table
+        _, kind, position = _WALKED[table]
+        return _walk(self._bytes(), kind, row, self._next(table), position(), self._batch())
+
+    def _records(self, table: DirectoryType) -> _t.Iterator[_t.Tuple[int, _t.Iterable[_t.Any]]]:
+        # the records of a table, batch by batch: how many, and these
+        _, kind, position = _WALKED[table]
+        batches = _growing_batches(self._bytes(), _room(kind, _LARGE_BATCH), self._next(table), position(), _LARGEST_BATCH)
+        return ((count, _laid_out.first_of(found, count)) for _, count, found in batches)
+
+    def _counted(self, table: DirectoryType) -> _t.Tuple[State, int]:
+        # how a table stands, and how many rows the walk over it gives, of which none is made
+        state = self._state(table)
+        count = 0
+        try:
+            for more, _ in self._records(table) if state == State.READ else ():
+                count += more
+        except Refused as refused:  # (else a rest that is no block)
+            if table != DirectoryType.BASE_RELOCATION_TABLE or refused.status == Status.MEMORY:
+                raise
+        return state, count
+
+    def _state(self, table: DirectoryType) -> State:
+        # how a table stands: in strict mode a call without room for a record is refused where the table is
+        if table not in self._directories:
+            return State.ABSENT
+        (_, kind, position), how = _WALKED[table], self._options
+        strict = records.Options(False, how.resolve_rva, how.raw_pointer_rule, True)
+        try:
+            next(_batches(self._bytes(), _room(kind, 0), self._next(table, strict), position()), None)
+        except Refused as refused:
+            if not how.is_permissive or refused.status == Status.MEMORY:
+                raise
+            return State.READ if table == DirectoryType.IMPORT_TABLE else State.REFUSED
+        return State.READ
 
     def walk_imports(self) -> _t.Iterator[Import]:
         """The imports one by one, of which none is kept: also where the options left them out. In strict mode Refused is
         raised where it would be of the list, after what comes before; no law says on which bytes that depends."""
-        return _walk(self._bytes(), records.Import, "imported", self._next_imports(), records.ImportPosition(), self._batch())
+        return self._walked(DirectoryType.IMPORT_TABLE, "imported")
 
     def walk_libraries(self) -> _t.Iterator[Library]:
         """The libraries of which something is imported one by one, in the order of their records, as walk_imports gives imports.
         Of each only the first import is read, so what strict mode refuses of the others is not told. One library may have
         several records, and one without imports is left out. Each library is a call of its own; of more
         than 96 sections each makes an index, in some 25 milliseconds for the 65,535 that there can be."""
-        return self._libraries(self._bytes(), self._next_imports())
+        return self._libraries(self._bytes(), self._next(DirectoryType.IMPORT_TABLE))
 
     def _libraries(self, data: _Kept, call: _t.Callable[..., records.Fault]) -> _t.Iterator[Library]:
         # of each library the first import is read, and then the next record
@@ -484,8 +525,7 @@ class Layout:
 
     def walk_exports(self) -> _t.Iterator[Export]:
         """The exports one by one, of which none is kept."""
-        return _walk(self._bytes(), records.Export, "exported", lambda address, length, *to: _LIB.goblin_pe_raw_next_exports(
-            address, length, _c.byref(self._options), _c.byref(self._places), *to), _c.c_size_t(), self._batch())
+        return self._walked(DirectoryType.EXPORT_TABLE, "exported")
 
     @property
     def export_directory(self) -> _t.Optional[ExportDirectory]:
@@ -523,14 +563,13 @@ class Layout:
         """The blocks of base relocations one by one, of which none is kept. Where a rest of their directory is no block, Refused
         is raised in either mode, after what comes before, as block_rest of a Pe has it; and where strict mode refuses the
         directory."""
-        return _walk(self._bytes(), records.Block, "block", lambda address, length, *to: _LIB.goblin_pe_raw_next_blocks(
-            address, length, _c.byref(self._options), _c.byref(self._places), *to), _c.c_size_t(), self._batch())
+        return self._walked(DirectoryType.BASE_RELOCATION_TABLE, "block")
 
     @property
     def symbols(self) -> _t.List[Symbol]:
         """The symbols, which few images have. Refused is raised where the file is too short for their table or its string
         table, and where the string table is not UTF-8, or says a length below 4."""
-        return list(self.walk_symbols())
+        return self._once("symbols", lambda: list(self.walk_symbols()))
 
     def walk_symbols(self) -> _t.Iterator[Symbol]:
         """The symbols one by one, of which none is kept. Refused is raised as by `symbols`."""
@@ -553,6 +592,9 @@ class Layout:
     @property
     def damage(self) -> Damage:
         """What strict mode would refuse of the file, part by part."""
+        return self._once("damage", self._read_damage)
+
+    def _read_damage(self) -> Damage:
         d = records.Damage()
         with _held(self._bytes()) as (address, length):
             _test(_LIB.goblin_pe_raw_read_damage(address, length, _c.byref(self._options), _c.byref(d)))
@@ -586,9 +628,9 @@ class Pe(Layout):
     """An image that was read, with its lists: Pe(data, options), where `data` are the file's bytes and `options` are Options. A
     file that is refused raises Refused.
 
-    It keeps `data`, or the copy of a buffer that could be written, until close() or the end of a `with`. Tables whose rows were
-    not asked for before, symbols, damage and the methods raise ValueError then, but find_offset needs the bytes no longer. A
-    copy, as it is sent to another process, has all but `data`.
+    It keeps `data`, or the copy of a buffer that could be written, until close() or the end of a `with`. Tables, symbols and
+    damage that were not asked for before, and the methods, raise ValueError then, but find_offset needs the bytes no longer. A
+    copy, as it is sent to another process, has all but `data`; symbols and damage where they were asked for.
     """
 
     def __init__(self, data: Data, options: _t.Optional[Options] = None):
@@ -815,8 +857,7 @@ class ObjectFile:
         return _symbol_at(_here(self._data), self._symbol_table, index)
 
     def __repr__(self) -> str:
-        symbols = self._made["symbols"] if "symbols" in self._made else self.walk_symbols()
-        return "<ObjectFile machine=%#x sections=%d symbols=%d>" % (self.coff_header.machine, self._count, sum(1 for _ in symbols))
+        return "<ObjectFile machine=%#x sections=%d>" % (self.coff_header.machine, self._count)
 
 
 class Te:

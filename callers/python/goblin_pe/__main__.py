@@ -2,16 +2,20 @@
 Executable, as beside the samples. With --json it writes all that was read of each of many files, and what is damaged, as an
 object on a line."""
 import argparse
-import dataclasses
 import functools
-import json
 import os
 import signal
 import sys
-from typing import Any, Callable, Iterator, List, Optional
+from typing import Any, Callable, Iterator, List, Tuple
 
 from ._described import described_file
-from . import Export, ObjectFile, Options, Pe, RawPointerRule, Refused, State, Te
+from . import DirectoryType, Export, Layout, ObjectFile, Options, Pe, RawPointerRule, Refused, State, Status, Te
+
+# How a table stands, and how many rows it has.
+Table = Tuple[State, int]
+
+# How many characters are written at once.
+PIECE = 1 << 16
 
 
 def shown(text: bytes) -> str:
@@ -19,8 +23,9 @@ def shown(text: bytes) -> str:
     return "".join(chr(it) if 0x20 <= it <= 0x7E and it != 0x5C else "\\x%02x" % it for it in text)
 
 
-def heading(label: str, state: State, entries: int) -> str:
+def heading(label: str, table: Table) -> str:
     """How a table stands."""
+    state, entries = table
     return "%s %s" % (label, entries if state == State.READ else state.name.lower())
 
 
@@ -35,14 +40,16 @@ def export(x: Export) -> str:
     return line + (" name=" + shown(x.name) if x.name is not None else "")
 
 
-def image(pe: Pe, has_imports: bool = True) -> Iterator[str]:
-    """The lines of an image, of which none is kept. Imports come by walks: one that counts them, and is refused before there
-    is a line, and one that gives them."""
-    return lines_of(pe, pe._count_imports() if has_imports else None)
+def image(pe: Layout, has_imports: bool = True) -> Iterator[str]:
+    """The lines of an image, of which none is kept. Each table comes by two walks: one that counts, and is refused before there
+    is a line, and one that gives the rows."""
+    exports, relocations = pe._counted(DirectoryType.EXPORT_TABLE), pe._counted(DirectoryType.BASE_RELOCATION_TABLE)
+    imports = pe._counted(DirectoryType.IMPORT_TABLE) if has_imports else (State.ABSENT, 0)
+    return lines_of(pe, imports, exports, relocations)
 
 
-def lines_of(pe: Pe, imports: Optional[int]) -> Iterator[str]:
-    """The lines of an image that has so many imports, or None of them."""
+def lines_of(pe: Layout, imports: Table, exports: Table, relocations: Table) -> Iterator[str]:
+    """The lines of an image whose tables stand so."""
     line = "header machine=%#x sections=%d" % (pe.coff_header.machine, pe._counts["sections"])
     if pe.optional_header:
         fields = pe.optional_header.standard_fields
@@ -52,17 +59,26 @@ def lines_of(pe: Pe, imports: Optional[int]) -> Iterator[str]:
         yield "section va=%#x vsize=%#x raw=%#x ptr=%#x name=%s" % (
             s.virtual_address, s.virtual_size, s.size_of_raw_data, s.pointer_to_raw_data, shown(s.name))
     size = 8 if pe.is_64 else 4
-    yield "imports %s" % ("absent" if imports is None else imports)
-    for x in pe.walk_imports() if imports else ():
+    yield heading("imports", imports)
+    for x in pe.walk_imports() if imports[1] else ():
         name = shown(x.name) if x.name is not None else "ORDINAL %d" % x.ordinal
         yield "import offset=%#x ordinal=%d rva=%#x size=%d slot=%d dll=%s name=%s" % (
             x.slot_rva, x.ordinal, x.rva, size, x.slot, shown(x.dll), name)
-    yield heading("exports", pe.export_table, pe._counts["exports"])
+    yield heading("exports", exports)
     yield from map(export, pe.walk_exports())
-    yield heading("relocations", pe.relocation_table, pe._counts["blocks"])
-    for b in pe._each("blocks"):
-        yield "block rva=%#x size=%#x words=%d" % (b.rva, b.size, len(b.words))
-    if pe.block_rest:
+    yield heading("relocations", relocations)
+    yield from blocks(pe)
+
+
+def blocks(pe: Layout) -> Iterator[str]:
+    """The lines of the blocks of base relocations, and of a rest that is no block."""
+    try:
+        for _, found in pe._records(DirectoryType.BASE_RELOCATION_TABLE):
+            for it in found:
+                yield "block rva=%#x size=%#x words=%d" % (it.rva, it.size, it.words.length // 2)
+    except Refused as refused:
+        if refused.status == Status.MEMORY:
+            raise
         yield "block refused"
 
 
@@ -92,10 +108,13 @@ def show(path: str, read: Callable[[bytes], Any], lines: Callable[[Any], Iterato
     """Writes the lines of a file, where it is not refused, and answers the status of the program."""
     try:
         with open(path, "rb") as file:
-            listing = lines(read(file.read()))
-    except (OSError, Refused) as error:
+            data = file.read()
+    except (OSError, MemoryError) as error:
+        return complain("read failed", error)
+    try:
+        sys.stdout.writelines(line + "\n" for line in lines(read(data)))
+    except (Refused, MemoryError) as error:
         return complain("refused" if isinstance(error, Refused) else "read failed", error)
-    sys.stdout.writelines(line + "\n" for line in listing)
     return 0
 
 
@@ -107,9 +126,9 @@ def describe(paths: List[str], read: Callable[[bytes], Any]) -> int:
     for number, path in enumerate(paths, 1):
         if is_told:
             print("\r%d of %d files" % (number, len(paths)), end="", file=sys.stderr, flush=True)
-        found = described_file(path, read)
-        status |= "refused" in found or "error" in found
-        print(json.dumps(found))
+        line, is_read = described_file(path, read)
+        status |= not is_read
+        sys.stdout.writelines(line[begin: begin + PIECE] for begin in range(0, len(line), PIECE))
     if is_told:
         print(file=sys.stderr)
     return status
@@ -133,7 +152,7 @@ def asked_of(words: List[str]) -> argparse.Namespace:
     parser.add_argument("--no-imports", action="store_true", help="leave the imports out, of which a small file can list many")
     parser.add_argument("--json", action="store_true", help="write a line of JSON for each of many files")
     parser.add_argument("files", metavar="FILE", nargs="+")
-    parser.set_defaults(how=(Pe, image))
+    parser.set_defaults(how=(Layout, image))
     asked = parser.parse_args(words)
     if not asked.json and len(asked.files) > 1:
         parser.error("only --json takes many files")
@@ -148,9 +167,8 @@ def main(words: List[str]) -> int:
     options = Options(is_permissive=asked.permissive, raw_pointer_rule=RAW_POINTERS[asked.raw_pointers],
                       parse_imports=not asked.no_imports)
     kind, lines = asked.how
-    if not asked.json and kind is Pe:
-        lines = functools.partial(image, has_imports=options.parse_imports)
-        options = dataclasses.replace(options, parse_imports=False)  # (which come by walks)
+    if kind is Layout:
+        kind, lines = Pe if asked.json else Layout, functools.partial(image, has_imports=options.parse_imports)
 
     def read(data: bytes) -> Any:
         return kind(data, options)
@@ -167,7 +185,7 @@ def main(words: List[str]) -> int:
 def complain(what: str, error: Exception) -> int:
     """A line on standard error, and the status of the program."""
     if sys.stderr is not None:
-        print("%s: %s" % (what, error), file=sys.stderr)
+        print("%s: %s" % (what, str(error) or "out of memory"), file=sys.stderr)
     return 1
 
 

@@ -2,7 +2,7 @@
 import collections.abc
 import enum
 import json
-from typing import Any, Callable, Dict, Union
+from typing import Any, Callable, Dict, Tuple, Union
 
 from . import Block, Layout, ObjectFile, Pe, Refused, Te
 
@@ -35,28 +35,34 @@ def plain(value: Any) -> Any:
 
 
 def described(found: Union[Layout, ObjectFile, Te]) -> Dict[str, Any]:
-    """What was read, by the names of its attributes; of an image with its damage, and of a Pe with the hash of its imports."""
+    """What was read, by the names of its attributes; of an image with its damage, and of a Pe with the hash of its imports, which
+    is None where the options left these out."""
     fields = next(FIELDS[it] for it in type(found).__mro__ if it in FIELDS)
     told = {name: plain(getattr(found, name)) for name in fields.split()}
-    return {**told, "imphash": found.imphash()} if isinstance(found, Pe) else told
+    if isinstance(found, Pe):
+        told["imphash"] = found.imphash() if found._options.parse_imports else None
+    return told
 
 
 def to_json(found: Union[Layout, ObjectFile, Te]) -> str:
     """What was read as an object of JSON, by the names of its attributes; of an image with its damage, and of a Pe with the hash
-    of its imports. Rows are objects by their fields, numbers that have names those, and of the words of a block it is told how many
-    there are. Texts have a backslash, x and two digits for each byte that is not UTF-8."""
+    of its imports, which is null where the options left these out. Rows are objects by their fields, numbers that have names
+    those, and of the words of a block it is told how many there are. Texts have a backslash, x and two digits for each byte that
+    is not UTF-8."""
     return json.dumps(described(found))
 
 
 to_json.__module__ = "goblin_pe"  # (where it is explained)
 
 
-def described_file(path: str, read: Callable[[bytes], Any]) -> Dict[str, Any]:
-    """The path of a file, and what `read` makes of its bytes. Or why it was refused, or could not be read."""
+def described_file(path: str, read: Callable[[bytes], Any]) -> Tuple[str, bool]:
+    """A line of JSON with the path of a file and what `read` makes of its bytes, and that it was read. Or why it was refused, or
+    could not be read, and that it was not."""
     try:
         with open(path, "rb") as file:
-            return {"file": path, **described(read(file.read()))}
+            return json.dumps({"file": path, **described(read(file.read()))}) + "\n", True
     except Refused as refused:
-        return {"file": path, "refused": plain(refused)}
+        told = {"refused": plain(refused)}
     except (OSError, MemoryError) as error:
-        return {"file": path, "error": str(error) or "out of memory"}
+        told = {"error": str(error) or "out of memory"}
+    return json.dumps({"file": path, **told}) + "\n", False

@@ -2,8 +2,9 @@
 that stands in a record is read as its named tuple."""
 import ctypes as c
 import functools
+import itertools
 import operator
-from typing import Annotated, Any, Dict, Iterator, List, Tuple, Type, TypeVar
+from typing import Annotated, Any, Dict, Iterable, Iterator, List, Tuple, Type, TypeVar
 
 # A pointer.
 Address = Annotated[int, c.c_void_p]
@@ -84,6 +85,14 @@ _free = c.CDLL(None).free
 _free.restype, _free.argtypes = None, [c.c_void_p]
 
 
+def first_of(records: Any, count: int) -> Iterable[Any]:
+    """So many of the records. Of many at once only some hundred are objects."""
+    if count <= 256:
+        few: List[Any] = records[:count]
+        return few
+    return itertools.chain.from_iterable(records[begin: min(begin + 256, count)] for begin in range(0, count, 256))
+
+
 class HandedOver(Record):
     """Tables that the library hands over, each a block of memory of its own where it is not empty. They are
     empty before, and freed when nobody has them any more."""
@@ -100,10 +109,8 @@ class HandedOver(Record):
         return found
 
     def records(self, name: str) -> Iterator[Any]:
-        """The records of a table, good as long as the tables are there. Of many at once only some hundred are objects."""
-        first, count = getattr(self, name), self.count(name)
-        for begin in range(0, count, 256):
-            yield from first[begin: min(begin + 256, count)]
+        """The records of a table, good as long as the tables are there."""
+        yield from first_of(getattr(self, name), self.count(name))
 
     def __del__(self, free: Any = _free) -> None:
         for name in self.KINDS:

@@ -264,13 +264,34 @@ def room(kind: Any, count: int) -> Any:
 def batches(data: Kept, found: Any, call: Callable[..., records.Fault], position: Any) -> Iterator[Tuple[int, int]]:
     """What a walk gives into this room, as long as there is more: the address of the file's bytes, and how many records.
     `call` takes the address, the length, the position, the room, how much that is, and the count."""
-    most, count = len(found) - 1, c.c_size_t()
+    return ((address, count) for address, count, _ in growing_batches(data, found, call, position, 0))
+
+
+def growing_batches(data: Kept, found: Any, call: Callable[..., records.Fault], position: Any,
+                    most: int) -> Iterator[Tuple[int, int, Any]]:
+    """As `batches`, and the room that they are in: this one, and each time that it was full one for four times as many, up to so
+    many records."""
+    count = c.c_size_t()
     while True:
         with held(data) as (address, length):
-            test(call(address, length, c.byref(position), found, most, c.byref(count)))
+            test(call(address, length, c.byref(position), found, len(found) - 1, c.byref(count)))
         if not count.value:
             return
-        yield address, count.value
+        yield address, count.value, found
+        if count.value == len(found) - 1 < most:
+            found = _larger(found, most)
+
+
+def _larger(found: Any, most: int) -> Any:
+    # room for four times as many records, but at most so many; the same where there is no memory for them
+    try:
+        return room(found._type_, min(4 * (len(found) - 1), most))
+    except MemoryError:
+        return found
+
+
+# How many bytes the objects of a text take beside its own.
+_OBJECTS = 200
 
 
 class Rows:
@@ -295,10 +316,10 @@ class Rows:
     def _taken(self, begin: int, length: int) -> bytes:
         # a text that is not kept yet
         found = bytes(self._data[begin: begin + length]) if length else b""
-        self._kept += length
+        self._kept += length + _OBJECTS
         if self._most_kept is not None and self._kept > self._most_kept:
             self._texts.clear()
-            self._kept = length
+            self._kept = length + _OBJECTS
         self._texts[begin, length] = found
         return found
 

@@ -1,6 +1,7 @@
 //! Scans files by four threads: scan FILE.. tells of each image, in the order of the words, how many imports and
 //! exports it has and what is damaged, or why it was refused. Of an image that lists more of them than a limit says,
-//! only so many are looked at. It takes no memory for them.
+//! only so many are looked at. It takes no memory for them. What is left out of an image counts for no limit: a walk
+//! passes over as many such entries as there are, and `damage` over all.
 use goblin_pe::{Error, Layout, Options};
 use std::thread;
 

@@ -193,8 +193,9 @@ const BATCH: usize = 256;
 const FIRST: usize = 16;
 
 // How many it reads at once of a file with more sections than are walked over for each address: each read makes an
-// index of them.
+// index of them. At first it is the one number, and then each time four times as many, up to the other one.
 const INDEXED_BATCH: usize = 4096;
+const MOST_INDEXED: usize = 65536;
 const MOST_UNINDEXED: usize = 96;
 
 // Where a walk goes on.
@@ -232,7 +233,8 @@ impl Position for usize {
 struct Batches<T, P> {
     // (none before the first are read)
     records: Vec<T>,
-    // How many are read at once after the first.
+    // How many are read at once after the first, and how many at last.
+    batch: usize,
     most: usize,
     position: P,
     next: usize,
@@ -242,10 +244,11 @@ struct Batches<T, P> {
 }
 
 impl<T: Copy + Default, P: Position> Batches<T, P> {
-    // From the beginning.
-    fn new(most: usize) -> Self {
+    // From the beginning, so many at once, and at last as many as the most.
+    fn new(batch: usize, most: usize) -> Self {
         Batches {
             records: Vec::new(),
+            batch,
             most,
             position: P::default(),
             next: 0,
@@ -257,7 +260,11 @@ impl<T: Copy + Default, P: Position> Batches<T, P> {
     // From the beginning of a table, if there is one, in a file whose sections lie there.
     fn of_table(places: &raw::Places, is_there: bool) -> Self {
         let is_indexed = usize::from(places.number_of_sections) > MOST_UNINDEXED;
-        let batches = Self::new(if is_indexed { INDEXED_BATCH } else { BATCH });
+        let batches = if is_indexed {
+            Self::new(INDEXED_BATCH, MOST_INDEXED)
+        } else {
+            Self::new(BATCH, BATCH)
+        };
         Batches {
             is_over: !is_there,
             ..batches
@@ -293,8 +300,11 @@ impl<T: Copy + Default, P: Position> Batches<T, P> {
         &mut self,
         call: impl FnOnce(&mut P, &mut [T], &mut usize) -> Fault,
     ) -> Result<(), Error> {
-        let is_first = self.records.is_empty();
-        let room = if is_first { FIRST } else { self.most };
+        let had = self.records.len();
+        let room = match had {
+            0 => FIRST,
+            _ => (4 * had).clamp(self.batch, self.most),
+        };
         self.end();
         grown(&mut self.records, T::default(), room)?;
         let fault = call(&mut self.position, &mut self.records, &mut self.count);
@@ -551,7 +561,7 @@ impl<'a> WalkRelocations<'a> {
         WalkRelocations {
             bytes,
             section,
-            batches: Batches::new(BATCH),
+            batches: Batches::new(BATCH, BATCH),
         }
     }
 }
@@ -588,7 +598,7 @@ impl<'a> Symbols<'a> {
     pub(crate) fn of(bytes: &'a [u8], header: &CoffHeader) -> Result<Self, Error> {
         let mut table = raw::SymbolTable::default();
         Error::test(raw::read_symbol_table(bytes, header, &mut table))?;
-        let mut batches = Batches::new(BATCH);
+        let mut batches = Batches::new(BATCH, BATCH);
         batches.fill(|position, records, count| {
             raw::next_symbols(bytes, &table, position, records, count)
         })?;

@@ -25,7 +25,7 @@
 //! |---|---|---|
 //! | [`Pe::read`] | as long as what it lists, some microseconds for a small file | a record for each row, of 8 to 96 bytes |
 //! | [`Layout::read`] | as long as the file, and the names of the sections | a record for each section |
-//! | [`Layout::walk_imports`], [`Layout::walk_exports`], [`Layout::walk_blocks`] | as they go on | room for 256 rows; of more than 96 sections for 4,096, and an index |
+//! | [`Layout::walk_imports`], [`Layout::walk_exports`], [`Layout::walk_blocks`] | as they go on | room for 256 rows; of more than 96 sections for 4,096 and up to 65,536, and an index |
 //! | [`Layout::walk_libraries`] | a call for each library | an index of more than 96 sections |
 //! | [`Layout::walk_export_addresses`] | as it goes on, a walk over the sections for each forwarder | as the walks above, and of forwarders a record for each section |
 //! | [`Layout::export_directory`], [`Layout::name`] | a walk over the sections, and a text | an index of more than 96 sections |

@@ -6,14 +6,16 @@ use std::io::{self, Write};
 
 thread_local! {
     static IS_REFUSED: Cell<bool> = const { Cell::new(false) };
+    static ASKED: Cell<usize> = const { Cell::new(0) };
 }
 
-/// An allocator that refuses all that a thread asks for while it says so.
+/// An allocator that refuses all that a thread asks for while it says so, and counts how often it asks.
 struct Refusing;
 
 // SAFETY: it is the system's, or answers that there is no memory.
 unsafe impl GlobalAlloc for Refusing {
     unsafe fn alloc(&self, layout: Layout) -> *mut u8 {
+        ASKED.set(ASKED.get() + 1);
         if IS_REFUSED.get() {
             return std::ptr::null_mut();
         }
@@ -156,16 +158,26 @@ fn a_walk_that_has_begun_needs_no_more_memory() {
     assert!(rest && walk.next().is_none());
 }
 
-// Where each read makes an index of the sections, thousands of rows are read at once.
+// Where each read makes an index of the sections, thousands of rows are read at once, and each time more: if there is
+// memory for these.
 #[test]
 fn a_walk_over_a_file_of_many_sections_gives_what_is_listed() {
-    let mut image = with_exports(sample("forwarders_x64.dll"), 5000);
+    let count = 100_000;
+    let mut image = with_exports(sample("forwarders_x64.dll"), count);
     let signature = usize::from(image[0x3C]);
     image[signature + 6] = 97;
     let options = Options::permissive().with_resolve_rva(false);
     let pe = Pe::read(&image, &options).unwrap();
-    assert_eq!((pe.sections().len(), pe.exports().len()), (97, 5000));
+    assert_eq!(
+        (pe.sections().len(), pe.exports().len()),
+        (97, count as usize)
+    );
+    let asked = ASKED.get();
     assert!(pe.walk_exports().map(Result::unwrap).eq(pe.exports()));
+    assert_eq!(ASKED.get() - asked, 4); // (for 16, 4,096, 16,384 and 65,536)
+    let mut walk = pe.walk_exports().map(Result::unwrap);
+    assert!(walk.by_ref().take(20).eq(pe.exports().take(20)));
+    assert!(without_memory(|| walk.eq(pe.exports().skip(20))));
 }
 
 // An object of six hundred symbols, which are not read at once.
