@@ -243,7 +243,7 @@ static inline bool goblin_pe_import_record_at(
 /* Goes on with the walk over the exports of an image, as goblin_pe_next_imports does over imports. The
    position is the index of a name pointer, 0 at the beginning. There are none where permissive mode passes over
    a refused directory; strict mode refuses it at once. A name pointer gives no export where no export has its index as
-   hint: goblin_pe_bytes_at reads it at name_pointer_rva of the export directory's record, and four times that index. */
+   hint: goblin_pe_bytes_at reads it at name_pointer_rva of the export directory's record plus four times that index. */
 static inline struct goblin_pe_fault goblin_pe_next_exports(
     const uint8_t *bytes, size_t length, const struct goblin_pe_options *options, const struct goblin_pe_places *places,
     size_t *position, struct goblin_pe_export *exports, size_t room, size_t *count)

@@ -174,7 +174,7 @@ class Damage(_t.NamedTuple):
     left_out_entries: how many entries of the other libraries it leaves out.
     left_out_exports: how many name pointers of the export directory give no export, in either mode: there is no ordinal, it lies
         past the address table, or it leads to a forwarder whose text can't be read. 0 where the exports are refused. Their
-        indexes are the hints that no export has, and bytes_at reads such a pointer at the record's name_pointer_rva and four
+        indexes are the hints that no export has, and bytes_at reads such a pointer at the record's name_pointer_rva plus four
         times its index.
     """
 
@@ -793,10 +793,12 @@ class Pe(Layout):
         file = records.File(
             optional_header=_laid_out.record_of(OptionalHeader, optional), directories=count,
             dos_header=_laid_out.record_of(DosHeader, dos), coff_header=_laid_out.record_of(CoffHeader, coff))
-        size, written = self.dos_header.pe_pointer + 512, _c.c_size_t()
-        room = (_c.c_uint8 * size)()
-        _test(_LIB.goblin_pe_raw_write_header(_c.byref(file), directories, count, self._stub, len(self._stub), room, size, _c.byref(written)))
-        return bytes(room[: written.value - 8 * (count - own)])
+        size = _c.c_size_t()
+        for _ in range(2):  # (without room it tells how much it needs)
+            room = (_c.c_uint8 * size.value)()
+            _test(_LIB.goblin_pe_raw_write_header(
+                _c.byref(file), directories, count, self._stub, len(self._stub), room, size.value, _c.byref(size)))
+        return bytes(room[: size.value - 8 * (count - own)])
 
 
 class ObjectFile:
