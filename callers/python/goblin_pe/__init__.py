@@ -479,7 +479,7 @@ class Layout:
         state = self._state(table)
         count = 0
         try:
-            for more, _ in self._records(table) if state == State.READ else ():
+            for more, _ in self._records(table) if state == State.READ else iter(()):
                 count += more
         except Refused as refused:  # (else a rest that is no block)
             if table != DirectoryType.BASE_RELOCATION_TABLE or refused.status == Status.MEMORY:
