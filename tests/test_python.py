@@ -412,8 +412,10 @@ class Package(Case):
             ("sections", images.one_long_name(60000, 1 << 16), 1, "0,0,0,0,0,0"),
             ("forwarders", forwarders_in_one_text(20000, 1 << 16), 10000, "0,0,0,10000,0,0"),
             ("blocks", many_blocks(100000, 1 << 20), 200000, "0,0,0,0,100001,0")]
-        told = {"an object of one long name": "0", "a Terse Executable of one long name": "255", "many symbols": "70000",
+        told = {"an object of one long name": "0", "an object of one long name, without room": "0",
+                "a Terse Executable of one long name": "255", "many symbols": "70000",
                 "damage of imports in one text": "1000,1,0,0,0,0", "exports in one text": "0,0,1000,1,0,0",
+                "a layout of many name pointers": "0,0,70000,1,0,0", "many batches of one library": "70000,1,0,0,0,0",
                 "a batch of many sections": "65535,1,0,0,0,0"}
         for name, (_, make) in limits.ROWS.items():
             rows.append((name, make(), 1000 if "one text" in name else 70000, told.get(name, "0,0,0,0,0,0")))

@@ -502,6 +502,13 @@ class Files(unittest.TestCase):
         self.assertEqual([(x.dll, x.library) for x in pe.walk_imports()], wanted)
         self.assertEqual([(x.name, x.index) for x in pe.walk_libraries()], [(b"a.dll", 0), (b"c.dll", 2)])
 
+    def test_libraries_of_a_file_of_many_sections(self):
+        """A call reads thousands of imports, and the next one goes on with the record after that of the last."""
+        names = [b"%d.dll" % i for i in range(6)]
+        data = with_libraries(with_section_names(97, 200), names, [3, 5000, 0, 2, 5000, 1])
+        libraries = Layout(data, Options(resolve_rva=False)).walk_libraries()
+        self.assertEqual([(x.name, x.index) for x in libraries], [(names[i], i) for i in (0, 1, 3, 4, 5)])
+
     def test_a_call_gives_more_where_it_makes_an_index(self):
         for sections, imports, calls in (96, 300, 3), (97, 300, 2), (97, 30000, 4), (97, 90000, 5):
             layout = Layout(with_libraries(with_section_names(sections, 200), [b"a.dll"], [imports]), Options(resolve_rva=False))

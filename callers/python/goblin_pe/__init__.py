@@ -507,21 +507,28 @@ class Layout:
 
     def walk_libraries(self) -> _t.Iterator[Library]:
         """The libraries of which something is imported one by one, in the order of their records, as walk_imports gives imports.
-        Of each only the first import is read, so what strict mode refuses of the others is not told. One library may have
-        several records, and one without imports is left out. Each library is a call of its own; of more
-        than 96 sections each makes an index, in some 25 milliseconds for the 65,535 that there can be."""
+        One library may have several records, and one without imports is left out. Of each library only the first import is
+        read, so what strict mode refuses of the others is not told; but of more than 96 sections, of which each call makes an
+        index, a call reads thousands, and passes over what comes after them of the last library."""
         return self._libraries(self._bytes(), self._next(DirectoryType.IMPORT_TABLE))
 
     def _libraries(self, data: _Kept, call: _t.Callable[..., records.Fault]) -> _t.Iterator[Library]:
-        # of each library the first import is read, and then the next record
-        position, first = records.ImportPosition(), _room(records.Import, 1)
-        for address, _ in _batches(data, first, call, position):
-            offset, record = position.record_offset, _laid_out.laid_out(records.ImportDirectoryEntry)()
-            with _held(data) as (here, length):
-                _LIB.goblin_pe_raw_import_record_at(here, length, offset, _c.byref(record))
-            yield Library(_Rows(data, address).text(first[0].dll), offset, record.time_date_stamp, record.forwarder_chain,
-                          record.name_rva, first[0].library)
-            position.record_offset, position.slot_offset = offset + 20, 0
+        # the libraries of the imports of each call, which then goes on with the record after the last one's
+        begin = self.find_offset(self._places.imports.virtual_address) or 0  # (without an offset there are no libraries)
+        most, last, position = self._batch() if self._batch() > _BATCH else 1, -1, records.ImportPosition()
+        batches = _growing_batches(data, _room(records.Import, most), call, position, _LARGEST_BATCH if most > 1 else 0)
+        for address, count, found in batches:
+            for it in _laid_out.first_of(found, count):
+                if it.library != last:
+                    last = it.library
+                    yield self._library(data, _Rows(data, address).text(it.dll), begin + 20 * last, last)
+            position.record_offset, position.slot_offset, position.first_record = begin + 20 * (last + 1), 0, begin
+
+    def _library(self, data: _Kept, name: bytes, offset: int, index: int) -> Library:
+        record = _laid_out.laid_out(records.ImportDirectoryEntry)()
+        with _held(data) as (address, length):
+            _LIB.goblin_pe_raw_import_record_at(address, length, offset, _c.byref(record))
+        return Library(name, offset, record.time_date_stamp, record.forwarder_chain, record.name_rva, index)
 
     def walk_exports(self) -> _t.Iterator[Export]:
         """The exports one by one, of which none is kept."""

@@ -257,13 +257,14 @@ impl<T: Copy + Default, P: Position> Batches<T, P> {
         }
     }
 
-    // From the beginning of a table, if there is one, in a file whose sections lie there.
-    fn of_table(places: &raw::Places, is_there: bool) -> Self {
+    // From the beginning of a table, if there is one, in a file whose sections lie there: so many at once where no index
+    // of them is made.
+    fn of_table(places: &raw::Places, is_there: bool, batch: usize) -> Self {
         let is_indexed = usize::from(places.number_of_sections) > MOST_UNINDEXED;
         let batches = if is_indexed {
             Self::new(INDEXED_BATCH, MOST_INDEXED)
         } else {
-            Self::new(BATCH, BATCH)
+            Self::new(batch, batch)
         };
         Batches {
             is_over: !is_there,
@@ -302,7 +303,7 @@ impl<T: Copy + Default, P: Position> Batches<T, P> {
     ) -> Result<(), Error> {
         let had = self.records.len();
         let room = match had {
-            0 => FIRST,
+            0 => FIRST.min(self.most),
             _ => (4 * had).clamp(self.batch, self.most),
         };
         self.end();
@@ -329,7 +330,7 @@ macro_rules! walks {
         impl<'a> $name<'a> {
             // From the beginning, in a file whose sections and tables lie there.
             pub(crate) fn of(bytes: &'a [u8], options: Options, places: raw::Places) -> Self {
-                let batches = Batches::of_table(&places, places.$is_there);
+                let batches = Batches::of_table(&places, places.$is_there, BATCH);
                 $name { bytes, options, places, batches }
             }
         }
@@ -403,7 +404,7 @@ impl<'a> WalkExportAddresses<'a> {
             options,
             places,
             ordinal: 0,
-            batches: Batches::of_table(&places, places.has_exports),
+            batches: Batches::of_table(&places, places.has_exports, BATCH),
             layout: None,
         }
     }
@@ -463,63 +464,73 @@ impl fmt::Debug for WalkExportAddresses<'_> {
     }
 }
 
-/// A walk over the libraries of which an image imports something, without memory but for an index of more than 96
-/// sections.
+/// A walk over the libraries of which an image imports something, in constant memory. A copy is as that of
+/// [`WalkImports`].
 #[derive(Clone)]
 pub struct WalkLibraries<'a> {
     bytes: &'a [u8],
     options: Options,
     places: raw::Places,
-    position: Option<raw::ImportPosition>,
+    // The file offset of the first record.
+    directory: usize,
+    // The index of the record of the last library.
+    last: Option<usize>,
+    batches: Batches<raw::Import<'a>, raw::ImportPosition>,
 }
 
 impl<'a> WalkLibraries<'a> {
-    // From the beginning, of a file whose tables lie at these places.
-    pub(crate) fn of(bytes: &'a [u8], options: Options, places: raw::Places) -> Self {
+    // From the beginning, of a file whose tables lie at these places, and whose import directory at this offset.
+    pub(crate) fn of(
+        bytes: &'a [u8],
+        options: Options,
+        places: raw::Places,
+        directory: usize,
+    ) -> Self {
         WalkLibraries {
             bytes,
             options,
             places,
-            position: Some(raw::ImportPosition::default()),
+            directory,
+            last: None,
+            batches: Batches::of_table(&places, places.has_imports, 1),
         }
     }
 
-    // The library of the next import, whose others are passed over: the walk then goes on with the next record.
-    fn next_from(
-        &self,
-        mut position: raw::ImportPosition,
-    ) -> Result<Option<(Library<'a>, raw::ImportPosition)>, Error> {
-        let mut first = [raw::Import::default()];
-        let mut count = 0;
-        let fault = raw::next_imports(
-            self.bytes,
-            &self.options,
-            &self.places,
-            &mut position,
-            &mut first,
-            &mut count,
-        );
-        Error::test(fault)?;
-        if count == 0 {
-            return Ok(None);
-        }
-        let record_offset = position.record_offset;
+    // The next import among those that are read. Others are read from the record after the last one's on.
+    fn next_import(&mut self) -> Option<Result<raw::Import<'a>, Error>> {
+        let directory = self.directory;
+        let next = self.last.map(|last| raw::ImportPosition {
+            record_offset: directory + IMPORT_RECORD * (last + 1),
+            slot_offset: 0,
+            first_record: directory,
+        });
+        let found = self.batches.next(|position, records, count| {
+            *position = next.unwrap_or_default();
+            raw::next_imports(
+                self.bytes,
+                &self.options,
+                &self.places,
+                position,
+                records,
+                count,
+            )
+        })?;
+        Some(found.copied())
+    }
+
+    // The library of an import.
+    fn library(&self, import: &raw::Import<'a>) -> Library<'a> {
+        let record_offset = self.directory + IMPORT_RECORD * import.library;
         // (it was read for the import)
         let record = raw::import_record_at(self.bytes, record_offset).unwrap_or_default();
-        let library = Library {
-            name: Text(first[0].dll.get()),
+        Library {
+            name: Text(import.dll.get()),
             name_rva: record.name_rva,
-            index: first[0].library,
+            index: import.library,
             record_offset,
             time_date_stamp: record.time_date_stamp,
             forwarder_chain: record.forwarder_chain,
-        };
-        let next = raw::ImportPosition {
-            record_offset: record_offset + IMPORT_RECORD,
-            slot_offset: 0,
-            ..position
-        };
-        Ok(Some((library, next)))
+        }
     }
 }
 
@@ -530,12 +541,16 @@ impl<'a> Iterator for WalkLibraries<'a> {
     type Item = Result<Library<'a>, Error>;
 
     fn next(&mut self) -> Option<Result<Library<'a>, Error>> {
-        let position = self.position.take()?;
-        let found = self.next_from(position).transpose()?;
-        Some(found.map(|(library, next)| {
-            self.position = Some(next);
-            library
-        }))
+        loop {
+            let import = match self.next_import()? {
+                Ok(import) => import,
+                Err(error) => return Some(Err(error)),
+            };
+            if self.last != Some(import.library) {
+                self.last = Some(import.library);
+                return Some(Ok(self.library(&import)));
+            }
+        }
     }
 }
 

@@ -348,9 +348,10 @@ impl<'a> Layout<'a> {
     }
 
     /// A walk over the libraries of which something is imported, in the order of their records, as
-    /// [`walk_imports`](Self::walk_imports) is over imports; of each library only the first import is read, so what
-    /// strict mode refuses of the others is not told. One library may have several records. Each library
-    /// is a call of its own; of more than 96 sections each makes an index, in some 25 milliseconds.
+    /// [`walk_imports`](Self::walk_imports) is over imports. One library may have several records, and one without
+    /// imports is left out. Of each library only the first import is read, so what strict mode refuses of the others
+    /// is not told; but of more than 96 sections, of which each call makes an index, a call reads thousands, and passes
+    /// over what comes after them of the last library.
     ///
     /// ```no_run
     /// # let bytes = [];
@@ -363,10 +364,14 @@ impl<'a> Layout<'a> {
     /// ```
     #[must_use]
     pub fn walk_libraries(&self) -> WalkLibraries<'a> {
+        let directory = self.file.places.imports.virtual_address;
+        // (without an offset there are no libraries)
+        let offset = self.find_offset(directory as usize);
         WalkLibraries::of(
             self.bytes,
             self.options.with_parse_imports(true),
             self.file.places,
+            offset.unwrap_or(0),
         )
     }
 

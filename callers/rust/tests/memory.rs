@@ -77,7 +77,7 @@ fn refused_memory_is_an_error() {
     assert_eq!(refused(|| pe.footprint()), None); // (its ranges are in the library's memory)
     assert_eq!(refused(|| pe.damage()), None);
     assert_eq!(refused(|| Pe::read(&image, &options)), None);
-    assert_eq!(refused(|| pe.walk_libraries().next().unwrap()), None);
+    assert_eq!(refused(|| pe.walk_libraries().next().unwrap()), memory);
     assert!(without_memory(|| pe.write_imphash_text(&mut io::sink())).is_ok());
     assert_eq!(refused(|| pe.libraries()), memory);
     assert_eq!(refused(|| pe.symbols()), memory);
@@ -178,6 +178,19 @@ fn a_walk_over_a_file_of_many_sections_gives_what_is_listed() {
     let mut walk = pe.walk_exports().map(Result::unwrap);
     assert!(walk.by_ref().take(20).eq(pe.exports().take(20)));
     assert!(without_memory(|| walk.eq(pe.exports().skip(20))));
+}
+
+#[test]
+fn a_walk_over_libraries_of_a_file_of_many_sections() {
+    let mut image = sample("imports_by_name_x64.dll");
+    let signature = usize::from(image[0x3C]);
+    image[signature + 6] = 97;
+    image.resize(0x2000, 0);
+    let pe = Pe::read(&image, &Options::permissive()).unwrap();
+    let mut records: Vec<_> = pe.imports().map(|it| it.library).collect();
+    records.dedup();
+    let libraries: Vec<_> = pe.walk_libraries().map(Result::unwrap).collect();
+    assert!(!records.is_empty() && libraries.iter().map(|it| it.index).eq(records));
 }
 
 // An object of six hundred symbols, which are not read at once.
