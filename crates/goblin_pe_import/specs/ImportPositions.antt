@@ -23,7 +23,7 @@ first_at p = record { first_record = p; record_offset = p; slot_offset = None }
 -- one
 abbrev pub first_position : Bool → ℕ → Option ImportPosition
 first_position strict o =
-    option_map (λ p. first_at p) (first_record_offset strict (Some o))
+    option_map first_at (first_record_offset strict (Some o))
 
 -- The position of the first import of a directory at an address. Permissive mode treats an address
 -- without an offset as one that leads to the front of the file.

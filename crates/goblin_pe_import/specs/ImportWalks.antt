@@ -121,10 +121,11 @@ abbrev pub named_items : Bool → Format EntryValue → (ℕ → Option ℕ) →
 named_items strict format offset_of bytes index slot r None = None ∷ []
 named_items strict format offset_of bytes index slot r (Some dll) =
     let table = lookup_offset offset_of r in
+    let addresses = untested_table strict format offset_of (Some (address_table_rva r)) in
     imports_of_entries strict format offset_of bytes (origin index dll) r.import_address_table_rva
     (unwrap_or table 0)
     (begin_at slot table)
-    ++ refusal_of ((untested_table strict format offset_of (Some (address_table_rva r))).value bytes)
+    ++ refusal_of (addresses.value bytes)
 
 -- Permissive mode leaves out a library without an address table; from a slot on it is not tested.
 abbrev pub is_left_out : Bool → Format EntryValue → (ℕ → Option ℕ) → List ℕ → Option ℕ
@@ -320,8 +321,8 @@ IsLibraryBy format w None next = Unit {0}
 IsLibraryBy format w (Some place) None = ⊥
 IsLibraryBy format w (Some place) (Some at) =
     let m = map_of w.finder in
-    IsLibrary (reads_strictly m) format (offset_of m) w.bytes.now (walk_origin w) w.rva w.table_offset
-    w.untested at
+    IsLibrary (reads_strictly m) format (offset_of m) w.bytes.now (walk_origin w) w.rva
+    w.table_offset w.untested at
 
 -- where a walk is among the entries of a library, it holds what its record says
 abbrev pub IsInLibrary : Format EntryValue → Walk → Type 0

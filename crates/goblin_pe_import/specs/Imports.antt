@@ -108,7 +108,8 @@ has_slots library = length (kept_entries library) == length library.import_looku
 abbrev pub library_imports : ℕ → ImportedLibrary → Option (List ImportValue)
 library_imports size library =
     if has_slots library
-    then imports_by size (origin library.index library.name) library.import_directory_entry.import_address_table_rva
+    then imports_by size (origin library.index library.name)
+    library.import_directory_entry.import_address_table_rva
     (kept_entries library) library.import_lookup_slots
     else None
 

@@ -14,7 +14,8 @@ ghost use Rattle.goblin_base.specs.Reading.{Reads};
 ghost use Rattle.readings.specs.Reads.{mapped};
 ghost use Rattle.readings.specs.Walks.{GivesNext, IsWalkOf, Walks, until_refused};
 ghost use Rattle.goblin_pe_sect.specs.Addresses.{map_of, offset_of, reads_strictly};
-ghost use Rattle.goblin_pe_import.specs.ImportPositions.{BeginsAt, GoesOnAt, first_at, first_import};
+ghost use Rattle.goblin_pe_import.specs.ImportPositions.{BeginsAt, GoesOnAt, first_at};
+ghost use Rattle.goblin_pe_import.specs.ImportPositions.{first_import};
 ghost use Rattle.goblin_pe_import.specs.ImportReadings.{import_data, import_record_at};
 ghost use Rattle.goblin_pe_import.specs.ImportReadings.{libraries_at};
 ghost use Rattle.goblin_pe_import.specs.ImportRecords.{is_last_record};
@@ -70,10 +71,11 @@ pub struct WalkedImport<'a> {
 
 /// A position in the imports of an image, from which a walk can go on.
 ///
-/// Any numbers give imports or a refusal. With a slot these are the imports of that record's library
-/// from the slot on, and then of the records after it. What a walk has tested when it came to the
-/// library is not tested again: so permissive mode gives imports of a library that it leaves out, if
-/// the position is not from a walk.
+/// Any numbers give imports or a refusal. With a slot these are the imports of that record's
+/// library from the slot on, and then of the records after it, each with an index counted from the
+/// first record that is said. What a walk has tested when it came to the library is not tested
+/// again: so permissive mode gives imports of a library that it leaves out, if the position is not
+/// from a walk.
 #[derive(Debug, Copy, Clone, PartialEq, Eq)]
 pub struct ImportPosition {
     /// The file offset of the directory's first record, from which records are counted.
@@ -156,8 +158,8 @@ fn begin_at(slot_offset: Option<usize>, table: Option<usize>) -> Option<usize>
     Some(slot_offset.unwrap_or(offset))
 }
 
-// The import of an entry of the library `dll`, whose record has an index, whose lookup table is at a
-// file offset, and whose address table is at the address `rva`.
+// The import of an entry of the library `dll`, whose record has an index, whose lookup table is at
+// a file offset, and whose address table is at the address `rva`.
 #[inline(always)]
 fn import_of<'a, T: Bitfield<'a>>(
     kept: KeptEntry<'a>,
@@ -263,8 +265,8 @@ impl<'a, 'm> Walk<'a, 'm> {
         self.next = None;
     }
 
-    // Leads the walk to the library of the record at a position, from its slot on, and then to those
-    // whose records are in the directory from the offset `next` on.
+    // Leads the walk to the library of the record at a position, from its slot on, and then to
+    // those whose records are in the directory from the offset `next` on.
     #[inline(always)]
     fn enter<'e, T: Bitfield<'a>>(
         &mut self,

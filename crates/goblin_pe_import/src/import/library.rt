@@ -31,8 +31,8 @@ use std::marker::Model;
 /// Source: PE Format, "Import Directory Table", "Import Lookup Table" and "Import Address Table".
 #[derive(Debug, Drop)]
 pub struct SyntheticImportDirectoryEntry<'a> {
-    /// The index of the record in the import directory, where records that are left out count; 0 of a
-    /// record that is read by itself.
+    /// The index of the record in the import directory, where records that are left out count; 0
+    /// of a record that is read by itself.
     pub index: usize,
     /// The record, as it stands in the file.
     pub import_directory_entry: ImportDirectoryEntry,
