@@ -1,5 +1,5 @@
 -- The imports of a file as a part of it: permissive mode refuses no import data, and the part has what a walk over them collects.
-use Rattle.std.proofs.Common.{◌≡◌, ℕ, Bool, true, false, cond, List, Option, Some, None, IsSome, refl, subst, sym, ap, ◌∙◌, [], length, map, not, ◌&&◌, ◌==◌, ◌<◌, ◌^◌}
+use Rattle.std.proofs.Common.{◌≡◌, ℕ, Bool, true, false, cond, List, Option, Some, None, IsSome, refl, subst, sym, ap, ◌∙◌, length, map, not, ◌&&◌, ◌==◌, ◌<◌, ◌^◌}
 use Rattle.std.specs.Prelude.{option_map, Result, Ok, Err}
 use Rattle.std.specs.List.{flat_map}
 use Rattle.goblin_base.specs.declared.error.ErrorOf.{ErrorOf}
@@ -11,7 +11,7 @@ use Rattle.goblin_base.specs.Tables as tables
 use Rattle.goblin_base.specs.Tables.{Format, ends_table, made_of, slot_at, slot_table, stop}
 use Rattle.goblin_base.proofs.Below.{each_below-there, least-before}
 use Rattle.goblin_base.proofs.Steps.{unmapped}
-use Rattle.readings.specs.Reads.{given, in_its_place, mapped, with_slots}
+use Rattle.readings.specs.Reads.{in_its_place, mapped, with_slots}
 use Rattle.readings.specs.Walks.{IsWalkOf, Walks}
 use Rattle.goblin_pe_sect.specs.declared.data_directories.DataDirectory.{DataDirectory}
 use Rattle.goblin_pe_sect.specs.declared.options.ParseOptions.{ParseOptions}
