@@ -216,7 +216,8 @@ static inline void goblin_pe_free_ranges(struct goblin_pe_ranges *ranges)
    asked for, and in permissive mode where their directory has no file offset, or the offset 0. In strict mode the
    walk ends with a refusal where goblin_pe_open has one for its imports; what comes before it is given first, and
    no law says on which bytes that depends. The sections and the tables lie at `places`, which goblin_pe_read_layout
-   and goblin_pe_open say, so no call reads the header again; other numbers there lead to other tables, and harm nothing; flags are false or true.
+   and goblin_pe_open say, so no call reads the header again; other numbers there lead to other tables, and harm
+   nothing; flags are false or true.
    Refused is also a file that is too short for the records of its sections. Memory is taken only for an index of
    more than 96 sections, which Windows does not load, and given back: each call makes it anew, of 65,535 sections
    in some 25 milliseconds, so give room for thousands then. */
@@ -521,7 +522,11 @@ static inline struct goblin_pe_fault goblin_pe_forwarder_at(
 /* So many bytes of the file from the offset of an address on. The end of its section is not looked at, so where they
    pass that, what comes is what follows in the file, which a loader maps elsewhere or not at all; goblin_pe_memory_at
    gives what a loader sees. Refused are an address without an offset in the file, an offset at or past the file's
-   end, even if no bytes are asked for, and bytes that pass that end. No memory is taken. */
+   end, even if no bytes are asked for, and bytes that pass that end. No memory is taken.
+
+   So a name that is not UTF-8, which goblin_pe_text_at refuses, can be read: of an import two bytes after its rva, of
+   a library or an export at its name_rva, up to the first NUL among as many bytes as it may have, or as many as are
+   left of the file. */
 static inline struct goblin_pe_fault goblin_pe_bytes_at(
     const struct goblin_pe_image *image, size_t rva, size_t size, struct goblin_pe_text *bytes)
 {

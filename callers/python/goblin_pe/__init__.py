@@ -400,7 +400,10 @@ class Layout:
     def bytes_at(self, rva: int, size: int) -> _t.Optional[bytes]:
         """So many bytes of the file from the offset of an address on: None where the address has no offset in the file, this
         lies at or past its end, or the bytes pass it. The end of its section is not looked at, so where they pass that, what
-        comes is what follows in the file, which a loader maps elsewhere or not at all."""
+        comes is what follows in the file, which a loader maps elsewhere or not at all.
+
+        So a name that is not UTF-8, which text_at refuses, can be read: of an import two bytes after its rva, of a library or
+        an export at its name_rva, up to the first NUL among as many bytes as it may have, or as many as are left of the file."""
         text, data = records.Text(), self._bytes()
         with _held(data) as (address, length):
             image = self._image(address, length)

@@ -46,6 +46,10 @@ impl<'a> Layout<'a> {
     /// where they pass that, what comes is what follows in the file, which a loader maps elsewhere or not at
     /// all.
     ///
+    /// So a name that is not UTF-8, which [`text_at`](Self::text_at) refuses, can be read: of an import two
+    /// bytes after its `rva`, of a library or an export at its `name_rva`, up to the first NUL among as many
+    /// bytes as it may have, or as many as are left of the file.
+    ///
     /// # Errors
     /// Where the address has no offset in the file, where this lies at or past the file's end, even if no
     /// bytes are asked for, and where the bytes pass that end.
