@@ -13,7 +13,7 @@
    The tables of an image, and the ranges of a footprint, are memory of their own, which the caller may sort and
    change, and goblin_pe_free and goblin_pe_free_ranges give back; all else is filled into the caller's records.
    (The order of some says something: the first section that has an address maps it, and the index of an export
-   address is its ordinal.)
+   address is with the ordinal base its ordinal.)
 
    The file offset of a text is the difference of two pointers: each lies in the file, but for a DOS stub
    that permissive mode replaced. One that is absent, as its record says, or that permissive mode could not
@@ -56,10 +56,12 @@
                                      an index of some 300 bytes for each
    read_export_directory             the same                              the sections, and one text
    next_export_addresses             the same                              the sections, one text, and the records
-   next_imports, next_exports        the same                              the sections, and a name for each record
-                                                                           and for what is passed over before it
+   next_imports, next_exports        the same                              the sections, a name for each record and for
+                                                                           what is passed over before it, and the
+                                                                           address table of each library it comes to
    read_damage                       the same                              a name for each import and each export, and
-                                                                           for what is left out of them
+                                                                           for what is left out of them, and the
+                                                                           address table of each library
    open                              its tables, which no n bounds: see    the same, and a name for each section
                                      below
    footprint                         n / 8 and 8 * n bytes, and such an    the same
@@ -244,7 +246,7 @@ static inline bool goblin_pe_import_record_at(
 /* Goes on with the walk over the exports of an image, as goblin_pe_next_imports does over imports. The
    position is the index of a name pointer, 0 at the beginning. There are none where permissive mode passes over
    a refused directory; strict mode refuses it at once. A name pointer gives no export where no export has its index as
-   hint: goblin_pe_bytes_at reads it at name_pointer_rva of the export directory's record plus four times that index. */
+   hint: it stands four times that index after the file offset of name_pointer_rva of the export directory's record. */
 static inline struct goblin_pe_fault goblin_pe_next_exports(
     const uint8_t *bytes, size_t length, const struct goblin_pe_options *options, const struct goblin_pe_places *places,
     size_t *position, struct goblin_pe_export *exports, size_t room, size_t *count)

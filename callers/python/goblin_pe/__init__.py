@@ -174,8 +174,8 @@ class Damage(_t.NamedTuple):
     left_out_entries: how many entries of the other libraries it leaves out.
     left_out_exports: how many name pointers of the export directory give no export, in either mode: there is no ordinal, it lies
         past the address table, or it leads to a forwarder whose text can't be read. 0 where the exports are refused. Their
-        indexes are the hints that no export has, and bytes_at reads such a pointer at the record's name_pointer_rva plus four
-        times its index.
+        indexes are the hints that no export has: such a pointer stands four times its index after the file offset of the
+        record's name_pointer_rva.
     """
 
     dos_stub: _t.Optional[Refused]
@@ -562,11 +562,12 @@ class Layout:
         return self._export_entries(self._bytes())
 
     def _export_entries(self, data: _Kept) -> _t.Iterator[ExportEntry]:
-        directory, found = self._read_directory(data), _room(records.ExportAddress, self._batch())
+        directory, most = self._read_directory(data), self._batch()
         ordinals = _itertools.count(directory.table.ordinal_base if directory else 0)
-        batches = _batches(data, found, lambda address, length, *to: _LIB.goblin_pe_raw_next_export_addresses(
-            address, length, _c.byref(self._options), _c.byref(self._places), *to), _c.c_size_t())
-        for it in _itertools.chain.from_iterable(found[:count] for _, count in batches):
+        batches = _growing_batches(data, _room(records.ExportAddress, most), lambda address, length, *to: (
+            _LIB.goblin_pe_raw_next_export_addresses(address, length, _c.byref(self._options), _c.byref(self._places), *to)),
+            _c.c_size_t(), _LARGEST_BATCH if most > _BATCH else 0)
+        for it in _itertools.chain.from_iterable(_laid_out.first_of(found, count) for _, count, found in batches):
             yield ExportEntry(next(ordinals), it.rva, it.forwards, self.forwarder_at(it.rva) if it.forwards else None)
 
     def walk_blocks(self) -> _t.Iterator[Block]:

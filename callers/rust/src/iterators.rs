@@ -233,7 +233,8 @@ impl Position for usize {
 struct Batches<T, P> {
     // (none before the first are read)
     records: Vec<T>,
-    // How many are read at once after the first, and how many at last.
+    // How many are read at once at first, then, and at last.
+    first: usize,
     batch: usize,
     most: usize,
     position: P,
@@ -244,12 +245,13 @@ struct Batches<T, P> {
 }
 
 impl<T: Copy + Default, P: Position> Batches<T, P> {
-    // From the beginning, so many at once, and at last as many as the most.
-    fn new(batch: usize, most: usize) -> Self {
+    // From the beginning, so many at once.
+    fn new(batch: usize) -> Self {
         Batches {
             records: Vec::new(),
+            first: FIRST.min(batch),
             batch,
-            most,
+            most: batch,
             position: P::default(),
             next: 0,
             count: 0,
@@ -260,14 +262,17 @@ impl<T: Copy + Default, P: Position> Batches<T, P> {
     // From the beginning of a table, if there is one, in a file whose sections lie there: so many at once where no index
     // of them is made.
     fn of_table(places: &raw::Places, is_there: bool, batch: usize) -> Self {
-        let is_indexed = usize::from(places.number_of_sections) > MOST_UNINDEXED;
-        let batches = if is_indexed {
-            Self::new(INDEXED_BATCH, MOST_INDEXED)
-        } else {
-            Self::new(batch, batch)
-        };
-        Batches {
+        let batches = Batches {
             is_over: !is_there,
+            ..Self::new(batch)
+        };
+        if usize::from(places.number_of_sections) <= MOST_UNINDEXED {
+            return batches;
+        }
+        Batches {
+            first: INDEXED_BATCH,
+            batch: INDEXED_BATCH,
+            most: MOST_INDEXED,
             ..batches
         }
     }
@@ -303,7 +308,7 @@ impl<T: Copy + Default, P: Position> Batches<T, P> {
     ) -> Result<(), Error> {
         let had = self.records.len();
         let room = match had {
-            0 => FIRST.min(self.most),
+            0 => self.first,
             _ => (4 * had).clamp(self.batch, self.most),
         };
         self.end();
@@ -576,7 +581,7 @@ impl<'a> WalkRelocations<'a> {
         WalkRelocations {
             bytes,
             section,
-            batches: Batches::new(BATCH, BATCH),
+            batches: Batches::new(BATCH),
         }
     }
 }
@@ -613,7 +618,7 @@ impl<'a> Symbols<'a> {
     pub(crate) fn of(bytes: &'a [u8], header: &CoffHeader) -> Result<Self, Error> {
         let mut table = raw::SymbolTable::default();
         Error::test(raw::read_symbol_table(bytes, header, &mut table))?;
-        let mut batches = Batches::new(BATCH, BATCH);
+        let mut batches = Batches::new(BATCH);
         batches.fill(|position, records, count| {
             raw::next_symbols(bytes, &table, position, records, count)
         })?;

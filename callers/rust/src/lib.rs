@@ -27,7 +27,7 @@
 //! | [`Layout::read`] | as long as the file, and the names of the sections | a record for each section |
 //! | [`Layout::walk_imports`], [`Layout::walk_exports`], [`Layout::walk_blocks`] | as they go on | room for 256 rows; of more than 96 sections for 4,096 and up to 65,536, and an index |
 //! | [`Layout::walk_libraries`] | a call for each library; of more than 96 sections for thousands of imports | room for a row, or as the walks above |
-//! | [`Layout::walk_export_addresses`] | as it goes on, a walk over the sections for each forwarder | as the walks above, and of forwarders a record for each section |
+//! | [`Layout::walk_export_addresses`] | as it goes on, a walk over the sections for each forwarder, and for the first a [`Layout::read`] | as the walks above, and of forwarders a record for each section |
 //! | [`Layout::export_directory`], [`Layout::name`] | a walk over the sections, and a text | an index of more than 96 sections |
 //! | [`Layout::symbols`], [`Object::symbols`] | as long as the string table, then as they go on | room for 256 rows |
 //! | [`Section::walk_relocations`] | as it goes on | room for 256 rows |

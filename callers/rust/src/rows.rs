@@ -128,9 +128,8 @@ pub struct Damage {
     pub left_out_entries: usize,
     /// How many name pointers of the export directory give no export, in either mode: there is no
     /// ordinal, the ordinal lies past the address table, or it leads to a forwarder whose text can't be
-    /// read. 0 where the exports are refused. Their indexes are the hints that no export has, and
-    /// [`Layout::bytes_at`](crate::Layout::bytes_at) reads such a pointer at the record's `name_pointer_rva` plus four
-    /// times its index.
+    /// read. 0 where the exports are refused. Their indexes are the hints that no export has: such a pointer
+    /// stands four times its index after the file offset of the record's `name_pointer_rva`.
     pub left_out_exports: usize,
 }
 

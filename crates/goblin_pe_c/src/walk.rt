@@ -46,7 +46,8 @@ use std::alloc::Global;
 /// [`goblin_pe_raw_read_layout`](crate::whole_file::goblin_pe_raw_read_layout) and
 /// [`goblin_pe_raw_open`](crate::whole_file::goblin_pe_raw_open) say of the file; the header is not
 /// read again. Other numbers are followed as well: what lies there is taken for the section table
-/// and the directory.
+/// and the directory. So are those of a position that no call has left, by which records, slots and
+/// indexes are then counted.
 ///
 /// Refused, with nothing changed, is a file that is too short for the records of its sections,
 /// where there are any (the status 4); in strict mode an import directory whose address has no
@@ -113,7 +114,7 @@ pub extern "C" fn goblin_pe_raw_next_exports<'a>(
 /// Puts into `directory` what the export directory of a file says, and lists no export: the record
 /// that [`goblin_pe_raw_open`](crate::whole_file::goblin_pe_raw_open) has beside its lists. Of a
 /// file without an export directory, and in permissive mode of one whose directory is refused, it
-/// is zeros. The sections and the directory lie where `places` says, as for
+/// is zeros, and no name. The sections and the directory lie where `places` says, as for
 /// [`goblin_pe_raw_next_imports`].
 ///
 /// Refused, with nothing changed, are sections as by that call, and in strict mode the export

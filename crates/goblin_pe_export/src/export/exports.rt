@@ -72,6 +72,7 @@ impl<'a, 'm> Exports<'a, 'm> {
         ensures left { let m = map_of address_map.now in
             IfOk result (λ walk. exports_left walk
             ≡ numbered_from (offset_of m) bytes.now (walked_tables walk) 0) }
+        ensures at { IfOk result (λ walk. exports_position walk ≡ 0) }
         ensures over { IfOk result (AreExportsOver bytes.now (map_of address_map.now)) }
     {
         Exports::by(bytes, directory, Finder::of(address_map))
@@ -95,6 +96,7 @@ impl<'a, 'm> Exports<'a, 'm> {
         ensures left { let m = map_of finder.entry in
             IfOk result (λ walk. exports_left walk
             ≡ numbered_from (offset_of m) bytes.now (walked_tables walk) 0) }
+        ensures at { IfOk result (λ walk. exports_position walk ≡ 0) }
         ensures over { IfOk result (AreExportsOver bytes.now (map_of finder.entry)) }
     {
         let tables = TablesInFile::find(bytes, directory, &mut finder)?;

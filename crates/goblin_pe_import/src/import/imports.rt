@@ -71,11 +71,11 @@ pub struct WalkedImport<'a> {
 
 /// A position in the imports of an image, from which a walk can go on.
 ///
-/// Any numbers give imports or a refusal. With a slot these are the imports of that record's
+/// Any numbers give imports, none or a refusal. With a slot these are the imports of that record's
 /// library from the slot on, and then of the records after it, each with an index counted from the
-/// first record that is said. What a walk has tested when it came to the library is not tested
-/// again: so permissive mode gives imports of a library that it leaves out, if the position is not
-/// from a walk.
+/// first record that is said, 0 before it. What a walk has tested when it came to the library is
+/// not tested again: so permissive mode gives imports of a library that it leaves out, if the
+/// position is not from a walk.
 #[derive(Debug, Copy, Clone, PartialEq, Eq)]
 pub struct ImportPosition {
     /// The file offset of the directory's first record, from which records are counted.
