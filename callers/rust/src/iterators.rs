@@ -8,7 +8,7 @@ use std::slice::{ChunksExact, Iter};
 
 use crate::error::Error;
 use crate::layout::Layout;
-use crate::memory::grown;
+use crate::memory::make_room;
 use crate::raw::{self, CoffHeader, Fault, Options, Relocation};
 use crate::rows::{Block, Export, ExportAddress, ExportEntry, Import, Library, Section, Symbol};
 use crate::text::Text;
@@ -188,9 +188,10 @@ impl DoubleEndedIterator for DataDirectories<'_> {
 
 impl FusedIterator for DataDirectories<'_> {}
 
-// How many records a walk reads at once, and how many first: most files have few.
+// How many records a walk reads at once, and how many bytes of them first: most files have few, and an allocator has
+// such blocks at hand.
 const BATCH: usize = 256;
-const FIRST: usize = 16;
+const FIRST_BYTES: usize = 1024;
 
 // How many it reads at once of a file with more sections than are walked over for each address: each read makes an
 // index of them. At first it is the one number, and then each time four times as many, up to the other one.
@@ -199,32 +200,43 @@ const MOST_INDEXED: usize = 65536;
 const MOST_UNINDEXED: usize = 96;
 
 // Where a walk goes on.
-trait Position: Default {
-    // Whether nothing follows the batch of so many records that ended here; it had room for these.
-    fn is_end(&self, count: usize, room: usize) -> bool;
+trait Position {
+    // Whether nothing follows the batch that ended here. It is full, or not.
+    fn is_end(&self, is_full: bool) -> bool;
 }
 
 impl Position for raw::ImportPosition {
-    // (a batch that is not full may come before a refusal)
-    fn is_end(&self, count: usize, _room: usize) -> bool {
-        count == 0 || self.record_offset == usize::MAX
+    // (what follows a batch that is not full may be a refusal)
+    fn is_end(&self, _is_full: bool) -> bool {
+        self.record_offset == usize::MAX
     }
 }
 
-// The offset of a block in the directory of base relocations.
-#[derive(Clone, Default)]
-struct BlockPosition(usize);
+// The offset of a block in the directory of base relocations, of this size.
+#[derive(Clone)]
+struct BlockPosition {
+    offset: usize,
+    size: usize,
+}
+
+impl BlockPosition {
+    // The first one, in a file whose tables lie there.
+    fn of(places: &raw::Places) -> Self {
+        let size = places.relocations.size as usize;
+        BlockPosition { offset: 0, size }
+    }
+}
 
 impl Position for BlockPosition {
-    // (a batch that is not full may come before a refusal)
-    fn is_end(&self, count: usize, _room: usize) -> bool {
-        count == 0
+    // (what follows a batch that is not full is a refusal)
+    fn is_end(&self, _is_full: bool) -> bool {
+        self.offset >= self.size
     }
 }
 
 impl Position for usize {
-    fn is_end(&self, count: usize, room: usize) -> bool {
-        count < room
+    fn is_end(&self, is_full: bool) -> bool {
+        !is_full
     }
 }
 
@@ -233,38 +245,36 @@ impl Position for usize {
 struct Batches<T, P> {
     // (none before the first are read)
     records: Vec<T>,
+    next: usize,
     // How many are read at once at first, then, and at last.
     first: usize,
     batch: usize,
     most: usize,
     position: P,
-    next: usize,
-    count: usize,
-    // Whether no more are read: after a refusal, and where the file has no such table.
+    // Whether no more are read: after the last and a refusal, and where the file has no such table.
     is_over: bool,
 }
 
-impl<T: Copy + Default, P: Position> Batches<T, P> {
-    // From the beginning, so many at once.
-    fn new(batch: usize) -> Self {
+impl<T, P: Position> Batches<T, P> {
+    // From a position on, so many at once.
+    fn new(position: P, batch: usize) -> Self {
         Batches {
             records: Vec::new(),
-            first: FIRST.min(batch),
+            next: 0,
+            first: (FIRST_BYTES / size_of::<T>()).min(batch),
             batch,
             most: batch,
-            position: P::default(),
-            next: 0,
-            count: 0,
+            position,
             is_over: false,
         }
     }
 
-    // From the beginning of a table, if there is one, in a file whose sections lie there: so many at once where no index
+    // From a position of a table on, if there is one, in a file whose sections lie there: so many at once where no index
     // of them is made.
-    fn of_table(places: &raw::Places, is_there: bool, batch: usize) -> Self {
+    fn of_table(places: &raw::Places, is_there: bool, position: P, batch: usize) -> Self {
         let batches = Batches {
             is_over: !is_there,
-            ..Self::new(batch)
+            ..Self::new(position, batch)
         };
         if usize::from(places.number_of_sections) <= MOST_UNINDEXED {
             return batches;
@@ -281,48 +291,46 @@ impl<T: Copy + Default, P: Position> Batches<T, P> {
     // follow, the call reads these.
     fn next(
         &mut self,
-        call: impl FnOnce(&mut P, &mut [T], &mut usize) -> Fault,
+        call: impl FnOnce(&mut P, &mut Vec<T>) -> Fault,
     ) -> Option<Result<&T, Error>> {
-        let room = self.records.len();
-        let is_taken = self.next == self.count && !self.is_over;
-        if is_taken && (room == 0 || !self.position.is_end(self.count, room)) {
+        if self.next == self.records.len() && !self.is_over {
             if let Err(error) = self.fill(call) {
                 return Some(Err(error));
             }
         }
-        let record = self.records[..self.count].get(self.next)?;
+        let record = self.records.get(self.next)?;
         self.next += 1;
         Some(Ok(record))
     }
 
     // Gives no more.
     fn end(&mut self) {
-        (self.next, self.count, self.is_over) = (0, 0, true);
+        self.records.clear();
+        (self.next, self.is_over) = (0, true);
     }
 
-    // Reads the next records, and answers whether that was refused. Where only memory for more of them is refused, it
-    // reads as many as before.
-    fn fill(
-        &mut self,
-        call: impl FnOnce(&mut P, &mut [T], &mut usize) -> Fault,
-    ) -> Result<(), Error> {
-        let had = self.records.len();
+    // Reads the next records, and answers whether that was refused. More are read than before where these took all the
+    // room; where memory for more of them is refused, it reads as many as before.
+    fn fill(&mut self, call: impl FnOnce(&mut P, &mut Vec<T>) -> Fault) -> Result<(), Error> {
+        let had = self.records.capacity();
         let room = match had {
             0 => self.first,
+            _ if self.records.len() < had => had,
             _ => (4 * had).clamp(self.batch, self.most),
         };
         self.end();
-        grown(&mut self.records, T::default(), room)?;
-        let fault = call(&mut self.position, &mut self.records, &mut self.count);
-        Error::test(fault)?;
-        self.is_over = false;
+        make_room(&mut self.records, room).or_else(|e| if had == 0 { Err(e) } else { Ok(()) })?;
+        Error::test(call(&mut self.position, &mut self.records))?;
+        let count = self.records.len();
+        let is_full = count == self.records.capacity();
+        self.is_over = count == 0 || self.position.is_end(is_full);
         Ok(())
     }
 }
 
 // Walks whose items are rows or the refusal that ends them.
 macro_rules! walks {
-    ($($(#[$of:meta])* $name:ident by $call:path, $record:ident from $position:ty, $is_there:ident => $item:ty;)*) => {$(
+    ($($(#[$of:meta])* $name:ident by $call:path, $record:ident from $start:expr => $position:ty, $is_there:ident => $item:ty;)*) => {$(
         $(#[$of])*
         #[derive(Clone)]
         pub struct $name<'a> {
@@ -335,7 +343,8 @@ macro_rules! walks {
         impl<'a> $name<'a> {
             // From the beginning, in a file whose sections and tables lie there.
             pub(crate) fn of(bytes: &'a [u8], options: Options, places: raw::Places) -> Self {
-                let batches = Batches::of_table(&places, places.$is_there, BATCH);
+                let start: fn(&raw::Places) -> $position = $start;
+                let batches = Batches::of_table(&places, places.$is_there, start(&places), BATCH);
                 $name { bytes, options, places, batches }
             }
         }
@@ -344,8 +353,8 @@ macro_rules! walks {
             type Item = Result<$item, Error>;
 
             fn next(&mut self) -> Option<Result<$item, Error>> {
-                let found = self.batches.next(|position, records, count| {
-                    $call(self.bytes, &self.options, &self.places, position, records, count)
+                let found = self.batches.next(|position, records| {
+                    $call(self.bytes, &self.options, &self.places, position, records)
                 })?;
                 Some(found.map(<$item>::from))
             }
@@ -364,14 +373,15 @@ macro_rules! walks {
 walks! {
     /// A walk over the imports of an image, in constant memory. A copy has room of its own; where memory for it is
     /// refused, the process ends as it does for a [`Vec`].
-    WalkImports by raw::next_imports, Import from raw::ImportPosition, has_imports => Import<'a>;
+    WalkImports by raw::next_imports, Import from |_| raw::ImportPosition::default() => raw::ImportPosition,
+        has_imports => Import<'a>;
 
     /// A walk over the exports of an image, in constant memory. A copy is as that of [`WalkImports`].
-    WalkExports by raw::next_exports, Export from usize, has_exports => Export<'a>;
+    WalkExports by raw::next_exports, Export from |_| 0 => usize, has_exports => Export<'a>;
 
     /// A walk over the blocks of base relocations of an image, in constant memory. A copy is as that of
     /// [`WalkImports`].
-    WalkBlocks by next_blocks, Block from BlockPosition, has_relocations => Block<'a>;
+    WalkBlocks by next_blocks, Block from BlockPosition::of => BlockPosition, has_relocations => Block<'a>;
 }
 
 // The call of the walk over blocks, as those of the other walks are.
@@ -381,10 +391,9 @@ fn next_blocks<'a>(
     options: &Options,
     places: &raw::Places,
     position: &mut BlockPosition,
-    blocks: &mut [raw::Block<'a>],
-    count: &mut usize,
+    blocks: &mut Vec<raw::Block<'a>>,
 ) -> Fault {
-    raw::next_blocks(bytes, options, places, &mut position.0, blocks, count)
+    raw::next_blocks(bytes, options, places, &mut position.offset, blocks)
 }
 
 /// A walk over the entries of the export address table of an image, each with its forwarder, in constant memory but for
@@ -409,7 +418,7 @@ impl<'a> WalkExportAddresses<'a> {
             options,
             places,
             ordinal: 0,
-            batches: Batches::of_table(&places, places.has_exports, BATCH),
+            batches: Batches::of_table(&places, places.has_exports, 0, BATCH),
             layout: None,
         }
     }
@@ -418,7 +427,7 @@ impl<'a> WalkExportAddresses<'a> {
     fn next_address(&mut self) -> Option<Result<raw::ExportAddress, Error>> {
         let (bytes, options, places) = (self.bytes, &self.options, &self.places);
         let ordinal = &mut self.ordinal;
-        let found = self.batches.next(|position, records, count| {
+        let found = self.batches.next(|position, records| {
             if *position == 0 {
                 let mut directory = raw::ExportDirectory::default();
                 let fault = raw::read_export_directory(bytes, options, places, &mut directory);
@@ -427,7 +436,7 @@ impl<'a> WalkExportAddresses<'a> {
                 }
                 *ordinal = directory.table.ordinal_base as usize;
             }
-            raw::next_export_addresses(bytes, options, places, position, records, count)
+            raw::next_export_addresses(bytes, options, places, position, records)
         })?;
         Some(found.copied())
     }
@@ -497,7 +506,12 @@ impl<'a> WalkLibraries<'a> {
             places,
             directory,
             last: None,
-            batches: Batches::of_table(&places, places.has_imports, 1),
+            batches: Batches::of_table(
+                &places,
+                places.has_imports,
+                raw::ImportPosition::default(),
+                1,
+            ),
         }
     }
 
@@ -509,16 +523,9 @@ impl<'a> WalkLibraries<'a> {
             slot_offset: 0,
             first_record: directory,
         });
-        let found = self.batches.next(|position, records, count| {
+        let found = self.batches.next(|position, records| {
             *position = next.unwrap_or_default();
-            raw::next_imports(
-                self.bytes,
-                &self.options,
-                &self.places,
-                position,
-                records,
-                count,
-            )
+            raw::next_imports(self.bytes, &self.options, &self.places, position, records)
         })?;
         Some(found.copied())
     }
@@ -581,7 +588,7 @@ impl<'a> WalkRelocations<'a> {
         WalkRelocations {
             bytes,
             section,
-            batches: Batches::new(BATCH),
+            batches: Batches::new(0, BATCH),
         }
     }
 }
@@ -590,8 +597,8 @@ impl Iterator for WalkRelocations<'_> {
     type Item = Result<Relocation, Error>;
 
     fn next(&mut self) -> Option<Result<Relocation, Error>> {
-        let found = self.batches.next(|position, records, count| {
-            raw::next_relocations(self.bytes, &self.section, position, records, count)
+        let found = self.batches.next(|position, records| {
+            raw::next_relocations(self.bytes, &self.section, position, records)
         })?;
         Some(found.copied())
     }
@@ -618,10 +625,8 @@ impl<'a> Symbols<'a> {
     pub(crate) fn of(bytes: &'a [u8], header: &CoffHeader) -> Result<Self, Error> {
         let mut table = raw::SymbolTable::default();
         Error::test(raw::read_symbol_table(bytes, header, &mut table))?;
-        let mut batches = Batches::new(BATCH);
-        batches.fill(|position, records, count| {
-            raw::next_symbols(bytes, &table, position, records, count)
-        })?;
+        let mut batches = Batches::new(0, BATCH);
+        batches.fill(|position, records| raw::next_symbols(bytes, &table, position, records))?;
         Ok(Symbols {
             bytes,
             table,
@@ -655,8 +660,8 @@ impl<'a> Iterator for Symbols<'a> {
     type Item = Symbol<'a>;
 
     fn next(&mut self) -> Option<Symbol<'a>> {
-        let found = self.batches.next(|position, records, count| {
-            raw::next_symbols(self.bytes, &self.table, position, records, count)
+        let found = self.batches.next(|position, records| {
+            raw::next_symbols(self.bytes, &self.table, position, records)
         })?;
         // (what is refused is so at the first call)
         found.ok().map(Symbol::from)

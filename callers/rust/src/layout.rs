@@ -11,7 +11,7 @@ use crate::iterators::{
     DataDirectories, Sections, Symbols, WalkBlocks, WalkExportAddresses, WalkExports, WalkImports,
     WalkLibraries,
 };
-use crate::memory::records;
+use crate::memory::{make_room, room};
 use crate::numbers::DirectoryType;
 use crate::pe::Pe;
 use crate::raw::{self, CoffHeader, DataDirectory, DosHeader, OptionalHeader, Options};
@@ -93,13 +93,11 @@ impl<'a> Layout<'a> {
     pub fn read(bytes: &'a [u8], options: &Options) -> Result<Layout<'a>, Error> {
         let mut file = raw::Layout::default();
         let mut directories = [raw::Directory::default(); 16];
-        let mut first = [raw::Section::default(); FIRST];
-        let fault = raw::read_layout(bytes, options, &mut file, &mut directories, &mut first);
+        let mut sections = room(FIRST)?;
+        let fault = raw::read_layout(bytes, options, &mut file, &mut directories, &mut sections);
         Error::test(fault)?;
-        let mut sections = records(raw::Section::default(), file.sections)?;
-        if let Some(all) = first.get(..file.sections) {
-            sections.copy_from_slice(all);
-        } else {
+        if sections.len() < file.sections {
+            make_room(&mut sections, file.sections)?;
             let fault = raw::read_layout(bytes, options, &mut file, &mut [], &mut sections);
             Error::test(fault)?;
         }

@@ -4,7 +4,7 @@ use std::fmt;
 
 use crate::error::Error;
 use crate::iterators::{Sections, Symbols};
-use crate::memory::records;
+use crate::memory::make_room;
 use crate::raw::{self, CoffHeader, Options};
 use crate::rows::Section;
 
@@ -47,8 +47,9 @@ impl<'a> Object<'a> {
     /// ```
     pub fn read(bytes: &'a [u8], options: &Options) -> Result<Object<'a>, Error> {
         let mut found = raw::Object::default();
-        Error::test(raw::read_object(bytes, options, &mut found, &mut []))?;
-        let mut sections = records(raw::Section::default(), found.sections)?;
+        let mut sections = Vec::new();
+        Error::test(raw::read_object(bytes, options, &mut found, &mut sections))?;
+        make_room(&mut sections, found.sections)?;
         Error::test(raw::read_object(bytes, options, &mut found, &mut sections))?;
         Ok(Object {
             bytes,

@@ -244,6 +244,17 @@ fn test_interface() {
     });
 }
 
+// Fills a vector with the records of a call, as far as it has room. The call gets a pointer to the room, how many
+// records fit, and a place to say how many there are, also past the room; where it is refused it says none.
+fn fill<T>(records: &mut Vec<T>, call: impl FnOnce(*mut T, usize, &mut usize) -> Fault) -> Fault {
+    records.clear();
+    let (room, mut count) = (records.capacity(), 0);
+    let fault = call(records.as_mut_ptr(), room, &mut count);
+    // SAFETY: the library has filled so many records.
+    unsafe { records.set_len(count.min(room)) };
+    fault
+}
+
 /// What a file is, by its first bytes: a `Kind`.
 pub fn kind(bytes: &[u8]) -> u32 {
     test_interface();
@@ -275,28 +286,33 @@ pub fn open<'a>(
     }
 }
 
-/// Reads the header and the sections of a file; fills the records as far as there is room.
+/// Reads the header and the sections of a file; fills the vector as far as it has room.
 pub fn read_layout<'a>(
     bytes: &'a [u8],
     options: &Options,
     layout: &mut Layout<'a>,
     directories: &mut [Directory],
-    sections: &mut [Section<'a>],
+    sections: &mut Vec<Section<'a>>,
 ) -> Fault {
     test_interface();
-    // SAFETY: as in `open`.
-    unsafe {
-        goblin_pe_raw_read_layout(
-            bytes.as_ptr(),
-            bytes.len(),
-            options,
-            layout,
-            directories.as_mut_ptr(),
-            directories.len(),
-            sections.as_mut_ptr(),
-            sections.len(),
-        )
-    }
+    layout.sections = 0;
+    fill(sections, |first, room, count| {
+        // SAFETY: as in `open`; there is room for as many records as it is told.
+        let fault = unsafe {
+            goblin_pe_raw_read_layout(
+                bytes.as_ptr(),
+                bytes.len(),
+                options,
+                layout,
+                directories.as_mut_ptr(),
+                directories.len(),
+                first,
+                room,
+            )
+        };
+        *count = layout.sections;
+        fault
+    })
 }
 
 /// Tells what strict mode would refuse.
@@ -313,29 +329,30 @@ pub fn footprint(bytes: &[u8], options: &Options, ranges: &mut Ranges<'_>) -> Fa
     unsafe { goblin_pe_raw_footprint(bytes.as_ptr(), bytes.len(), options, ranges) }
 }
 
-/// Goes on with the walk over imports; fills the records as far as there is room, and says how many.
+/// Goes on with the walk over imports; fills the vector as far as it has room.
 pub fn next_imports<'a>(
     bytes: &'a [u8],
     options: &Options,
     places: &Places,
     position: &mut ImportPosition,
-    imports: &mut [Import<'a>],
-    count: &mut usize,
+    imports: &mut Vec<Import<'a>>,
 ) -> Fault {
     test_interface();
-    // SAFETY: as in `open`.
-    unsafe {
-        goblin_pe_raw_next_imports(
-            bytes.as_ptr(),
-            bytes.len(),
-            options,
-            places,
-            position,
-            imports.as_mut_ptr(),
-            imports.len(),
-            count,
-        )
-    }
+    fill(imports, |first, room, count| {
+        // SAFETY: as in `read_layout`.
+        unsafe {
+            goblin_pe_raw_next_imports(
+                bytes.as_ptr(),
+                bytes.len(),
+                options,
+                places,
+                position,
+                first,
+                room,
+                count,
+            )
+        }
+    })
 }
 
 /// The record of a library in the import directory, at a file offset.
@@ -348,29 +365,30 @@ pub fn import_record_at(bytes: &[u8], offset: usize) -> Option<ImportDirectoryEn
     is_there.then_some(record)
 }
 
-/// Goes on with the walk over exports; fills the records as far as there is room, and says how many.
+/// Goes on with the walk over exports; fills the vector as far as it has room.
 pub fn next_exports<'a>(
     bytes: &'a [u8],
     options: &Options,
     places: &Places,
     position: &mut usize,
-    exports: &mut [Export<'a>],
-    count: &mut usize,
+    exports: &mut Vec<Export<'a>>,
 ) -> Fault {
     test_interface();
-    // SAFETY: as in `open`.
-    unsafe {
-        goblin_pe_raw_next_exports(
-            bytes.as_ptr(),
-            bytes.len(),
-            options,
-            places,
-            position,
-            exports.as_mut_ptr(),
-            exports.len(),
-            count,
-        )
-    }
+    fill(exports, |first, room, count| {
+        // SAFETY: as in `read_layout`.
+        unsafe {
+            goblin_pe_raw_next_exports(
+                bytes.as_ptr(),
+                bytes.len(),
+                options,
+                places,
+                position,
+                first,
+                room,
+                count,
+            )
+        }
+    })
 }
 
 /// Reads what the export directory says.
@@ -387,92 +405,92 @@ pub fn read_export_directory<'a>(
     }
 }
 
-/// Goes on with the walk over the entries of the export address table; fills the records as far as there is room,
-/// and says how many.
+/// Goes on with the walk over the entries of the export address table; fills the vector as far as it has room.
 pub fn next_export_addresses(
     bytes: &[u8],
     options: &Options,
     places: &Places,
     position: &mut usize,
-    addresses: &mut [ExportAddress],
-    count: &mut usize,
+    addresses: &mut Vec<ExportAddress>,
 ) -> Fault {
     test_interface();
-    // SAFETY: as in `kind`.
-    unsafe {
-        goblin_pe_raw_next_export_addresses(
-            bytes.as_ptr(),
-            bytes.len(),
-            options,
-            places,
-            position,
-            addresses.as_mut_ptr(),
-            addresses.len(),
-            count,
-        )
-    }
+    fill(addresses, |first, room, count| {
+        // SAFETY: as in `read_layout`.
+        unsafe {
+            goblin_pe_raw_next_export_addresses(
+                bytes.as_ptr(),
+                bytes.len(),
+                options,
+                places,
+                position,
+                first,
+                room,
+                count,
+            )
+        }
+    })
 }
 
-/// Goes on with the walk over the blocks of base relocations; fills the records as far as there is room, and says how
-/// many.
+/// Goes on with the walk over the blocks of base relocations; fills the vector as far as it has room.
 pub fn next_blocks<'a>(
     bytes: &'a [u8],
     options: &Options,
     places: &Places,
     position: &mut usize,
-    blocks: &mut [Block<'a>],
-    count: &mut usize,
+    blocks: &mut Vec<Block<'a>>,
 ) -> Fault {
     test_interface();
-    // SAFETY: as in `open`.
-    unsafe {
-        goblin_pe_raw_next_blocks(
-            bytes.as_ptr(),
-            bytes.len(),
-            options,
-            places,
-            position,
-            blocks.as_mut_ptr(),
-            blocks.len(),
-            count,
-        )
-    }
+    fill(blocks, |first, room, count| {
+        // SAFETY: as in `read_layout`.
+        unsafe {
+            goblin_pe_raw_next_blocks(
+                bytes.as_ptr(),
+                bytes.len(),
+                options,
+                places,
+                position,
+                first,
+                room,
+                count,
+            )
+        }
+    })
 }
 
-/// Reads an object; fills the records as far as there is room.
+/// Reads an object; fills the vector as far as it has room.
 pub fn read_object<'a>(
     bytes: &'a [u8],
     options: &Options,
     object: &mut Object,
-    sections: &mut [Section<'a>],
+    sections: &mut Vec<Section<'a>>,
 ) -> Fault {
     test_interface();
-    // SAFETY: as in `open`.
-    unsafe {
-        goblin_pe_raw_read_object(
-            bytes.as_ptr(),
-            bytes.len(),
-            options,
-            object,
-            sections.as_mut_ptr(),
-            sections.len(),
-        )
-    }
+    object.sections = 0;
+    fill(sections, |first, room, count| {
+        // SAFETY: as in `read_layout`.
+        let fault = unsafe {
+            goblin_pe_raw_read_object(bytes.as_ptr(), bytes.len(), options, object, first, room)
+        };
+        *count = object.sections;
+        fault
+    })
 }
 
-/// Reads a Terse Executable; fills the records as far as there is room.
-pub fn read_te<'a>(bytes: &'a [u8], header: &mut TeHeader, sections: &mut [Section<'a>]) -> Fault {
+/// Reads a Terse Executable; fills the vector as far as it has room.
+pub fn read_te<'a>(
+    bytes: &'a [u8],
+    header: &mut TeHeader,
+    sections: &mut Vec<Section<'a>>,
+) -> Fault {
     test_interface();
-    // SAFETY: as in `open`.
-    unsafe {
-        goblin_pe_raw_read_te(
-            bytes.as_ptr(),
-            bytes.len(),
-            header,
-            sections.as_mut_ptr(),
-            sections.len(),
-        )
-    }
+    header.number_of_sections = 0;
+    fill(sections, |first, room, count| {
+        // SAFETY: as in `read_layout`.
+        let fault =
+            unsafe { goblin_pe_raw_read_te(bytes.as_ptr(), bytes.len(), header, first, room) };
+        *count = header.number_of_sections.into();
+        fault
+    })
 }
 
 /// Tests a symbol table and its string table, and says where they lie.
@@ -482,27 +500,28 @@ pub fn read_symbol_table(bytes: &[u8], header: &CoffHeader, table: &mut SymbolTa
     unsafe { goblin_pe_raw_read_symbol_table(bytes.as_ptr(), bytes.len(), header, table) }
 }
 
-/// Goes on with the walk over symbols; fills the records as far as there is room, and says how many.
+/// Goes on with the walk over symbols; fills the vector as far as it has room.
 pub fn next_symbols<'a>(
     bytes: &'a [u8],
     table: &SymbolTable,
     position: &mut usize,
-    symbols: &mut [NamedSymbol<'a>],
-    count: &mut usize,
+    symbols: &mut Vec<NamedSymbol<'a>>,
 ) -> Fault {
     test_interface();
-    // SAFETY: as in `open`.
-    unsafe {
-        goblin_pe_raw_next_symbols(
-            bytes.as_ptr(),
-            bytes.len(),
-            table,
-            position,
-            symbols.as_mut_ptr(),
-            symbols.len(),
-            count,
-        )
-    }
+    fill(symbols, |first, room, count| {
+        // SAFETY: as in `read_layout`.
+        unsafe {
+            goblin_pe_raw_next_symbols(
+                bytes.as_ptr(),
+                bytes.len(),
+                table,
+                position,
+                first,
+                room,
+                count,
+            )
+        }
+    })
 }
 
 /// The symbol whose record has this index.
@@ -554,26 +573,23 @@ pub fn aux_file(auxiliary: &[u8]) -> Option<&[u8]> {
     is_there.then(|| name.get())
 }
 
-/// Reads the relocations of a section; fills the records as far as there is room, and says how many
-/// there are.
+/// Reads the relocations of a section; fills the vector as far as it has room, and says how many there are.
 pub fn read_relocations(
     bytes: &[u8],
     section: &Section<'_>,
-    relocations: &mut [Relocation],
+    relocations: &mut Vec<Relocation>,
     count: &mut usize,
 ) -> Fault {
     test_interface();
-    // SAFETY: as in `kind`.
-    unsafe {
-        goblin_pe_raw_read_relocations(
-            bytes.as_ptr(),
-            bytes.len(),
-            section,
-            relocations.as_mut_ptr(),
-            relocations.len(),
-            count,
-        )
-    }
+    *count = 0;
+    fill(relocations, |first, room, filled| {
+        // SAFETY: as in `kind`; there is room for as many records as it is told.
+        let fault = unsafe {
+            goblin_pe_raw_read_relocations(bytes.as_ptr(), bytes.len(), section, first, room, count)
+        };
+        *filled = *count;
+        fault
+    })
 }
 
 /// The file offset of an address.
@@ -585,28 +601,28 @@ pub fn find_offset(image: &Image<'_, '_>, rva: usize) -> Option<usize> {
     is_there.then_some(offset)
 }
 
-/// All relocations of a section from an index on; fills the records as far as there is room, and says how
-/// many these are.
+/// All relocations of a section from an index on; fills the vector as far as it has room.
 pub fn next_relocations(
     bytes: &[u8],
     section: &Section<'_>,
     position: &mut usize,
-    relocations: &mut [Relocation],
-    count: &mut usize,
+    relocations: &mut Vec<Relocation>,
 ) -> Fault {
     test_interface();
-    // SAFETY: as in `kind`.
-    unsafe {
-        goblin_pe_raw_next_relocations(
-            bytes.as_ptr(),
-            bytes.len(),
-            section,
-            position,
-            relocations.as_mut_ptr(),
-            relocations.len(),
-            count,
-        )
-    }
+    fill(relocations, |first, room, count| {
+        // SAFETY: as in `read_layout`.
+        unsafe {
+            goblin_pe_raw_next_relocations(
+                bytes.as_ptr(),
+                bytes.len(),
+                section,
+                position,
+                first,
+                room,
+                count,
+            )
+        }
+    })
 }
 
 /// The forwarder whose text is at an address.

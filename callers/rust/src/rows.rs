@@ -2,7 +2,7 @@
 
 use crate::error::Error;
 use crate::iterators::{WalkRelocations, Words};
-use crate::memory::records;
+use crate::memory::make_room;
 use crate::numbers::Forwards;
 use crate::raw::{
     self, AuxBeginAndEndFunction, AuxFunctionDefinition, AuxSectionDefinition, AuxWeakExternal,
@@ -313,9 +313,10 @@ impl<'a> Section<'a> {
     /// # Ok::<(), goblin_pe::Error>(())
     /// ```
     pub fn relocations(&self, bytes: &[u8]) -> Result<Vec<Relocation>, Error> {
-        let (section, mut count) = (self.record(), 0);
-        Error::test(raw::read_relocations(bytes, &section, &mut [], &mut count))?;
-        let mut relocations = records(Relocation::default(), count)?;
+        let (section, mut count, mut relocations) = (self.record(), 0, Vec::new());
+        let fault = raw::read_relocations(bytes, &section, &mut relocations, &mut count);
+        Error::test(fault)?;
+        make_room(&mut relocations, count)?;
         let fault = raw::read_relocations(bytes, &section, &mut relocations, &mut count);
         Error::test(fault)?;
         Ok(relocations)

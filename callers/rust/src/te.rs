@@ -4,7 +4,7 @@ use std::fmt;
 
 use crate::error::Error;
 use crate::iterators::Sections;
-use crate::memory::records;
+use crate::memory::room;
 use crate::raw::{self, TeHeader};
 use crate::rows::Section;
 
@@ -41,9 +41,8 @@ impl<'a> Te<'a> {
     /// ```
     pub fn read(bytes: &'a [u8]) -> Result<Te<'a>, Error> {
         let mut header = TeHeader::default();
-        let mut sections = records(raw::Section::default(), u8::MAX.into())?;
+        let mut sections = room(u8::MAX.into())?;
         Error::test(raw::read_te(bytes, &mut header, &mut sections))?;
-        sections.truncate(header.number_of_sections.into());
         Ok(Te {
             bytes,
             header,
