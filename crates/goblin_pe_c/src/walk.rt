@@ -4,11 +4,10 @@
 
 ghost use Rattle.std.specs.Prelude.{◌≡◌};
 ghost use Rattle.goblin_pe_calls.specs.Batches.{AddressBatch, BlockBatch, ExportBatch};
-ghost use Rattle.goblin_pe_calls.specs.Batches.{GivesAddresses};
-ghost use Rattle.goblin_pe_calls.specs.Batches.{GivesBatch, GivesBlocks, GivesExports};
-ghost use Rattle.goblin_pe_calls.specs.Batches.{GivesImports};
-ghost use Rattle.goblin_pe_calls.specs.Batches.{ImportBatch, IsBlocksFault, IsExportsFault};
-ghost use Rattle.goblin_pe_calls.specs.Batches.{IsImportsFault, SaysDirectory};
+ghost use Rattle.goblin_pe_calls.specs.Batches.{GivesAddresses, GivesBatch, GivesBlocks};
+ghost use Rattle.goblin_pe_calls.specs.Batches.{GivesExports, GivesImports, GivesRecords};
+ghost use Rattle.goblin_pe_calls.specs.Batches.{ImportBatch, IsBlocksFault, IsExportBatchFault};
+ghost use Rattle.goblin_pe_calls.specs.Batches.{IsExportsFault, IsImportsFault, SaysDirectory};
 ghost use Rattle.goblin_pe_calls.specs.ExportDirectories.{directory_view};
 ghost use Rattle.goblin_pe_records.specs.Calls.{ReadsWithout, Reported};
 ghost use Rattle.goblin_pe_records.specs.Onward.{GivesOnward};
@@ -17,13 +16,11 @@ ghost use Rattle.goblin_pe_records.specs.Relocations.{all_relocations};
 ghost use Rattle.goblin_pe_records.specs.Sections.{section_view};
 ghost use Rattle.goblin_pe_records.specs.Words.{block_words};
 
-use goblin_pe_calls::block::give_blocks;
+use goblin_pe_calls::batch::give;
 use goblin_pe_calls::export::PeExport;
-use goblin_pe_calls::export_directory::{
-    PeExportAddress, PeExportDirectory, give_addresses, give_directory,
-};
+use goblin_pe_calls::export_directory::{PeExportAddress, PeExportDirectory, give_directory};
 use goblin_pe_calls::import::PeImport;
-use goblin_pe_calls::next::{PeImportPosition, give_exports, give_imports};
+use goblin_pe_calls::next::PeImportPosition;
 use goblin_pe_records::block::PeBlock;
 use goblin_pe_records::fault::{PeFault, status_of};
 use goblin_pe_records::options::{PeOptions, options_of};
@@ -66,17 +63,13 @@ pub extern "C" fn goblin_pe_raw_next_imports<'a>(
     records: &mut [PeImport<'a>],
     count: &mut usize,
 ) -> PeFault
-    ensures { let opts = options_of options.now in
-        let old : ImportBatch = record { position = position.old; records = records.old } in
+    ensures { let old : ImportBatch = record { position = position.old; records = records.old } in
         let new : ImportBatch = record { position = position.new; records = records.new } in
-        Reported result
-        (GivesBatch opts places.now bytes.now
-        (λ m places. GivesImports m places bytes.now old new count.new)
-        (λ m places. IsImportsFault m places bytes.now old)
-        ((new ≡ old) × (count.new ≡ count.old))) }
+        Reported result (GivesRecords (options_of options.now) places.now bytes.now GivesImports
+        IsImportsFault old new count.old count.new) }
 {
     let opts = options_of(options);
-    status_of(give_imports(alloc, bytes, &opts, places, position, records, count))
+    status_of(give(alloc, bytes, &opts, places, position, records, count))
 }
 
 /// Fills `records` with the exports of a file from a position on, as many as there is room for,
@@ -98,17 +91,13 @@ pub extern "C" fn goblin_pe_raw_next_exports<'a>(
     records: &mut [PeExport<'a>],
     count: &mut usize,
 ) -> PeFault
-    ensures { let opts = options_of options.now in
-        let old : ExportBatch = record { position = position.old; records = records.old } in
+    ensures { let old : ExportBatch = record { position = position.old; records = records.old } in
         let new : ExportBatch = record { position = position.new; records = records.new } in
-        Reported result
-        (GivesBatch opts places.now bytes.now
-        (λ m places. GivesExports m places bytes.now old new count.new)
-        (λ m places. IsExportsFault m places bytes.now)
-        ((new ≡ old) × (count.new ≡ count.old))) }
+        Reported result (GivesRecords (options_of options.now) places.now bytes.now GivesExports
+        IsExportBatchFault old new count.old count.new) }
 {
     let opts = options_of(options);
-    status_of(give_exports(alloc, bytes, &opts, places, position, records, count))
+    status_of(give(alloc, bytes, &opts, places, position, records, count))
 }
 
 /// Puts into `directory` what the export directory of a file says, and lists no export: the record
@@ -157,17 +146,13 @@ pub extern "C" fn goblin_pe_raw_next_export_addresses(
     records: &mut [PeExportAddress],
     count: &mut usize,
 ) -> PeFault
-    ensures { let opts = options_of options.now in
-        let old : AddressBatch = record { position = position.old; records = records.old } in
+    ensures { let old : AddressBatch = record { position = position.old; records = records.old } in
         let new : AddressBatch = record { position = position.new; records = records.new } in
-        Reported result
-        (GivesBatch opts places.now bytes.now
-        (λ m places. GivesAddresses m places bytes.now old new count.new)
-        (λ m places. IsExportsFault m places bytes.now)
-        ((new ≡ old) × (count.new ≡ count.old))) }
+        Reported result (GivesRecords (options_of options.now) places.now bytes.now GivesAddresses
+        IsExportBatchFault old new count.old count.new) }
 {
     let opts = options_of(options);
-    status_of(give_addresses(alloc, bytes, &opts, places, position, records, count))
+    status_of(give(alloc, bytes, &opts, places, position, records, count))
 }
 
 /// Fills `records` with the blocks of base relocations of a file from a position on, as many as
@@ -191,17 +176,13 @@ pub extern "C" fn goblin_pe_raw_next_blocks<'a>(
     records: &mut [PeBlock<'a>],
     count: &mut usize,
 ) -> PeFault
-    ensures { let opts = options_of options.now in
-        let old : BlockBatch = record { position = position.old; records = records.old } in
+    ensures { let old : BlockBatch = record { position = position.old; records = records.old } in
         let new : BlockBatch = record { position = position.new; records = records.new } in
-        Reported result
-        (GivesBatch opts places.now bytes.now
-        (λ m places. GivesBlocks m places bytes.now old new count.new)
-        (λ m places. IsBlocksFault m places bytes.now old)
-        ((new ≡ old) × (count.new ≡ count.old))) }
+        Reported result (GivesRecords (options_of options.now) places.now bytes.now GivesBlocks
+        IsBlocksFault old new count.old count.new) }
 {
     let opts = options_of(options);
-    status_of(give_blocks(alloc, bytes, &opts, places, position, records, count))
+    status_of(give(alloc, bytes, &opts, places, position, records, count))
 }
 
 /// Fills `records` with all relocations of a section of an object from the index `position` on, as

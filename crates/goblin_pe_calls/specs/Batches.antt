@@ -41,6 +41,11 @@ use Rattle.goblin_pe_records.specs.declared.places.PePlaces.{PePlaces}
 
 -- ---- what a batch holds
 
+-- what a caller passes, to be gone on with
+pub record Batch (P R : Type 0) : Type 0 where
+  pub position : P
+  pub records : List R
+
 -- the values up to the first refusal
 unfoldable pub values_before : {A : Type 0} → List (Option A) → List A
 values_before [] = []
@@ -122,10 +127,8 @@ abbrev pub imports_from_position : MapOfAddresses → TablePlaces → List ℕ �
 imports_from_position m places bytes p =
     option_map (imports_from_start m places.magic bytes) (start_value m places bytes p)
 
--- what a caller passes, to be gone on with
-pub record ImportBatch : Type 0 where
-  pub position : PeImportPosition
-  pub records : List PeImport
+abbrev pub ImportBatch : Type 0
+ImportBatch = Batch PeImportPosition PeImport
 
 -- The records hold the imports from the old position on, up to a refusal, and from the new one on
 -- come the others; the very next is no refusal, if there is room for any. Where nothing is left,
@@ -179,10 +182,8 @@ exports_in m bytes x Absent = []
 exports_in m bytes x (part.Read read) = numbered_from (offset_of m) bytes read.0 x
 exports_in m bytes x Refused = []
 
--- what a caller passes, to be gone on with
-pub record ExportBatch : Type 0 where
-  pub position : ℕ
-  pub records : List PeExport
+abbrev pub ExportBatch : Type 0
+ExportBatch = Batch ℕ PeExport
 
 -- The records hold the exports from the old position on, and from the new one on come the others.
 -- Where there are none, the position stays.
@@ -200,6 +201,11 @@ abbrev pub IsExportsFault : MapOfAddresses → TablePlaces → List ℕ → Erro
 IsExportsFault m places bytes e =
     let read = export_part m.opts (offset_of m) places in
     (read.value bytes ≡ None) × read.IsCause bytes e
+
+-- so a batch is, wherever it begins
+abbrev pub IsExportBatchFault : {R : Type 0} → MapOfAddresses → TablePlaces → List ℕ → Batch ℕ R
+    → ErrorOf → Type 0
+IsExportBatchFault m places bytes old e = IsExportsFault m places bytes e
 
 -- ---- what the export directory says
 
@@ -221,10 +227,8 @@ addresses_in Absent = []
 addresses_in (part.Read read) = map address_said read.0.export_address_table
 addresses_in Refused = []
 
--- what a caller passes, to be gone on with
-pub record AddressBatch : Type 0 where
-  pub position : ℕ
-  pub records : List PeExportAddress
+abbrev pub AddressBatch : Type 0
+AddressBatch = Batch ℕ PeExportAddress
 
 -- The records hold the entries from the old index on, and from the new one on come the others.
 abbrev pub GivesAddresses : MapOfAddresses → TablePlaces → List ℕ → AddressBatch → AddressBatch → ℕ
@@ -247,10 +251,8 @@ IsNextRefusal [] e = ⊥
 IsNextRefusal (Ok a ∷ items) e = ⊥
 IsNextRefusal (Err f ∷ items) e = e ≡ f
 
--- what a caller passes, to be gone on with
-pub record BlockBatch : Type 0 where
-  pub position : ℕ
-  pub records : List PeBlock
+abbrev pub BlockBatch : Type 0
+BlockBatch = Batch ℕ PeBlock
 
 -- Of what comes next, the records hold the blocks up to a refusal, and from the new position on
 -- come the others; the very next is no refusal, if there is room for any. The new position is the
@@ -292,3 +294,12 @@ GivesBatch opts p bytes Gives IsFault Left (Err e) =
     (λ sections. IsFault (map_at opts p sections) (places_said p)) e)
     × (IsMemory e → TakesIndexAt opts p bytes)
     × Left
+
+-- A call has given the records of a table that come next, so many, or is refused.
+abbrev pub GivesRecords : {P R : Type 0} → ParseOptions → PePlaces → List ℕ
+    → (MapOfAddresses → TablePlaces → List ℕ → Batch P R → Batch P R → ℕ → Type 0)
+    → (MapOfAddresses → TablePlaces → List ℕ → Batch P R → ErrorOf → Type 0)
+    → Batch P R → Batch P R → ℕ → ℕ → Result Unit ErrorOf → Type 0
+GivesRecords opts p bytes Gives IsFault old new before count result =
+    GivesBatch opts p bytes (λ m places. Gives m places bytes old new count)
+    (λ m places. IsFault m places bytes old) ((new ≡ old) × (count ≡ before)) result

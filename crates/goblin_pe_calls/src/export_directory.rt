@@ -1,23 +1,24 @@
 //! The records of what an export directory says, and of the export address table, all or in
 //! batches.
 
-ghost use Rattle.std.specs.Prelude.{◌≡◌, ◌<◌, ◌^◌, IfOk, MatchResult, OnErr, length, map};
+ghost use Rattle.std.specs.Prelude.{◌≡◌, ◌<◌, IfOk, MatchResult, OnErr, length, map};
 ghost use Rattle.std.specs.Prelude.{slice_get};
 ghost use Rattle.goblin_base.specs.Answers.{GivesOrMemory};
 ghost use Rattle.goblin_pe_export.specs.ExportWalks.{walked_tables};
 ghost use Rattle.goblin_pe.specs.Layouts.{layout_bytes, layout_map, layout_places};
+ghost use Rattle.goblin_pe_calls.specs.Batches.{GivesAddresses, GivesBatch};
+ghost use Rattle.goblin_pe_calls.specs.Batches.{IsExportBatchFault, IsExportsFault, SaysDirectory};
 ghost use Rattle.goblin_pe_records.specs.Blocked.{HasNoSpareRoom};
 ghost use Rattle.goblin_pe_records.specs.Onward.{GivesOnward};
-ghost use Rattle.goblin_pe_calls.specs.Batches.{AddressBatch, GivesAddresses, GivesBatch};
-ghost use Rattle.goblin_pe_calls.specs.Batches.{IsExportsFault, SaysDirectory};
 ghost use Rattle.goblin_pe_calls.specs.ExportDirectories.{address_said, directory_said};
 ghost use Rattle.goblin_pe_calls.specs.ExportDirectories.{directory_view};
 ghost use Rattle.goblin_pe_calls.specs.ExportDirectories.{no_export_directory};
 
+use crate::batch::Batched;
 use crate::places::layout_at;
 use goblin_pe::export::{ExportAddressTableEntry, ExportDirectoryTable, Exports};
 use goblin_pe::options::ParseOptions;
-use goblin_pe::{Layout, Part, Result};
+use goblin_pe::{Layout, Part, Result, ResultOf};
 use goblin_pe_records::onward::fill_onward;
 use goblin_pe_records::places::PePlaces;
 use std::alloc::Global;
@@ -171,49 +172,21 @@ fn fill_addresses(exports: &Exports, position: &mut usize, records: &mut [PeExpo
     fill_onward(|index| address_at(exports, index), position, records)
 }
 
-// Fills records with the entries of a file that come next, and answers how many.
-fn next_addresses(
-    layout: &Layout,
-    position: &mut usize,
-    records: &mut [PeExportAddress],
-) -> Result<usize>
-    ensures { let m = layout_map layout.now in
-        let places = layout_places layout.now in
-        let bytes = layout_bytes layout.now in
-        let old : AddressBatch = record { position = position.old; records = records.old } in
-        let new : AddressBatch = record { position = position.new; records = records.new } in
-        MatchResult result (GivesAddresses m places bytes old new)
-        (λ e. IsExportsFault m places bytes e × (new ≡ old)) }
-{
-    match layout.exports()? {
-        Part::Read(exports) => Ok(fill_addresses(&exports, position, records)),
-        Part::Absent | Part::Refused => Ok(0),
-    }
-}
+impl<'a> Batched<'a> for PeExportAddress {
+    type Position = usize;
 
-/// Fills `records` with the entries of the export address table of a file whose tables lie at these
-/// places, from the index `position` on, as many as there is room for, says in `count` how many,
-/// and moves `position` past them.
-///
-/// # Errors
-/// As [`layout_at`]; in strict mode the export directory. Nothing is then changed.
-pub fn give_addresses(
-    alloc: Global,
-    bytes: &[u8],
-    opts: &ParseOptions,
-    places: &PePlaces,
-    position: &mut usize,
-    records: &mut [PeExportAddress],
-    count: &mut usize,
-) -> Result<()>
-    ensures { let old : AddressBatch = record { position = position.old; records = records.old } in
-        let new : AddressBatch = record { position = position.new; records = records.new } in
-        GivesBatch opts.now places.now bytes.now
-        (λ m places. GivesAddresses m places bytes.now old new count.new)
-        (λ m places. IsExportsFault m places bytes.now)
-        ((new ≡ old) × (count.new ≡ count.old)) result }
-{
-    let layout = layout_at(alloc, bytes, places, opts)?;
-    *count = next_addresses(&layout, position, records)?;
-    Ok(())
+    ghost gives = { GivesAddresses };
+
+    ghost is_fault = { IsExportBatchFault };
+
+    fn next<'e>(
+        layout: &Layout<'a>,
+        position: &mut usize,
+        records: &mut [PeExportAddress],
+    ) -> ResultOf<'e, usize> {
+        match layout.exports()? {
+            Part::Read(exports) => Ok(fill_addresses(&exports, position, records)),
+            Part::Absent | Part::Refused => Ok(0),
+        }
+    }
 }

@@ -11,6 +11,7 @@
 //! are plain.
 #![tactic(auto)]
 
+pub mod batch;
 pub mod block;
 pub mod damage;
 pub mod export;

@@ -7,26 +7,21 @@ ghost use Rattle.goblin_pe_export.specs.ExportWalks.{KeepsOver, exports_at, expo
 ghost use Rattle.goblin_pe.specs.Layouts.{IsFileImportsCause, file_imports_left, layout_map};
 ghost use Rattle.goblin_pe.specs.Layouts.{layout_bytes, layout_places};
 ghost use Rattle.goblin_pe.specs.LayoutPositions.{StartsAt, import_start};
-ghost use Rattle.goblin_pe_calls.specs.Batches.{Fills, GivesInFile};
-ghost use Rattle.goblin_pe_calls.specs.Batches.{ExportBatch, GivesBatch, GivesExports};
-ghost use Rattle.goblin_pe_calls.specs.Batches.{GivesImports};
-ghost use Rattle.goblin_pe_calls.specs.Batches.{GoesOn, ImportBatch, IsBatch, IsEnd};
-ghost use Rattle.goblin_pe_calls.specs.Batches.{IsExportsFault};
+ghost use Rattle.goblin_pe_calls.specs.Batches.{Fills, GivesExports, GivesImports, GivesInFile};
+ghost use Rattle.goblin_pe_calls.specs.Batches.{GoesOn, ImportBatch, IsBatch, IsEnd, IsExportBatchFault};
 ghost use Rattle.goblin_pe_calls.specs.Batches.{IsImportsFault, IsRefusedNext};
-ghost use Rattle.goblin_pe_calls.specs.Batches.{imports_from_position};
-ghost use Rattle.goblin_pe_calls.specs.Batches.{position_numbers, position_said, values_before};
+ghost use Rattle.goblin_pe_calls.specs.Batches.{imports_from_position, position_numbers};
+ghost use Rattle.goblin_pe_calls.specs.Batches.{position_said, values_before};
 ghost use Rattle.goblin_pe_calls.specs.Exports.{export_said, export_view};
 ghost use Rattle.goblin_pe_calls.specs.Imports.{GivesHere, import_said, import_view};
 
+use crate::batch::Batched;
 use crate::export::{PeExport, plain_record, put_export};
 use crate::import::{PeImport, put_import};
-use crate::places::layout_at;
+use goblin_base::answer_for;
 use goblin_pe::export::Exports;
 use goblin_pe::import::{Bitfield, ImportPosition, Imports};
-use goblin_pe::options::ParseOptions;
 use goblin_pe::{FileImports, Layout, Part, Result, ResultOf};
-use goblin_pe_records::places::PePlaces;
-use std::alloc::Global;
 
 /// Where a walk over imports goes on; zeros are the beginning. It may be kept, and copied.
 #[repr(C)]
@@ -231,32 +226,20 @@ fn next_imports<'a>(
     }
 }
 
-/// Fills `records` with the imports of a file whose tables lie at these places, from a position on,
-/// as many as there is room for, says in `count` how many, and leaves in `position` where the next
-/// call goes on.
-///
-/// # Errors
-/// As [`layout_at`]; in strict mode the import directory, at the first position, and the very next
-/// import, if there is room for it. Nothing is then changed.
-pub fn give_imports<'a>(
-    alloc: Global,
-    bytes: &'a [u8],
-    opts: &ParseOptions,
-    places: &PePlaces,
-    position: &mut PeImportPosition,
-    records: &mut [PeImport<'a>],
-    count: &mut usize,
-) -> Result<()>
-    ensures { let old : ImportBatch = record { position = position.old; records = records.old } in
-        let new : ImportBatch = record { position = position.new; records = records.new } in
-        GivesBatch opts.now places.now bytes.now
-        (λ m places. GivesImports m places bytes.now old new count.new)
-        (λ m places. IsImportsFault m places bytes.now old)
-        ((new ≡ old) × (count.new ≡ count.old)) result }
-{
-    let layout = layout_at(alloc, bytes, places, opts)?;
-    *count = next_imports(&layout, position, records)?;
-    Ok(())
+impl<'a> Batched<'a> for PeImport<'a> {
+    type Position = PeImportPosition;
+
+    ghost gives = { GivesImports };
+
+    ghost is_fault = { IsImportsFault };
+
+    fn next<'e>(
+        layout: &Layout<'a>,
+        position: &mut PeImportPosition,
+        records: &mut [PeImport<'a>],
+    ) -> ResultOf<'e, usize> {
+        answer_for(next_imports(layout, position, records))
+    }
 }
 
 // Fills records with the exports that come next, as far as there is room, and answers how many.
@@ -301,54 +284,26 @@ fn position_after(position: usize, exports: &Exports, count: usize) -> usize
     }
 }
 
-// Fills records with the exports of a file that come next, and answers how many.
-fn next_exports<'a>(
-    layout: &Layout<'a>,
-    position: &mut usize,
-    records: &mut [PeExport<'a>],
-) -> Result<usize>
-    ensures { let m = layout_map layout.now in
-        let places = layout_places layout.now in
-        let bytes = layout_bytes layout.now in
-        let old : ExportBatch = record { position = position.old; records = records.old } in
-        let new : ExportBatch = record { position = position.new; records = records.new } in
-        MatchResult result (GivesExports m places bytes old new)
-        (λ e. IsExportsFault m places bytes e × (new ≡ old)) }
-{
-    match layout.exports()? {
-        Part::Read(exports) => {
-            let mut exports = exports.from_position(*position);
-            let count = fill_exports(layout.bytes(), &mut exports, records);
-            *position = position_after(*position, &exports, count);
-            Ok(count)
-        }
-        Part::Absent | Part::Refused => Ok(0),
-    }
-}
+impl<'a> Batched<'a> for PeExport<'a> {
+    type Position = usize;
 
-/// Fills `records` with the exports of a file whose tables lie at these places, from a position on,
-/// as many as there is room for, says in `count` how many, and leaves in `position` an index in the
-/// name pointer table from which the others come.
-///
-/// # Errors
-/// As [`layout_at`]; in strict mode the export directory. Nothing is then changed.
-pub fn give_exports<'a>(
-    alloc: Global,
-    bytes: &'a [u8],
-    opts: &ParseOptions,
-    places: &PePlaces,
-    position: &mut usize,
-    records: &mut [PeExport<'a>],
-    count: &mut usize,
-) -> Result<()>
-    ensures { let old : ExportBatch = record { position = position.old; records = records.old } in
-        let new : ExportBatch = record { position = position.new; records = records.new } in
-        GivesBatch opts.now places.now bytes.now
-        (λ m places. GivesExports m places bytes.now old new count.new)
-        (λ m places. IsExportsFault m places bytes.now)
-        ((new ≡ old) × (count.new ≡ count.old)) result }
-{
-    let layout = layout_at(alloc, bytes, places, opts)?;
-    *count = next_exports(&layout, position, records)?;
-    Ok(())
+    ghost gives = { GivesExports };
+
+    ghost is_fault = { IsExportBatchFault };
+
+    fn next<'e>(
+        layout: &Layout<'a>,
+        position: &mut usize,
+        records: &mut [PeExport<'a>],
+    ) -> ResultOf<'e, usize> {
+        match layout.exports()? {
+            Part::Read(exports) => {
+                let mut exports = exports.from_position(*position);
+                let count = fill_exports(layout.bytes(), &mut exports, records);
+                *position = position_after(*position, &exports, count);
+                Ok(count)
+            }
+            Part::Absent | Part::Refused => Ok(0),
+        }
+    }
 }

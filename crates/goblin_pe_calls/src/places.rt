@@ -16,7 +16,7 @@ use goblin_pe::header::Header;
 use goblin_pe::options::ParseOptions;
 use goblin_pe::read::pread_slice;
 use goblin_pe::section_table::{SIZEOF_SECTION_TABLE, SectionRecords};
-use goblin_pe::{Layout, Places, Result, section_table_offset};
+use goblin_pe::{Layout, Places, ResultOf, section_table_offset};
 use goblin_pe_records::places::PePlaces;
 use std::alloc::Global;
 
@@ -67,7 +67,7 @@ fn places_said(places: &PePlaces) -> Places
 
 // The records of the sections that stand where a record says.
 #[tactic(auto, using(goblin_pe_sect::proofs::SectionRecords::sections_none))]
-fn records_at<'a>(bytes: &'a [u8], places: &PePlaces) -> Result<SectionRecords<'a>>
+fn records_at<'a, 'e>(bytes: &'a [u8], places: &PePlaces) -> ResultOf<'e, SectionRecords<'a>>
     ensures { Reads recorded_sections result (placed_sections places.now) bytes.now }
 {
     if places.number_of_sections == 0 {
@@ -86,12 +86,12 @@ fn records_at<'a>(bytes: &'a [u8], places: &PePlaces) -> Result<SectionRecords<'
 /// [`Error::Read`](goblin_pe::Error::Read) where there are sections and the file is too short for
 /// their records; [`Error::Memory`](goblin_pe::Error::Memory) only of more than 96 sections, by
 /// whose windows addresses are mapped.
-pub fn layout_at<'a>(
+pub fn layout_at<'a, 'e>(
     alloc: Global,
     bytes: &'a [u8],
     places: &PePlaces,
     opts: &ParseOptions,
-) -> Result<Layout<'a>>
+) -> ResultOf<'e, Layout<'a>>
     ensures value { ReadsOrMemory layout_sections result (placed_sections places.now) bytes.now }
     ensures over { IfOk result (λ l. layout_bytes l ≡ bytes.now) }
     ensures placed { IfOk result (λ l. layout_places l ≡ places_said places.now) }

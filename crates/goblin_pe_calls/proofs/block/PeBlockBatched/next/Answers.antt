@@ -1,6 +1,6 @@
 use Rattle.goblin_pe.specs.Layouts.{layout_map, layout_places}
 use Rattle.goblin_pe_calls.proofs.BlockBatches.{blocks-answered, blocks-none}
-use Rattle.goblin_pe_calls.proofs.block.next_blocks.Goals as goal
+use Rattle.goblin_pe_calls.proofs.block.PeBlockBatched.next.Goals as goal
 
 pub returns-in-Absent : goal.returns-in-Absent
 returns-in-Absent c =
