@@ -3,12 +3,10 @@
 //! where a file has more than 96 sections.
 
 ghost use Rattle.std.specs.Prelude.{◌≡◌};
-ghost use Rattle.goblin_pe_calls.specs.Batches.{AddressBatch, BlockBatch, ExportBatch};
-ghost use Rattle.goblin_pe_calls.specs.Batches.{GivesAddresses};
-ghost use Rattle.goblin_pe_calls.specs.Batches.{GivesBatch, GivesBlocks, GivesExports};
-ghost use Rattle.goblin_pe_calls.specs.Batches.{GivesImports};
-ghost use Rattle.goblin_pe_calls.specs.Batches.{ImportBatch, IsBlocksFault, IsExportsFault};
-ghost use Rattle.goblin_pe_calls.specs.Batches.{IsImportsFault, SaysDirectory};
+ghost use Rattle.goblin_pe_calls.specs.Batches.{AddressBatch, BlockBatch, ExportBatch, GivesBatch};
+ghost use Rattle.goblin_pe_calls.specs.Batches.{GivesAddresses, GivesBlocks, GivesExports};
+ghost use Rattle.goblin_pe_calls.specs.Batches.{GivesImports, ImportBatch, IsBlocksFault};
+ghost use Rattle.goblin_pe_calls.specs.Batches.{IsExportsFault, IsImportsFault, SaysDirectory};
 ghost use Rattle.goblin_pe_calls.specs.ExportDirectories.{directory_view};
 ghost use Rattle.goblin_pe_records.specs.Calls.{ReadsWithout, Reported};
 ghost use Rattle.goblin_pe_records.specs.Onward.{GivesOnward};
