@@ -44,13 +44,11 @@ module _ (bytes : List ℕ) where
 
   pub led-in : {A : Type 0} (value : Option A) (leads_to : A → List Range)
       → ((x : A) → AreInside bytes (leads_to x)) → AreInside bytes (led_to value leads_to)
-  unfolding led_to
   led-in None leads_to h = none-in
   led-in (Some x) leads_to h = h x
 
   pub below-in : (piece : ℕ → List Range) (n : ℕ) → ((i : ℕ) → AreInside bytes (piece i))
       → AreInside bytes (concat_below piece n)
-  unfolding concat_below
   below-in piece zero h = none-in
   below-in piece (suc n) h =
       both-in (concat_below piece n) (piece n) (below-in piece n h) (h n)

@@ -23,7 +23,6 @@ map-kept f first second kept y e =
     rw (kept m.value m.is) (ap (λ z. Some z) m.made)
 
 range-kept : {A : Type 0} (f g : ℕ → Option A) (start n : ℕ) → ((i : ℕ) → Keeps (f i) (g i)) → Keeps (all_of (map f (range_with_len start n))) (all_of (map g (range_with_len start n)))
-unfolding all_of
 range-kept f g start zero kept = λ xs e. e
 range-kept {A} f g start (suc n) kept =
     let Rest : (ℕ → Option A) → Option (List A) = λ h. all_of (map h (range_with_len (start + 1) n)) in

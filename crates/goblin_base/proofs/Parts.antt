@@ -7,8 +7,7 @@ use Rattle.std.specs.Prelude.{option_map, slice_index, slice_range}
 use Rattle.std.specs.List.{find, range_with_len}
 use Rattle.std.proofs.lemmas.Bool.{and_parts, cases_Bool, cases_eq, cases_lt, cond-false, leb-true}
 use Rattle.std.proofs.lemmas.Grind.{same_number_lists}
-use Rattle.std.proofs.lemmas.List.{get_or-drop, get_or-take, get_or_past, length-drop}
-use Rattle.std.proofs.lemmas.List.{length-take}
+use Rattle.std.proofs.lemmas.List.{get_or-drop, get_or-take, get_or_past, length-drop, length-take}
 use Rattle.std.proofs.lemmas.List.Elements.{All-cons, All-head, All-nil, All-tail}
 use Rattle.goblin_base.specs.declared.endian.Endian.{Endian}
 use Rattle.goblin_base.specs.declared.error.ErrorOf.{ErrorOf}
@@ -28,7 +27,6 @@ use Rattle.goblin_base.proofs.Readings.{by_cases-not_memory}
 
 pub covers-moved : (p i : ℕ) (ranges : List Range) → Covers ranges i
     → Covers (moved_by p ranges) (p + i)
-unfolding moved_by
 covers-moved p i [] h = absurd h
 covers-moved p i (range ∷ ranges) (inl h) = inl (omega (arith, h.0), omega (arith, h.1))
 covers-moved p i (range ∷ ranges) (inr h) = inr (covers-moved p i ranges h)
@@ -83,7 +81,6 @@ agree-moved_slice begin end ranges a b h =
 moved_in : (p : ℕ) (part bytes : List ℕ) (ranges : List Range)
     → length part ≤ length bytes - p → AreInside part ranges
     → AreInside bytes (moved_by p ranges)
-unfolding moved_by
 moved_in p part bytes [] le h = All-nil (IsInFile bytes)
 moved_in p part bytes (range ∷ ranges) le h =
     let own = All-head (IsInFile part) range ranges h in
@@ -138,7 +135,6 @@ same-bytes_between a b begin end h =
 between_by : (bytes own : List ℕ) (begin end : ℕ) (there : Bool)
     → (there ≡ true → end ≤ length bytes)
     → AreInside bytes (led_to (cond there (Some own) None) (λ _. positions begin end))
-unfolding led_to
 between_by bytes own begin end true high = positions-in bytes begin end (λ some. high refl)
 between_by bytes own begin end false high = All-nil (IsInFile bytes)
 

@@ -30,18 +30,16 @@ stretch-is bytes p end text is ends =
 
 pub moved-append : (p : ℕ) (xs ys : List Range)
     → moved_by p (xs ++ ys) ≡ moved_by p xs ++ moved_by p ys
-unfolding moved_by
 moved-append p xs ys = map-append (λ (range : Range). (p + range.0, p + range.1)) xs ys
 
 pub moved-led : {A : Type 0} → (p : ℕ) (value : Option A) (leads_to : A → List Range)
     → moved_by p (led_to value leads_to) ≡ led_to value (λ x. moved_by p (leads_to x))
-unfolding moved_by led_to
 moved-led p None leads_to = refl
 moved-led p (Some x) leads_to = refl
 
 pub moved-positions : (p begin end : ℕ)
     → moved_by p (positions begin end) ≡ positions (p + begin) (p + end)
-unfolding moved_by positions
+unfolding positions
 moved-positions p begin end =
     elim (cases_Bool (nat_lt begin end)) [
       | inl less ↦
@@ -55,7 +53,6 @@ moved-positions p begin end =
     ]
 
 moved_nothing : (p : ℕ) → moved_by p [] ≡ []
-unfolding moved_by
 moved_nothing p = refl
 
 moved_none : (p begin end : ℕ) → nat_lt begin end ≡ false → moved_by p (positions begin end) ≡ []
@@ -94,7 +91,6 @@ moved-slice p bytes o n =
 -- the pieces of a part of the bytes
 pub moved-below : (p : ℕ) (piece : ℕ → List Range) (n : ℕ)
     → moved_by p (concat_below piece n) ≡ concat_below (λ i. moved_by p (piece i)) n
-unfolding concat_below moved_by
 moved-below p piece zero = refl
 moved-below p piece (suc n) =
     moved-append p (concat_below piece n) (piece n)

@@ -11,8 +11,7 @@ use Rattle.goblin_base.specs.declared.error.CauseOf.{CauseOf}
 use Rattle.goblin_base.specs.declared.error.ErrorOf.{ErrorOf}
 use Rattle.goblin_base.specs.declared.error.ErrorOf.TheVariants.{BadMagic, BufferTooShort}
 use Rattle.goblin_base.specs.declared.error.ErrorOf.TheVariants.{Malformed, Memory, Read}
-use Rattle.goblin_base.specs.Answers.{◌>>=◌, FirstFault, IsMemory}
-use Rattle.goblin_base.specs.Answers.{IsSliceFault, IsTextFault}
+use Rattle.goblin_base.specs.Answers.{◌>>=◌, FirstFault, IsMemory, IsSliceFault, IsTextFault}
 use Rattle.goblin_base.specs.Footprints.{Agree, led_to, rest_footprint, slot_footprint}
 use Rattle.goblin_base.specs.Reading.{Reading, Reads, ReadsOrMemory, Twins, TwinsOrMemory}
 use Rattle.goblin_base.specs.Tables.{IsTableFault, SlotFormat, kept_slots, slot_at}

@@ -1,8 +1,7 @@
 -- Marks: which positions of a file are marked, as one truth for each position.
 use Rattle.std.specs.Prelude.{ℕ, ◌≡◌, ◌↔◌, ◌/◌, ◌%◌, Bool, false, ◌&&◌, ◌||◌, ◌==◌, nat_le, nat_lt}
-use Rattle.std.specs.Prelude.{List, [], ◌∷◌}
-use Rattle.std.specs.Prelude.{if◌then◌else◌, ◌+◌, ◌≤◌, ◌<◌, true, replicate, Option, Some, None}
-use Rattle.std.specs.Prelude.{length, map, slice_index, slice_index_or}
+use Rattle.std.specs.Prelude.{List, [], ◌∷◌, if◌then◌else◌, ◌+◌, ◌≤◌, ◌<◌, true, replicate, Option}
+use Rattle.std.specs.Prelude.{Some, None, length, map, slice_index, slice_index_or}
 use Rattle.std.specs.List.{All, range_with_len}
 use Rattle.std.specs.Int.{bit_at}
 use Rattle.goblin_base.specs.Footprints.{Covers, Range}

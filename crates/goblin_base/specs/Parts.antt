@@ -8,7 +8,7 @@ use Rattle.goblin_base.specs.Bytes.{number}
 use Rattle.goblin_base.specs.Footprints.{Range, led_to, positions}
 
 -- positions in the bytes from p on, as positions in all bytes
-unfoldable pub moved_by : ℕ → List Range → List Range
+abbrev pub moved_by : ℕ → List Range → List Range
 moved_by p ranges = map (λ range. (p + range.0, p + range.1)) ranges
 
 -- the bytes from `begin` up to `end`, where `end` is not before it and lies in the file; there may

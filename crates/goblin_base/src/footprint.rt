@@ -141,7 +141,7 @@ pub fn add_slice(marks: &mut Marks, bytes: &[u8], offset: usize, len: usize)
 }
 
 /// Marks the bytes from `begin` up to `end`, if all of them are in the file.
-#[tactic(auto, unfolding(crate::specs::Footprints::positions, crate::specs::Footprints::led_to), using(crate::proofs::Marks::marking))]
+#[tactic(auto, unfolding(crate::specs::Footprints::positions), using(crate::proofs::Marks::marking))]
 pub fn add_between(marks: &mut Marks, bytes: &[u8], begin: usize, end: usize)
     ensures { marks.new ≡ marked marks.old (between_footprint bytes.now begin end) }
 {

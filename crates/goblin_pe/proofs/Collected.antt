@@ -14,11 +14,10 @@ use Rattle.goblin_pe_export.specs.ExportRecords.{ExportTables}
 use Rattle.goblin_pe_import.specs.Imports.{ImportValue}
 use Rattle.goblin_pe.specs.declared.whole.Part.{Part}
 use Rattle.goblin_pe.specs.declared.whole.Part.TheVariants.{Absent}
-use Rattle.goblin_pe.specs.Whole.{CollectedFileValue, CollectedParts}
-use Rattle.goblin_pe.specs.Whole.{TableParts, TablePlaces, both_import_parts, collected_exports}
-use Rattle.goblin_pe.specs.Whole.{collected_file, collected_imports, collected_tables, export_part}
-use Rattle.goblin_pe.specs.Whole.{offset_by, part_at, part_map, places_in, relocation_part}
-use Rattle.goblin_pe.specs.Whole.{table_parts, whole_of}
+use Rattle.goblin_pe.specs.Whole.{CollectedFileValue, CollectedParts, TableParts, TablePlaces}
+use Rattle.goblin_pe.specs.Whole.{both_import_parts, collected_exports, collected_file, export_part}
+use Rattle.goblin_pe.specs.Whole.{collected_imports, collected_tables, offset_by, part_at, part_map}
+use Rattle.goblin_pe.specs.Whole.{places_in, relocation_part, table_parts, whole_of}
 
 -- ---- parts
 
@@ -29,7 +28,6 @@ pub unasked_mapped : {X A B : Type 0} (view : X → B) (f : A → B) (strict ask
     → option_map (part_map f)
     ((pick asked (part_at strict read directory) (given Absent)).value bytes)
     ≡ Some (part_map view Absent)
-unfolding part_map
 unasked_mapped view f strict false read directory bytes is = refl
 unasked_mapped view f strict true read directory bytes (inl is) = absurd cc
 unasked_mapped view f strict true read directory bytes (inr is) = rw is refl

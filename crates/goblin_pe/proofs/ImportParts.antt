@@ -62,7 +62,6 @@ module _ (format : Format EntryValue) (offset_of : ℕ → Option ℕ) (bytes : 
       (least-before (λ i. ends_table import_slots.is_last (slot_at import_slots bytes o i)) (length bytes) j below)))
 
   past-front-there : (o : ℕ) → IsSome ((libraries_past_front false format offset_of o).value bytes)
-  unfolding libraries_past_front
   past-front-there o = by (not false && o == 0)
     where
       by : (test : Bool)
@@ -78,7 +77,6 @@ module _ (format : Format EntryValue) (offset_of : ℕ → Option ℕ) (bytes : 
 -- ---- the part
 
 part-value : {A B : Type 0} (kept : List A → List B) (strict : Bool) (read : Option (List A)) (all : Option (List B)) → (strict ≡ false → IsSome read) → option_map (λ xs. xs) all ≡ option_map kept read → option_map (λ xs. part.Read xs) all ≡ option_map (part_map kept) (part_of strict read)
-unfolding part_of part_map
 part-value kept strict (Some xs) (Some ys) there e = ap (option_map (λ zs. part.Read zs)) e
 part-value kept strict (Some xs) None there e = absurd cc
 part-value kept true None (Some ys) there e = absurd cc
@@ -86,7 +84,6 @@ part-value kept true None None there e = refl
 part-value kept false None all there e = let never = there refl in absurd cc
 
 part-refused : {A B : Type 0} (kept : List A → List B) (strict : Bool) (read : Option (List A)) → (strict ≡ false → IsSome read) → option_map kept read ≡ None → option_map (part_map kept) (part_of strict read) ≡ None
-unfolding part_of part_map
 part-refused kept strict (Some xs) there e = absurd cc
 part-refused kept true None there e = refl
 part-refused kept false None there e = let never = there refl in absurd cc
@@ -127,7 +124,6 @@ module _ (opts : ParseOptions) (offset_of : ℕ → Option ℕ) (places : TableP
 -- ---- the list of imports beside the libraries
 
 same-part : {A : Type 0} (p : Part (List A)) → part_map (map (λ x. x)) p ≡ p
-unfolding part_map
 same-part Absent = refl
 same-part {A} (part.Read xs) = ap (λ (ys : List A). part.Read ys) (map-id xs)
 same-part Refused = refl

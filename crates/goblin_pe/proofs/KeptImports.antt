@@ -38,7 +38,6 @@ there-is (Some xs) there = refl
 
 read-there : (strict : Bool) (table : Option (List ImportValue))
     → part_of strict table ≡ Some (part.Read (unwrap_or table [])) → IsSome table
-unfolding part_of
 read-there strict (Some xs) h = refl
 read-there true None h = absurd cc
 read-there false None h = absurd cc
@@ -46,7 +45,7 @@ read-there false None h = absurd cc
 libraries-there : (opts : ParseOptions) (places : TablePlaces) (libraries : List ImportedLibrary)
     → HasList opts places (part.Read libraries)
     → IsSome (imports_of (entry_format places.magic).width libraries)
-unfolding listed_imports_part part_then listed_imports part_map
+unfolding listed_imports_part listed_imports
 libraries-there opts places libraries h =
     read-there (is_strict opts.parse_mode) (imports_of (entry_format places.magic).width libraries) h
 
@@ -62,7 +61,6 @@ module _ {X : Type 0} (import_of : ImportValue → X) where
     first-kept : (n : ℕ) (xs : List ImportValue) → n ≤ length libraries
         → each_below (imported_at size libraries) n ≡ Some xs
         → flat_map (kept_imports import_of size) (take n libraries) ≡ map import_of xs
-    unfolding each_below
     first-kept zero xs within e = ap (map import_of) (same_value [] xs e)
     first-kept (suc n) xs within e =
         let parts = join-parts (each_below (imported_at size libraries) n) (imported_at size libraries n) xs e in
@@ -94,7 +92,7 @@ module _ {X : Type 0} (import_of : ImportValue → X) where
       → HasList opts places p
       → part_map (flat_map (kept_imports import_of (entry_format places.magic).width)) p
       ≡ part_map (map import_of) (listed_imports places.magic p)
-  unfolding listed_imports part_map
+  unfolding listed_imports
   part-kept opts places Absent h = refl
   part-kept opts places (part.Read libraries) h =
       ap (λ (xs : List X). part.Read xs)

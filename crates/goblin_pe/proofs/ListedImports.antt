@@ -18,7 +18,6 @@ use Rattle.goblin_pe.proofs.KeptImports.{HasList, listed_imports}
 use Rattle.goblin_pe.specs.Whole.{TablePlaces, entry_format, import_data_part, listed_imports_part, part_at, part_map, part_of, part_then}
 
 part-there : {A : Type 0} (strict : Bool) (table : Option (List A)) → IsSome table → part_of strict table ≡ Some (part.Read (unwrap_or table []))
-unfolding part_of
 part-there strict None there = absurd cc
 part-there strict (Some xs) there = refl
 
@@ -27,19 +26,18 @@ module _ (opts : ParseOptions) (file : List ℕ) (places : TablePlaces) (short :
   ListsImports p = HasList opts places p
 
   absent-listed : ListsImports Absent
-  unfolding listed_imports_part part_then listed_imports part_map
+  unfolding listed_imports_part listed_imports
   absent-listed = refl
 
   refused-listed : ListsImports Refused
-  unfolding listed_imports_part part_then listed_imports part_map
+  unfolding listed_imports_part listed_imports
   refused-listed = refl
 
   read-listed : (libraries : List ImportedLibrary) → IsSome (imports_of (entry_format places.magic).width libraries) → ListsImports (part.Read libraries)
-  unfolding listed_imports_part part_then listed_imports part_map
+  unfolding listed_imports_part listed_imports
   read-listed libraries there = part-there (is_strict opts.parse_mode) (imports_of (entry_format places.magic).width libraries) there
 
   part-listed : (strict : Bool) (table : Option (List ImportedLibrary)) (p : Part (List ImportedLibrary)) → ((libraries : List ImportedLibrary) → table ≡ Some libraries → ListsImports (part.Read libraries)) → part_of strict table ≡ Some p → ListsImports p
-  unfolding part_of
   part-listed strict (Some libraries) p listed e = subst ListsImports (same_value (part.Read libraries) p e) (listed libraries refl)
   part-listed true None p listed e = absurd cc
   part-listed false None p listed e = subst ListsImports (same_value Refused p e) refused-listed

@@ -14,9 +14,8 @@ use Rattle.goblin_pe.specs.declared.whole.Part.TheVariants.{Absent, Refused}
 use Rattle.goblin_pe.specs.declared.whole.Part.TheVariants as part
 use Rattle.goblin_pe.proofs.NumberedFootprints.{exports-in}
 use Rattle.goblin_pe.proofs.Parts.{part_map-twice}
-use Rattle.goblin_pe.specs.Whole.{WholeFile, export_part, offset_by}
-use Rattle.goblin_pe.specs.Whole.{part_at, part_map, part_of, places_in}
-use Rattle.goblin_pe.specs.Whole.{sections_after, table_parts, whole_file, whole_with}
+use Rattle.goblin_pe.specs.Whole.{WholeFile, export_part, offset_by, part_at, part_map, part_of}
+use Rattle.goblin_pe.specs.Whole.{places_in, sections_after, table_parts, whole_file, whole_with}
 
 -- the exports of a file, each with its numbers: those of the tables that its export directory leads
 -- to
@@ -44,7 +43,6 @@ module _ (offset_of : ℕ → Option ℕ) (bytes : List ℕ) where
   part-numbered : (strict : Bool) (d : DataDirectory) (o : Option (ExportTables × List ExportRow))
       → (export_read offset_of d).value bytes ≡ o → (p : Part (ExportTables × List ExportRow))
       → part_of strict o ≡ Some p → IsNumbered p
-  unfolding part_of part_map
   part-numbered strict d (Some read) is p made =
       subst IsNumbered (same_value (part.Read read) p made)
       (ap (λ (rows : List ExportRow). part.Read rows) (read-numbered d read is))
@@ -54,7 +52,6 @@ module _ (offset_of : ℕ → Option ℕ) (bytes : List ℕ) where
   at-numbered : (strict : Bool) (directory : Option DataDirectory)
       (p : Part (ExportTables × List ExportRow))
       → (part_at strict (export_read offset_of) directory).value bytes ≡ Some p → IsNumbered p
-  unfolding part_map
   at-numbered strict None p made = subst IsNumbered (same_value Absent p made) refl
   at-numbered strict (Some d) p made =
       part-numbered strict d ((export_read offset_of d).value bytes) refl p made

@@ -81,7 +81,6 @@ module _ (offset_of : ℕ → Option ℕ) (a b : List ℕ) where
   part-same : (strict : Bool) (d : DataDirectory) (o : Option (ExportTables × List ExportRow))
       → (export_read offset_of d).value a ≡ o → Agree ((export_read offset_of d).reaches a) a b
       → (p : Part (ExportTables × List ExportRow)) → part_of strict o ≡ Some p → IsSame p
-  unfolding part_of part_map
   part-same strict d (Some read) is agree p made =
       subst IsSame (same_value (part.Read read) p made)
       (ap (λ (xs : List NumberedExport). part.Read xs) (read-same d read is agree))
@@ -92,7 +91,6 @@ module _ (offset_of : ℕ → Option ℕ) (a b : List ℕ) where
       (p : Part (ExportTables × List ExportRow))
       → (part_at strict (export_read offset_of) directory).value a ≡ Some p
       → Agree ((part_at strict (export_read offset_of) directory).reaches a) a b → IsSame p
-  unfolding part_map
   at-same strict None p made agree = subst IsSame (same_value Absent p made) refl
   at-same strict (Some d) p made agree =
       part-same strict d ((export_read offset_of d).value a) refl agree p made

@@ -258,7 +258,6 @@ name-cases : (strict : Bool) (name : List ℕ) (e : ErrorOf) → IsNameFault str
     → ((e ≡ Malformed NameText) × (name_text name ≡ None))
     ⊎ (((e ≡ Malformed NameBase64) × ((slice_index name 1 ≡ 47) × (name_text name ≢ None)))
     ⊎ ((e ≡ Malformed NameDecimal) × ((slice_index name 1 ≢ 47) × (name_text name ≢ None))))
-unfolding IsNameFault
 name-cases strict name (Malformed NameText) h = inl (refl, h.2)
 name-cases strict name (Malformed NameBase64) h = inr (inl (refl, (h.1, λ none. some-there _ _ h.2 (two-texts name h.1 none))))
 name-cases strict name (Malformed NameDecimal) h = inr (inr (refl, (h.1, λ none. some-there _ _ h.2 (one-text name h.1 none))))
@@ -316,7 +315,6 @@ module _ (strict : Bool) (format : Format EntryValue) (offset_of : ℕ → Optio
       has-mapped _ _ (has-beside _ _ (has-because (HintEntry p) (reads.number_at Little 2 p)) (has-or_else strict [] (reads.text_at (p + 2)) (has-text (p + 2))))
 
   has-name : (rva : ℕ) (place : Option ℕ) → HasOne (lookup.kept_name strict rva place)
-  unfolding lookup.kept_name
   has-name rva None = has-given []
   has-name rva (Some p) = has-or_left_out strict _ (has-mapped _ (lookup.hint_name strict p) (has-hint p))
 
@@ -356,7 +354,7 @@ module _ (strict : Bool) (format : Format EntryValue) (offset_of : ℕ → Optio
       (has-at (address_table_rva r) (lookup.address_table format) has-addresses))
 
   has-libraries : (o : ℕ) → HasOne (imports.libraries_past_front strict format offset_of o)
-  unfolding imports.libraries_past_front imports.libraries_at
+  unfolding imports.libraries_at
   has-libraries o = by (not strict && o == 0)
     where
       by : (test : Bool) → HasOne (imports.libraries_if strict format offset_of (cond test None (Some o)))
@@ -394,13 +392,11 @@ module _ (offset_of : ℕ → Option ℕ) (d : DataDirectory) where
   }
 
   has-fitting : (t : ExportDirectoryTable) → HasOne (exports.fitting t)
-  unfolding exports.fitting
   has-fitting t = record {
     one = λ bytes. one-first (Some (length bytes)) (λ e. ⊥) (λ n. IsCountFault n t) nothing (λ n. one-count n t);
   }
 
   has-tables_if : (t : ExportDirectoryTable) → HasOne (exports.tables_if offset_of d t)
-  unfolding exports.tables_if
   has-tables_if t = has-then (exports.fitting t) _ (has-fitting t) has-tables
 
   has-data : HasOne (exports.export_data offset_of d)

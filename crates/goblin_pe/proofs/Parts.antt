@@ -32,18 +32,15 @@ module _ {X Y : Type 0} (view : X → Y) (value : Option Y) (IsCause : ErrorOf �
     (made : Result (Part X) ErrorOf) where
   refused_strictly : (e : ErrorOf) → made ≡ Err e → (value ≡ None) × IsCause e
       → Answers (part_map view) made (part_of true value) IsCause
-  unfolding part_of
   refused_strictly e is fault = rw (is, fault.0) (refl, fault.1)
 
   kept_refused : made ≡ Ok Refused → value ≡ None
       → Answers (part_map view) made (part_of false value) IsCause
-  unfolding part_of part_map
   kept_refused is none = rw (is, none) refl
 
   becomes_answer : (strict : Bool) (asked : Result X ErrorOf) → IsNoMemory asked
       → Answers view asked value IsCause → BecomesPart strict asked made
       → Answers (part_map view) made (part_of strict value) IsCause
-  unfolding part_of part_map
   becomes_answer strict (Ok x) other h is = rw (is, h) refl
   becomes_answer strict (Err (Memory m)) other h is = absurd (other tt)
   becomes_answer true (Err (Malformed c)) other h is = refused_strictly (Malformed c) is h
@@ -94,14 +91,12 @@ module _ {X Y : Type 0} (view : X → Y) (r : Reading Y) (bytes : List ℕ) (str
       becomes_answered view (r.value bytes) (r.IsCause bytes) made strict asked h is
 
 pub part_map-same : {X : Type 0} (p : Part X) → part_map (λ x. x) p ≡ p
-unfolding part_map
 part_map-same Absent = refl
 part_map-same (part.Read x) = refl
 part_map-same Refused = refl
 
 pub part_map-twice : {A B C : Type 0} (f : A → B) (g : B → C) (p : Part A)
     → part_map (λ x. g (f x)) p ≡ part_map g (part_map f p)
-unfolding part_map
 part_map-twice f g Absent = refl
 part_map-twice f g (part.Read x) = refl
 part_map-twice f g Refused = refl

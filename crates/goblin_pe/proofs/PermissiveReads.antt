@@ -7,7 +7,7 @@ use Rattle.goblin_base.specs.declared.permissive.ParseMode.{ParseMode}
 use Rattle.goblin_base.specs.declared.permissive.ParseMode.TheVariants.{Permissive, Strict}
 use Rattle.goblin_base.specs.Answers.{◌>>=◌}
 use Rattle.goblin_base.specs.Reading.{InModes, Reading, Reads, ReadsOrMemory, Repeats, RepeatsAs}
-use Rattle.goblin_base.specs.Tables.{Format, each_below}
+use Rattle.goblin_base.specs.Tables.{Format}
 use Rattle.goblin_base.proofs.Kept.{Keeps}
 use Rattle.goblin_base.proofs.Steps.{same_value, step}
 use Rattle.readings.specs.Reads as reads
@@ -34,8 +34,7 @@ use Rattle.goblin_pe_import.specs.ImportRecords.{ImportedLibrary}
 use Rattle.goblin_pe_import.specs.Imports.{ImportValue, imports_of}
 use Rattle.goblin_pe_import.proofs.ImportBound.{pair_of-left, pair_of-right}
 use Rattle.goblin_pe_import.proofs.PermissiveReads.{libraries_at-repeats}
-use Rattle.goblin_pe.specs.Modes.{ReadsInModes, in_mode, in_permissive_mode, is_front}
-use Rattle.goblin_pe.specs.Modes.{unless_front}
+use Rattle.goblin_pe.specs.Modes.{ReadsInModes, in_mode, in_permissive_mode, is_front, unless_front}
 use Rattle.goblin_pe.specs.Whole.{TableParts, TablePlaces, WholeFile, entry_format, export_part}
 use Rattle.goblin_pe.specs.Whole.{import_data_part}
 use Rattle.goblin_pe.specs.Whole.{both_import_parts, listed_imports_part, offset_by, part_at, part_map, part_of}
@@ -80,7 +79,6 @@ front_or_not : (format : Format EntryValue) (offset_of : ℕ → Option ℕ) (by
     → (in_its_place false 0 place
     >>= λ o. (libraries_past_front false format offset_of o).value bytes)
     ≡ Some (unless_front place xs)
-unfolding libraries_past_front
 front_or_not format offset_of bytes None xs is = absurd cc
 front_or_not format offset_of bytes (Some o) xs is =
     past_front (nat_eq o 0) format offset_of bytes o xs
@@ -105,13 +103,11 @@ record IsPart {A : Type 0} (value : Option A) (p : Part A) : Type 0 where
 
 part_of-some : {A : Type 0} (value : Option A) (p : Part A) → part_of true value ≡ Some p
     → IsPart value p
-unfolding part_of
 part_of-some None p e = absurd cc
 part_of-some (Some table) p e = record { table = table; is = refl; read = cc }
 
 part_again : {A : Type 0} (table : A) (p : Part A) → p ≡ part.Read table
     → part_of false (Some table) ≡ Some p
-unfolding part_of
 part_again table p is = ap (λ q. Some q) (sym is)
 
 part_of-kept : {A : Type 0} (value : Option A) → Keeps (part_of true value) (part_of false value)
@@ -145,7 +141,6 @@ module _ (format : Format EntryValue) (offset_of : ℕ → Option ℕ) (bytes : 
       → IsPart ((libraries_of true d).value bytes) p
       → part_of false ((libraries_of false d).value bytes)
       ≡ Some (part_map (unless_front (offset_of d.virtual_address)) p)
-  unfolding part_of part_map
   imports_read d p own =
       let again = repeats-import_data format offset_of d.virtual_address in
       rw (again.kept bytes own.table own.is, own.read) refl
@@ -156,7 +151,6 @@ module _ (format : Format EntryValue) (offset_of : ℕ → Option ℕ) (bytes : 
       ≡ Some p
       → cond asked ((part_at false (libraries_of false) imports).value bytes) (Some Absent)
       ≡ Some (part_map (unless_front (place_by offset_of imports)) p)
-  unfolding part_map
   import_data_part-kept false imports p e =
       let is : Absent ≡ p = same_value Absent p e in
       rw (← is) refl
@@ -167,7 +161,7 @@ module _ (format : Format EntryValue) (offset_of : ℕ → Option ℕ) (bytes : 
       imports_read d p (part_of-some ((libraries_of true d).value bytes) p e)
 
 no_imports : (size : ℕ) → imports_of size [] ≡ Some []
-unfolding imports_of each_below
+unfolding imports_of
 no_imports size = refl
 
 imports_unless : (size : ℕ) (front : Bool) (libraries : List ImportedLibrary)
@@ -180,7 +174,6 @@ imports_made : (size : ℕ) (place : Option ℕ) (libraries : List ImportedLibra
     (p : Part (List ImportValue)) → IsPart (imports_of size libraries) p
     → part_of false (imports_of size (unless_front place libraries))
     ≡ Some (part_map (unless_front place) p)
-unfolding part_of part_map
 imports_made size place libraries p own =
     rw (imports_unless size (is_front place) libraries own.table own.is, own.read) refl
 
@@ -188,7 +181,6 @@ listed_imports_part-kept : (size : ℕ) (place : Option ℕ) (from : Part (List 
     (p : Part (List ImportValue)) → part_then true (imports_of size) from ≡ Some p
     → part_then false (imports_of size) (part_map (unless_front place) from)
     ≡ Some (part_map (unless_front place) p)
-unfolding part_then part_map
 listed_imports_part-kept size place Absent p e =
     let is : Absent ≡ p = same_value Absent p e in
     rw (← is) refl

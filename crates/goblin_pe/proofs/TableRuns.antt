@@ -1,7 +1,6 @@
 -- The readers that map addresses answer alike under maps that are the same, and permissive mode
 -- repeats strict mode.
-use Rattle.std.proofs.Common.{◌≡◌, ℕ, Bool, true, false, List, map, None, Option, Some, ap}
-use Rattle.std.proofs.Common.{subst}
+use Rattle.std.proofs.Common.{◌≡◌, ℕ, Bool, true, false, List, map, None, Option, Some, ap, subst}
 use Rattle.std.specs.Prelude.{option_map}
 use Rattle.goblin_base.specs.declared.endian.Endian.{Endian}
 use Rattle.goblin_base.specs.declared.error.ErrorOf.{ErrorOf}
@@ -11,8 +10,7 @@ use Rattle.goblin_base.specs.Tables.{Format}
 use Rattle.goblin_base.proofs.Footprints.{alike_answers, alike_or_memory_answers}
 use Rattle.readings.specs.Reads.{mapped}
 use Rattle.readings.proofs.Modes.{repeats-or_else, repeats-same}
-use Rattle.goblin_pe_sect.specs.AddressReadings.{data_at, name_at, name_or_none}
-use Rattle.goblin_pe_sect.specs.AddressReadings.{relocation_data}
+use Rattle.goblin_pe_sect.specs.AddressReadings.{data_at, name_at, name_or_none, relocation_data}
 use Rattle.goblin_pe_sect.specs.BaseRelocations.{relocation_bytes}
 use Rattle.goblin_pe_sect.specs.declared.options.ParseOptions.{ParseOptions}
 use Rattle.goblin_pe_sect.specs.Mapping.{file_offset}
@@ -34,7 +32,6 @@ use Rattle.goblin_pe.proofs.PermissiveReads.{repeats-import_data}
 -- what permissive mode takes for a name that is missing, strict mode refuses
 repeats-name_or_none : (offset_of : ℕ → Option ℕ) (rva : ℕ)
     → Repeats (name_or_none true offset_of rva) (name_or_none false offset_of rva)
-unfolding name_or_none
 repeats-name_or_none offset_of rva =
     let name : Reading (Option (List ℕ)) = mapped (λ name. Some name) (name_at offset_of rva) in
     repeats-or_else None name name (repeats-same name)

@@ -2,7 +2,6 @@
 use Rattle.std.proofs.Common.{◌≡◌, Bool, List, ℕ, None, Option, Some, ap, append-nil, sym, ◌∙◌}
 use Rattle.std.specs.Option.{option_map}
 use Rattle.std.specs.Prelude.{map}
-use Rattle.goblin_base.specs.Footprints.{led_to}
 use Rattle.goblin_base.specs.Marks.{marked}
 use Rattle.goblin_base.proofs.Marks.{marked_append}
 use Rattle.goblin_pe_sect.specs.declared.options.ParseOptions.{ParseOptions}
@@ -26,7 +25,7 @@ module _ (opts : ParseOptions) (bytes : List ℕ) (header : Header) (old new : L
       → option_map (map unnamed) read ≡ Some records → IsLayoutOf opts bytes header l
       → new ≡ marked (marked old reached) ((table_parts (layout_map l).opts (offset_of (layout_map l)) (layout_places l)).reaches l.bytes.now)
       → new ≡ marked old ((whole_after opts (header_value header)).reaches bytes)
-  unfolding led_to whole_with
+  unfolding whole_with
   layout_reached None records l read made is all = absurd cc
   layout_reached (Some sections) records l read made is all =
       let own = of_file opts bytes header l is sections read (λ m places b. new ≡ marked (marked old reached) ((table_parts m.opts (offset_of m) places).reaches b)) all in
@@ -37,6 +36,5 @@ module _ (opts : ParseOptions) (bytes : List ℕ) (header : Header) (old new : L
       → (sections_after (is_strict opts.parse_mode) (header_value header)).value bytes ≡ read
       → option_map (map unnamed) read ≡ None → new ≡ marked old reached
       → new ≡ marked old ((whole_after opts (header_value header)).reaches bytes)
-  unfolding led_to
   sections_reached (Some sections) read none all = absurd cc
   sections_reached None read none all = rw read (all ∙ ap (marked old) (sym (append-nil reached)))

@@ -51,7 +51,6 @@ module _ (m : MapOfAddresses) (places : TablePlaces) (bytes : List ℕ) where
   of-part : (strict : Bool) (o : Option (List ImportedLibrary)) (p : Part (List ImportedLibrary))
       → part_of strict o ≡ Some p → HasKept p
       → IsSomeAnd o (λ libraries. 0 < kept_count libraries)
-  unfolding part_of
   of-part strict (Some libraries) p is kept =
       subst HasKept (sym (same_value (part.Read libraries) p is)) kept
   of-part true None p is kept = absurd cc

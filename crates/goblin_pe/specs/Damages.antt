@@ -20,8 +20,7 @@ use Rattle.goblin_pe_export.specs.LeftOutExports.{pointers_left_out}
 use Rattle.goblin_pe.specs.declared.whole.damage.Damage.{Damage}
 use Rattle.goblin_pe.specs.Modes.{in_mode, in_permissive_mode}
 use Rattle.goblin_pe.specs.Whole.{TablePlaces, entry_format, export_part, import_list, layout}
-use Rattle.goblin_pe.specs.Whole.{offset_by}
-use Rattle.goblin_pe.specs.Whole.{places_in, relocation_part, sections_after, whole_file}
+use Rattle.goblin_pe.specs.Whole.{offset_by, places_in, relocation_part, sections_after, whole_file}
 
 -- There is a value and no damage, or there is none and the cause is true.
 abbrev pub IsDamageOf : {A : Type 0} → Option A → (ErrorOf → Type 0) → Option ErrorOf → Type 0

@@ -14,12 +14,11 @@ use Rattle.goblin_pe_import.specs.ImportLookup.{entries_32, entries_64}
 use Rattle.goblin_pe_import.specs.ImportPositions.{IsFaultAt, first_import}
 use Rattle.goblin_pe_import.specs.Imports.{ImportValue}
 use Rattle.goblin_pe_import.specs.ImportWalks.{AreImportsOver, HasPosition, IsInTable, imports_at}
-use Rattle.goblin_pe_import.specs.ImportWalks.{imports_map, position_of}
-use Rattle.goblin_pe_import.specs.ImportWalks.{walked_value}
+use Rattle.goblin_pe_import.specs.ImportWalks.{imports_map, position_of, walked_value}
 use Rattle.goblin_pe_import.specs.declared.import.imports.ImportPosition.{ImportPosition}
 use Rattle.goblin_pe_import.specs.declared.import.imports.WalkedImport.{WalkedImport}
 use Rattle.goblin_pe.specs.declared.whole.Part.{Part}
-use Rattle.goblin_pe.specs.declared.whole.Part.TheVariants.{Absent, Refused}
+use Rattle.goblin_pe.specs.declared.whole.Part.TheVariants.{Absent}
 use Rattle.goblin_pe.specs.declared.whole.Part.TheVariants as part
 use Rattle.goblin_pe.specs.declared.whole.imports.FileImports.{FileImports}
 use Rattle.goblin_pe.specs.declared.whole.imports.FileImports.TheVariants.{Narrow, Wide}

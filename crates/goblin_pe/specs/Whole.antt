@@ -1,7 +1,6 @@
 -- A whole file: its header, its sections, and the tables that its directories lead to.
 use Rattle.std.specs.Prelude.{◌≡◌, ℕ, ◌+◌, ◌==◌, Bool, true, false, if◌then◌else◌, List, Option}
-use Rattle.std.specs.Prelude.{Some, None, Result, Ok, Err, Vec, IsSomeAnd}
-use Rattle.std.specs.Prelude.{map, option_map}
+use Rattle.std.specs.Prelude.{Some, None, Result, Ok, Err, Vec, IsSomeAnd, map, option_map}
 use Rattle.std.specs.List.{flat_map}
 use Rattle.std.specs.Global.{Global}
 use Rattle.std.specs.declared.alloc.AllocError.{AllocError}
@@ -43,7 +42,7 @@ use Rattle.goblin_pe_import.specs.Imports.{first_without_slots, imports_of, kept
 -- ---- parts
 
 -- a table as a part of a file; strict mode has no part for one that is refused
-unfoldable pub part_of : {A : Type 0} → Bool → Option A → Option (Part A)
+abbrev pub part_of : {A : Type 0} → Bool → Option A → Option (Part A)
 part_of strict (Some table) = Some (part.Read table)
 part_of true None = None
 part_of false None = Some Refused
@@ -55,13 +54,13 @@ part_at strict read None = given Absent
 part_at strict read (Some directory) = turned (part_of strict) (read directory)
 
 -- a table that is made from another part
-unfoldable pub part_then : {A B : Type 0} → Bool → (A → Option B) → Part A → Option (Part B)
+abbrev pub part_then : {A B : Type 0} → Bool → (A → Option B) → Part A → Option (Part B)
 part_then strict table Absent = Some Absent
 part_then strict table (part.Read from) = part_of strict (table from)
 part_then strict table Refused = Some Refused
 
 -- a table that can always be made from another part
-unfoldable pub part_map : {A B : Type 0} → (A → B) → Part A → Part B
+abbrev pub part_map : {A B : Type 0} → (A → B) → Part A → Part B
 part_map table Absent = Absent
 part_map table (part.Read from) = part.Read (table from)
 part_map table Refused = Refused

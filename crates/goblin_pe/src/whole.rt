@@ -108,7 +108,7 @@ impl<'a> Whole<'a> {
     /// strict mode as the readers of the tables; [`Error::Memory`] if memory is refused, in both
     /// modes, and only of a file that has sections, or a table of which something is kept. All
     /// causes that are true of a file have one text.
-    #[tactic(auto, unfolding(crate::specs::Whole::whole_file, crate::specs::Whole::whole_with, crate::specs::Whole::part_map), using(goblin_pe_head::proofs::HeaderFaults::header_there, crate::proofs::OneCauseOfParts::only_cause))]
+    #[tactic(auto, unfolding(crate::specs::Whole::whole_file, crate::specs::Whole::whole_with), using(goblin_pe_head::proofs::HeaderFaults::header_there, crate::proofs::OneCauseOfParts::only_cause))]
     pub fn read(alloc: Global, bytes: &'a [u8], opts: &ParseOptions) -> Result<Whole<'a>>
         ensures value { ReadsOrMemory (λ x. x) result (whole_file opts.now) bytes.now }
         ensures only { IfErr result

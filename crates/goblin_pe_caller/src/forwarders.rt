@@ -36,7 +36,6 @@ pub fn forwarders(alloc: Global, bytes: &[u8], opts: &ParseOptions) -> Result<us
 }
 
 /// The same of a layout.
-#[tactic(auto, unfolding(goblin_pe::specs::Whole::part_map))]
 fn layout_forwarders(layout: &Layout) -> Result<usize>
     ensures { Reads (λ n. n) result
         (mapped (read_or 0 forwarder_count) (layout_table export_part layout.now))

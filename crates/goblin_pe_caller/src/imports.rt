@@ -36,7 +36,6 @@ pub fn imports_from(alloc: Global, bytes: &[u8], library: &str) -> Result<bool>
 
 /// The same of a layout. It goes on after the first import from there, as a later one may be
 /// refused.
-#[tactic(auto, unfolding(goblin_pe::specs::Whole::part_map))]
 fn layout_imports_from<'e>(layout: &Layout, library: &str) -> ResultOf<'e, bool>
     ensures { Reads (λ b. b) result
         (mapped (read_or false (has_any (is_from library.now)))
@@ -66,7 +65,6 @@ fn any_from<'a, 'm, 'e>(imports: FileImports<'a, 'm, 'e>, library: &str) -> Resu
 ///
 /// # Errors
 /// As [`Layout::imports`]; in strict mode as the walk over the imports.
-#[tactic(auto, unfolding(goblin_pe::specs::Whole::part_map))]
 pub fn count_imports_from<'e>(layout: &Layout, library: &str) -> ResultOf<'e, usize>
     ensures { Reads (λ n. n) result
         (mapped (read_or 0 (counted (is_from library.now))) (layout_table import_list layout.now))

@@ -99,7 +99,6 @@ pub fn count_imports(alloc: Global, bytes: &[u8]) -> Result<usize>
 }
 
 /// How many imports were read, 0 where none were.
-#[tactic(auto, unfolding(goblin_pe::specs::Whole::part_map))]
 fn imports_in(whole: &Whole) -> usize
     ensures { result ≡ read_or 0 length whole.now.imports }
 {

@@ -30,13 +30,11 @@ module _ (m : MapOfAddresses) (places : TablePlaces) (bytes : List ℕ) (found :
   pub addresses-given : (walk : Exports) → found ≡ part.Read walk → (y count : ℕ) (new : List PeExportAddress)
       → GivesOnward (map address_said (walked_tables walk).export_address_table) x old y new count
       → GivesAddresses m places bytes (record { position = x; records = old }) (record { position = y; records = new }) count
-  unfolding part_map
   addresses-given walk is y count new gives =
       given (part.Read (walked_exports walk)) (ap (part_map walked_exports) is) y count new gives
 
   -- where there are none
   pub addresses-none : (found ≡ Absent) ⊎ (found ≡ Refused)
       → GivesAddresses m places bytes (record { position = x; records = old }) (record { position = x; records = old }) 0
-  unfolding part_map
   addresses-none (inl none) = given Absent (ap (part_map walked_exports) none) x 0 old (onward-none [] x old (omega arith))
   addresses-none (inr none) = given Refused (ap (part_map walked_exports) none) x 0 old (onward-none [] x old (omega arith))

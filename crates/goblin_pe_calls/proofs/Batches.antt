@@ -25,13 +25,6 @@ pub before-end : {A : Type 0} (items : List (Option A)) → items ≡ [] → val
 unfolding values_before
 before-end items is = rw is refl
 
--- where a value came, the very next was no refusal
-pub none-refused : {A : Type 0} (xs : List A) (items all : List (Option A))
-    → all ≡ map (λ x. Some x) xs ++ items → 0 < length xs → IsRefusedNext all → ⊥
-none-refused [] items all is some h = omega (arith, some)
-none-refused {A} (x ∷ xs) items all is some h =
-    subst (λ (items : List (Option A)). IsRefusedNext items) is h
-
 -- ---- the records
 
 module _ {R A B : Type 0} (view : R → B) (said : A → B) (old : List R) where

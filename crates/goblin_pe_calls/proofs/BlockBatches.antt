@@ -211,7 +211,6 @@ module _ (m : MapOfAddresses) (places : TablePlaces) (bytes : List ℕ) (found :
     pub blocks-given : (relocations : RelocationData) → found ≡ part.Read relocations
         → FillsBlocks (block_items (relocation_bytes relocations) x) (block_items (relocation_bytes relocations) y) (record { position = x; records = old }) (record { position = y; records = new }) count
         → GivesBlocks m places bytes (record { position = x; records = old }) (record { position = y; records = new }) count
-    unfolding part_map
     blocks-given relocations is fills =
         rw (read ∙ ap (λ (p : Part RelocationData). Some (part_map relocation_bytes p)) is) fills
 
@@ -229,7 +228,6 @@ module _ (m : MapOfAddresses) (places : TablePlaces) (bytes : List ℕ) (found :
 
     pub blocks-none : (found ≡ Absent) ⊎ (found ≡ Refused)
         → GivesBlocks m places bytes (record { position = x; records = old }) (record { position = x; records = old }) 0
-    unfolding part_map
     blocks-none (inl none) = nothing Absent refl (read ∙ ap (λ (p : Part RelocationData). Some (part_map relocation_bytes p)) none)
     blocks-none (inr none) = nothing Refused refl (read ∙ ap (λ (p : Part RelocationData). Some (part_map relocation_bytes p)) none)
 
@@ -237,7 +235,6 @@ module _ (m : MapOfAddresses) (places : TablePlaces) (bytes : List ℕ) (found :
     pub blocks-fault : (relocations : RelocationData) → found ≡ part.Read relocations → (e : ErrorOf) → 0 < length old
         → IsNextRefusal (block_items (relocation_bytes relocations) x) e
         → IsBlocksFault m places bytes (record { position = x; records = old }) e
-    unfolding part_map
     blocks-fault relocations is e some refused =
         rw (read ∙ ap (λ (p : Part RelocationData). Some (part_map relocation_bytes p)) is) (some, refused)
 

@@ -108,7 +108,6 @@ module _ (m : MapOfAddresses) (places : TablePlaces) (bytes : List ℕ) (found :
         → IsBatch export_view export_said (exports_left now) old new count → exports_left next ≡ drop count (exports_left now)
         → KeepsOver now next → (0 < count → exports_left next ≡ exports_at next y) → (count ≡ 0 → y ≡ x)
         → GivesExports m places bytes (record { position = x; records = old }) (record { position = y; records = new }) count
-    unfolding part_map
     exports-given now next y count new begun over_now batch later over_next at stays =
         let left : exports_left now ≡ numbered_from (offset_of m) bytes (walked_tables walk) x = begun ∙ from-there x in
         let rest = later-there now next y over_now over_next x count (later ∙ ap (λ (items : List NumberedExport). drop count items) left) at stays in
@@ -133,6 +132,5 @@ module _ (m : MapOfAddresses) (places : TablePlaces) (bytes : List ℕ) (found :
 
   pub exports-none : (found ≡ Absent) ⊎ (found ≡ Refused)
       → GivesExports m places bytes (record { position = x; records = old }) (record { position = x; records = old }) 0
-  unfolding part_map
   exports-none (inl none) = nothing Absent refl (read ∙ ap (λ (p : Part Exports). Some (part_map walked_exports p)) none)
   exports-none (inr none) = nothing Refused refl (read ∙ ap (λ (p : Part Exports). Some (part_map walked_exports p)) none)

@@ -42,17 +42,7 @@ use Rattle.goblin_pe_calls.proofs.Opened.{IsOf}
 
 -- ---- walks
 
--- where a walk has another item, or a refusal, something was to come at first
-pub walk-begun : {S A B X : Type 0} (left : S → List (Option A)) (IsCause : S → ErrorOf → Type 0)
-    (item : A → B) (start now : S) (made : List B) → AtMade left IsCause item start now made
-    → (view : X → A) (next : S) (r : Result X ErrorOf) → GivesNext view left IsCause now (Some r) next
-    → 0 < length (left start)
-walk-begun left IsCause item start now made h view next (Ok x) given =
-    omega (arith, ap length h.at.yielded, length-append (map (λ y. Some y) h.items) (left now), ap length given.0)
-walk-begun left IsCause item start now made h view next (Err e) given =
-    omega (arith, ap length h.at.yielded, length-append (map (λ y. Some y) h.items) (left now), ap length given.0)
-
--- where records were made of what came before, the same
+-- where records were made of what came before a value, something was to come at first
 pub records-begun : {A B : Type 0} (f : A → B) (made : List B) (start now more : List A) (x : A)
     → made ++ map f now ≡ map f start → now ≡ x ∷ more → 0 < length start
 records-begun f made start now more x h is =
@@ -65,7 +55,6 @@ first-some a (Some ys) xs is = omega (arith, ap length (same_value (a ∷ ys) xs
 
 collected-some : {A : Type 0} (items : List (Option A)) (xs : List A) → all_of items ≡ Some xs
     → 0 < length items → 0 < length xs
-unfolding all_of
 collected-some [] xs is some = absurd (omega (arith, some))
 collected-some (None ∷ items) xs is some = absurd cc
 collected-some (Some a ∷ items) xs is some = first-some a (all_of items) xs is

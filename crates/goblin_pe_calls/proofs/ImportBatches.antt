@@ -13,9 +13,8 @@ use Rattle.goblin_pe_import.specs.declared.import.imports.WalkedImport.{WalkedIm
 use Rattle.goblin_pe.specs.Addresses.{MapOfAddresses, offset_of}
 use Rattle.goblin_pe.specs.Imports.{ImportValue}
 use Rattle.goblin_pe.specs.ImportWalks.{IsInTable, imports_at, position_of, walked_value}
-use Rattle.goblin_pe.specs.LayoutPositions.{IsImportWalk, PartGives, StartsAt}
-use Rattle.goblin_pe.specs.LayoutPositions.{file_imports_at, file_position, import_start, start_by}
-use Rattle.goblin_pe.specs.LayoutPositions.{GivesFileImport}
+use Rattle.goblin_pe.specs.LayoutPositions.{IsImportWalk, PartGives, StartsAt, file_imports_at}
+use Rattle.goblin_pe.specs.LayoutPositions.{file_position, import_start, start_by, GivesFileImport}
 use Rattle.goblin_pe.specs.Layouts.{IsFileImportsCause, file_imports_left}
 use Rattle.goblin_pe.specs.Whole.{TablePlaces}
 use Rattle.goblin_pe.specs.declared.whole.Part.{Part}

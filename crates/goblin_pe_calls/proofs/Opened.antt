@@ -22,16 +22,14 @@ use Rattle.goblin_pe.specs.declared.whole.Part.TheVariants.{Absent, Refused}
 use Rattle.goblin_pe.specs.declared.whole.Part.TheVariants as part
 use Rattle.goblin_pe.specs.declared.whole.layout.Layout.{Layout}
 use Rattle.goblin_pe.specs.Layouts.{IsLayoutOf, layout_map, layout_places}
-use Rattle.goblin_pe.specs.Whole.{TableParts, TablePlaces, WholeFile, collected_file, collected_tables}
-use Rattle.goblin_pe.specs.Whole.{offset_by}
-use Rattle.goblin_pe.specs.Whole.{part_map, places_in, sections_after, table_parts, whole_file}
-use Rattle.goblin_pe.specs.Whole.{whole_of, whole_with}
+use Rattle.goblin_pe.specs.Whole.{TableParts, TablePlaces, WholeFile, collected_file}
+use Rattle.goblin_pe.specs.Whole.{collected_tables, offset_by, part_map, places_in, sections_after}
+use Rattle.goblin_pe.specs.Whole.{table_parts, whole_file, whole_of, whole_with}
 use Rattle.goblin_pe.proofs.Collected.{file_read}
 use Rattle.goblin_pe.proofs.Layouts.{tables-cause, tables-value}
 use Rattle.goblin_pe.proofs.NumberedExports.{rows_of_file}
 use Rattle.goblin_pe_calls.specs.declared.records.FileRecords.{FileRecords}
-use Rattle.goblin_pe_calls.specs.Exports.{ExportsSaid, export_said, exports_said}
-use Rattle.goblin_pe_calls.specs.Exports.{file_exports}
+use Rattle.goblin_pe_calls.specs.Exports.{ExportsSaid, export_said, exports_said, file_exports}
 use Rattle.goblin_pe_calls.specs.Files.{entries_of, table_of}
 use Rattle.goblin_pe_calls.specs.Imports.{import_said}
 use Rattle.goblin_pe_calls.specs.Opened.{RecordsOfFile, opened_file, records_of_file, records_view, tables_view}
@@ -40,7 +38,6 @@ use Rattle.goblin_pe_calls.specs.Opened.{RecordsOfFile, opened_file, records_of_
 
 table-same : {A B : Type 0} (p : Part (List A)) (q : Part (List B)) (f : A → B)
     → part_map (map f) p ≡ q → table_of p ≡ table_of q
-unfolding part_map
 table-same Absent q f is = rw (← is) refl
 table-same (part.Read xs) q f is = rw (← is, length-map xs f) refl
 table-same Refused q f is = rw (← is) refl
@@ -49,14 +46,12 @@ table-same Refused q f is = rw (← is) refl
 pub table-viewed : {A B : Type 0} (view : A → B) (p : Part (Vec A Global))
     → table_of (part_map (λ (v : Vec A Global). v.items) p)
     ≡ table_of (part_map (λ (v : Vec A Global). map view v.items) p)
-unfolding part_map
 table-viewed view Absent = refl
 table-viewed view (part.Read v) = rw (length-map v.items view) refl
 table-viewed view Refused = refl
 
 entries-same : {A B : Type 0} (p : Part (List A)) (q : Part (List B)) (f : A → B)
     → part_map (map f) p ≡ q → map f (entries_of p) ≡ entries_of q
-unfolding part_map
 entries-same Absent q f is = rw (← is) refl
 entries-same (part.Read xs) q f is = rw (← is) refl
 entries-same Refused q f is = rw (← is) refl
@@ -65,7 +60,6 @@ entries-same Refused q f is = rw (← is) refl
 rows-table : (offset_of : ℕ → Option ℕ) (bytes : List ℕ) (tables : Part ExportTables)
     → table_of (part_map (map (λ x. x.row)) (part_map (λ t. numbered_from offset_of bytes t 0) tables))
     ≡ table_of (exports_said offset_of bytes tables).exports
-unfolding part_map
 rows-table offset_of bytes Absent = refl
 rows-table offset_of bytes (part.Read tables) =
     let exports = numbered_from offset_of bytes tables 0 in

@@ -1,9 +1,7 @@
 -- Batches: as many records of what comes from a position on as there is room for.
 use Rattle.std.specs.Prelude.{◌≡◌, ℕ, ◌==◌, ◌&&◌, ◌<◌, ◌≤◌, ⊤, true, if◌then◌else◌, List, [], ◌∷◌}
-use Rattle.std.specs.Prelude.{◌+◌, ◌++◌, map, drop, take}
-use Rattle.std.specs.Prelude.{length, min, Option, Some, None, option_map, Result, Ok, Err, IsSome}
-use Rattle.std.specs.Prelude.{IsSomeAnd}
-use Rattle.std.specs.Prelude.{sum_by, unwrap_or}
+use Rattle.std.specs.Prelude.{◌+◌, ◌++◌, map, drop, take, length, min, Option, Some, None}
+use Rattle.std.specs.Prelude.{option_map, Result, Ok, Err, IsSome, IsSomeAnd, sum_by, unwrap_or}
 use Rattle.goblin_base.specs.declared.error.ErrorOf.{ErrorOf}
 use Rattle.goblin_base.specs.Answers.{FirstFault, IsMemory}
 use Rattle.goblin_pe_sect.specs.declared.options.ParseOptions.{ParseOptions}

@@ -12,8 +12,7 @@ use Rattle.goblin_pe.specs.ExportRecords.{ExportRow, ExportTables}
 use Rattle.goblin_pe.specs.PeHeader.{PeHeader}
 use Rattle.goblin_pe_head.specs.SectionRoom.{HasRoom}
 use Rattle.goblin_pe.specs.Whole.{TableParts, TablePlaces, WholeFile, both_import_parts}
-use Rattle.goblin_pe.specs.Whole.{export_part}
-use Rattle.goblin_pe.specs.Whole.{part_map, places_in, whole_file}
+use Rattle.goblin_pe.specs.Whole.{export_part, part_map, places_in, whole_file}
 use Rattle.goblin_pe_calls.specs.Blocks.{blocks_in}
 use Rattle.goblin_pe_calls.specs.Files.{entries_of}
 use Rattle.goblin_pe_records.specs.RichHeaders.{entries_of_rich}

@@ -26,8 +26,7 @@ use Rattle.goblin_pe_records.specs.Directories.{directories_of, entry_record}
 use Rattle.goblin_pe_calls.specs.declared.records.FileRecords.{FileRecords}
 use Rattle.goblin_pe_calls.specs.ExportDirectories.{directory_view}
 use Rattle.goblin_pe_calls.specs.Exports.{ExportsSaid, export_view, exports_said, exports_view}
-use Rattle.goblin_pe_calls.specs.Exports.{file_exports}
-use Rattle.goblin_pe_calls.specs.Exports.{read_said}
+use Rattle.goblin_pe_calls.specs.Exports.{file_exports, read_said}
 use Rattle.goblin_pe_calls.specs.Files.{entries_of, file_of}
 use Rattle.goblin_pe_records.specs.Filled.{Filled, without_text}
 use Rattle.goblin_pe_calls.specs.Imports.{ImportSaid, import_said, import_view, import_views}
@@ -45,7 +44,6 @@ pub said-same : (offset_of : ℕ → Option ℕ) (a b : List ℕ) (p : Part Expo
     → part_map (λ tables. numbered_from offset_of a tables 0) p
     ≡ part_map (λ tables. numbered_from offset_of b tables 0) p
     → exports_said offset_of a p ≡ exports_said offset_of b p
-unfolding part_map
 said-same offset_of a b Absent same = refl
 said-same offset_of a b (part.Read tables) same =
     ap (λ (exports : List NumberedExport). read_said tables exports) (read-inside _ _ same)

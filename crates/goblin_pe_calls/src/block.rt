@@ -21,7 +21,6 @@ use std::alloc::Global;
 
 /// The records of base relocation blocks, in memory of their own, and what is said of them as a
 /// whole.
-#[tactic(auto, unfolding(goblin_pe::specs::Whole::part_map))]
 pub fn block_records<'a>(
     alloc: Global,
     relocations: &Part<RelocationData<'a>>,

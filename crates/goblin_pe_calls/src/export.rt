@@ -1,24 +1,21 @@
 //! The records of exports.
 
 ghost use Rattle.std.specs.Prelude.{◌≡◌, ◌≤◌, ◌<◌, ◌+◌, ◌++◌, ◌∷◌, [], IfErr, IfOk, IfSome, OnErr};
-ghost use Rattle.std.specs.Prelude.{OnOk};
-ghost use Rattle.std.specs.Prelude.{◌/◌, IsSomeAnd, None, Some, length, map, max, vec_capacity};
-ghost use Rattle.std.specs.Prelude.{vec_len};
+ghost use Rattle.std.specs.Prelude.{OnOk, ◌/◌, IsSomeAnd, None, Some, length, map, max};
+ghost use Rattle.std.specs.Prelude.{vec_capacity, vec_len};
 ghost use Rattle.goblin_base.specs.Answers.{GivesOrMemory, IsMemory};
 ghost use Rattle.goblin_base.specs.Reading.{ReadsOrMemory};
 ghost use Rattle.goblin_pe.specs.Reads.{mapped};
 ghost use Rattle.goblin_pe_sect.specs.Addresses.{map_of, offset_of};
-ghost use Rattle.goblin_pe_export.specs.ExportWalks.{exports_left, walked_export};
-ghost use Rattle.goblin_pe_export.specs.ExportWalks.{walked_tables};
+ghost use Rattle.goblin_pe_export.specs.ExportWalks.{exports_left, walked_export, walked_tables};
 ghost use Rattle.goblin_pe_export.specs.Forwarders.{forwarder_value};
 ghost use Rattle.goblin_pe.specs.Layouts.{layout_bytes, layout_map, layout_places};
 ghost use Rattle.goblin_pe.specs.Whole.{collected_exports, export_part, part_map};
 ghost use Rattle.goblin_pe_records.specs.Blocked.{HasLittleRoom};
 ghost use Rattle.goblin_pe_calls.specs.Blocked.{HasLittleRoomIn, HaveLittleRoom};
 ghost use Rattle.goblin_pe_calls.specs.Exports.{export_said, export_view, export_views};
-ghost use Rattle.goblin_pe_calls.specs.Exports.{exports_said};
-ghost use Rattle.goblin_pe_calls.specs.Exports.{exports_view, read_said, said_without_forwarder};
-ghost use Rattle.goblin_pe_calls.specs.Exports.{unread_said};
+ghost use Rattle.goblin_pe_calls.specs.Exports.{exports_said, exports_view, read_said};
+ghost use Rattle.goblin_pe_calls.specs.Exports.{said_without_forwarder, unread_said};
 ghost use Rattle.goblin_pe_calls.specs.Growth.{HasExports};
 
 use crate::export_directory::{
@@ -241,7 +238,6 @@ fn records_of<'a, 'm>(
 }
 
 // The records of the exports of a walk, and of what the export directory leads to.
-#[tactic(auto, unfolding(goblin_pe::specs::Whole::part_map))]
 fn read_records<'a, 'm>(
     alloc: Global,
     bytes: &'a [u8],
@@ -281,7 +277,6 @@ fn unread_records<'a>(
 
 /// The records of a file's exports, in the order of the name pointers, and of what the export
 /// directory leads to, by a finder of the layout.
-#[tactic(auto, unfolding(goblin_pe::specs::Whole::part_map))]
 pub fn export_records<'a, 'm>(
     alloc: Global,
     layout: &'m Layout<'a>,

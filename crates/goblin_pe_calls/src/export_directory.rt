@@ -11,8 +11,7 @@ ghost use Rattle.goblin_pe_calls.specs.Batches.{IsExportBatchFault, IsExportsFau
 ghost use Rattle.goblin_pe_records.specs.Blocked.{HasNoSpareRoom};
 ghost use Rattle.goblin_pe_records.specs.Onward.{GivesOnward};
 ghost use Rattle.goblin_pe_calls.specs.ExportDirectories.{address_said, directory_said};
-ghost use Rattle.goblin_pe_calls.specs.ExportDirectories.{directory_view};
-ghost use Rattle.goblin_pe_calls.specs.ExportDirectories.{no_export_directory};
+ghost use Rattle.goblin_pe_calls.specs.ExportDirectories.{directory_view, no_export_directory};
 
 use crate::batch::Batched;
 use crate::places::layout_at;
@@ -112,7 +111,6 @@ pub fn no_export_directory<'a>(bytes: &'a [u8]) -> PeExportDirectory<'a>
 }
 
 // The record of what the export directory of a file says.
-#[tactic(auto, unfolding(goblin_pe::specs::Whole::part_map))]
 fn directory_of<'a>(layout: &Layout<'a>) -> Result<PeExportDirectory<'a>>
     ensures { let m = layout_map layout.now in
         let places = layout_places layout.now in

@@ -94,7 +94,6 @@ fn record_by<'a>(
 /// Puts the record of an import of these bytes into its place. (Each kind has a record of its own:
 /// one that is made for both would be put together by conditions for every import.)
 #[inline(always)]
-#[tactic(auto, unfolding(goblin_pe_import::specs::Imports::entry_name, goblin_pe_import::specs::Imports::entry_has_name, goblin_pe_import::specs::Imports::entry_ordinal, goblin_pe_import::specs::Imports::entry_name_rva))]
 pub fn put_import<'a>(place: &mut PeImport<'a>, bytes: &'a [u8], import: &WalkedImport<'a>)
     ensures { import_view place.new ≡ import_said (walked_value import.now) }
 {
@@ -114,7 +113,6 @@ const FIRST_ROOM: usize = 4;
 
 // Adds the record of an import, for which there is room.
 #[inline(always)]
-#[tactic(auto, unfolding(goblin_pe_import::specs::Imports::entry_name, goblin_pe_import::specs::Imports::entry_has_name, goblin_pe_import::specs::Imports::entry_ordinal, goblin_pe_import::specs::Imports::entry_name_rva))]
 fn push_within<'a>(records: &mut Vec<PeImport<'a>>, bytes: &'a [u8], import: &WalkedImport<'a>)
     requires { vec_len records.old < vec_capacity records.old }
     ensures value { map import_view records.new.items
@@ -228,7 +226,6 @@ fn file_records_of<'a, 'm, 'e>(
 }
 
 // The records of a file's imports.
-#[tactic(auto, unfolding(goblin_pe::specs::Whole::part_map))]
 fn listed_records<'a, 'm>(
     alloc: Global,
     layout: &'m Layout<'a>,

@@ -116,7 +116,6 @@ fn made_of<'a>(
 }
 
 // Hands the records of imports over, none where there are none.
-#[tactic(auto, unfolding(goblin_pe::specs::Whole::part_map))]
 fn imports_of<'a>(imports: Part<Vec<PeImport<'a>>>) -> &'a [PeImport<'a>]
     requires { HasLittleRoomIn imports }
     ensures { map import_view result.now ≡ entries_of (part_map import_views imports.entry) }
@@ -128,7 +127,6 @@ fn imports_of<'a>(imports: Part<Vec<PeImport<'a>>>) -> &'a [PeImport<'a>]
 }
 
 // Hands the records of exports over, none where there are none.
-#[tactic(auto, unfolding(goblin_pe::specs::Whole::part_map))]
 fn exports_of<'a>(exports: Part<Vec<PeExport<'a>>>) -> &'a [PeExport<'a>]
     requires { HasLittleRoomIn exports }
     ensures { map export_view result.now ≡ entries_of (part_map export_views exports.entry) }

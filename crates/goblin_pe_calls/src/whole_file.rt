@@ -19,7 +19,6 @@ use goblin_pe_records::headers::fill_optional;
 use goblin_pe_records::rich::PeRichHeader;
 
 // Says how a table of records stands.
-#[tactic(auto, unfolding(goblin_pe::specs::Whole::part_map))]
 #[inline(always)]
 fn fill_table<T>(place: &mut PeTable, table: &Part<Vec<T>>)
     ensures { place.new ≡ table_of (part_map (λ v. v.items) table.now) }

@@ -21,7 +21,6 @@ counted_reach : {V : Type 0} (format : Format V) (count : ℕ) (bytes : List ℕ
     → 0 < format.width
     → led_to place (counted_footprint format count bytes)
     ≡ entries_reach bytes format.width count place
-unfolding led_to
 counted_reach format count bytes None wide = refl
 counted_reach format count bytes (Some o) wide =
     ap (λ (n : ℕ). positions o (o + format.width * n)) (whole-is format count bytes o wide)

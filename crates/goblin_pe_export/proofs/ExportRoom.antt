@@ -28,7 +28,7 @@ module _ (offset_of : ℕ → Option ℕ) (bytes : List ℕ) (tables : ExportTab
   has-row : (pointer : ℕ) (ordinal : Option ℕ)
       → (if is_own (option_and_then (slice_get tables.export_address_table) ordinal) then 1 else 0)
       ≤ length (option_to_list (row (Some pointer) ordinal))
-  unfolding reading.row_of reading.reexport_of
+  unfolding reading.row_of
   has-row pointer None = omega arith
   has-row pointer (Some ordinal) =
       elim (slice_get tables.export_address_table ordinal) as (λ o.
@@ -53,7 +53,7 @@ module _ (offset_of : ℕ → Option ℕ) (bytes : List ℕ) (tables : ExportTab
   own_listed : (n : ℕ) → n ≤ length tables.export_name_pointer_table
       → own_exports tables n
       ≤ length (concat_below (λ x. option_to_list (export_row offset_of bytes tables x)) n)
-  unfolding own_exports concat_below
+  unfolding own_exports
   own_listed zero within = omega arith
   own_listed (suc n) within =
       omega (

@@ -8,10 +8,6 @@ use Rattle.goblin_pe_export.specs.ExportReadings as reading
 use Rattle.goblin_pe_export.specs.ExportRecords.{ExportTables}
 use Rattle.goblin_pe_export.specs.Exports.{export_row}
 
-pub rows_none : {A : Type 0} → (row : ℕ → Option A) → concat_below (λ x. option_to_list (row x)) 0 ≡ []
-unfolding concat_below
-rows_none row = refl
-
 module _ {A : Type 0} (row : ℕ → Option A) (n : ℕ) (rows : List A)
     (so_far : rows ≡ concat_below (λ x. option_to_list (row x)) n) where
   rows-more : (o : Option A) → o ≡ row n

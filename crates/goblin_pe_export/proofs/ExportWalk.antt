@@ -26,7 +26,6 @@ module _ {A : Type 0} (f : ℕ → Option A) where
 
   -- joined below n, they are those of the first n indexes
   joined : (n : ℕ) → concat_below (λ i. option_to_list (f i)) n ≡ filter_map f (range_with_len 0 n)
-  unfolding concat_below
   joined zero = refl
   joined (suc n) =
       ap (λ (xs : List A). xs ++ option_to_list (f n)) (joined n)

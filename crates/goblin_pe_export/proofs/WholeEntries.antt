@@ -2,8 +2,7 @@
 use Rattle.std.proofs.Common.{◌≡◌, ◌<◌, ◌≤◌, ◌+◌, ◌-◌, ◌*◌, ◌/◌, ℕ, zero, suc}
 use Rattle.std.proofs.Common.{List, [], drop, length, map, Option, Some, None, refl}
 use Rattle.std.proofs.Common.{sym, ap, ◌∙◌, arith, add-one, inl, inr}
-use Rattle.std.specs.Prelude.{is_none, min, option_map, option_to_list}
-use Rattle.std.specs.Prelude.{slice_get, slice_range}
+use Rattle.std.specs.Prelude.{is_none, min, option_map, option_to_list, slice_get, slice_range}
 use Rattle.std.specs.List.{range_with_len}
 use Rattle.std.proofs.Math.Nat.{mul-div_cancel_left, mul-le-mul_left, zero-div}
 use Rattle.std.proofs.lemmas.Bool.{cases_lt}
@@ -79,7 +78,6 @@ entry_count w value bytes = length-records_in w value bytes
 concat-there : {V : Type 0} (entry : ℕ → Option V) (of : ℕ → V) (n : ℕ)
     → ((i : ℕ) → i < n → entry i ≡ Some (of i))
     → concat_below (λ i. option_to_list (entry i)) n ≡ map of (range_with_len 0 n)
-unfolding concat_below
 concat-there entry of zero there = refl
 concat-there entry of (suc n) there =
     let before = concat-there entry of n (λ i l. there i (omega arith)) in
@@ -160,3 +158,5 @@ unfolding counted_table_if
 counted_is format count bytes None wide =
     sym (records_in-none format.width format.value_of [] (zero-div format.width))
 counted_is format count bytes (Some o) wide = some-is format count bytes o wide
+
+pub ruleset entries = (entry_inside, entry_outside)

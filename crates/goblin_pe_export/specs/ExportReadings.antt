@@ -5,19 +5,16 @@ use Rattle.std.specs.Prelude.{Option, Some, None}
 use Rattle.goblin_base.specs.declared.endian.Endian.TheVariants.{Little}
 use Rattle.goblin_base.specs.declared.error.CauseOf.TheVariants.{ExportTable}
 use Rattle.goblin_base.specs.Reading.{Reading}
-use Rattle.readings.specs.Reads.{◌>>=◌, ◌beside◌, because, counted_if, each_kept}
-use Rattle.readings.specs.Reads.{file_length, given, mapped, needs_by, or_none, record_at}
-use Rattle.readings.specs.Reads.{taken}
+use Rattle.readings.specs.Reads.{◌>>=◌, ◌beside◌, because, counted_if, each_kept, file_length}
+use Rattle.readings.specs.Reads.{given, mapped, needs_by, or_none, record_at, taken}
 use Rattle.goblin_pe_sect.specs.declared.data_directories.DataDirectory.{DataDirectory}
 use Rattle.goblin_pe_export.specs.ExportRecords.{ExportRow, ExportTables, IsCountFault, addresses}
-use Rattle.goblin_pe_export.specs.ExportRecords.{count-not_memory, counts_fit}
-use Rattle.goblin_pe_export.specs.ExportRecords.{export_directory_record, name_pointers, ordinals}
-use Rattle.goblin_pe_export.specs.ExportRecords.{rva_of}
+use Rattle.goblin_pe_export.specs.ExportRecords.{count-not_memory, counts_fit, name_pointers}
+use Rattle.goblin_pe_export.specs.ExportRecords.{export_directory_record, ordinals, rva_of}
 use Rattle.goblin_pe_export.specs.Forwarders.{Forwarder, forwarder_at}
 use Rattle.goblin_pe_sect.specs.AddressReadings.{at_address, name_at}
 use Rattle.goblin_pe_export.specs.declared.export.tables.ExportAddressTableEntry.{ExportAddressTableEntry}
-use Rattle.goblin_pe_export.specs.declared.export.tables.ExportAddressTableEntry.TheVariants.{ExportRVA}
-use Rattle.goblin_pe_export.specs.declared.export.tables.ExportAddressTableEntry.TheVariants.{ForwarderRVA}
+use Rattle.goblin_pe_export.specs.declared.export.tables.ExportAddressTableEntry.TheVariants as slot
 use Rattle.goblin_pe_export.specs.declared.export.tables.ExportDirectoryTable.{ExportDirectoryTable}
 
 -- ---- export data
@@ -27,7 +24,7 @@ abbrev pub export_record_at : ℕ → Reading ExportDirectoryTable
 export_record_at p = because (ExportTable p) (record_at 40 (export_directory_record Little) p)
 
 -- a record, if it counts no more entries of any table than the file has bytes
-unfoldable pub fitting : ExportDirectoryTable → Reading ExportDirectoryTable
+abbrev pub fitting : ExportDirectoryTable → Reading ExportDirectoryTable
 fitting t =
     file_length
     >>= (λ n.
@@ -52,7 +49,7 @@ export_tables offset_of d t =
     beside counted_if (addresses d) t.address_table_entries (offset_of t.export_address_table_rva))
 
 -- what a record leads to, where its counts fit the file
-unfoldable pub tables_if : (ℕ → Option ℕ) → DataDirectory → ExportDirectoryTable
+abbrev pub tables_if : (ℕ → Option ℕ) → DataDirectory → ExportDirectoryTable
     → Reading ExportTables
 tables_if offset_of d t = fitting t >>= export_tables offset_of d
 
@@ -65,9 +62,9 @@ export_data offset_of d =
 
 -- What an entry stands for in another library: nothing, or what its forwarder says, if there is
 -- one.
-unfoldable pub reexport_of : (ℕ → Option ℕ) → ExportAddressTableEntry → Reading (Option Forwarder)
-reexport_of offset_of (ExportRVA rva) = given None
-reexport_of offset_of (ForwarderRVA rva) =
+abbrev pub reexport_of : (ℕ → Option ℕ) → ExportAddressTableEntry → Reading (Option Forwarder)
+reexport_of offset_of (slot.ExportRVA rva) = given None
+reexport_of offset_of (slot.ForwarderRVA rva) =
     mapped (λ f. Some f) (at_address offset_of rva forwarder_at)
 
 -- the row of a name pointer and an address: it stays without a name that can't be read

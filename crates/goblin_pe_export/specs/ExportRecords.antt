@@ -16,8 +16,7 @@ use Rattle.goblin_base.proofs.Picks.{by_cases-not_memory}
 use Rattle.goblin_pe_sect.specs.declared.data_directories.DataDirectory.{DataDirectory}
 use Rattle.goblin_pe_export.specs.declared.export.entries.TablesInFile.{TablesInFile}
 use Rattle.goblin_pe_export.specs.declared.export.tables.ExportAddressTableEntry.{ExportAddressTableEntry}
-use Rattle.goblin_pe_export.specs.declared.export.tables.ExportAddressTableEntry.TheVariants.{ExportRVA}
-use Rattle.goblin_pe_export.specs.declared.export.tables.ExportAddressTableEntry.TheVariants.{ForwarderRVA}
+use Rattle.goblin_pe_export.specs.declared.export.tables.ExportAddressTableEntry.TheVariants as slot
 use Rattle.goblin_pe_export.specs.declared.export.tables.ExportDirectoryTable.{ExportDirectoryTable}
 use Rattle.goblin_pe_export.specs.Forwarders.{Forwarder}
 
@@ -26,7 +25,7 @@ use Rattle.goblin_pe_export.specs.Forwarders.{Forwarder}
 -- ---- the record
 
 -- the export directory in a record's 40 bytes
-unfoldable pub export_directory_record : Endian → List ℕ → ExportDirectoryTable
+abbrev pub export_directory_record : Endian → List ℕ → ExportDirectoryTable
 export_directory_record endian bytes = record {
   export_flags = number endian 4 bytes 0;
   time_date_stamp = number endian 4 bytes 4;
@@ -42,7 +41,7 @@ export_directory_record endian bytes = record {
 }
 
 -- the fields of an export directory, in order
-unfoldable pub export_directory_fields : ExportDirectoryTable → List FieldValue
+abbrev pub export_directory_fields : ExportDirectoryTable → List FieldValue
 export_directory_fields t =
     uint 4 t.export_flags ∷ uint 4 t.time_date_stamp ∷ uint 2 t.major_version
     ∷ uint 2 t.minor_version ∷ uint 4 t.name_rva ∷ uint 4 t.ordinal_base
@@ -90,7 +89,7 @@ is_in_directory d rva = nat_le d.virtual_address rva && nat_lt rva (d.virtual_ad
 -- What an address stands for: a forwarder's text where it lies in the export directory, else an
 -- export.
 unfoldable pub address_entry : DataDirectory → ℕ → ExportAddressTableEntry
-address_entry d rva = if is_in_directory d rva then ForwarderRVA rva else ExportRVA rva
+address_entry d rva = if is_in_directory d rva then slot.ForwarderRVA rva else slot.ExportRVA rva
 
 -- addresses: four bytes each
 abbrev pub addresses : DataDirectory → Format ExportAddressTableEntry
@@ -98,8 +97,8 @@ addresses d = record { width = 4; value_of = λ bytes. address_entry d (number L
 
 -- the address that an entry holds
 abbrev pub rva_of : ExportAddressTableEntry → ℕ
-rva_of (ExportRVA rva) = rva
-rva_of (ForwarderRVA rva) = rva
+rva_of (slot.ExportRVA rva) = rva
+rva_of (slot.ForwarderRVA rva) = rva
 
 -- what an export directory leads to: the library's name, the record itself, and the three tables
 pub record ExportTables : Type 0 where

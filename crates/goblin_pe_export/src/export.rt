@@ -78,7 +78,6 @@ fn rva_of(address: ExportAddressTableEntry) -> u32
 
 // What an entry of the address table stands for in another library, if it is a forwarder that can
 // be read at the offset of its address.
-#[tactic(auto, unfolding(crate::specs::ExportReadings::reexport_of))]
 fn reexport_of<'a>(
     bytes: &'a [u8],
     address: ExportAddressTableEntry,
@@ -343,7 +342,7 @@ impl<'a> Export<'a> {
     // The same, where the export is plain: no forwarder, with an address and a name that lie among
     // those that the finder keeps, the name ASCII. Else `None`, which says nothing of it.
     #[inline(always)]
-    #[tactic(auto, unfolding(crate::specs::ExportReadings::row_of, crate::specs::ExportReadings::reexport_of, goblin_pe_sect::specs::AddressReadings::name_at))]
+    #[tactic(auto, unfolding(crate::specs::ExportReadings::row_of, goblin_pe_sect::specs::AddressReadings::name_at))]
     fn plain_of_address(
         bytes: &'a [u8],
         pointer: u32,

@@ -6,9 +6,9 @@ use Rattle.goblin_pe_head.specs.declared.header.coff.CoffHeader.{CoffHeader}
 use Rattle.goblin_pe_head.specs.CoffHeader.{coff_fields, coff_header}
 
 pub coff_back : WritesBack 20 coff_header coff_fields
-unfolding coff_header coff_fields
 coff_back = writes_back 20 coff_header coff_fields refl (λ endian own bytes. refl)
 
 pub coff_again : (h : CoffHeader) → FieldsFit (coff_fields h) → ReadsBack 20 coff_header coff_fields h
-unfolding coff_header coff_fields
 coff_again h fit = reads_back 20 coff_header coff_fields h refl (omega arith) fit (λ endian own. refl) (λ endian own e. grind (arith, e))
+
+pub ruleset round_trip = (coff_back, coff_again)

@@ -91,12 +91,10 @@ items-are {X} f d (x ∷ xs) a each =
     same e g = cc
 
 length-directory : (entry : Option (ℕ × DataDirectory)) → length (encoding Little (directory_fields (directory_or_zeros entry))) ≡ 8
-unfolding directory_fields
 length-directory entry = length_encoding Little (directory_fields (directory_or_zeros entry))
 
 encoding-cons : (e : Option (ℕ × DataDirectory)) (entries : List (Option (ℕ × DataDirectory)))
     → encoding Little (entries_fields (e ∷ entries)) ≡ encoding Little (directory_fields (directory_or_zeros e)) ++ encoding Little (entries_fields entries)
-unfolding entries_fields
 encoding-cons e entries = encoding_append Little (directory_fields (directory_or_zeros e)) (entries_fields entries)
 
 -- each directory stands at its place
@@ -209,7 +207,7 @@ module _ (h : OptionalHeader) (agree : IsConsistentOptional h) (bytes rest : Lis
       → bytes ≡ encoding Little (standard_32_fields (standard_to_32 s)) ++ (encoding Little (windows_32_fields w) ++ (table ++ rest))
       → ReadsBack 28 standard_32_record standard_32_fields (standard_to_32 s) → ReadsBack 68 windows_32_record windows_32_fields w
       → optional_header.value bytes ≡ Some (h, 96 + 8 * count)
-  unfolding fixed_fields standard_32_fields windows_32_fields standard_32_record standard_to_32
+  unfolding fixed_fields standard_to_32
   narrow-again w magic narrowed is standard windows =
       let first = encoding Little (standard_32_fields (standard_to_32 s)) in
       let second = encoding Little (windows_32_fields w) in
@@ -232,7 +230,7 @@ module _ (h : OptionalHeader) (agree : IsConsistentOptional h) (bytes rest : Lis
       → bytes ≡ encoding Little (standard_64_fields (standard_to_64 s)) ++ (encoding Little (windows_64_fields h.windows_fields) ++ (table ++ rest))
       → ReadsBack 24 standard_64_record standard_64_fields (standard_to_64 s) → ReadsBack 88 windows_64_record windows_64_fields h.windows_fields
       → optional_header.value bytes ≡ Some (h, 112 + 8 * count)
-  unfolding fixed_fields standard_64_fields windows_64_fields standard_64_record standard_to_64
+  unfolding fixed_fields standard_to_64
   wide-again magic is standard windows =
       let first = encoding Little (standard_64_fields (standard_to_64 s)) in
       let second = encoding Little (windows_64_fields h.windows_fields) in
@@ -323,7 +321,7 @@ module _ (h : PeHeader) (agree : IsConsistent h) (bytes rest optional : List ℕ
   laid-again : bytes ≡ dos ++ (h.dos_stub ++ (sign ++ (coff ++ (optional ++ rest)))) → optional_part Little h.optional_header ≡ Some optional
       → ReadsBack 64 dos_record dos_fields h.dos_header → ReadsBack 20 coff_header coff_fields h.coff_header → IfSome h.optional_header FieldsReadBack
       → (pe_header true).value bytes ≡ Some h
-  unfolding dos_fields coff_fields rich_at dos_record
+  unfolding rich_at
   laid-again is made dos_back coff_back fields =
       let stub = h.dos_stub in
       let tail = sign ++ (coff ++ (optional ++ rest)) in
@@ -387,14 +385,12 @@ consistent_again endian old new optional h made written dos coff fields little a
 entry-agrees : (test b c : Bool) (end : ℕ) (d : DataDirectory) → (d.virtual_address == 0) ≡ b → (d.size == 0) ≡ c → FieldsFit (directory_fields d)
     → (cond test (entry_ending end (directory_or_zeros (cond test (cond (b && c) None (Some (end, d))) None))) None ≡ cond test (cond (b && c) None (Some (end, d))) None)
     × FieldsFit (directory_fields (directory_or_zeros (cond test (cond (b && c) None (Some (end, d))) None)))
-unfolding directory_fields
 entry-agrees false b c end d address size fit = (refl, (omega arith, (omega arith, tt)))
 entry-agrees true true true end d address size fit = (refl, (omega arith, (omega arith, tt)))
 entry-agrees true true false end d address size fit = (rw (address, size) refl, fit)
 entry-agrees true false c end d address size fit = (rw address refl, fit)
 
 directory-fits : (own : List ℕ) → IsBytes own → FieldsFit (directory_fields (directory_record Little own))
-unfolding directory_fields directory_record
 directory-fits own fits = (number-lt Little 4 own 0 fits, (number-lt Little 4 own 4 fits, tt))
 
 entries-agree : (bytes : List ℕ) (p count : ℕ) (entries : List (Option (ℕ × DataDirectory))) → IsBytes bytes → (directories_at count p).value bytes ≡ Some entries
@@ -429,7 +425,7 @@ front-number : (bytes : List ℕ) (n magic : ℕ) → 2 ≤ n → number_at Litt
 front-number bytes n magic two is = number-of_slice Little 2 bytes 0 n 0 two ∙ sym (number_at-some Little 2 bytes 0 magic is).value
 
 narrow-agrees : (bytes : List ℕ) (f : FixedFields) → IsBytes bytes → number_at Little 2 bytes 0 ≡ Some 0x10B → fields_32.value bytes ≡ Some f → AreConsistent f
-unfolding standard_from_32 standard_32_record
+unfolding standard_from_32
 narrow-agrees bytes f fits magic e =
     let first = record_at 28 (standard_32_record Little) bytes 0 in
     let second = record_at 68 (windows_32_record Little) bytes 28 in
@@ -451,7 +447,7 @@ narrow-agrees bytes f fits magic e =
     subst AreConsistent all.made (made all.value.0 is)
 
 wide-agrees : (bytes : List ℕ) (f : FixedFields) → IsBytes bytes → number_at Little 2 bytes 0 ≡ Some 0x20B → fields_64.value bytes ≡ Some f → AreConsistent f
-unfolding standard_from_64 standard_64_record
+unfolding standard_from_64
 wide-agrees bytes f fits magic e =
     let first = record_at 24 (standard_64_record Little) bytes 0 in
     let second = record_at 88 (windows_64_record Little) bytes 24 in
@@ -503,7 +499,7 @@ part-agrees size false optional bytes some fits e =
 
 -- the parts of a header that strict mode read agree
 pub header_consistent : (bytes : List ℕ) (h : PeHeader) → IsBytes bytes → (pe_header true).value bytes ≡ Some h → IsConsistent h
-unfolding rich_at optional_at dos_record
+unfolding rich_at optional_at
 header_consistent bytes h fits e =
     let is = parts_of bytes h e in
     let dos = dos_of bytes h.dos_header is.dos in

@@ -9,7 +9,6 @@ use Rattle.goblin_pe_head.specs.declared.header.dos.DosHeader.{DosHeader}
 use Rattle.goblin_pe_head.specs.DosHeader.{dos_fields, dos_record}
 
 pub dos_back : WritesBack 64 dos_record dos_fields
-unfolding dos_record dos_fields
 dos_back = writes_back 64 dos_record dos_fields refl (λ endian own bytes. refl)
 
 same_rest : (a : ℕ) (xs ys : List ℕ) → xs ≡ ys → a ∷ xs ≡ a ∷ ys
@@ -26,9 +25,7 @@ items : (xs : List ℕ) (n : ℕ) → length xs ≡ n → map (λ j. slice_index
 items xs n long = items_from xs n 0 (omega arith) ∙ take_all n xs (omega arith)
 
 dos_same : (endian : Endian) (own : List ℕ) (h : DosHeader) → length h.reserved ≡ 4 → length h.reserved2 ≡ 10 → dos_fields (dos_record endian own) ≡ dos_fields h → dos_record endian own ≡ h
-unfolding dos_fields dos_record
 dos_same endian own h four ten e = grind (arith, e, items h.reserved 4 four, items h.reserved2 10 ten)
 
 pub dos_again : (h : DosHeader) → length h.reserved ≡ 4 → length h.reserved2 ≡ 10 → FieldsFit (dos_fields h) → ReadsBack 64 dos_record dos_fields h
-unfolding dos_record dos_fields
 dos_again h four ten fit = reads_back 64 dos_record dos_fields h refl (omega arith) fit (λ endian own. refl) (λ endian own e. dos_same endian own h four ten e)

@@ -60,16 +60,16 @@ marker_reach p stretch = moved_by p (search_footprint 8 (marker_place stretch) s
 abbrev pub dans_reach : ℕ → List ℕ → ℕ → List Range
 dans_reach p stretch key = moved_by p (search_footprint 4 (dans_place key stretch) stretch)
 
-pub marker_missing : (p : ℕ) (stretch : List ℕ) → marker_place stretch ≡ None
+pub no_marker : (p : ℕ) (stretch : List ℕ) → marker_place stretch ≡ None
     → moved_by p (rich_in.reaches stretch) ≡ marker_reach p stretch
-unfolding rich_in led_to
-marker_missing p stretch none =
+unfolding rich_in
+no_marker p stretch none =
     rw none (ap (moved_by p) (append-nil (search_footprint 8 None stretch)))
 
 pub marker_there : (p : ℕ) (stretch : List ℕ) (i : ℕ) → marker_place stretch ≡ Some i
     → moved_by p (rich_in.reaches stretch)
     ≡ marker_reach p stretch ++ dans_reach p stretch (word_at (take (i + 8) stretch) (i + 4))
-unfolding rich_in led_to
+unfolding rich_in
 marker_there p stretch i is =
     rw is
     (moved-append p (search_footprint 8 (Some i) stretch)
@@ -102,7 +102,7 @@ fields_64 p bytes = two-records p bytes 24 88
 
 pub no_fields : (p magic : ℕ) (bytes : List ℕ) → (magic == 0x10B) ≡ false → (magic == 0x20B) ≡ false
     → (in_rest p (fixed_fields magic)).reaches bytes ≡ []
-unfolding fixed_fields moved_by
+unfolding fixed_fields
 no_fields p magic bytes other wide = rw (other, wide) refl
 
 -- ---- the directories
@@ -110,7 +110,7 @@ no_fields p magic bytes other wide = rw (other, wide) refl
 moved-directories : (p : ℕ) (bytes : List ℕ) (count o : ℕ)
     → moved_by p ((directories_at count o).reaches (drop p bytes))
     ≡ (directories_at count (p + o)).reaches bytes
-unfolding directories_at moved_by
+unfolding directories_at
 moved-directories p bytes count o =
     elim (cases_Bool (nat_le count 16)) [
       | inl few ↦
@@ -142,7 +142,6 @@ magic_reach p bytes magic =
 
 same-led_to : {A : Type 0} → (value : Option A) (f g : A → List Range) → ((x : A) → f x ≡ g x)
     → led_to value f ≡ led_to value g
-unfolding led_to
 same-led_to None f g same = refl
 same-led_to (Some x) f g same = same x
 

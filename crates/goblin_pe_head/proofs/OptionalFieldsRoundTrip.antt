@@ -9,33 +9,36 @@ use Rattle.goblin_pe_head.specs.declared.optional_header.windows_fields.WindowsF
 use Rattle.goblin_pe_head.specs.OptionalHeader.{standard_32_record, standard_32_fields, standard_64_record, standard_64_fields, windows_32_record, windows_32_fields, windows_64_record, windows_64_fields}
 
 pub standard_32_back : WritesBack 28 standard_32_record standard_32_fields
-unfolding standard_32_record standard_32_fields
 standard_32_back = writes_back 28 standard_32_record standard_32_fields refl (λ endian own bytes. refl)
 
 pub standard_64_back : WritesBack 24 standard_64_record standard_64_fields
-unfolding standard_64_record standard_64_fields
 standard_64_back = writes_back 24 standard_64_record standard_64_fields refl (λ endian own bytes. refl)
 
 pub windows_32_back : WritesBack 68 windows_32_record windows_32_fields
-unfolding windows_32_record windows_32_fields
 windows_32_back = writes_back 68 windows_32_record windows_32_fields refl (λ endian own bytes. refl)
 
 pub windows_64_back : WritesBack 88 windows_64_record windows_64_fields
-unfolding windows_64_record windows_64_fields
 windows_64_back = writes_back 88 windows_64_record windows_64_fields refl (λ endian own bytes. refl)
 
 pub standard_32_again : (f : StandardFields32) → FieldsFit (standard_32_fields f) → ReadsBack 28 standard_32_record standard_32_fields f
-unfolding standard_32_record standard_32_fields
 standard_32_again f fit = reads_back 28 standard_32_record standard_32_fields f refl (omega arith) fit (λ endian own. refl) (λ endian own e. grind (arith, e))
 
 pub standard_64_again : (f : StandardFields64) → FieldsFit (standard_64_fields f) → ReadsBack 24 standard_64_record standard_64_fields f
-unfolding standard_64_record standard_64_fields
 standard_64_again f fit = reads_back 24 standard_64_record standard_64_fields f refl (omega arith) fit (λ endian own. refl) (λ endian own e. grind (arith, e))
 
 pub windows_32_again : (f : WindowsFields32) → FieldsFit (windows_32_fields f) → ReadsBack 68 windows_32_record windows_32_fields f
-unfolding windows_32_record windows_32_fields
 windows_32_again f fit = reads_back 68 windows_32_record windows_32_fields f refl (omega arith) fit (λ endian own. refl) (λ endian own e. grind (arith, e))
 
 pub windows_64_again : (f : WindowsFields64) → FieldsFit (windows_64_fields f) → ReadsBack 88 windows_64_record windows_64_fields f
-unfolding windows_64_record windows_64_fields
 windows_64_again f fit = reads_back 88 windows_64_record windows_64_fields f refl (omega arith) fit (λ endian own. refl) (λ endian own e. grind (arith, e))
+
+pub ruleset round_trips = (
+  standard_32_back,
+  standard_32_again,
+  standard_64_back,
+  standard_64_again,
+  windows_32_back,
+  windows_32_again,
+  windows_64_back,
+  windows_64_again,
+)

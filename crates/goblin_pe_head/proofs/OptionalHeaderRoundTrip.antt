@@ -34,23 +34,23 @@ four own p h = number-lt Little 4 own p h
 
 -- what was widened is narrowed to what it was
 standard_32-same : (own : List ℕ) → IsBytes own → standard_to_32 (standard_from_32 (standard_32_record Little own)) ≡ standard_32_record Little own
-unfolding standard_to_32 standard_from_32 standard_32_record
+unfolding standard_to_32 standard_from_32
 standard_32-same own h = rw (mod-eq_of_lt (four own 4 h), mod-eq_of_lt (four own 8 h), mod-eq_of_lt (four own 12 h), mod-eq_of_lt (four own 20 h)) refl
 
 standard_64-same : (own : List ℕ) → IsBytes own → standard_to_64 (standard_from_64 (standard_64_record Little own)) ≡ standard_64_record Little own
-unfolding standard_to_64 standard_from_64 standard_64_record
+unfolding standard_to_64 standard_from_64
 standard_64-same own h = rw (mod-eq_of_lt (four own 4 h), mod-eq_of_lt (four own 8 h), mod-eq_of_lt (four own 12 h), mod-eq_of_lt (four own 20 h)) refl
 
 windows_32-same : (own : List ℕ) → IsBytes own → windows_to_32 (windows_from_32 (windows_32_record Little own)) ≡ Some (windows_32_record Little own)
-unfolding windows_to_32 windows_from_32 windows_32_record
+unfolding windows_to_32 windows_from_32
 windows_32-same own h = rw (lt-ltb _ _ (four own 0 h), lt-ltb _ _ (four own 44 h), lt-ltb _ _ (four own 48 h), lt-ltb _ _ (four own 52 h), lt-ltb _ _ (four own 56 h)) refl
 
 magic_32 : (own : List ℕ) → (standard_from_32 (standard_32_record Little own)).magic ≡ number Little 2 own 0
-unfolding standard_from_32 standard_32_record
+unfolding standard_from_32
 magic_32 own = refl
 
 magic_64 : (own : List ℕ) → (standard_from_64 (standard_64_record Little own)).magic ≡ number Little 2 own 0
-unfolding standard_from_64 standard_64_record
+unfolding standard_from_64
 magic_64 own = refl
 
 -- the magic of the record is the number at the front
@@ -183,9 +183,3 @@ optional_back bytes h n fits e =
     let form = fixed-form first.value bytes f fits first.is second.is third.value third.is in
     let here : IsForm bytes h n = subst (λ (x : OptionalHeader × ℕ). IsForm bytes x.0 x.1) same form in
     (here.0, within bytes h n e, here.1)
-
--- the same of one that was read
-pub read_optional : (bytes : List ℕ) (h : OptionalHeader) (n : ℕ) → IsBytes bytes → optional_header.value bytes ≡ Some (h, n)
-    → (n ≡ optional_size h) × (n ≤ length bytes) × (optional_bytes Little h ≡ Some (take n bytes ++ filling h))
-unfolding OptionalWritesBack
-read_optional = optional_back

@@ -23,7 +23,7 @@ use Rattle.goblin_pe_head.specs.declared.optional_header.FixedFields.{FixedField
 use Rattle.goblin_pe_head.specs.CoffHeader.{coff_fields, coff_header}
 use Rattle.goblin_pe_head.specs.DosHeader.{dos_fields, dos_record}
 use Rattle.goblin_pe_head.specs.DosStub.{default_stub}
-use Rattle.goblin_pe_head.specs.HeaderLaws.{DosWritesBack, HeaderWritesBack, end_after, filling, filling_after, optional_size, HeaderReadsBack, header_end}
+use Rattle.goblin_pe_head.specs.HeaderLaws.{DosWritesBack, HeaderWritesBack, end_after, filling, filling_after, optional_size, HeaderReadsBack, header_end, OptionalWritesBack}
 use Rattle.goblin_pe_head.specs.HeaderReadings.{SignedParts, coff_parts, dos_header, dos_signature, fields_32, fields_64, fixed_fields, header_of, optional_at, optional_header, parts_at, pe_header, pe_signature, signed_record, stub_in, that_is}
 use Rattle.goblin_pe_head.specs.OptionalHeader.{standard_32_record, standard_64_record, windows_32_record, windows_64_record}
 use Rattle.goblin_pe_head.specs.PeHeader.{PeHeader, header_bytes, header_parts, optional_part}
@@ -31,7 +31,7 @@ use Rattle.goblin_pe_head.specs.RichReadings.{rich_at, rich_in}
 use Rattle.goblin_pe_head.proofs.Beside.{both, strict_in_its_place}
 use Rattle.goblin_pe_head.proofs.CoffHeaderRoundTrip.{coff_back}
 use Rattle.goblin_pe_head.proofs.DosHeaderRoundTrip.{dos_back}
-use Rattle.goblin_pe_head.proofs.OptionalHeaderRoundTrip.{bytes_after, read_optional, pick}
+use Rattle.goblin_pe_head.proofs.OptionalHeaderRoundTrip.{bytes_after, optional_back, pick}
 
 -- the parts of a header that was read in strict mode
 pub record IsHeaderOf (bytes : List ℕ) (h : PeHeader) : Type 0 where
@@ -127,13 +127,14 @@ record IsOptionalPart (bytes : List ℕ) (p : ℕ) (optional : Option OptionalHe
 part : (bytes : List ℕ) (p : ℕ) (none : Bool) (optional : Option OptionalHeader) → IsBytes bytes → p + 24 ≤ length bytes
     → cond none (Some None) (option_map (λ (header : OptionalHeader × ℕ). Some header.0) (optional_header.value (drop (p + 24) bytes))) ≡ Some optional
     → IsOptionalPart bytes p optional
+unfolding OptionalWritesBack
 part bytes p true optional h room e = subst (IsOptionalPart bytes p) (same_value None optional e) (record { end = room; written = refl })
 part bytes p false optional h room e =
     let at = p + 24 in
     let found = mapped (optional_header.value (drop at bytes)) (λ (header : OptionalHeader × ℕ). Some header.0) optional e in
     let header = found.value.0 in
     let n = found.value.1 in
-    let back = read_optional (drop at bytes) header n (bytes_after bytes at h) found.is in
+    let back = optional_back (drop at bytes) header n (bytes_after bytes at h) found.is in
     let long = length-drop at bytes in
     let place : at + n ≡ at + optional_size header = ap (λ (k : ℕ). at + k) back.0 in
     let here : IsOptionalPart bytes p (Some header) = record {
@@ -304,13 +305,14 @@ optional_header-front n k h a b front le e =
 optional-front : (n p : ℕ) (none : Bool) (optional : Option OptionalHeader) (a b : List ℕ) → IsBytes a → HaveFront n a b → end_after p optional ≤ n
     → cond none (Some None) (option_map (λ (header : OptionalHeader × ℕ). Some header.0) (optional_header.value (drop (p + 24) a))) ≡ Some optional
     → cond none (Some None) (option_map (λ (header : OptionalHeader × ℕ). Some header.0) (optional_header.value (drop (p + 24) b))) ≡ Some optional
+unfolding OptionalWritesBack
 optional-front n p true optional a b fits front le e = e
 optional-front n p false optional a b fits front le e =
     let at = p + 24 in
     let found = mapped (optional_header.value (drop at a)) (λ (header : OptionalHeader × ℕ). Some header.0) optional e in
     let h = found.value.0 in
     let k = found.value.1 in
-    let size = (read_optional (drop at a) h k (bytes_after a at fits) found.is).0 in
+    let size = (optional_back (drop at a) h k (bytes_after a at fits) found.is).0 in
     let end : end_after p (Some h) ≤ n = subst (λ (o : Option OptionalHeader). end_after p o ≤ n) (sym found.made) le in
     let after = front-drop n at a b front (omega (arith, end)) in
     let there = optional_header-front (n - at) k h (drop at a) (drop at b) after (omega (arith, size, end)) found.is in

@@ -36,3 +36,5 @@ length_items key bytes =
       | inl some ↦ whole ∙ omega (arith, rest_item-one RichMetadata over some, some)
       | inr none ↦ whole ∙ omega (arith, rest_item-none RichMetadata over (omega (arith, none)), none)
     ]
+
+pub ruleset items = (items_more, items_rest, items_none)

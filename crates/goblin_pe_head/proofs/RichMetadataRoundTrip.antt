@@ -7,9 +7,9 @@ use Rattle.goblin_pe_head.specs.RichMetadata.{metadata_fields, metadata_record}
 
 -- an entry that was read is written as it stood
 pub metadata_back : WritesBack 8 metadata_record metadata_fields
-unfolding metadata_record metadata_fields
 metadata_back = writes_back 8 metadata_record metadata_fields refl (λ endian own h. refl)
 
 pub metadata_again : (m : RichMetadata) → FieldsFit (metadata_fields m) → ReadsBack 8 metadata_record metadata_fields m
-unfolding metadata_record metadata_fields
 metadata_again m fit = reads_back 8 metadata_record metadata_fields m refl (omega arith) fit (λ endian own. refl) (λ endian own e. grind (arith, e))
+
+pub ruleset round_trip = (metadata_back, metadata_again)

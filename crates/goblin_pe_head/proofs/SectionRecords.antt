@@ -50,7 +50,6 @@ unnamed_from strict table bytes p n =
     option_map (map unnamed) (all_at (λ i. (named_section_at strict table (p + 40 * i)).value bytes) n)
 
 unnamed_record : (own : List ℕ) → unnamed (section_record Little own) ≡ section_record Little own
-unfolding section_record
 unnamed_record own = refl
 
 -- the names of sections that differ in them alone are dropped

@@ -114,7 +114,6 @@ made_first f a (Some more) = refl
 -- what is made of each value is made of all
 all_of-map : {A B : Type 0} (f : A → B) (values : List (Option A))
     → all_of (map (option_map f) values) ≡ option_map (map f) (all_of values)
-unfolding all_of
 all_of-map f [] = refl
 all_of-map f (None ∷ values) = refl
 all_of-map f (Some a ∷ values) = rw (all_of-map f values) (made_first f a (all_of values))

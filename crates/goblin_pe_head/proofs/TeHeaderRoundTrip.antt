@@ -6,9 +6,9 @@ use Rattle.goblin_pe_head.specs.declared.header.te.TeHeader.{TeHeader}
 use Rattle.goblin_pe_head.specs.TeHeader.{te_fields, te_record}
 
 pub te_back : WritesBack 40 te_record te_fields
-unfolding te_record te_fields
 te_back = writes_back 40 te_record te_fields refl (λ endian own bytes. refl)
 
 pub te_again : (h : TeHeader) → FieldsFit (te_fields h) → ReadsBack 40 te_record te_fields h
-unfolding te_record te_fields
 te_again h fit = reads_back 40 te_record te_fields h refl (omega arith) fit (λ endian own. refl) (λ endian own e. grind (arith, e))
+
+pub ruleset round_trip = (te_back, te_again)

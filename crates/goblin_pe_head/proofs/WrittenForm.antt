@@ -10,11 +10,9 @@ use Rattle.goblin_pe_head.specs.DosHeader.{dos_fields}
 use Rattle.goblin_pe_head.specs.PeHeader.{PeHeader, header_parts}
 
 length-dos : (endian : Endian) (h : PeHeader) → length (encoding endian (dos_fields h.dos_header)) ≡ 64
-unfolding dos_fields
 length-dos endian h = length_encoding endian (dos_fields h.dos_header)
 
 length-coff : (endian : Endian) (h : PeHeader) → length (encoding endian (coff_fields h.coff_header)) ≡ 20
-unfolding coff_fields
 length-coff endian h = length_encoding endian (coff_fields h.coff_header)
 
 -- how many bytes the parts of a header take

@@ -12,7 +12,7 @@ use Rattle.goblin_pe_head.specs.declared.header.coff.CoffHeader.{CoffHeader}
 -- Table".
 
 -- the COFF header in a record's 20 bytes
-unfoldable pub coff_header : Endian → List ℕ → CoffHeader
+abbrev pub coff_header : Endian → List ℕ → CoffHeader
 coff_header endian bytes = record {
   machine = number endian 2 bytes 0;
   number_of_sections = number endian 2 bytes 2;
@@ -24,7 +24,7 @@ coff_header endian bytes = record {
 }
 
 -- the fields of a COFF header, in order
-unfoldable pub coff_fields : CoffHeader → List FieldValue
+abbrev pub coff_fields : CoffHeader → List FieldValue
 coff_fields h =
     uint 2 h.machine ∷ uint 2 h.number_of_sections ∷ uint 4 h.time_date_stamp
     ∷ uint 4 h.pointer_to_symbol_table

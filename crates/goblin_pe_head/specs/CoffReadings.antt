@@ -50,7 +50,7 @@ symbols_of header =
     (slice_at header.pointer_to_symbol_table (18 * header.number_of_symbol_table)))
 
 -- the string table at p after the four bytes of its length, which includes them
-unfoldable pub strings_at : ℕ → Reading (List ℕ)
+abbrev pub strings_at : ℕ → Reading (List ℕ)
 strings_at p =
     number_at Little 4 p
     >>= λ n. pick (nat_lt n 4) (needs None CoffLength) (string_table (p + 4) (n - 4))

@@ -10,7 +10,7 @@ use Rattle.goblin_pe_head.specs.declared.header.dos.DosHeader.{DosHeader}
 -- of a DOS executable.
 
 -- the DOS header in a record's 64 bytes
-unfoldable pub dos_record : Endian → List ℕ → DosHeader
+abbrev pub dos_record : Endian → List ℕ → DosHeader
 dos_record endian bytes = record {
   signature = number endian 2 bytes 0;
   bytes_on_last_page = number endian 2 bytes 2;
@@ -38,7 +38,7 @@ abbrev pub array_fields : ℕ → List ℕ → List FieldValue
 array_fields n numbers = map (λ i. uint 2 (slice_index numbers i)) (range_with_len 0 n)
 
 -- the fields of a DOS header, in order
-unfoldable pub dos_fields : DosHeader → List FieldValue
+abbrev pub dos_fields : DosHeader → List FieldValue
 dos_fields h =
     uint 2 h.signature ∷ uint 2 h.bytes_on_last_page ∷ uint 2 h.pages_in_file ∷ uint 2 h.relocations
     ∷ uint 2 h.size_of_header_in_paragraphs ∷ uint 2 h.minimum_extra_paragraphs_needed

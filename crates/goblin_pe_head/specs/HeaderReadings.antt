@@ -3,16 +3,14 @@ use Rattle.std.specs.Prelude.{◌≡◌, ℕ, ◌+◌, ◌*◌, ◌<◌, ◌≤�
 use Rattle.std.specs.Prelude.{Option, None, Some, length}
 use Rattle.goblin_base.specs.declared.endian.Endian.TheVariants.{Little}
 use Rattle.goblin_base.specs.declared.error.CauseOf.{CauseOf}
-use Rattle.goblin_base.specs.declared.error.CauseOf.TheVariants.{DosMagic, NoDosSignature}
+use Rattle.goblin_base.specs.declared.error.CauseOf.TheVariants.{DosMagic, NoDosSignature, PeMagic}
 use Rattle.goblin_base.specs.declared.error.CauseOf.TheVariants.{NoPePointer, NoPeSignature}
-use Rattle.goblin_base.specs.declared.error.CauseOf.TheVariants.{PeMagic}
 use Rattle.goblin_base.specs.declared.error.ErrorOf.TheVariants.{Malformed}
 use Rattle.goblin_base.specs.Reading.{Reading}
 use Rattle.goblin_base.proofs.Picks.{by_cases-not_memory}
 use Rattle.goblin_base.proofs.Readings.{malformed-not_memory}
-use Rattle.readings.specs.Reads.{◌>>=◌, ◌beside◌, because, because_by, bytes_between, checked}
-use Rattle.readings.specs.Reads.{given, in_rest, mapped, needs_by, number_at, or_else, pick}
-use Rattle.readings.specs.Reads.{record_at}
+use Rattle.readings.specs.Reads.{◌>>=◌, ◌beside◌, because, because_by, bytes_between, checked, pick}
+use Rattle.readings.specs.Reads.{given, in_rest, mapped, needs_by, number_at, or_else, record_at}
 use Rattle.goblin_pe_sect.specs.declared.data_directories.DataDirectory.{DataDirectory}
 use Rattle.goblin_pe_sect.specs.DirectoryReadings.{directories_at}
 use Rattle.goblin_pe_head.specs.declared.header.coff.CoffHeader.{CoffHeader}
@@ -23,9 +21,8 @@ use Rattle.goblin_pe_head.specs.CoffHeader.{coff_header}
 use Rattle.goblin_pe_head.specs.DosHeader.{dos_record}
 use Rattle.goblin_pe_head.specs.DosStub.{IsStubFault, default_stub}
 use Rattle.goblin_pe_head.specs.OptionalHeader.{IsBadMagic, standard_32_record, standard_64_record}
-use Rattle.goblin_pe_head.specs.OptionalHeader.{standard_from_32, standard_from_64}
-use Rattle.goblin_pe_head.specs.OptionalHeader.{windows_32_record}
-use Rattle.goblin_pe_head.specs.OptionalHeader.{windows_64_record, windows_from_32}
+use Rattle.goblin_pe_head.specs.OptionalHeader.{standard_from_32, standard_from_64, windows_from_32}
+use Rattle.goblin_pe_head.specs.OptionalHeader.{windows_32_record, windows_64_record}
 use Rattle.goblin_pe_head.specs.PeHeader.{PeHeader, zero_dos_header}
 use Rattle.goblin_pe_head.specs.RichHeader.{Rich}
 use Rattle.goblin_pe_head.specs.RichReadings.{rich_at}

@@ -26,7 +26,7 @@ use Rattle.goblin_pe_head.specs.declared.optional_header.WrittenHeader.TheVarian
 -- Source: PE Format, "Optional Header (Image Only)".
 
 -- the standard fields for 32 bits in a record's 28 bytes
-unfoldable pub standard_32_record : Endian → List ℕ → StandardFields32
+abbrev pub standard_32_record : Endian → List ℕ → StandardFields32
 standard_32_record endian bytes = record {
   magic = number endian 2 bytes 0;
   major_linker_version = number endian 1 bytes 2;
@@ -40,7 +40,7 @@ standard_32_record endian bytes = record {
 }
 
 -- their fields, in order
-unfoldable pub standard_32_fields : StandardFields32 → List FieldValue
+abbrev pub standard_32_fields : StandardFields32 → List FieldValue
 standard_32_fields f =
     uint 2 f.magic ∷ uint 1 f.major_linker_version ∷ uint 1 f.minor_linker_version
     ∷ uint 4 f.size_of_code
@@ -49,7 +49,7 @@ standard_32_fields f =
     ∷ uint 4 f.base_of_code ∷ uint 4 f.base_of_data ∷ []
 
 -- the standard fields for 64 bits in a record's 24 bytes
-unfoldable pub standard_64_record : Endian → List ℕ → StandardFields64
+abbrev pub standard_64_record : Endian → List ℕ → StandardFields64
 standard_64_record endian bytes = record {
   magic = number endian 2 bytes 0;
   major_linker_version = number endian 1 bytes 2;
@@ -62,7 +62,7 @@ standard_64_record endian bytes = record {
 }
 
 -- their fields, in order
-unfoldable pub standard_64_fields : StandardFields64 → List FieldValue
+abbrev pub standard_64_fields : StandardFields64 → List FieldValue
 standard_64_fields f =
     uint 2 f.magic ∷ uint 1 f.major_linker_version ∷ uint 1 f.minor_linker_version
     ∷ uint 4 f.size_of_code
@@ -71,7 +71,7 @@ standard_64_fields f =
     ∷ uint 4 f.base_of_code ∷ []
 
 -- the Windows fields for 32 bits in a record's 68 bytes
-unfoldable pub windows_32_record : Endian → List ℕ → WindowsFields32
+abbrev pub windows_32_record : Endian → List ℕ → WindowsFields32
 windows_32_record endian bytes = record {
   image_base = number endian 4 bytes 0;
   section_alignment = number endian 4 bytes 4;
@@ -97,7 +97,7 @@ windows_32_record endian bytes = record {
 }
 
 -- their fields, in order
-unfoldable pub windows_32_fields : WindowsFields32 → List FieldValue
+abbrev pub windows_32_fields : WindowsFields32 → List FieldValue
 windows_32_fields f =
     uint 4 f.image_base ∷ uint 4 f.section_alignment ∷ uint 4 f.file_alignment
     ∷ uint 2 f.major_operating_system_version
@@ -111,7 +111,7 @@ windows_32_fields f =
     ∷ uint 4 f.number_of_rva_and_sizes ∷ []
 
 -- the Windows fields for 64 bits in a record's 88 bytes
-unfoldable pub windows_64_record : Endian → List ℕ → WindowsFields64
+abbrev pub windows_64_record : Endian → List ℕ → WindowsFields64
 windows_64_record endian bytes = record {
   image_base = number endian 8 bytes 0;
   section_alignment = number endian 4 bytes 8;
@@ -137,7 +137,7 @@ windows_64_record endian bytes = record {
 }
 
 -- their fields, in order
-unfoldable pub windows_64_fields : WindowsFields64 → List FieldValue
+abbrev pub windows_64_fields : WindowsFields64 → List FieldValue
 windows_64_fields f =
     uint 8 f.image_base ∷ uint 4 f.section_alignment ∷ uint 4 f.file_alignment
     ∷ uint 2 f.major_operating_system_version
@@ -319,7 +319,7 @@ optional_bytes endian h =
 
 -- which cause is true of an optional header that has no written form: its magic is unknown, or asks
 -- for 32 bits where a wide field does not fit
-unfoldable pub IsUnwritten : OptionalHeader → ErrorOf → Type 0
+abbrev pub IsUnwritten : OptionalHeader → ErrorOf → Type 0
 IsUnwritten h e =
     IsBadMagic h.standard_fields.magic e
     ⊎ ((h.standard_fields.magic ≡ 0x10B) × (windows_to_32 h.windows_fields ≡ None) × IsTooWide e)

@@ -38,7 +38,7 @@ header_value h = record {
 }
 
 -- a DOS header of zeros
-unfoldable pub zero_dos_header : DosHeader
+abbrev pub zero_dos_header : DosHeader
 zero_dos_header = record {
   signature = 0;
   bytes_on_last_page = 0;

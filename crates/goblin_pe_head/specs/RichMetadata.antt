@@ -13,7 +13,7 @@ use Rattle.goblin_pe_head.specs.declared.header.rich.RichMetadataIterator.{RichM
 use Rattle.goblin_pe_head.specs.RichHeader.{word_at}
 
 -- the entry in a record's 8 bytes, under no key
-unfoldable pub metadata_record : Endian → List ℕ → RichMetadata
+abbrev pub metadata_record : Endian → List ℕ → RichMetadata
 metadata_record endian bytes = record {
   build = number endian 2 bytes 0;
   product = number endian 2 bytes 2;
@@ -21,7 +21,7 @@ metadata_record endian bytes = record {
 }
 
 -- the fields of an entry, in order
-unfoldable pub metadata_fields : RichMetadata → List FieldValue
+abbrev pub metadata_fields : RichMetadata → List FieldValue
 metadata_fields m = uint 2 m.build ∷ uint 2 m.product ∷ uint 4 m.use_count ∷ []
 
 -- the word at p without the key

@@ -14,7 +14,7 @@ use Rattle.goblin_pe_head.specs.declared.header.te.TeHeader.{TeHeader}
 -- Source: UEFI Platform Initialization Specification, volume 1, "TE Image".
 
 -- the header in a record's 40 bytes, as stored
-unfoldable pub te_record : Endian → List ℕ → TeHeader
+abbrev pub te_record : Endian → List ℕ → TeHeader
 te_record endian bytes = record {
   signature = number endian 2 bytes 0;
   machine = number endian 2 bytes 2;
@@ -31,7 +31,7 @@ te_record endian bytes = record {
 }
 
 -- its fields, in order
-unfoldable pub te_fields : TeHeader → List FieldValue
+abbrev pub te_fields : TeHeader → List FieldValue
 te_fields h =
     uint 2 h.signature ∷ uint 2 h.machine ∷ uint 1 h.number_of_sections ∷ uint 1 h.subsystem
     ∷ uint 2 h.stripped_size
@@ -49,7 +49,7 @@ abbrev pub moved_address : ℕ → ℕ → ℕ
 moved_address d x = (x + (2 ^ 32 - d)) % 2 ^ 32
 
 -- a header whose entry point, base of code and directories are addresses in the stripped file
-unfoldable pub te_adjusted : ℕ → TeHeader → TeHeader
+abbrev pub te_adjusted : ℕ → TeHeader → TeHeader
 te_adjusted d h = record h {
   entry_point = moved_address d h.entry_point;
   base_of_code = moved_address d h.base_of_code;

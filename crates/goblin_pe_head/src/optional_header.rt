@@ -283,7 +283,7 @@ impl OptionalHeader {
     /// [`Error::BadMagic`] of a magic other than [`MAGIC_32`] and [`MAGIC_64`];
     /// [`Error::Malformed`] with `FieldTooWide` if the magic is [`MAGIC_32`] and a Windows field
     /// does not fit 32 bits.
-    #[tactic(auto, unfolding(crate::specs::OptionalHeader::optional_bytes, crate::specs::OptionalHeader::IsUnwritten))]
+    #[tactic(auto, unfolding(crate::specs::OptionalHeader::optional_bytes))]
     pub(crate) fn to_bytes(&self, endian: Endian) -> Result<WrittenHeader>
         ensures made { Answers written_bytes result (optional_bytes endian self.now)
             (IsUnwritten self.now) }

@@ -31,7 +31,6 @@ use Rattle.goblin_base.proofs.Kept.{without_test}
 -- a count of lists that adds up: lists put together from n pieces count no more than n times what each piece may
 module _ {A : Type 0} (count : List A → ℕ) (none : count [] ≡ 0) (adds : (xs ys : List A) → count (xs ++ ys) ≡ count xs + count ys) where
   each_below-count : (piece : ℕ → Option (List A)) (n m : ℕ) → ((j : ℕ) (xs : List A) → piece j ≡ Some xs → count xs ≤ m) → (ys : List A) → each_below piece n ≡ Some ys → count ys ≤ n * m
-  unfolding each_below
   each_below-count piece zero m few ys e = omega (arith, none, ap count (same_value [] ys e))
   each_below-count piece (suc n) m few ys e =
       let parts = join-parts (each_below piece n) (piece n) ys e in
@@ -84,7 +83,6 @@ left_out-or false None xs Holds none one e = subst Holds (same_value [] xs e) no
 kept_name-few : (strict : Bool) (bytes : List ℕ) (rva : ℕ) (place : Option ℕ)
     (xs : List LookupEntry) → (reading.kept_name strict rva place).value bytes ≡ Some xs
     → length xs ≤ 1
-unfolding reading.kept_name
 kept_name-few strict bytes rva None xs e = omega (arith, ap length (same_value [] xs e))
 kept_name-few strict bytes rva (Some p) xs e =
     left_out-or strict _ xs (λ xs. length xs ≤ 1) (omega arith) (λ x is. omega arith) e
@@ -161,7 +159,7 @@ module _ (strict : Bool) (format : Format EntryValue) (offset_of : ℕ → Optio
       → ((o : ℕ) → offset_of rva ≡ Some o
       → (directory.libraries_at strict format offset_of o).value bytes ≡ Some xs → Holds xs)
       → Holds xs
-  unfolding directory.import_data directory.libraries_past_front
+  unfolding directory.import_data
   in_directory e Holds none at = by_place strict (offset_of rva) at e
     where
       by_test : (mode test : Bool) (o : ℕ)
@@ -254,7 +252,6 @@ module _ (strict : Bool) (format : Format EntryValue) (offset_of : ℕ → Optio
 
 -- as many values come as there are, where each is there
 pub all_of-length : {A : Type 0} (values : List (Option A)) (xs : List A) → all_of values ≡ Some xs → length xs ≡ length values
-unfolding all_of
 all_of-length [] xs e = sym (ap length (same_value [] xs e))
 all_of-length {A} (value ∷ values) xs e =
     let s1 = step value (λ first. all_of values >>= λ rest. Some (first ∷ rest)) xs e in
@@ -273,7 +270,6 @@ library_imports-length size library xs e =
     omega (arith, all_of-length (map at (range_with_len 0 n)) xs (slotted (has_slots library) _ xs e), length-map (range_with_len 0 n) at, length-range_with_len 0 n)
 
 imports_to : (size : ℕ) (libraries : List ImportedLibrary) (n : ℕ) (xs : List ImportValue) → n ≤ length libraries → each_below (λ i. slice_get libraries i >>= library_imports size) n ≡ Some xs → length xs ≡ kept_count (take n libraries)
-unfolding each_below
 imports_to size libraries zero xs le e = sym (ap length (same_value [] xs e))
 imports_to size libraries (suc n) xs le e =
     let parts = join-parts (each_below (λ i. slice_get libraries i >>= library_imports size) n) (slice_get libraries n >>= library_imports size) xs e in

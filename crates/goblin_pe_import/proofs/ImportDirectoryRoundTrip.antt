@@ -6,9 +6,9 @@ use Rattle.goblin_pe_import.specs.declared.import.directory_entry.ImportDirector
 use Rattle.goblin_pe_import.specs.ImportRecords.{import_fields, import_record}
 
 pub import_record_back : WritesBack 20 import_record import_fields
-unfolding import_record import_fields
 import_record_back = writes_back 20 import_record import_fields refl (λ endian own h. refl)
 
 pub record_again : (r : ImportDirectoryEntry) → FieldsFit (import_fields r) → ReadsBack 20 import_record import_fields r
-unfolding import_record import_fields
 record_again r fit = reads_back 20 import_record import_fields r refl (omega arith) fit (λ endian own. refl) (λ endian own e. grind (arith, e))
+
+pub ruleset round_trip = (import_record_back, record_again)

@@ -101,7 +101,7 @@ module _ (format : Format EntryValue) (w : Walk) where
   placed-by : (place : Option ℕ) (next : Option ImportPosition) → IsLibraryBy format w place next
       → (place ≡ None → w.untested ≡ None)
       → left_by place next ≡ imports_at strict format places file (position_by place next)
-  unfolding entries_from imports_at until_refused
+  unfolding entries_from imports_at
   placed-by None next l tested =
       subst
       (λ (untested : Option ℕ). until_refused (later_items strict format places file untested next)
@@ -173,7 +173,7 @@ module _ (format : Format EntryValue) (w : Walk) where
 
   causes-by : (place : Option ℕ) (next : Option ImportPosition) → IsLibraryBy format w place next
       → (place ≡ None → w.untested ≡ None) → (e : ErrorOf) → AreCauses place next e
-  unfolding entries_from all_of
+  unfolding entries_from
   causes-by None next l tested e =
       let IsCauseIn : Option ℕ → Type 0 = λ untested.
       (strict ≡ true) × IsLaterCause strict format places file untested next e in

@@ -65,7 +65,7 @@ pub record HasEnded (t : Walk) : Type 0 where
 
 module _ (format : Format EntryValue) (t : Walk) (h : HasEnded t) where
   pub ended-left : walk_left format t ≡ []
-  unfolding until_refused entries_from imports_at
+  unfolding entries_from imports_at
   ended-left = rw (h.place, h.untested, h.next) refl
 
 module _ (format : Format EntryValue) (start s : Walk) (h : AtImports format start s) where
@@ -102,7 +102,6 @@ module _ (format : Format EntryValue) (start s : Walk) (h : AtImports format sta
 
         pub next-one : (walk_left format start ≡ Some item ∷ walk_left format (walk_at s place))
             × ((e : ErrorOf) → IsWalkCause format (walk_at s place) e → IsWalkCause format start e)
-        unfolding until_refused all_of
         next-one = (
           h.same ∙ rw (steps.0, to) refl,
           λ e fault.
@@ -122,7 +121,6 @@ module _ (format : Format EntryValue) (start s : Walk) (h : AtImports format sta
         → HasEnded t
         → (walk_left format start ≡ None ∷ []) × (walk_left format t ≡ [])
         × IsWalkCause format start e
-    unfolding until_refused all_of
     next-fault e is strictly_if t ended =
         let strictly =
         subst (λ (q : Result KeptEntry ErrorOf). IfErr q (λ e. strict ≡ true)) is strictly_if in
@@ -141,7 +139,6 @@ module _ (format : Format EntryValue) (start s : Walk) (h : AtImports format sta
     same_later = h.same ∙ rw (none.0) refl
 
     cause_later : (e : ErrorOf) → (strict ≡ true) × IsLater e → IsWalkCause format start e
-    unfolding all_of
     cause_later e fault = h.cause e (fault.0, rw (none.0) (fault.1))
 
     pub next-none : Gives None → (t : Walk) → HasEnded t

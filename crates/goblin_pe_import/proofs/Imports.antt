@@ -1,5 +1,5 @@
 -- The loops that list imports: over the entries of a table, and over libraries.
-use Rattle.std.proofs.Common.{◌≡◌, ◌<◌, ◌≤◌, ℕ, zero, suc, ◌+◌, Bool, true, false, not, List, [], ◌∷◌, ◌++◌, length, Option, Some, None, arith, refl, sym, ap, subst, inl, ◌∙◌, append-nil, append_assoc}
+use Rattle.std.proofs.Common.{◌≡◌, ◌<◌, ◌≤◌, ℕ, zero, suc, ◌+◌, Bool, true, not, List, [], ◌∷◌, ◌++◌, length, Option, Some, None, arith, refl, sym, ap, subst, inl, ◌∙◌, append-nil, append_assoc}
 use Rattle.std.specs.List.{position_or_len}
 use Rattle.std.proofs.lemmas.Bool.{not-false, not-true}
 use Rattle.std.specs.Prelude.{IsSomeAnd, drop, map, get_or, slice_get, option_map}
@@ -15,13 +15,6 @@ use Rattle.goblin_pe_sect.proofs.First.{found_at_first, found_passes, none_passe
 use Rattle.goblin_pe_import.specs.ImportLookup.{LookupEntry}
 use Rattle.goblin_pe_import.specs.ImportDirectory.{ImportedLibrary}
 use Rattle.goblin_pe_import.specs.Imports.{ImportValue, IsImportListFault, IsSlotCount, Origin, first_without_slots, has_slots, import_at, import_of, import_offset, imports_by, imports_of, kept_count, kept_entries, library_imports}
-
--- what a test says of that whose opposite it is
-pub opposite : (last valid v : Bool) → valid ≡ not last → valid ≡ not v → last ≡ v
-opposite true valid true is test = refl
-opposite true valid false is test = let both = sym is ∙ test in cc
-opposite false valid true is test = let both = sym is ∙ test in cc
-opposite false valid false is test = refl
 
 -- over a table's entries and slots
 module _ (size : ℕ) (from : Origin) (rva : ℕ) (entries : List LookupEntry) (slots : List ℕ) where
@@ -77,7 +70,6 @@ abbrev pub imported_at : ℕ → List ImportedLibrary → ℕ → Option (List I
 imported_at size libraries i = slice_get libraries i >>= library_imports size
 
 appended : {A : Type 0} (old now : List A) (made : Option (List A)) → option_map (λ xs. old ++ xs) made ≡ Some now → join (Some old) made ≡ Some now
-unfolding join
 appended old now None h = absurd cc
 appended old now (Some xs) h = h
 

@@ -33,10 +33,9 @@ use Rattle.goblin_pe_import.specs.ImportReadings.{library_of, lookup_if}
 use Rattle.goblin_pe_import.specs.ImportRecords.{ImportedLibrary, import_record, import_slots, lookup_offset}
 use Rattle.goblin_pe_import.specs.Imports.{ImportValue, Origin, import_at, import_of, imports_by, kept_imports}
 use Rattle.goblin_pe_import.specs.Imports.{origin}
-use Rattle.goblin_pe_import.specs.ImportWalks.{IsCauseAt, KeptValue, addresses_of}
-use Rattle.goblin_pe_import.specs.ImportWalks.{begin_at, entries_from, imports_at, imports_from_record}
-use Rattle.goblin_pe_import.specs.ImportWalks.{kept_at, kept_import, library_items}
-use Rattle.goblin_pe_import.specs.ImportWalks.{library_name, record_index}
+use Rattle.goblin_pe_import.specs.ImportWalks.{imports_from_record, library_items, addresses_of}
+use Rattle.goblin_pe_import.specs.ImportWalks.{entries_from, library_name, record_index, imports_at}
+use Rattle.goblin_pe_import.specs.ImportWalks.{kept_import, IsCauseAt, KeptValue, begin_at, kept_at}
 use Rattle.goblin_pe_import.specs.LookupReadings.{kept_entry}
 use Rattle.goblin_pe_import.proofs.ImportBound.{kept_entry-few}
 use Rattle.goblin_pe_import.proofs.ImportsWalk.{in_two_if, listed}
@@ -202,7 +201,6 @@ same_refusal false table bytes kept = none_missing (table.value bytes) kept
 
 all_of-mapped : {A B : Type 0} (f : A → B) (items : List (Option A))
     → all_of (map (option_map f) items) ≡ option_map (map f) (all_of items)
-unfolding all_of
 all_of-mapped f [] = refl
 all_of-mapped f (None ∷ items) = refl
 all_of-mapped {A} {B} f (Some x ∷ items) =
@@ -223,7 +221,6 @@ library-value : {W A B L R X : Type 0} (strict : Bool) (make : (A × B) × R →
     → join (option_map imports_in walked) (all_of (refusal_of addresses))
     ≡ option_map (flat_map f)
     (or_left_out strict (option_map make (pair_of (pair_of (Some text) (option_map g walked)) addresses)))
-unfolding join all_of
 library-value true make g imports_in f text None None kept there made = refl
 library-value true make g imports_in f text None (Some t) kept there made = refl
 library-value true make g imports_in f text (Some ks) None kept there made = refl
@@ -238,7 +235,6 @@ library-value {X = X} false make g imports_in f text (Some ks) (Some t) kept the
 join-mapped : {L X : Type 0} (f : L → List X) (xs ys : Option (List L))
     → join (option_map (flat_map f) xs) (option_map (flat_map f) ys)
     ≡ option_map (flat_map f) (join xs ys)
-unfolding join
 join-mapped f None ys = refl
 join-mapped f (Some xs) None = refl
 join-mapped {X = X} f (Some xs) (Some ys) =
@@ -252,14 +248,12 @@ test-mapped f false o = refl
 unnamed : {L X : Type 0} (f : L → List X) (mode test : Bool) → mode ≡ true
     → all_of {A = X} (cond (not mode && test) [] (None ∷ []))
     ≡ option_map (flat_map f) (or_left_out mode None)
-unfolding all_of
 unnamed f true test is = refl
 unnamed f false test is = absurd cc
 
 left-out : {A B L X : Type 0} (make : A × B → L) (f : L → List X) (mode : Bool) (b : Option B)
     (a : Option A) → (not mode && is_none b) ≡ true
     → all_of {A = X} [] ≡ option_map (flat_map f) (or_left_out mode (option_map make (pair_of a b)))
-unfolding all_of
 left-out make f true b a out = absurd cc
 left-out make f false (Some y) a out = absurd cc
 left-out make f false None None out = refl
@@ -311,7 +305,7 @@ module _ (strict : Bool) (format : Format EntryValue) (offset_of : ℕ → Optio
         → imports_here (library dll (in_two_if place ks) addresses)
         ≡ map
         (kept_import format.width (origin index dll) r.import_address_table_rva (unwrap_or place 0)) ks
-    unfolding entries_from all_of imports_by
+    unfolding entries_from imports_by
     library-imports dll None ks addresses e =
         let none = same_value [] ks e in
         by_count true (imports_by format.width (origin index dll) r.import_address_table_rva [] []) _ refl
@@ -389,7 +383,6 @@ module _ (strict : Bool) (format : Format EntryValue) (offset_of : ℕ → Optio
     comes_of i = items_at items (slot_place import_slots o i) (record_at i)
 
     slot-value : (i : ℕ) → all_of (comes_of i) ≡ option_map (flat_map imports_in) (pieces i)
-    unfolding all_of
     slot-value i = by_slot (record_at i) refl
       where
         by_slot : (slot : Option ImportDirectoryEntry) → record_at i ≡ slot
@@ -411,7 +404,6 @@ module _ (strict : Bool) (format : Format EntryValue) (offset_of : ℕ → Optio
 
     below-value : (n : ℕ) → all_of (concat_below comes_of n)
         ≡ option_map (flat_map imports_in) (each_below pieces n)
-    unfolding concat_below each_below all_of
     below-value zero = refl
     below-value (suc n) =
         all_of-append (concat_below comes_of n) (comes_of n)

@@ -83,7 +83,7 @@ module _ (strict : Bool) (format : Format EntryValue) (offset_of : ℕ → Optio
       → (lookup_if strict format offset_of at).value bytes
       ≡ option_map (in_two_if at)
       (all_of (entries_from strict format offset_of bytes (unwrap_or at 0) (begin_at None at)))
-  unfolding lookup_if entries_from all_of
+  unfolding lookup_if entries_from
   listed wide None = refl
   listed wide (Some o) =
       ap (option_map (λ both. (Some both.0, both.1)))
@@ -304,7 +304,6 @@ module _ (strict : Bool) (format : Format EntryValue) (offset_of : ℕ → Optio
   pub later-refused : (next : Option ImportPosition) (e : ErrorOf)
       → (option_map (λ _. tt {0}) (table.value bytes) ≡ None) × table.IsCause bytes e
       → (later next ≡ None ∷ []) × IsCause next e
-  unfolding until_refused
   later-refused next e refused =
       let none = unmapped (λ _. tt {0}) _ refused.0 in
       (rw none refl, rw none refused.1)
@@ -332,7 +331,7 @@ module _ (strict : Bool) (format : Format EntryValue) (offset_of : ℕ → Optio
 
     -- there are no more records
     pub later-none : later None ≡ []
-    unfolding imports_at until_refused
+    unfolding imports_at
     later-none = later-from None
 
     module _ (wide : 1 ≤ format.width) (next : ImportPosition) where
@@ -397,7 +396,6 @@ module _ (strict : Bool) (format : Format EntryValue) (offset_of : ℕ → Optio
           × (library_name strict offset_of v).IsCause bytes e)
           → GivesLibrary left IsLeft (later_items strict format offset_of bytes untested (Some next))
           (λ e. (strict ≡ true) × IsCause (Some next) e) (Some result)
-      unfolding until_refused
       later-given v r going left IsLeft (Ok t) h = (
         h.0 ∙ sym (by_record (Some v) r ∙ slot-going strict is_last_record of_library from_next v going),
         λ e fault.

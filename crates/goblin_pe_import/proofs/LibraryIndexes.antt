@@ -66,7 +66,7 @@ module _ (made : ℕ → Option (List ImportedLibrary))
   pub numbered-below : (n : ℕ)
       → each_below numbered_at n
       ≡ option_map (λ xs. numbered xs (kept_below n)) (each_below made n)
-  unfolding each_below join numbered
+  unfolding numbered
   numbered-below zero = refl
   numbered-below (suc n) =
       ap (λ (o : Option (List ImportedLibrary)). join o (numbered_at n)) (numbered-below n)

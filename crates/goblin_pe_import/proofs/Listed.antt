@@ -1,14 +1,13 @@
 -- What is listed of a hint and of an entry.
-use Rattle.std.proofs.Common.{◌≡◌, ℕ, ◌+◌, Bool, true, false, nat_le, Option}
-use Rattle.std.proofs.Common.{Some, None, List, [], ◌++◌, length, refl}
-use Rattle.std.proofs.Common.{arith, inl, inr}
+use Rattle.std.proofs.Common.{◌≡◌, ℕ, ◌+◌, Bool, true, false, nat_le, Option, Some, None, List, []}
+use Rattle.std.proofs.Common.{◌++◌, length, refl, arith, inl, inr}
 use Rattle.std.proofs.lemmas.Bool.{cases_Bool, le-leb, leb-false, leb-true}
 use Rattle.goblin_base.specs.Bytes.{slice_at}
 use Rattle.goblin_base.specs.Footprints.{Range, positions, slice_footprint, stretch_footprint}
 use Rattle.goblin_base.proofs.Numbers.{slice_at-inside, slice_at-some}
 use Rattle.goblin_base.proofs.SlotFootprints.{stretch-none}
 use Rattle.goblin_pe_import.specs.ImportEntries.{EntryValue}
-use Rattle.goblin_pe_import.specs.LookupReadings.{hint_name, kept_entry, kept_name}
+use Rattle.goblin_pe_import.specs.LookupReadings.{hint_name, kept_entry}
 
 -- what is reached of a hint and of the text after it
 abbrev pub hint_reach : List ℕ → ℕ → List Range
@@ -43,5 +42,5 @@ hint-some bytes p hint is =
 pub entry-reaches : (strict : Bool) (offset_of : ℕ → Option ℕ) (bytes : List ℕ)
     (entry : EntryValue) (p : ℕ) → entry.is_ordinal ≡ false → offset_of entry.rva ≡ Some p
     → (kept_entry strict offset_of entry).reaches bytes ≡ hint_reach bytes p
-unfolding kept_entry kept_name hint_name
+unfolding kept_entry hint_name
 entry-reaches strict offset_of bytes entry p named is = rw (named, is) refl

@@ -47,7 +47,6 @@ module _ {A : Type 0} (P : A → Type 0) where
   each-at (y ∷ ys) (suc i) x h e = each-at ys i x h.1 e
 
   each_below-each : (piece : ℕ → Option (List A)) (n : ℕ) → ((j : ℕ) (xs : List A) → piece j ≡ Some xs → Each xs) → (ys : List A) → each_below piece n ≡ Some ys → Each ys
-  unfolding each_below
   each_below-each piece zero own ys e = subst Each (same_value [] ys e) tt
   each_below-each piece (suc n) own ys e =
       let parts = join-parts (each_below piece n) (piece n) ys e in
@@ -62,7 +61,6 @@ first-there (Some a) None h k = absurd cc
 first-there (Some a) (Some xs) h k = refl
 
 all_of-there : {A : Type 0} (value : ℕ → Option A) (len start : ℕ) → ((i : ℕ) → start ≤ i → i < start + len → IsSome (value i)) → IsSome (all_of (map value (range_with_len start len)))
-unfolding all_of
 all_of-there value zero start there = refl
 all_of-there value (suc len) start there =
     first-there (value start) (all_of (map value (range_with_len (start + 1) len))) (there start (omega arith) (omega arith))
@@ -77,7 +75,6 @@ one-counted i (x ∷ y ∷ xs) few = absurd (omega (arith, few))
 
 pub pieces-counted : {A : Type 0} (piece : ℕ → Option (List A)) (n : ℕ) → ((j : ℕ) (xs : List A) → piece j ≡ Some xs → length xs ≤ 1) → (ys : List A) → each_below piece n ≡ Some ys
     → length (filter (λ i. is_kept (piece i)) (range_with_len 0 n)) ≡ length ys
-unfolding each_below
 pieces-counted piece zero few ys e = ap length (same_value [] ys e)
 pieces-counted piece (suc n) few ys e =
     let test : ℕ → Bool = λ i. is_kept (piece i) in
@@ -147,7 +144,6 @@ module _ (strict : Bool) (format : Format EntryValue) (offset_of : ℕ → Optio
 
   module _ (bytes : IsBytes file) where
     pub address-low : (p : ℕ) → (import_record Little (slice_range file p (p + 20))).import_address_table_rva < 2 ^ 32
-    unfolding import_record
     address-low p = number-lt Little 4 (slice_range file p (p + 20)) 16 (IsBytes-slice file p 20 bytes)
 
     numbered-listed : (xs : List ImportedLibrary) (indexes : List ℕ) → Each IsListed xs → Each IsListed (directory.numbered xs indexes)

@@ -1,7 +1,6 @@
 -- A lookup table with its slots: the table alone, and the slots alone, which rise, and lie below
 -- the table's stop.
-use Rattle.std.proofs.Common.{◌≡◌, ◌<◌, ℕ, List, Option, None, Some}
-use Rattle.std.proofs.Common.{refl, sym, subst}
+use Rattle.std.proofs.Common.{◌≡◌, ◌<◌, ℕ, List, Option, None, Some, refl, sym, subst}
 use Rattle.std.specs.List.{All}
 use Rattle.std.specs.List.Sorted.{IsStrictlyIncreasing}
 use Rattle.goblin_base.specs.Tables.{SlotFormat, kept_slots, stop}
@@ -35,3 +34,5 @@ module _ {V B A : Type 0} (format : SlotFormat V) (piece : V → Option (List B)
   below e =
       subst (All (λ slot. slot < stop format bytes o)) (with_slots-kept _ made (x, own) e)
       (kept-below format piece bytes o)
+
+pub ruleset tables = (no_table, a_table, slots, rising, below)

@@ -21,8 +21,7 @@ use Rattle.goblin_pe_import.specs.ImportWalks.{kept_value, place_after}
 use Rattle.readings.specs.Walks.{GivesNext, IsBegun, IsWalkOf, from_slot, end_items, items_at, items_of, table_walk}
 use Rattle.readings.specs.Walks.{until_refused}
 use Rattle.readings.proofs.Walked.{AtWalk, walk-all, walk-begins, walk-fault, walk-more, walk-start}
-use Rattle.goblin_pe_import.specs.LookupReadings.{kept_entry, lookup_entry_at}
-use Rattle.goblin_pe_import.specs.LookupReadings.{lookup_with_slots}
+use Rattle.goblin_pe_import.specs.LookupReadings.{kept_entry, lookup_entry_at, lookup_with_slots}
 use Rattle.goblin_pe_import.proofs.ImportBound.{kept_entry-few}
 use Rattle.goblin_pe_import.proofs.PermissiveReads.{entry-never}
 use Rattle.readings.proofs.WalkValues.{walk-value}
@@ -129,7 +128,7 @@ module _ (strict : Bool) (format : Format EntryValue) (offset_of : ℕ → Optio
           → ((kept_entry strict offset_of v).value bytes ≡ None)
           × (kept_entry strict offset_of v).IsCause bytes e
           → (comes start ≡ None ∷ []) × HasEnded × IsCause start e
-      unfolding entries_from until_refused
+      unfolding entries_from
       rest-refused e k =
           (first None k.0, refl, by_cause (Some v) r e (going, rw (k.0) (k.1)))
 
@@ -233,7 +232,6 @@ module _ (strict : Bool) (format : Format EntryValue) (offset_of : ℕ → Optio
   some_kept : (k : ℕ) (later : List (Option KeptValue)) → (IsBegun (until_refused later) → ⊥)
       → IsBegun (until_refused (concat_below (λ i. items_of (item i) (made i)) k ++ later))
       → (i : ℕ) × (i < k) × (is_kept (made i) ≡ true)
-  unfolding concat_below until_refused
   some_kept zero later none begun = absurd (none begun)
   some_kept (suc k) later none begun =
       by_piece (made k) refl (some_kept k)
@@ -327,7 +325,6 @@ module _ (strict : Bool) (format : Format EntryValue) (offset_of : ℕ → Optio
             }
 
         pub entries-kept : KeepsEntries strict format offset_of bytes o
-        unfolding until_refused
         entries-kept =
             let begins =
             walk-begins comes IsCause (Some o) place h.kept h.at kept_value (place_after format.width (Some r)) r given one is in

@@ -11,9 +11,8 @@ use Rattle.readings.proofs.Modes.{repeats-table_with_slots}
 use Rattle.goblin_pe_import.specs.ImportDirectory.{address_table_rva, import_slots, lookup_offset}
 use Rattle.goblin_pe_import.specs.ImportLookup.{EntryValue, entry_slots}
 use Rattle.goblin_pe_import.specs.ImportEntries.LookupEntry.{ByOrdinal}
-use Rattle.goblin_pe_sect.specs.AddressReadings.{at_address}
+use Rattle.goblin_pe_sect.specs.AddressReadings.{at_address, name_at}
 use Rattle.goblin_pe_import.specs.ImportReadings.{kept_library, libraries_at}
-use Rattle.goblin_pe_sect.specs.AddressReadings.{name_at}
 use Rattle.goblin_pe_import.specs.ImportReadings.{import_record_at, library_of, lookup_if}
 use Rattle.goblin_pe_import.specs.LookupReadings.{address_table, hint_name, kept_entry, kept_name}
 use Rattle.goblin_pe_import.specs.LookupReadings.{lookup_entry_at, lookup_table, lookup_with_slots}
@@ -28,7 +27,6 @@ hint_repeats p =
 
 name_repeats : (rva : ℕ) (place : Option ℕ)
     → Repeats (kept_name true rva place) (kept_name false rva place)
-unfolding kept_name
 name_repeats rva None = repeats-same _
 name_repeats rva (Some p) = repeats-or_left_out _ _ (repeats-mapped _ _ _ (hint_repeats p))
 
@@ -88,7 +86,6 @@ left_never (Some x) e = cc
 
 name_never : (rva : ℕ) (place : Option ℕ) (bytes : List ℕ)
     → (kept_name false rva place).value bytes ≡ None → ⊥
-unfolding kept_name
 name_never rva None bytes e = cc
 name_never rva (Some p) bytes e = left_never _ e
 

@@ -23,7 +23,6 @@ HasSome o = IsSomeAnd o (λ xs. 0 < length xs)
 some-below : {A : Type 0} (piece : ℕ → Option (List A)) (n : ℕ) (ys : List A)
     → each_below piece n ≡ Some ys → 0 < length ys
     → (i : ℕ) × (i < n) × HasSome (piece i)
-unfolding each_below
 some-below piece zero ys e some = absurd (omega (arith, some, ap length (same_value [] ys e)))
 some-below {A} piece (suc n) ys e some =
     let parts = join-parts (each_below piece n) (piece n) ys e in

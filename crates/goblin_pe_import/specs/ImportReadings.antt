@@ -84,7 +84,7 @@ libraries_if strict format offset_of None = given []
 libraries_if strict format offset_of (Some o) = libraries_at strict format offset_of o
 
 -- the libraries of the directory at an offset
-unfoldable pub libraries_past_front : Bool → Format EntryValue → (ℕ → Option ℕ) → ℕ
+abbrev pub libraries_past_front : Bool → Format EntryValue → (ℕ → Option ℕ) → ℕ
     → Reading (List ImportedLibrary)
 libraries_past_front strict format offset_of o =
     libraries_if strict format offset_of (first_record_offset strict (Some o))

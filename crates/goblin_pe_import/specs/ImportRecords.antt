@@ -12,7 +12,7 @@ use Rattle.goblin_pe_import.specs.declared.import.directory_entry.ImportDirector
 -- Source: PE Format, "Import Directory Table".
 
 -- the record in its 20 bytes
-unfoldable pub import_record : Endian → List ℕ → ImportDirectoryEntry
+abbrev pub import_record : Endian → List ℕ → ImportDirectoryEntry
 import_record endian bytes = record {
   import_lookup_table_rva = number endian 4 bytes 0;
   time_date_stamp = number endian 4 bytes 4;
@@ -22,7 +22,7 @@ import_record endian bytes = record {
 }
 
 -- the fields of a record, in order
-unfoldable pub import_fields : ImportDirectoryEntry → List FieldValue
+abbrev pub import_fields : ImportDirectoryEntry → List FieldValue
 import_fields r =
     uint 4 r.import_lookup_table_rva ∷ uint 4 r.time_date_stamp ∷ uint 4 r.forwarder_chain
     ∷ uint 4 r.name_rva ∷ uint 4 r.import_address_table_rva ∷ []

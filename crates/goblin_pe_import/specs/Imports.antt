@@ -42,19 +42,19 @@ ordinal_name ordinal = codes "ORDINAL " ++ decimal ordinal
 
 -- what an entry says of its import: the name, whether it is a text in the file, the ordinal or the
 -- hint, and the address of the hint and the name, which is 0 of an import by ordinal
-unfoldable pub entry_name : LookupEntry → List ℕ
+abbrev pub entry_name : LookupEntry → List ℕ
 entry_name (ByOrdinal ordinal) = ordinal_name ordinal
 entry_name (ByName rva named) = named.name
 
-unfoldable pub entry_has_name : LookupEntry → Bool
+abbrev pub entry_has_name : LookupEntry → Bool
 entry_has_name (ByOrdinal ordinal) = false
 entry_has_name (ByName rva named) = true
 
-unfoldable pub entry_ordinal : LookupEntry → ℕ
+abbrev pub entry_ordinal : LookupEntry → ℕ
 entry_ordinal (ByOrdinal ordinal) = ordinal
 entry_ordinal (ByName rva named) = named.hint
 
-unfoldable pub entry_name_rva : LookupEntry → ℕ
+abbrev pub entry_name_rva : LookupEntry → ℕ
 entry_name_rva (ByOrdinal ordinal) = 0
 entry_name_rva (ByName rva named) = rva
 

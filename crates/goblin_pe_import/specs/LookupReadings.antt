@@ -22,7 +22,7 @@ hint_name strict p =
 
 -- What is kept of an entry whose address has this offset: the hint and the name there. Nothing is
 -- kept if the address has none.
-unfoldable pub kept_name : Bool → ℕ → Option ℕ → Reading (List LookupEntry)
+abbrev pub kept_name : Bool → ℕ → Option ℕ → Reading (List LookupEntry)
 kept_name strict rva None = given []
 kept_name strict rva (Some p) = or_left_out strict (mapped (ByName rva) (hint_name strict p))
 

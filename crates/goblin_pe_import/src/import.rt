@@ -204,7 +204,7 @@ impl<'a> ImportData<'a> {
     ///
     /// # Errors
     /// As [`ImportData::parse_with_opts`].
-    #[tactic(auto, unfolding(crate::specs::ImportReadings::import_data, crate::specs::ImportReadings::libraries_past_front))]
+    #[tactic(auto, unfolding(crate::specs::ImportReadings::import_data))]
     pub fn parse_by<'e, T: Bitfield<'a>>(
         alloc: Global,
         bytes: &'a [u8],

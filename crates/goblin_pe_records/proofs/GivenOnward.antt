@@ -1,5 +1,5 @@
 -- A list whose items fill records from an index on.
-use Rattle.std.proofs.Common.{◌≡◌, ◌<◌, ◌≤◌, ◌^◌, ◌*◌, ◌/◌, ℕ, ◌+◌, ◌-◌, List, length, map, drop, min, set, take, Some, None, Option, slice_get, get_or, [], ◌∷◌, ap, sym, subst, refl, arith, ◌∙◌, inl, inr}
+use Rattle.std.proofs.Common.{◌≡◌, ◌<◌, ◌≤◌, ◌^◌, ◌*◌, ◌/◌, ℕ, ◌+◌, ◌-◌, List, length, map, drop, min, set, take, Some, None, slice_get, get_or, [], ◌∷◌, ap, sym, subst, refl, arith, ◌∙◌, inl, inr}
 use Rattle.std.specs.Prelude.{slice_range}
 use Rattle.std.specs.List.{range_with_len}
 use Rattle.std.proofs.Math.ListN.{drop_of_length-le}

@@ -28,7 +28,6 @@ section-named strict table bytes p s h =
 
 -- what keeps each value keeps all
 pub all-kept : {A : Type 0} (f : A → A) (value : ℕ → Option A) (len start : ℕ) (xs : List A) → ((i : ℕ) (a : A) → value i ≡ Some a → f a ≡ a) → all_of (map value (range_with_len start len)) ≡ Some xs → map f xs ≡ xs
-unfolding all_of
 all-kept {A} f value zero start xs keeps h =
     let none : [] ≡ xs = cc in
     rw (sym none) refl

@@ -1,8 +1,8 @@
 -- Names in the bytes of a string table.
-use Rattle.std.proofs.Common.{◌≡◌, ◌≢◌, ◌⊎◌, ◌<◌, ◌≤◌, ℕ, zero, suc, ◌+◌, ◌-◌, Bool, true, false, cond, ◌&&◌, List, [], ◌∷◌, length, drop, refl, ap, sym, subst, ◌∙◌, inl, inr, arith}
+use Rattle.std.proofs.Common.{◌≡◌, ◌≢◌, ◌⊎◌, ◌<◌, ◌≤◌, ℕ, suc, ◌+◌, ◌-◌, Bool, true, false, cond, ◌&&◌, List, [], ◌∷◌, length, drop, refl, ap, sym, subst, ◌∙◌, inl, inr, arith}
 use Rattle.std.specs.Prelude.{◌==◌, not, Some, None, slice_index, slice_range}
 use Rattle.std.specs.List.{prefix_len}
-use Rattle.std.specs.Str.{IsUtf8, IsCharBoundary, is_utf8}
+use Rattle.std.specs.Str.{IsCharBoundary, is_utf8}
 use Rattle.std.proofs.lemmas.Bool.{false_from_ne_true}
 use Rattle.std.proofs.lemmas.Bool.Decides.{nat_tests}
 use Rattle.std.proofs.lemmas.List.{drop_more}
@@ -10,7 +10,7 @@ use Rattle.std.proofs.lemmas.Str.{IsUtf8-between, IsUtf8-from_is_utf8, is_utf8-f
 use Rattle.goblin_base.specs.Bytes.{before_nul, stretch, text_of}
 use Rattle.goblin_base.specs.Strtab.{is_border, is_in_piece, rest_at}
 use Rattle.goblin_base.proofs.Pieces.{rest_by_pieces}
-use Rattle.goblin_pe_records.specs.Symbols.{NamesOfText, name_in_piece}
+use Rattle.goblin_pe_records.specs.Symbols.{NamesOfText}
 
 -- a table may be cut where a piece ends
 cut_at_end : (table : List ℕ) (end : ℕ) → (end ≡ length table) ⊎ ((end < length table) × (slice_index table end ≡ 0)) → IsCharBoundary table end

@@ -39,7 +39,6 @@ by_size false table s is = is
 
 -- what is read of a string table is its texts
 strings_there : (bytes : List ℕ) (p : ℕ) (s : List ℕ) → (strings_at p).value bytes ≡ Some s → bytes_between bytes (p + 4) (p + 4 + length s) ≡ Some s
-unfolding strings_at
 strings_there bytes p s is =
     let size = step (number_at Little 4 bytes p) _ s is in
     texts_there bytes (p + 4) (size.value - 4) s (by_size (nat_lt size.value 4) (string_table bytes (p + 4) (size.value - 4)) s size.then)

@@ -1,7 +1,6 @@
 -- Refusals as numbers.
 use Rattle.std.specs.Prelude.{◌≡◌, ◌⊎◌, ℕ, ◌-◌, ◌%◌, ◌^◌, ◌==◌, nat_lt, List, [], ◌∷◌, codes, drop}
-use Rattle.std.specs.Prelude.{length}
-use Rattle.std.specs.Prelude.{if◌then◌else◌, Option, Some, None, Result, Ok, Err, slice_get}
+use Rattle.std.specs.Prelude.{length, if◌then◌else◌, Option, Some, None, Result, Ok, Err, slice_get}
 use Rattle.std.specs.Prelude.{option_map, ⊤}
 use Rattle.std.specs.Str.{bytes_eq}
 use Rattle.goblin_base.specs.ErrorText.{cause_text, fault_text, magic_text, memory_text, short_text}
@@ -12,20 +11,18 @@ use Rattle.goblin_base.specs.declared.error.ErrorOf.TheVariants.{Malformed, BadM
 use Rattle.goblin_base.specs.declared.error.ErrorOf.TheVariants.{BufferTooShort, Read, Memory}
 use Rattle.goblin_base.specs.declared.error.ReadFault.TheVariants.{BadOffset, TooBig, BadInput}
 use Rattle.goblin_base.specs.declared.error.CauseOf.TheVariants.{Message, NoDosSignature, DosMagic}
-use Rattle.goblin_base.specs.declared.error.CauseOf.TheVariants.{NoPePointer, NoPeSignature}
-use Rattle.goblin_base.specs.declared.error.CauseOf.TheVariants.{PeMagic, StubBeforeStart}
-use Rattle.goblin_base.specs.declared.error.CauseOf.TheVariants.{StubPastEnd, NoDans, RichBounds}
-use Rattle.goblin_base.specs.declared.error.CauseOf.TheVariants.{StrippedSize, CoffLength}
+use Rattle.goblin_base.specs.declared.error.CauseOf.TheVariants.{NoPePointer, NoPeSignature, NoDans}
+use Rattle.goblin_base.specs.declared.error.CauseOf.TheVariants.{PeMagic, StubBeforeStart, NameText}
+use Rattle.goblin_base.specs.declared.error.CauseOf.TheVariants.{StubPastEnd, RichBounds, Unmapped}
+use Rattle.goblin_base.specs.declared.error.CauseOf.TheVariants.{StrippedSize, CoffLength, NameRead}
 use Rattle.goblin_base.specs.declared.error.CauseOf.TheVariants.{DirectoryIndex, DirectoryCount}
-use Rattle.goblin_base.specs.declared.error.CauseOf.TheVariants.{NameText, NameBase64, NameDecimal}
-use Rattle.goblin_base.specs.declared.error.CauseOf.TheVariants.{NameOffset, SymbolName}
+use Rattle.goblin_base.specs.declared.error.CauseOf.TheVariants.{NameBase64, NameDecimal, HintEntry}
+use Rattle.goblin_base.specs.declared.error.CauseOf.TheVariants.{NameOffset, SymbolName, LookupEnd}
 use Rattle.goblin_base.specs.declared.error.CauseOf.TheVariants.{StringTable, FieldTooWide}
-use Rattle.goblin_base.specs.declared.error.CauseOf.TheVariants.{Unmapped, NameRead, HintEntry}
-use Rattle.goblin_base.specs.declared.error.CauseOf.TheVariants.{LookupEnd, ImportRecordEnd}
-use Rattle.goblin_base.specs.declared.error.CauseOf.TheVariants.{ExportTable, Forwarder}
-use Rattle.goblin_base.specs.declared.error.CauseOf.TheVariants.{ForwarderOrdinal, RelocRange}
-use Rattle.goblin_base.specs.declared.error.CauseOf.TheVariants.{BlockSize, BlockRange, Overflow}
-use Rattle.goblin_base.specs.declared.error.CauseOf.TheVariants.{SlotCount}
+use Rattle.goblin_base.specs.declared.error.CauseOf.TheVariants.{ImportRecordEnd, ExportTable}
+use Rattle.goblin_base.specs.declared.error.CauseOf.TheVariants.{Forwarder, ForwarderOrdinal}
+use Rattle.goblin_base.specs.declared.error.CauseOf.TheVariants.{RelocRange, BlockSize, BlockRange}
+use Rattle.goblin_base.specs.declared.error.CauseOf.TheVariants.{Overflow, SlotCount}
 use Rattle.goblin_pe_records.specs.declared.fault.PeFault.{PeFault}
 use Rattle.goblin_pe_records.specs.declared.fault.Status.{Status}
 use Rattle.goblin_pe_records.specs.declared.fault.Status.TheVariants as status

@@ -1,7 +1,6 @@
 -- What a loader sees at an address of an image, as a caller passes it.
 use Rattle.std.specs.Prelude.{ℕ, ◌+◌, ◌-◌, ◌==◌, ◌<◌, ◌≤◌, ◌&&◌, Bool, nat_le, nat_lt, min}
-use Rattle.std.specs.Prelude.{if◌then◌else◌}
-use Rattle.std.specs.Prelude.{List, [], find, Option, Some, None}
+use Rattle.std.specs.Prelude.{if◌then◌else◌, List, [], find, Option, Some, None}
 use Rattle.goblin_base.specs.declared.error.CauseOf.TheVariants.{Unmapped}
 use Rattle.goblin_base.specs.Reading.{Reading}
 use Rattle.readings.specs.Reads.{◌>>=◌, given, mapped, needs, pick, slice_at}

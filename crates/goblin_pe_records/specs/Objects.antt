@@ -1,5 +1,5 @@
 -- What a call reports of an object.
-use Rattle.std.specs.Prelude.{◌≡◌, ℕ, ◌+◌, Bool, List, length, map}
+use Rattle.std.specs.Prelude.{◌≡◌, ◌+◌, Bool, List, length, map}
 use Rattle.goblin_base.specs.declared.endian.Endian.TheVariants.{Little}
 use Rattle.goblin_base.specs.Reading.{Reading}
 use Rattle.readings.specs.Reads.{◌>>=◌, mapped, record_at}

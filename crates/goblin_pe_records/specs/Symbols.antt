@@ -12,8 +12,7 @@ use Rattle.readings.specs.Reads as reads
 use Rattle.readings.specs.Reads.{because, bytes_between, given, mapped, pair_of, pick, slice_at}
 use Rattle.readings.specs.Reads.{◌beside◌}
 use Rattle.goblin_pe_symbol.specs.declared.symbol.Symbol.{Symbol}
-use Rattle.goblin_pe_symbol.specs.Symbols.{SymbolItem, aux, name_offset_of, symbol_of}
-use Rattle.goblin_pe_symbol.specs.Symbols.{symbols_from}
+use Rattle.goblin_pe_symbol.specs.Symbols.{SymbolItem, aux, name_offset_of, symbol_of, symbols_from}
 use Rattle.goblin_pe_head.specs.declared.header.coff.CoffHeader.{CoffHeader}
 use Rattle.goblin_pe_head.specs.CoffHeader.{symbols_end}
 use Rattle.goblin_pe_head.specs.CoffReadings.{strings_of, symbols_of}

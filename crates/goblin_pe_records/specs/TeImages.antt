@@ -1,5 +1,5 @@
 -- What a call reports of a Terse Executable.
-use Rattle.std.specs.Prelude.{◌≡◌, ℕ, List, map}
+use Rattle.std.specs.Prelude.{◌≡◌, List, map}
 use Rattle.goblin_base.specs.Reading.{Reading}
 use Rattle.readings.specs.Reads.{mapped}
 use Rattle.goblin_pe_sect.specs.SectionTable.{Section, unnamed}

@@ -7,8 +7,7 @@ ghost use Rattle.goblin_base.specs.ErrorText.{error_text};
 ghost use Rattle.goblin_pe_records.specs.Faults.{IsNumbered, IsTextOf, cause_of, causes, fault};
 ghost use Rattle.goblin_pe_records.specs.Faults.{fault_of, number_of, status_of, status_with};
 ghost use Rattle.goblin_pe_records.specs.Faults.{no_fault, read_fault_of, refusal_text};
-ghost use Rattle.goblin_pe_records.specs.Faults.{word_number};
-ghost use Rattle.goblin_pe_records.specs.Faults.{word_of};
+ghost use Rattle.goblin_pe_records.specs.Faults.{word_number, word_of};
 ghost use Rattle.goblin_pe_records.specs.Filled.{Filled};
 
 use goblin_base::{Cause, Error, ReadFault, Result};

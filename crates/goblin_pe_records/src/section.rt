@@ -229,7 +229,6 @@ fn write_record(section: &SectionTable, out: &mut [u8], written: &mut usize) -> 
 ///
 /// # Errors
 /// Where there is no room; nothing is then changed.
-#[tactic(auto, unfolding(goblin_pe_sect::specs::SectionTable::section_fields))]
 pub fn write_section(section: &PeSection, out: &mut [u8], written: &mut usize) -> Result<()>
     ensures written { let old : Output = record { out = out.old; written = written.old } in
         let new : Output = record { out = out.new; written = written.new } in

@@ -6,13 +6,11 @@ ghost use Rattle.goblin_base.specs.Reading.{Reads};
 ghost use Rattle.goblin_base.specs.Strtab.{is_in_piece};
 ghost use Rattle.goblin_pe_symbol.specs.Symbols.{symbol_of};
 ghost use Rattle.goblin_pe_records.specs.Calls.{ReadsWithout};
-ghost use Rattle.goblin_pe_records.specs.Symbols.{GivesSymbols, NamesOfText, SaysSymbols};
-ghost use Rattle.goblin_pe_records.specs.Symbols.{SaysTable, SymbolRecords};
-ghost use Rattle.goblin_pe_records.specs.Symbols.{auxiliary_of, name_in, name_in_piece};
-ghost use Rattle.goblin_pe_records.specs.Symbols.{named_symbol};
-ghost use Rattle.goblin_pe_records.specs.Symbols.{named_symbol_view, strings_said, symbol_in};
-ghost use Rattle.goblin_pe_records.specs.Symbols.{symbol_named, symbol_said, symbol_tables};
-ghost use Rattle.goblin_pe_records.specs.Symbols.{table_record, tables_said};
+ghost use Rattle.goblin_pe_records.specs.Symbols.{named_symbol_view, SymbolRecords, name_in_piece};
+ghost use Rattle.goblin_pe_records.specs.Symbols.{symbol_tables, GivesSymbols, auxiliary_of};
+ghost use Rattle.goblin_pe_records.specs.Symbols.{named_symbol, strings_said, symbol_named};
+ghost use Rattle.goblin_pe_records.specs.Symbols.{table_record, NamesOfText, SaysSymbols, name_in};
+ghost use Rattle.goblin_pe_records.specs.Symbols.{symbol_said, tables_said, SaysTable, symbol_in};
 
 use goblin_base::read::{pread_slice, pread_str};
 use goblin_base::{Cause, Error, Result, Strtab};
@@ -57,7 +55,7 @@ pub struct PeNamedSymbol<'a> {
 }
 
 // The text that bytes are.
-#[tactic(auto, using(goblin_base::proofs::Texts::is_utf8_true, goblin_base::proofs::Texts::is_utf8_false))]
+#[tactic(auto, using(goblin_base::proofs::Texts::text_test))]
 fn text(bytes: &[u8]) -> Option<&str>
     ensures { option_map (λ s. s.now) result ≡ text_of bytes.now }
 {

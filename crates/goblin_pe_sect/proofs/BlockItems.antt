@@ -93,3 +93,5 @@ items_most directory p = items_few (length directory - p) directory p
 -- the same of a block that was read
 pub block_first : (directory : List ℕ) (p : ℕ) (block : RelocationBlock) → p < length directory → Ok (block_value block) ≡ block_at directory p → block_items directory p ≡ Ok (block_value block) ∷ block_items directory (p + block.size)
 block_first directory p block lt is = items_ok directory p (block_value block) lt (sym is)
+
+pub ruleset items = (block_first, items_err, items_past)

@@ -21,15 +21,15 @@ use Rattle.goblin_pe_sect.proofs.Entries.{directory_entry_at, directory_entry_at
 
 -- a directory that was read is written as it stood
 pub directory_back : WritesBack 8 directory_record directory_fields
-unfolding directory_record directory_fields
 directory_back = writes_back 8 directory_record directory_fields refl (λ endian own h. refl)
 
 pub directory_again : (d : DataDirectory) → FieldsFit (directory_fields d) → ReadsBack 8 directory_record directory_fields d
-unfolding directory_record directory_fields
 directory_again d fit = reads_back 8 directory_record directory_fields d refl (omega arith) fit (λ endian own. refl) (λ endian own e. grind (arith, e))
 
+pub ruleset round_trip = (directory_back, directory_again)
+
 zeros : encoding Little (directory_fields no_directory) ≡ replicate 8 0
-unfolding directory_fields number_bytes
+unfolding number_bytes
 zeros = refl
 
 abbrev directory : ℕ → ℕ → DataDirectory
@@ -57,13 +57,11 @@ abbrev bytes_of : ℕ → List ℕ → ℕ → ℕ → ℕ → List ℕ
 bytes_of count bytes p a n = encoding Little (entries_fields (map (directory_entry_at count bytes p) (range_with_len a n)))
 
 bytes_of-more : (count : ℕ) (bytes : List ℕ) (p a n : ℕ) → bytes_of count bytes p a (suc n) ≡ encoding Little (directory_fields (directory_or_zeros (directory_entry_at count bytes p a))) ++ bytes_of count bytes p (a + 1) n
-unfolding entries_fields
 bytes_of-more count bytes p a n =
     encoding_append Little (directory_fields (directory_or_zeros (directory_entry_at count bytes p a))) (entries_fields (map (directory_entry_at count bytes p) (range_with_len (a + 1) n)))
 
 -- those below the count are written as they stand
 bytes_of-below : (count : ℕ) (bytes : List ℕ) (p a n : ℕ) → IsBytes bytes → a + n ≤ count → p + 8 * (a + n) ≤ length bytes → bytes_of count bytes p a n ≡ take (8 * n) (drop (p + 8 * a) bytes)
-unfolding entries_fields
 bytes_of-below count bytes p a zero h most room = refl
 bytes_of-below count bytes p a (suc n) h most room =
     let at = p + 8 * a in
@@ -81,7 +79,6 @@ bytes_of-below count bytes p a (suc n) h most room =
 
 -- the others are zeros
 bytes_of-past : (count : ℕ) (bytes : List ℕ) (p a n : ℕ) → count ≤ a → bytes_of count bytes p a n ≡ replicate (8 * n) 0
-unfolding entries_fields
 bytes_of-past count bytes p a zero most = refl
 bytes_of-past count bytes p a (suc n) most =
     let first : encoding Little (directory_fields (directory_or_zeros (directory_entry_at count bytes p a))) ≡ replicate 8 0 =
@@ -105,7 +102,6 @@ range_with_len-split a (suc n) m =
     rw (e, f) (ap (λ (xs : List ℕ). a ∷ xs) (range_with_len-split (a + 1) n m))
 
 split : (count : ℕ) (bytes : List ℕ) (p n m : ℕ) → bytes_of count bytes p 0 (n + m) ≡ bytes_of count bytes p 0 n ++ bytes_of count bytes p n m
-unfolding entries_fields
 split count bytes p n m =
     let f = directory_entry_at count bytes p in
     let g : Option (ℕ × DataDirectory) → List FieldValue = λ e. directory_fields (directory_or_zeros e) in
@@ -115,7 +111,6 @@ split count bytes p n m =
     ∙ encoding_append Little (flat_map g (map f (range_with_len 0 n))) (flat_map g (map f (range_with_len n m)))
 
 none_read : (count n : ℕ) (bytes : List ℕ) (p : ℕ) → n ≡ 0 → bytes_of count bytes p 0 n ≡ take (8 * n) (drop p bytes)
-unfolding entries_fields
 none_read count n bytes p none = rw none refl
 
 either : (a b : Bool) → (a || b) ≡ true → (a ≡ true) ⊎ (b ≡ true)

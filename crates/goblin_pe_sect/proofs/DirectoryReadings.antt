@@ -30,7 +30,6 @@ use Rattle.goblin_pe_sect.proofs.Entries.{entry_unread, one_missing}
 
 all_some : {A : Type 0} (g : ℕ → A) (n a : ℕ)
     → all_of (map (λ i. Some (g i)) (range_with_len a n)) ≡ Some (map g (range_with_len a n))
-unfolding all_of
 all_some g zero a = refl
 all_some g (suc n) a = rw (all_some g n (a + 1)) refl
 
@@ -208,7 +207,7 @@ many_cause count bytes p many = rw (lt-leb count 16 many) refl
 -- no entries are read at any offset
 pub no_entries : (count : ℕ) (bytes : List ℕ) (p : ℕ) (entries : List (Option (ℕ × DataDirectory)))
     → count ≡ 0 → entries ≡ replicate 16 None → (directories_at count p).value bytes ≡ Some entries
-unfolding directories_at all_of
+unfolding directories_at
 no_entries count bytes p entries none empty = rw (none, empty) refl
 
 -- a record that is there, in the bytes from p on
@@ -240,3 +239,7 @@ one_more i bytes p at end entries d x lt at_is end_is so_far next is =
     let before = sym (value-directories_at i bytes p) ∙ so_far in
     value-directories_at (i + 1) bytes p
     ∙ entries_more i bytes p at end entries d x lt at_is end_is before next is
+
+pub ruleset refusals = (cut_none, cut_cause, whole_cause, many_none, many_cause)
+
+pub ruleset absences = (no_entries, none_so_far)

@@ -133,7 +133,6 @@ pub entries-going : (endian : Endian) (entries : List (Option (ℕ × DataDirect
     → new ≡ replaced bytes (8 * i) (encoding endian (directory_fields d))
     → IsPutting endian (entries_fields (drop i entries)) (8 * i) bytes final
     → IsPutting endian (entries_fields (drop (i + 1) entries)) (8 * (i + 1)) new final
-unfolding entries_fields directory_fields
 entries-going endian entries i d bytes new final lt d_is is going =
     let rest = entries_fields (drop (i + 1) entries) in
     let own = directory_fields d in
@@ -151,7 +150,6 @@ entries-going endian entries i d bytes new final lt d_is is going =
 
 -- how many bytes all entries take
 pub width-entries : (entries : List (Option (ℕ × DataDirectory))) → total_width (entries_fields entries) ≡ 8 * length entries
-unfolding entries_fields directory_fields
 width-entries [] = refl
 width-entries (e ∷ entries) = let rest = width-entries entries in omega arith
 
@@ -167,7 +165,6 @@ all_going endian entries bytes sixteen len =
 -- once the last is written
 pub entries_done : (endian : Endian) (entries : List (Option (ℕ × DataDirectory))) (i : ℕ) (bytes final : List ℕ) → length entries ≡ i → length bytes ≤ 8 * i
     → IsPutting endian (entries_fields (drop i entries)) (8 * i) bytes final → bytes ≡ final
-unfolding entries_fields
 entries_done endian entries i bytes final len past going =
     let none : drop i entries ≡ [] = drop_all i entries (omega arith) in
     let last : entries_fields (drop i entries) ≡ [] = ap entries_fields none in

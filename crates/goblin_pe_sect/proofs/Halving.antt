@@ -3,7 +3,7 @@ use Rattle.std.proofs.Common.{◌≡◌, ℕ, zero, suc, ◌+◌, ◌-◌, ◌*�
 use Rattle.std.specs.List.{prefix_len}
 use Rattle.std.specs.List.Sorted.{IsStrictlyIncreasing}
 use Rattle.std.proofs.lemmas.List.Kept.{AllPairs-from_increasing}
-use Rattle.std.proofs.lemmas.List.Sums.{prefix_len-le-length, prefix_len_is, prefix_len_passes, prefix_len_stops}
+use Rattle.std.proofs.lemmas.List.Sums.{prefix_len_is, prefix_len_passes, prefix_len_stops}
 use Rattle.std.proofs.lemmas.Bool.{cases_lt}
 use Rattle.std.proofs.lemmas.Nat.{pow-add, pow_pos}
 use Rattle.goblin_pe_sect.specs.WindowIndex.{reached, halvings_within, halvings}
@@ -96,10 +96,6 @@ reached-below begins rva half passes =
           absurd (omega (arith, before, passes))
       | inr ge ↦ ge
     ]
-
--- no more numbers begin at or before an address than there are
-pub reached-within : (begins : List ℕ) (rva : ℕ) → reached begins rva ≤ length begins
-reached-within begins rva = prefix_len-le-length (λ b. nat_le b rva) begins
 
 -- half of a number has a digit less
 pub half_below : (e s : ℕ) → 0 < s → s < 2 ^ e → (1 ≤ e) × (s / 2 < 2 ^ (e - 1))

@@ -113,7 +113,3 @@ file_offset_injective opts sections alignment first second index even x y e =
     apart_by opts.resolve_rva (is_power_of_two alignment) _ _ first second even' (λ same.
     let offsets : offset_in opts alignment x.section first ≡ offset_in opts alignment y.section second = cc (x_at, y_at, same) in
     omega (arith, offsets, pointer, address, x.holds, y.holds)) e
-
--- different addresses that one section maps have different offsets
-pub offsets_apart : (opts : ParseOptions) (sections : List Section) (alignment : ℕ) → OffsetsApart opts sections alignment
-offsets_apart opts sections alignment first second index = file_offset_injective opts sections alignment first second index

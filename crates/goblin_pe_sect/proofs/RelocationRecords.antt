@@ -17,3 +17,5 @@ relocations_none bytes few = records_in-none 10 (relocation_record Little) bytes
 
 pub length_relocations : (bytes : List ℕ) → length (relocations_in bytes) ≡ length bytes / 10
 length_relocations bytes = length-records_in 10 (relocation_record Little) bytes
+
+pub ruleset relocations = (relocations_more, relocations_none)

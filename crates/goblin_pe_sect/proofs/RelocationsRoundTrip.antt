@@ -8,17 +8,15 @@ use Rattle.goblin_pe_sect.specs.BaseRelocations.{word_fields, word_record}
 use Rattle.goblin_pe_sect.specs.Relocations.{relocation_fields, relocation_record}
 
 pub relocation_back : WritesBack 10 relocation_record relocation_fields
-unfolding relocation_record relocation_fields
 relocation_back = writes_back 10 relocation_record relocation_fields refl (λ endian own h. refl)
 
 pub word_back : WritesBack 2 word_record word_fields
-unfolding word_record word_fields
 word_back = writes_back 2 word_record word_fields refl (λ endian own h. refl)
 
 pub relocation_again : (r : Relocation) → FieldsFit (relocation_fields r) → ReadsBack 10 relocation_record relocation_fields r
-unfolding relocation_record relocation_fields
 relocation_again r fit = reads_back 10 relocation_record relocation_fields r refl (omega arith) fit (λ endian own. refl) (λ endian own e. grind (arith, e))
 
 pub word_again : (r : RelocationWord) → FieldsFit (word_fields r) → ReadsBack 2 word_record word_fields r
-unfolding word_record word_fields
 word_again r fit = reads_back 2 word_record word_fields r refl (omega arith) fit (λ endian own. refl) (λ endian own e. grind (arith, e))
+
+pub ruleset round_trips = (relocation_back, relocation_again, word_back, word_again)

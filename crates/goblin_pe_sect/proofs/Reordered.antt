@@ -1,7 +1,7 @@
 -- A table of sections maps addresses alike in any order, where no two windows meet.
 use Rattle.std.proofs.Common.{◌≡◌, ℕ, suc, ◌<◌, Bool, true, false, cond, IsTrue, List, [], ◌∷◌, length, get_or, slice_get, Option, Some, None, find, refl, ap, sym, inl, inr, rules, tests}
 use Rattle.std.specs.Int.{is_power_of_two}
-use Rattle.std.specs.List.{AllPairs}
+use Rattle.std.specs.List.{AllPairs, position_or_len}
 use Rattle.std.specs.List.Sorted.{IsPermutation}
 use Rattle.std.specs.Option.{option_map}
 use Rattle.std.proofs.lemmas.Bool.{cases_Bool}
@@ -13,7 +13,6 @@ use Rattle.goblin_pe_sect.specs.Mapping.{file_offset, is_in_window, offset_in}
 use Rattle.goblin_pe_sect.specs.WindowOrder.{HaveDisjointWindows, IsReordering}
 use Rattle.goblin_pe_sect.proofs.First.{first_is_found, found_at_first, found_passes, none_passes}
 use Rattle.goblin_pe_sect.proofs.Mapped.{in_window}
-use Rattle.std.specs.List.{position_or_len}
 
 -- where an element of one list stands in the other
 record IsMovedTo {X : Type 0} (ys : List X) (x : X) : Type 0 where

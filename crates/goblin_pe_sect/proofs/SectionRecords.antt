@@ -33,3 +33,5 @@ section_there bytes i within =
     let all : List Section = map own (range_with_len 0 (length bytes / 40)) in
     slice_get-get_or all i (own i) (omega (arith, within, length-map-range_with_len own 0 (length bytes / 40)))
     ∙ ap (λ (s : Section). Some s) (get_or-map-range_with_len own 0 (length bytes / 40) i i (own i) within (omega arith))
+
+pub ruleset sections = (sections_more, sections_none)

@@ -11,12 +11,10 @@ use Rattle.goblin_pe_sect.specs.SectionReadings.{SectionWritesBack, named_sectio
 use Rattle.goblin_pe_sect.specs.SectionTable.{Section, SectionReadsBack, section_fields, section_record}
 
 pub section_record_back : WritesBack 40 section_record section_fields
-unfolding section_record section_fields
 section_record_back = writes_back 40 section_record section_fields refl (λ endian own h. refl)
 
 -- the real name is no field of the record
 section_fields-unnamed : (section : Section) (real_name : Option (List ℕ)) → section_fields (record section { real_name = real_name }) ≡ section_fields section
-unfolding section_fields
 section_fields-unnamed section real_name = refl
 
 pub section_back : SectionWritesBack
@@ -30,6 +28,8 @@ section_back strict table bytes p section h is =
     section_record_back Little bytes p first.value h first.is ∙ ap (λ (fields : List FieldValue). Some (encoding Little fields)) same
 
 pub section_again : (s : Section) → length s.name ≡ 8 → FieldsFit (section_fields s) → SectionReadsBack s
-unfolding ReadsBack SectionReadsBack section_record section_fields
+unfolding ReadsBack SectionReadsBack
 section_again s eight fit =
     reads_back 40 section_record section_fields (record s { real_name = None }) (rw eight refl) (omega arith) fit (λ endian own. rw eight refl) (λ endian own e. grind (arith, e))
+
+pub ruleset round_trips = (section_record_back, section_back, section_again)

@@ -58,9 +58,6 @@ find-met first last rva low high windows = find-filter (window_holds rva) (windo
 
 -- ---- halves of the pieces
 
-pub rising_all : (xs : List ℕ) → IsStrictlyIncreasing xs → IsRising xs
-rising_all xs up = rising_to xs up
-
 pub map_same : {X Y : Type 0} (f g : X → Y) (d : X) (xs : List X) → ((i : ℕ) → i < length xs → f (get_or xs i d) ≡ g (get_or xs i d)) → map f xs ≡ map g xs
 map_same f g d [] same = refl
 map_same f g d (x ∷ xs) same =

@@ -12,7 +12,7 @@ use Rattle.std.proofs.lemmas.Option.{slice_get_past, get_or_from_slice_get}
 use Rattle.std.proofs.lemmas.Bool.Decides.{nat_tests}
 use Rattle.std.specs.Int.{is_power_of_two}
 use Rattle.goblin_pe_sect.specs.Mapping.{read_size, window_end, is_in_window, offset_in, file_offset}
-use Rattle.goblin_pe_sect.specs.WindowIndex.{IsCut, IsIndex, Pieces, AreNear, begins_of, reached, last_owner, located, owner_offset, first_owner, owner_of_section, owners_of}
+use Rattle.goblin_pe_sect.specs.WindowIndex.{IsCut, IsIndex, Pieces, AreNear, reached, last_owner, located, owner_offset, first_owner, owner_of_section, owners_of}
 use Rattle.goblin_pe_sect.specs.declared.options.ParseOptions.{ParseOptions}
 use Rattle.goblin_pe_sect.specs.SectionTable.{Section}
 use Rattle.goblin_pe_sect.specs.declared.windows.bounds.Piece.{Piece}
@@ -217,18 +217,10 @@ piece_within resolves begins owners w seen h rva n is some =
 pub length-owners : (pieces : List Piece) → length (owners_of pieces) ≡ length pieces
 length-owners pieces = length-map pieces (λ (p : Piece). p.owner)
 
-pub begins-length : (pieces : List Piece) → length (begins_of pieces) ≡ length pieces
-begins-length pieces = length-map pieces (λ (p : Piece). p.begin)
-
 -- the owner of a piece that was read
 pub owner_read : (pieces : List Piece) (i : ℕ) (p : Piece) → i < length (owners_of pieces) → p ≡ get_or pieces i p → slice_index_or (owners_of pieces) i None ≡ p.owner
 owner_read pieces i p within read =
     get_or-map (λ (p : Piece). p.owner) pieces i p None (omega (arith, within, length-owners pieces)) ∙ ap (λ (p : Piece). p.owner) (sym read)
-
--- and where it begins
-pub begin_read : (pieces : List Piece) (i : ℕ) (p : Piece) → i < length pieces → p ≡ get_or pieces i p → slice_index (begins_of pieces) i ≡ p.begin
-begin_read pieces i p within read =
-    get_or-map (λ (p : Piece). p.begin) pieces i p 0 within ∙ ap (λ (p : Piece). p.begin) (sym read)
 
 -- and that of the last of n pieces
 pub last_owner_read : (resolves : Bool) (begins : List ℕ) (pieces : List Piece) (w : Pieces) → record { resolves = resolves; begins = begins; owners = owners_of pieces } ≡ w → (n : ℕ) (p : Piece) → 0 < n → n - 1 < length (owners_of pieces) → p ≡ get_or pieces (n - 1) p → last_owner w.owners n ≡ p.owner

@@ -37,3 +37,5 @@ length_words bytes =
       | inl some ↦ whole ∙ omega (arith, rest_item-one RelocationWord over some, some)
       | inr none ↦ whole ∙ omega (arith, rest_item-none RelocationWord over (omega (arith, none)), none)
     ]
+
+pub ruleset words = (words_more, words_rest, words_none)

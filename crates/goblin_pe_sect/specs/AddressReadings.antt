@@ -30,7 +30,7 @@ unfoldable pub name_at : (ℕ → Option ℕ) → ℕ → Reading (List ℕ)
 name_at offset_of rva = at_address offset_of rva name_here
 
 -- the name at an address; permissive mode takes nothing where there is none
-unfoldable pub name_or_none : Bool → (ℕ → Option ℕ) → ℕ → Reading (Option (List ℕ))
+abbrev pub name_or_none : Bool → (ℕ → Option ℕ) → ℕ → Reading (Option (List ℕ))
 name_or_none strict offset_of rva =
     or_else strict None (mapped (λ name. Some name) (name_at offset_of rva))
 

@@ -129,13 +129,13 @@ pub record AreBlocksOf (directory : List ℕ) (items : List (Result Block ErrorO
 -- ---- words
 
 -- the word in a record's 2 bytes
-unfoldable pub word_record : Endian → List ℕ → RelocationWord
+abbrev pub word_record : Endian → List ℕ → RelocationWord
 word_record endian bytes = record {
   value = number endian 2 bytes 0;
 }
 
 -- the fields of a word, in order
-unfoldable pub word_fields : RelocationWord → List FieldValue
+abbrev pub word_fields : RelocationWord → List FieldValue
 word_fields r = uint 2 r.value ∷ []
 
 -- the words of a block: the whole pairs of its bytes, and one error where a byte is left

@@ -11,33 +11,19 @@ use Rattle.goblin_base.specs.Record.{FieldValue, uint}
 use Rattle.goblin_pe_sect.specs.declared.data_directories.DataDirectory.{DataDirectory}
 use Rattle.goblin_pe_sect.specs.declared.data_directories.DataDirectoryType.{DataDirectoryType}
 use Rattle.goblin_pe_sect.specs.declared.data_directories.Dirs.{Dirs}
-use Rattle.goblin_pe_sect.specs.declared.data_directories.DataDirectoryType.TheVariants.{ExportTable}
-use Rattle.goblin_pe_sect.specs.declared.data_directories.DataDirectoryType.TheVariants.{ImportTable}
-use Rattle.goblin_pe_sect.specs.declared.data_directories.DataDirectoryType.TheVariants.{ResourceTable}
-use Rattle.goblin_pe_sect.specs.declared.data_directories.DataDirectoryType.TheVariants.{ExceptionTable}
-use Rattle.goblin_pe_sect.specs.declared.data_directories.DataDirectoryType.TheVariants.{CertificateTable}
-use Rattle.goblin_pe_sect.specs.declared.data_directories.DataDirectoryType.TheVariants.{BaseRelocationTable}
-use Rattle.goblin_pe_sect.specs.declared.data_directories.DataDirectoryType.TheVariants.{DebugTable}
-use Rattle.goblin_pe_sect.specs.declared.data_directories.DataDirectoryType.TheVariants.{Architecture}
-use Rattle.goblin_pe_sect.specs.declared.data_directories.DataDirectoryType.TheVariants.{GlobalPtr}
-use Rattle.goblin_pe_sect.specs.declared.data_directories.DataDirectoryType.TheVariants.{TlsTable}
-use Rattle.goblin_pe_sect.specs.declared.data_directories.DataDirectoryType.TheVariants.{LoadConfigTable}
-use Rattle.goblin_pe_sect.specs.declared.data_directories.DataDirectoryType.TheVariants.{BoundImportTable}
-use Rattle.goblin_pe_sect.specs.declared.data_directories.DataDirectoryType.TheVariants.{ImportAddressTable}
-use Rattle.goblin_pe_sect.specs.declared.data_directories.DataDirectoryType.TheVariants.{DelayImportDescriptor}
-use Rattle.goblin_pe_sect.specs.declared.data_directories.DataDirectoryType.TheVariants.{ClrRuntimeHeader}
+use Rattle.goblin_pe_sect.specs.declared.data_directories.DataDirectoryType.TheVariants as dir
 
 -- Source: PE Format, "Optional Header Data Directories (Image Only)".
 
 -- the directory in a record's 8 bytes
-unfoldable pub directory_record : Endian → List ℕ → DataDirectory
+abbrev pub directory_record : Endian → List ℕ → DataDirectory
 directory_record endian bytes = record {
   virtual_address = number endian 4 bytes 0;
   size = number endian 4 bytes 4;
 }
 
 -- the fields of a directory, in order
-unfoldable pub directory_fields : DataDirectory → List FieldValue
+abbrev pub directory_fields : DataDirectory → List FieldValue
 directory_fields d = uint 4 d.virtual_address ∷ uint 4 d.size ∷ []
 
 -- a directory paired with the offset of its end; one of zeros is none
@@ -54,7 +40,7 @@ directory_or_zeros None = no_directory
 directory_or_zeros (Some entry) = entry.1
 
 -- the fields of all entries, in order
-unfoldable pub entries_fields : List (Option (ℕ × DataDirectory)) → List FieldValue
+abbrev pub entries_fields : List (Option (ℕ × DataDirectory)) → List FieldValue
 entries_fields entries = flat_map (λ entry. directory_fields (directory_or_zeros entry)) entries
 
 -- the directory of the entry at index i
@@ -65,10 +51,10 @@ directory_in entries i =
 -- the kinds of directories, each at its index
 unfoldable pub kinds : List DataDirectoryType
 kinds =
-    ExportTable ∷ ImportTable ∷ ResourceTable ∷ ExceptionTable ∷ CertificateTable
-    ∷ BaseRelocationTable ∷ DebugTable ∷ Architecture ∷ GlobalPtr ∷ TlsTable
-    ∷ LoadConfigTable ∷ BoundImportTable ∷ ImportAddressTable ∷ DelayImportDescriptor
-    ∷ ClrRuntimeHeader ∷ []
+    dir.ExportTable ∷ dir.ImportTable ∷ dir.ResourceTable ∷ dir.ExceptionTable
+    ∷ dir.CertificateTable ∷ dir.BaseRelocationTable ∷ dir.DebugTable ∷ dir.Architecture
+    ∷ dir.GlobalPtr ∷ dir.TlsTable ∷ dir.LoadConfigTable ∷ dir.BoundImportTable
+    ∷ dir.ImportAddressTable ∷ dir.DelayImportDescriptor ∷ dir.ClrRuntimeHeader ∷ []
 
 -- which cause is true of an index that has no kind
 abbrev pub IsNoKind : ℕ → ErrorOf → Type 0

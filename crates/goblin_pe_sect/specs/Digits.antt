@@ -1,7 +1,6 @@
 -- Numbers in decimal and in base 64 digits, as in names of sections.
-use Rattle.std.specs.Prelude.{zero, suc, ℕ, ◌+◌, ◌*◌, ◌/◌, ◌%◌, ◌^◌, ◌++◌, ◌==◌, if◌then◌else◌}
-use Rattle.std.specs.Prelude.{List, [], ◌∷◌, length, map, slice_index, codes, Option, Some, None}
-use Rattle.std.specs.Prelude.{nat_lt}
+use Rattle.std.specs.Prelude.{if◌then◌else◌, slice_index, length, Option, nat_lt, codes, zero, ◌++◌}
+use Rattle.std.specs.Prelude.{◌==◌, List, Some, None, suc, ◌+◌, ◌*◌, ◌/◌, ◌%◌, ◌^◌, ◌∷◌, map, [], ℕ}
 use Rattle.std.specs.List.{list_all, position_or_len}
 use Rattle.goblin_pe_sect.specs.declared.digits.Digits.{Digits}
 use Rattle.goblin_pe_sect.specs.declared.digits.Digits.TheVariants.{Decimal, Base64}

@@ -19,7 +19,7 @@ use Rattle.goblin_pe_sect.specs.declared.relocation.Relocations.{Relocations}
 -- Source: PE Format, "COFF Relocations (Object Only)".
 
 -- the relocation in a record's 10 bytes
-unfoldable pub relocation_record : Endian → List ℕ → Relocation
+abbrev pub relocation_record : Endian → List ℕ → Relocation
 relocation_record endian bytes = record {
   virtual_address = number endian 4 bytes 0;
   symbol_table_index = number endian 4 bytes 4;
@@ -27,7 +27,7 @@ relocation_record endian bytes = record {
 }
 
 -- the fields of a relocation, in order
-unfoldable pub relocation_fields : Relocation → List FieldValue
+abbrev pub relocation_fields : Relocation → List FieldValue
 relocation_fields r = uint 4 r.virtual_address ∷ uint 4 r.symbol_table_index ∷ uint 2 r.typ ∷ []
 
 -- the relocations of these bytes

@@ -1,8 +1,7 @@
 -- What the eight bytes of a section's name say: the name itself, or its offset in the string table.
-use Rattle.std.specs.Prelude.{IsTrue, IsSomeAnd, ◌≢◌, ◌≡◌, ◌<◌, ◌≤◌, ℕ, ◌-◌}
-use Rattle.std.specs.Prelude.{◌^◌, ◌++◌, ◌==◌, if◌then◌else◌, Bool, List, ◌∷◌, length}
-use Rattle.std.specs.Prelude.{drop, map, slice_index, replicate, Option, Some, None}
-use Rattle.std.specs.Prelude.{option_map, nat_lt, nat_le}
+use Rattle.std.specs.Prelude.{IsTrue, IsSomeAnd, ◌≢◌, ◌≡◌, ◌<◌, ◌≤◌, ℕ, ◌-◌, ◌^◌, ◌++◌, ◌==◌}
+use Rattle.std.specs.Prelude.{if◌then◌else◌, Bool, List, ◌∷◌, length, drop, map, slice_index}
+use Rattle.std.specs.Prelude.{replicate, Option, Some, None, option_map, nat_lt, nat_le}
 use Rattle.goblin_base.specs.declared.error.ErrorOf.{ErrorOf}
 use Rattle.goblin_base.specs.declared.error.ErrorOf.TheVariants.{Malformed}
 use Rattle.goblin_base.specs.declared.error.CauseOf.TheVariants.{NameText, NameBase64, NameDecimal}
@@ -40,7 +39,7 @@ name_value strict name =
     else Some None
 
 -- which cause is true of a name that is refused
-unfoldable pub IsNameFault : Bool → List ℕ → ErrorOf → Type 0
+abbrev pub IsNameFault : Bool → List ℕ → ErrorOf → Type 0
 IsNameFault strict name (Malformed NameText) =
     IsTrue strict × (slice_index name 0 ≡ 47)
     × ((if slice_index name 1 == 47 then bounded_text_at name 2 6 else bounded_text_at name 1 7)

@@ -16,7 +16,6 @@ use Rattle.goblin_pe_sect.specs.SectionTable.{Section, section_fields, section_r
 
 pub name-not_memory : (strict : Bool) (name : List ℕ) (e : ErrorOf)
     → IsNameFault strict name e → ¬ IsMemory e
-unfolding IsNameFault
 name-not_memory strict name = by_cases-not_memory (IsNameFault strict name) (λ m h. h)
 
 -- the offset into the string table in a section's name, if it has one

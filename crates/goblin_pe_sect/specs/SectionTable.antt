@@ -1,6 +1,5 @@
 -- What contracts see of a section, and the section record.
-use Rattle.std.specs.Prelude.{◌≡◌, ℕ, ◌+◌, ◌<◌, Bool, List, [], ◌∷◌, Option}
-use Rattle.std.specs.Prelude.{None, Some, nat_eq}
+use Rattle.std.specs.Prelude.{◌≡◌, ℕ, ◌+◌, ◌<◌, Bool, List, [], ◌∷◌, Option, None, Some, nat_eq}
 use Rattle.std.specs.Prelude.{slice_range}
 use Rattle.std.specs.Option.{option_eq}
 use Rattle.std.specs.Ordering.{eq_of_both, on}
@@ -34,7 +33,7 @@ pub record Section : Type 0 where
   pub characteristics : ℕ
 
 -- the section in a record's 40 bytes
-unfoldable pub section_record : Endian → List ℕ → Section
+abbrev pub section_record : Endian → List ℕ → Section
 section_record endian bytes = record {
   name = slice_range bytes 0 8;
   real_name = None;
@@ -50,7 +49,7 @@ section_record endian bytes = record {
 }
 
 -- the fields of a section record, in order
-unfoldable pub section_fields : Section → List FieldValue
+abbrev pub section_fields : Section → List FieldValue
 section_fields s =
     octets s.name ∷ uint 4 s.virtual_size ∷ uint 4 s.virtual_address ∷ uint 4 s.size_of_raw_data
     ∷ uint 4 s.pointer_to_raw_data

@@ -10,11 +10,10 @@ ghost use Rattle.goblin_base.specs.Bytes.{overwritten};
 ghost use Rattle.goblin_base.specs.Record.{WritesRecord, encoding};
 ghost use Rattle.readings.specs.Reads.{record_at};
 ghost use Rattle.goblin_pe_sect.specs.declared.data_directories.DataDirectory.{DataDirectory};
-ghost use Rattle.goblin_pe_sect.specs.DataDirectories.{IsNoKind, dirs_left};
-ghost use Rattle.goblin_pe_sect.specs.DataDirectories.{directory_fields, directory_in};
-ghost use Rattle.goblin_pe_sect.specs.DataDirectories.{directory_or_zeros, directory_record};
-ghost use Rattle.goblin_pe_sect.specs.DataDirectories.{entries_fields, entry_ending, kinds};
-ghost use Rattle.goblin_pe_sect.specs.DataDirectories.{present_from};
+ghost use Rattle.goblin_pe_sect.specs.DataDirectories.{IsNoKind, dirs_left, directory_fields};
+ghost use Rattle.goblin_pe_sect.specs.DataDirectories.{directory_in, directory_or_zeros};
+ghost use Rattle.goblin_pe_sect.specs.DataDirectories.{directory_record, entries_fields};
+ghost use Rattle.goblin_pe_sect.specs.DataDirectories.{entry_ending, kinds, present_from};
 ghost use Rattle.goblin_pe_sect.specs.DirectoryReadings.{EntriesWriteBack, directories_at};
 
 use goblin_base::{
@@ -78,7 +77,6 @@ impl Record for DataDirectory {
         SIZEOF_DATA_DIRECTORY
     }
 
-    #[tactic(auto, unfolding(crate::specs::DataDirectories::directory_record))]
     fn in_record(bytes: &[u8], endian: Endian) -> DataDirectory {
         DataDirectory {
             virtual_address: field_u32(bytes, 0, endian),
@@ -86,7 +84,7 @@ impl Record for DataDirectory {
         }
     }
 
-    #[tactic(auto, unfolding(crate::specs::DataDirectories::directory_fields), using(crate::proofs::DataDirectoriesRoundTrip::directory_back, crate::proofs::DataDirectoriesRoundTrip::directory_again))]
+    #[tactic(auto, using(crate::proofs::DataDirectoriesRoundTrip::round_trip))]
     fn put(self, bytes: &mut [u8], endian: Endian) {
         let fields = [Field::U32(self.virtual_address), Field::U32(self.size)];
         put_fields(bytes, SIZEOF_DATA_DIRECTORY, &fields, endian);
@@ -201,7 +199,7 @@ pub struct DataDirectories {
 }
 
 // Refuses entries that run past the end, as a read of the first of them that does.
-#[tactic(auto, using(crate::proofs::DirectoryReadings::cut_none, crate::proofs::DirectoryReadings::cut_cause, crate::proofs::DirectoryReadings::whole_cause))]
+#[tactic(auto, using(crate::proofs::DirectoryReadings::refusals))]
 fn test_room(bytes: &[u8], count: usize, offset: usize) -> Result<()>
     requires { count ≤ 16 }
     ensures room { OnOk result (0 < count → offset + 8 * count ≤ length bytes.now) }
@@ -235,7 +233,7 @@ fn fill_entry(entry: &mut Option<(usize, DataDirectory)>, end: usize, directory:
 // Fills entries that are all `None` with the `count` directories that follow one another from
 // `offset` on.
 #[inline(always)]
-#[tactic(auto, using(crate::proofs::DirectoryReadings::no_entries, crate::proofs::DirectoryReadings::none_so_far))]
+#[tactic(auto, using(crate::proofs::DirectoryReadings::absences))]
 fn fill(
     entries: &mut [Option<(usize, DataDirectory)>; 16],
     bytes: &[u8],
@@ -296,7 +294,7 @@ impl DataDirectories {
     /// # Errors
     /// As [`DataDirectories::parse`].
     #[inline(always)]
-    #[tactic(auto, using(crate::proofs::DirectoryReadings::many_none, crate::proofs::DirectoryReadings::many_cause))]
+    #[tactic(auto, using(crate::proofs::DirectoryReadings::refusals))]
     pub fn test(bytes: &[u8], count: usize, offset: usize) -> Result<()>
         ensures few { OnOk result (count ≤ 16) }
         ensures room { OnOk result (0 < count → offset + 8 * count ≤ length bytes.now) }
@@ -314,7 +312,7 @@ impl DataDirectories {
     /// `bytes`: [`DataDirectories::test`] tests that.
     // (Out of line, as a caller has no registers left for its pointers.)
     #[inline(never)]
-    #[tactic(auto, using(crate::proofs::DirectoryReadings::no_entries))]
+    #[tactic(auto, using(crate::proofs::DirectoryReadings::absences))]
     pub fn read(&mut self, bytes: &[u8], count: usize, offset: usize)
         requires few { count ≤ 16 }
         requires room { 0 < count → offset + 8 * count ≤ length bytes.now }

@@ -2,11 +2,9 @@
 
 ghost use Rattle.std.specs.Prelude.{◌≡◌, ◌^◌, ◌+◌, ◌-◌, ◌<◌, ◌≤◌, ◌++◌, ◌∷◌, IfNone, IfSome, None};
 ghost use Rattle.std.specs.Prelude.{Some, drop, length, map, position, take, ◌==◌};
-ghost use Rattle.goblin_pe_sect.specs.Digits.{alphabet, digit};
-ghost use Rattle.goblin_pe_sect.specs.SectionName.{decimal_number, decimal_width};
-ghost use Rattle.goblin_pe_sect.specs.Digits.{digit_byte, last_digits, numeral};
-ghost use Rattle.goblin_pe_sect.specs.SectionName.{indirect_name};
+ghost use Rattle.goblin_pe_sect.specs.Digits.{alphabet, digit, digit_byte, last_digits, numeral};
 ghost use Rattle.goblin_pe_sect.specs.Digits.{radix};
+ghost use Rattle.goblin_pe_sect.specs.SectionName.{decimal_number, decimal_width, indirect_name};
 
 const DECIMAL: [u8; 10] = *b"0123456789";
 

@@ -29,7 +29,7 @@ pub fn add_directories(marks: &mut Marks, bytes: &[u8], count: usize, offset: us
 }
 
 // Marks the text at `value` in the string table, if there is a value.
-#[tactic(auto, unfolding(goblin_base::specs::Footprints::led_to), using(goblin_base::proofs::Marks::marking))]
+#[tactic(auto, using(goblin_base::proofs::Marks::marking))]
 fn add_name(marks: &mut Marks, bytes: &[u8], string_table_offset: usize, value: Option<usize>)
     ensures { let reached = (real_name string_table_offset value).reaches bytes.now in
         marks.new ≡ marked marks.old reached }
@@ -42,7 +42,7 @@ fn add_name(marks: &mut Marks, bytes: &[u8], string_table_offset: usize, value: 
 
 /// Marks the footprint of the section record at the file offset `offset`: the record, and the text
 /// that its name points to in the string table at `string_table_offset`, if it points there.
-#[tactic(auto, unfolding(crate::specs::SectionReadings::named_section_at, crate::specs::SectionTable::section_record, goblin_base::specs::Footprints::led_to), using(goblin_base::proofs::Marks::marking))]
+#[tactic(auto, unfolding(crate::specs::SectionReadings::named_section_at), using(goblin_base::proofs::Marks::marking))]
 pub fn add_section(
     marks: &mut Marks,
     bytes: &[u8],

@@ -4,8 +4,7 @@ ghost use Rattle.std.specs.Prelude.{◌≡◌, ◌<◌, IfSome, find, map, posit
 ghost use Rattle.std.specs.Option.{option_copied, option_map};
 ghost use Rattle.goblin_pe_sect.specs.Mapping.{InWindow, file_address, file_offset, is_at};
 ghost use Rattle.goblin_pe_sect.specs.Mapping.{is_in_window, maps_to, offset_in, rva_in};
-ghost use Rattle.goblin_pe_sect.specs.Mapping.{section_at};
-ghost use Rattle.goblin_pe_sect.specs.Mapping.{section_index};
+ghost use Rattle.goblin_pe_sect.specs.Mapping.{section_at, section_index};
 ghost use Rattle.goblin_pe_sect.specs.SectionTable.{Section, unnamed};
 
 use crate::options::ParseOptions;

@@ -7,9 +7,8 @@ ghost use Rattle.std.specs.Iterator.SizeHint.{IsWithinCount};
 ghost use Rattle.goblin_base.specs.Reading.{Reads};
 ghost use Rattle.goblin_base.specs.Record.{WritesRecord};
 ghost use Rattle.goblin_pe_sect.specs.declared.relocation.Relocation.{Relocation};
-ghost use Rattle.goblin_pe_sect.specs.Relocations.{relocation_fields};
-ghost use Rattle.goblin_pe_sect.specs.Relocations.{relocation_record, relocations_at};
-ghost use Rattle.goblin_pe_sect.specs.Relocations.{relocations_left};
+ghost use Rattle.goblin_pe_sect.specs.Relocations.{relocation_fields, relocation_record};
+ghost use Rattle.goblin_pe_sect.specs.Relocations.{relocations_at, relocations_left};
 
 use goblin_base::{
     Cause, Endian, Error, Field, Record, Result, field_u16, field_u32, pread_slice, put_fields,
@@ -166,7 +165,6 @@ impl Record for Relocation {
         COFF_RELOCATION_SIZE
     }
 
-    #[tactic(auto, unfolding(crate::specs::Relocations::relocation_record))]
     fn in_record(bytes: &[u8], endian: Endian) -> Relocation {
         Relocation {
             virtual_address: field_u32(bytes, 0, endian),
@@ -175,7 +173,7 @@ impl Record for Relocation {
         }
     }
 
-    #[tactic(auto, unfolding(crate::specs::Relocations::relocation_fields), using(crate::proofs::RelocationsRoundTrip::relocation_back, crate::proofs::RelocationsRoundTrip::relocation_again))]
+    #[tactic(auto, using(crate::proofs::RelocationsRoundTrip::round_trips))]
     fn put(self, bytes: &mut [u8], endian: Endian) {
         let fields = [
             Field::U32(self.virtual_address),
@@ -241,7 +239,7 @@ impl Iterator for Relocations<'_> {
 
     ghost remaining = { λ it. at_most (length it.relocations.now / 10) };
 
-    #[tactic(auto, using(crate::proofs::RelocationRecords::relocations_more, crate::proofs::RelocationRecords::relocations_none))]
+    #[tactic(auto, using(crate::proofs::RelocationRecords::relocations))]
     fn next(&mut self) -> Option<Relocation> {
         if self.relocations.len() < COFF_RELOCATION_SIZE {
             return None;

@@ -1,16 +1,14 @@
 //! The section records of a PE file.
 
 ghost use Rattle.std.specs.Prelude.{◌≡◌, ◌↔◌, ◌+◌, ◌*◌, ◌<◌, ◌≤◌, Bool, Err, IfErr, IfOk, IfSome};
-ghost use Rattle.std.specs.Prelude.{ℕ};
-ghost use Rattle.std.specs.Prelude.{IsSomeAnd, IsTrue, None, Ok, OnErr, OnOk, Some, if◌then◌else◌};
-ghost use Rattle.std.specs.Prelude.{length, nat_eq, slice_range, string_bytes, true};
+ghost use Rattle.std.specs.Prelude.{ℕ, IsSomeAnd, IsTrue, None, Ok, OnErr, OnOk, Some};
+ghost use Rattle.std.specs.Prelude.{if◌then◌else◌, length, nat_eq, slice_range, string_bytes, true};
 ghost use Rattle.std.specs.Cow.{IsBorrowedSlice, cow_slice_items};
 ghost use Rattle.std.specs.Option.{option_eq, option_map};
 ghost use Rattle.std.specs.Cmp.Lexicographic.{pointwise};
 ghost use Rattle.goblin_base.specs.declared.error.ErrorOf.TheVariants.{Malformed};
 ghost use Rattle.goblin_base.specs.declared.error.CauseOf.TheVariants.{NameText};
-ghost use Rattle.goblin_base.specs.Answers.{Answers, GivesOrMemory, IsMemory};
-ghost use Rattle.goblin_base.specs.Answers.{IsSliceFault, Writes};
+ghost use Rattle.goblin_base.specs.Answers.{Answers, GivesOrMemory, IsMemory, IsSliceFault, Writes};
 ghost use Rattle.goblin_base.specs.Bytes.{overwritten, replaced};
 ghost use Rattle.goblin_base.specs.Reading.{Reads, ReadsOrMemory};
 ghost use Rattle.goblin_base.specs.Record.{WritesBack, encoding};
@@ -20,12 +18,10 @@ ghost use Rattle.goblin_pe_sect.specs.Relocations.{relocations_in, relocations_l
 ghost use Rattle.goblin_pe_sect.specs.SectionName.{IsNameFault, indirect_name, name_value};
 ghost use Rattle.goblin_pe_sect.specs.SectionName.{HasBytes, IsNameOffsetFault};
 ghost use Rattle.goblin_pe_sect.specs.SectionReadings.{SectionWritesBack, named_section_at};
-ghost use Rattle.goblin_pe_sect.specs.SectionReadings.{raw_data};
-ghost use Rattle.goblin_pe_sect.specs.SectionReadings.{section_data, text_in_table};
-ghost use Rattle.goblin_pe_sect.specs.SectionTable.{Section, section_eq, section_per};
-ghost use Rattle.goblin_pe_sect.specs.SectionTable.{SectionReadsBack};
-ghost use Rattle.goblin_pe_sect.specs.SectionTable.{section_fields, section_record, unnamed};
-ghost use Rattle.goblin_pe_sect.specs.SectionTable.{IsNoName, OverlapRawData, name_of};
+ghost use Rattle.goblin_pe_sect.specs.SectionReadings.{raw_data, section_data, text_in_table};
+ghost use Rattle.goblin_pe_sect.specs.SectionTable.{Section, section_eq, section_per, unnamed};
+ghost use Rattle.goblin_pe_sect.specs.SectionTable.{SectionReadsBack, section_fields, IsNoName};
+ghost use Rattle.goblin_pe_sect.specs.SectionTable.{section_record, OverlapRawData, name_of};
 
 use crate::digits::{Digits, decimal_number, indirect_name};
 use crate::options::{ParseMode, ParseOptions};
@@ -152,7 +148,6 @@ impl PartialEq for SectionTable {
 impl SectionTable {
     // The section in a record's bytes, with this real name.
     #[inline(always)]
-    #[tactic(auto, unfolding(crate::specs::SectionTable::section_record))]
     pub(crate) fn in_record(bytes: &[u8], real_name: Option<String>) -> SectionTable
         requires { length bytes.now ≡ 40 }
         ensures { result ≡ record (section_record Endian.Little bytes.now)
@@ -207,7 +202,7 @@ impl SectionTable {
     /// [`Error::Read`] if the 40 bytes run past the end of the file; as
     /// [`SectionTable::name_offset_with_opts`] where the name is refused; [`Error::Memory`] if
     /// memory for the real name is refused. `offset` is then unchanged.
-    #[tactic(auto, unfolding(crate::specs::SectionReadings::named_section_at, crate::specs::SectionName::IsNameFault, crate::specs::SectionTable::section_record))]
+    #[tactic(auto, unfolding(crate::specs::SectionReadings::named_section_at))]
     pub fn parse_with_opts(
         alloc: Global,
         bytes: &[u8],
@@ -242,7 +237,7 @@ impl SectionTable {
     /// [`SectionTable::name_offset_with_opts`] where the name is refused. `offset` is then
     /// unchanged.
     #[inline(always)]
-    #[tactic(auto, unfolding(crate::specs::SectionReadings::named_section_at, crate::specs::SectionName::IsNameFault, crate::specs::SectionTable::section_record))]
+    #[tactic(auto, unfolding(crate::specs::SectionReadings::named_section_at))]
     pub fn parse_unnamed(
         bytes: &[u8],
         offset: &mut usize,
@@ -461,7 +456,7 @@ impl SectionTable {
     ///
     /// # Errors
     /// [`Error::Read`] if there is no room; `bytes` is then unchanged.
-    #[tactic(auto, using(crate::proofs::SectionTableRoundTrip::section_back, crate::proofs::SectionTableRoundTrip::section_record_back))]
+    #[tactic(auto, using(crate::proofs::SectionTableRoundTrip::round_trips))]
     pub fn try_into_ctx(&self, bytes: &mut [u8], endian: Endian) -> Result<usize>
         ensures size { IfOk result (λ size. size ≡ 40) }
         ensures written { Writes result
@@ -484,7 +479,7 @@ impl SectionTable {
     }
 
     // The bytes of the record.
-    #[tactic(auto, unfolding(crate::specs::SectionTable::section_fields), using(crate::proofs::SectionTableRoundTrip::section_again))]
+    #[tactic(auto, using(crate::proofs::SectionTableRoundTrip::round_trips))]
     fn to_bytes(&self, endian: Endian) -> [u8; SIZEOF_SECTION_TABLE]
         ensures made { result ≡ encoding endian (section_fields self.now) }
         ensures again { SectionReadsBack self.now }
@@ -521,7 +516,7 @@ pub(crate) fn name_in_record(bytes: &[u8], mode: ParseMode) -> Result<Option<usi
 }
 
 // What the eight bytes of a name say.
-#[tactic(auto, unfolding(crate::specs::SectionName::name_value, crate::specs::SectionName::IsNameFault))]
+#[tactic(auto, unfolding(crate::specs::SectionName::name_value))]
 fn name_value(name: &[u8; 8], mode: ParseMode) -> Result<Option<usize>>
     ensures { Answers (λ v. v) result (name_value (is_strict mode) name.now)
         (IsNameFault (is_strict mode) name.now) }

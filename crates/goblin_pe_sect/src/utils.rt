@@ -229,7 +229,7 @@ pub fn try_name<'a>(
 /// # Errors
 /// In strict mode [`Error::Malformed`]: [`Cause::Unmapped`] if the address has no file offset,
 /// [`Cause::NameRead`] if there is no text at that offset.
-#[tactic(auto, unfolding(crate::specs::AddressReadings::name_or_none, crate::specs::AddressReadings::name_at))]
+#[tactic(auto, unfolding(crate::specs::AddressReadings::name_at))]
 pub fn safe_try_name<'a>(
     bytes: &'a [u8],
     rva: usize,
@@ -252,7 +252,7 @@ pub fn safe_try_name<'a>(
 /// # Errors
 /// As [`safe_try_name`].
 #[inline(always)]
-#[tactic(auto, unfolding(crate::specs::AddressReadings::name_or_none, crate::specs::AddressReadings::name_at))]
+#[tactic(auto, unfolding(crate::specs::AddressReadings::name_at))]
 pub fn safe_name_at<'a, 'e>(
     bytes: &'a [u8],
     rva: usize,

@@ -37,6 +37,8 @@ symbols_past n table i h =
     let none : n - i ≡ 0 = omega (arith, h) in
     rw none refl
 
+pub ruleset symbols = (symbols_next, symbols_past)
+
 head_inside : (table : List ℕ) (n h : ℕ) → IsHead table n h → h < n
 head_inside table n _ (first some) = some
 head_inside table n _ (next h before inside) = inside

@@ -12,7 +12,7 @@ use Rattle.goblin_pe_symbol.specs.declared.symbol.auxiliary.AuxWeakExternal.{Aux
 -- Source: PE Format, "Auxiliary Symbol Records".
 
 -- what follows a symbol that defines a function, in a record's 18 bytes
-unfoldable pub function_definition_record : Endian → List ℕ → AuxFunctionDefinition
+abbrev pub function_definition_record : Endian → List ℕ → AuxFunctionDefinition
 function_definition_record endian bytes = record {
   tag_index = number endian 4 bytes 0;
   total_size = number endian 4 bytes 4;
@@ -22,13 +22,13 @@ function_definition_record endian bytes = record {
 }
 
 -- its fields, in order
-unfoldable pub function_definition_fields : AuxFunctionDefinition → List FieldValue
+abbrev pub function_definition_fields : AuxFunctionDefinition → List FieldValue
 function_definition_fields r =
     uint 4 r.tag_index ∷ uint 4 r.total_size ∷ uint 4 r.pointer_to_line_number
     ∷ uint 4 r.pointer_to_next_function ∷ octets r.unused ∷ []
 
 -- what follows a symbol of a function's start or end, in a record's 18 bytes
-unfoldable pub begin_and_end_function_record : Endian → List ℕ → AuxBeginAndEndFunction
+abbrev pub begin_and_end_function_record : Endian → List ℕ → AuxBeginAndEndFunction
 begin_and_end_function_record endian bytes = record {
   unused1 = slice_range bytes 0 4;
   line_number = number endian 2 bytes 4;
@@ -38,13 +38,13 @@ begin_and_end_function_record endian bytes = record {
 }
 
 -- its fields, in order
-unfoldable pub begin_and_end_function_fields : AuxBeginAndEndFunction → List FieldValue
+abbrev pub begin_and_end_function_fields : AuxBeginAndEndFunction → List FieldValue
 begin_and_end_function_fields r =
     octets r.unused1 ∷ uint 2 r.line_number ∷ octets r.unused2 ∷ uint 4 r.pointer_to_next_function
     ∷ octets r.unused3 ∷ []
 
 -- what follows a symbol that another may replace, in a record's 18 bytes
-unfoldable pub weak_external_record : Endian → List ℕ → AuxWeakExternal
+abbrev pub weak_external_record : Endian → List ℕ → AuxWeakExternal
 weak_external_record endian bytes = record {
   tag_index = number endian 4 bytes 0;
   characteristics = number endian 4 bytes 4;
@@ -52,11 +52,11 @@ weak_external_record endian bytes = record {
 }
 
 -- its fields, in order
-unfoldable pub weak_external_fields : AuxWeakExternal → List FieldValue
+abbrev pub weak_external_fields : AuxWeakExternal → List FieldValue
 weak_external_fields r = uint 4 r.tag_index ∷ uint 4 r.characteristics ∷ octets r.unused ∷ []
 
 -- what follows a symbol that defines a section, in a record's 18 bytes
-unfoldable pub section_definition_record : Endian → List ℕ → AuxSectionDefinition
+abbrev pub section_definition_record : Endian → List ℕ → AuxSectionDefinition
 section_definition_record endian bytes = record {
   length = number endian 4 bytes 0;
   number_of_relocations = number endian 2 bytes 4;
@@ -68,7 +68,7 @@ section_definition_record endian bytes = record {
 }
 
 -- its fields, in order
-unfoldable pub section_definition_fields : AuxSectionDefinition → List FieldValue
+abbrev pub section_definition_fields : AuxSectionDefinition → List FieldValue
 section_definition_fields r =
     uint 4 r.length ∷ uint 2 r.number_of_relocations ∷ uint 2 r.number_of_line_numbers
     ∷ uint 4 r.checksum ∷ uint 2 r.number ∷ uint 1 r.selection ∷ octets r.unused ∷ []

@@ -25,7 +25,7 @@ use Rattle.goblin_pe_symbol.specs.declared.symbol.SymbolTable.{SymbolTable}
 -- Source: PE Format, "COFF Symbol Table" and "Symbol Name Representation".
 
 -- the symbol in a record's 18 bytes
-unfoldable pub symbol_record : Endian → List ℕ → Symbol
+abbrev pub symbol_record : Endian → List ℕ → Symbol
 symbol_record endian bytes = record {
   name = slice_range bytes 0 8;
   value = number endian 4 bytes 8;
@@ -36,7 +36,7 @@ symbol_record endian bytes = record {
 }
 
 -- the fields of a symbol, in order
-unfoldable pub symbol_fields : Symbol → List FieldValue
+abbrev pub symbol_fields : Symbol → List FieldValue
 symbol_fields s =
     octets s.name ∷ uint 4 s.value ∷ uint 2 (cast_unsigned w16 s.section_number) ∷ uint 2 s.typ
     ∷ uint 1 s.storage_class ∷ uint 1 s.number_of_aux_symbols ∷ []

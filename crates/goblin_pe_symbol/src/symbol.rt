@@ -13,14 +13,12 @@ ghost use Rattle.goblin_pe_symbol.specs.AuxiliarySymbols.{begin_and_end_function
 ghost use Rattle.goblin_pe_symbol.specs.AuxiliarySymbols.{function_definition_record};
 ghost use Rattle.goblin_pe_symbol.specs.AuxiliarySymbols.{section_definition_record};
 ghost use Rattle.goblin_pe_symbol.specs.AuxiliarySymbols.{weak_external_record};
-ghost use Rattle.goblin_pe_symbol.specs.Symbols.{AreSymbolsOf, IsNoSymbolName};
-ghost use Rattle.goblin_pe_symbol.specs.Symbols.{file_name_at, inline_name, name_offset_of};
-ghost use Rattle.goblin_pe_symbol.specs.Symbols.{name_and_symbol, named_value, offset_name};
-ghost use Rattle.goblin_pe_symbol.specs.Symbols.{stored_number, stored_offset, symbol_fields};
-ghost use Rattle.goblin_pe_symbol.specs.Symbols.{symbol_item, symbol_name, symbol_record};
-ghost use Rattle.goblin_pe_symbol.specs.Symbols.{symbols_in};
-ghost use Rattle.goblin_pe_symbol.specs.Symbols.{symbol_at, symbol_table, symbols_left};
-ghost use Rattle.goblin_pe_symbol.specs.Symbols.{symbol_bytes};
+ghost use Rattle.goblin_pe_symbol.specs.Symbols.{AreSymbolsOf, IsNoSymbolName, file_name_at};
+ghost use Rattle.goblin_pe_symbol.specs.Symbols.{inline_name, name_offset_of, name_and_symbol};
+ghost use Rattle.goblin_pe_symbol.specs.Symbols.{named_value, offset_name, stored_number};
+ghost use Rattle.goblin_pe_symbol.specs.Symbols.{stored_offset, symbol_fields, symbol_item};
+ghost use Rattle.goblin_pe_symbol.specs.Symbols.{symbol_name, symbol_record, symbols_in, symbol_at};
+ghost use Rattle.goblin_pe_symbol.specs.Symbols.{symbol_table, symbols_left, symbol_bytes};
 
 use goblin_base::{
     Cause, Endian, Error, Field, Record, Result, Strtab, encode_fields, field_array, field_i16,
@@ -101,7 +99,6 @@ impl Record for Symbol {
         COFF_SYMBOL_SIZE
     }
 
-    #[tactic(auto, unfolding(crate::specs::Symbols::symbol_record))]
     fn in_record(bytes: &[u8], endian: Endian) -> Symbol {
         Symbol {
             name: field_array(bytes, 0),
@@ -113,7 +110,7 @@ impl Record for Symbol {
         }
     }
 
-    #[tactic(auto, unfolding(crate::specs::Symbols::symbol_fields), using(crate::proofs::SymbolsRoundTrip::symbol_back, crate::proofs::SymbolsRoundTrip::symbol_again))]
+    #[tactic(auto, using(crate::proofs::SymbolsRoundTrip::round_trip))]
     fn put(self, bytes: &mut [u8], endian: Endian) {
         let fields = [
             Field::Bytes(&self.name),
@@ -191,7 +188,7 @@ impl Symbol {
 
     /// Stores `offset` in place of the name. It counts the four bytes of the string table's length,
     /// so [`Symbol::name_offset`] is then 4 less, and `None` if it is below 4.
-    #[tactic(auto, using(crate::proofs::SymbolsRoundTrip::offset_name_bytes, crate::proofs::SymbolsRoundTrip::offset_name_says))]
+    #[tactic(auto, using(crate::proofs::SymbolsRoundTrip::offset_names))]
     pub fn set_name_offset(&mut self, offset: u32)
         ensures name { self.new ≡ record self.old { name = offset_name offset } }
         ensures says { name_offset_of self.new.name ≡ stored_offset offset }
@@ -452,7 +449,7 @@ impl<'a> Iterator for SymbolIterator<'a> {
 
     ghost remaining = { λ it. at_most (length it.symbols.now / 18 - it.index) };
 
-    #[tactic(auto, using(crate::proofs::SymbolHeads::symbols_next, crate::proofs::SymbolHeads::symbols_past))]
+    #[tactic(auto, using(crate::proofs::SymbolHeads::symbols))]
     fn next(&mut self) -> Option<(usize, Option<&'a str>, Symbol)> {
         let index = self.index;
         if self.symbols.len() / COFF_SYMBOL_SIZE <= index {

@@ -182,7 +182,7 @@ fn push_lines<T: Listed>(text: &mut String, items: &[T]) -> Result<(), AllocErro
     Ok(())
 }
 
-#[tactic(auto, unfolding(crate::specs::Lines::part_lines, goblin_pe::specs::Whole::part_map))]
+#[tactic(auto, unfolding(crate::specs::Lines::part_lines))]
 fn push_part<T: Listed>(
     text: &mut String,
     label: &str,
@@ -206,7 +206,7 @@ fn push_part<T: Listed>(
     Ok(())
 }
 
-#[tactic(auto, unfolding(crate::specs::Lines::part_lines, goblin_pe::specs::Whole::part_map))]
+#[tactic(auto, unfolding(crate::specs::Lines::part_lines))]
 fn push_relocations(text: &mut String, part: &Part<RelocationData>) -> Result<(), AllocError>
     ensures { OnOk result
         (string_bytes text.new

@@ -1,15 +1,13 @@
 -- The loop that reads a table of slots: what it answers at each way out, value and cause at once.
-use Rattle.std.proofs.Common.{◌≡◌, ◌<◌, ◌≤◌, ◌+◌, ℕ, Bool, true, false}
-use Rattle.std.proofs.Common.{Option, Some, None, List, [], ◌++◌, ap, ◌∙◌, inl, inr}
-use Rattle.std.proofs.Common.{IsSomeAnd, subst, sym, not, ◌&&◌}
+use Rattle.std.proofs.Common.{◌≡◌, ◌<◌, ◌≤◌, ◌+◌, ℕ, Bool, true, false, Option, Some, None, List}
+use Rattle.std.proofs.Common.{[], ◌++◌, ap, ◌∙◌, inl, inr, IsSomeAnd, subst, sym, not, ◌&&◌}
 use Rattle.std.specs.Option.{is_some}
 use Rattle.goblin_base.specs.declared.error.ErrorOf.{ErrorOf}
 use Rattle.goblin_base.specs.Footprints.{Range}
 use Rattle.goblin_base.specs.Reading.{Reading}
 use Rattle.goblin_base.specs.Tables.{SlotFormat, ends_table, slot_at, stop}
-use Rattle.goblin_base.proofs.SlotTables.{AtSlot, at-end, at-missing}
-use Rattle.goblin_base.proofs.SlotTables.{at-missing_first, at-next, at-refused, at-start}
-use Rattle.goblin_base.proofs.SlotTables.{at-refused_cause, reads, stop-after}
+use Rattle.goblin_base.proofs.SlotTables.{AtSlot, at-end, at-missing, at-missing_first, at-next}
+use Rattle.goblin_base.proofs.SlotTables.{at-refused, at-start, at-refused_cause, reads, stop-after}
 use Rattle.readings.specs.Reads.{table}
 
 -- what `piece` reads of an entry

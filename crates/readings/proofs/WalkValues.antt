@@ -24,19 +24,16 @@ before x rest = option_and_then (λ others. Some (x ∷ others)) rest
 
 join-first : {A : Type 0} (x : A) (xs ys : Option (List A))
     → before x (join xs ys) ≡ join (before x xs) ys
-unfolding join
 join-first x None ys = refl
 join-first x (Some xs) None = refl
 join-first x (Some xs) (Some ys) = refl
 
 join-nil : {A : Type 0} (ys : Option (List A)) → ys ≡ join (Some []) ys
-unfolding join
 join-nil None = refl
 join-nil (Some ys) = refl
 
 pub all_of-append : {A : Type 0} (xs ys : List (Option A))
     → all_of (xs ++ ys) ≡ join (all_of xs) (all_of ys)
-unfolding all_of join
 all_of-append [] ys = join-nil (all_of ys)
 all_of-append (None ∷ xs) ys = refl
 all_of-append (Some x ∷ xs) ys =
@@ -44,27 +41,23 @@ all_of-append (Some x ∷ xs) ys =
 
 pub all_of-until : {A : Type 0} (items : List (Option A))
     → all_of (until_refused items) ≡ all_of items
-unfolding all_of until_refused
 all_of-until [] = refl
 all_of-until (None ∷ items) = refl
 all_of-until (Some x ∷ items) = ap (before x) (all_of-until items)
 
 pub all_of-made : {A B : Type 0} (item : A → B) (xs : List A)
     → all_of (map (λ x. Some (item x)) xs) ≡ Some (map item xs)
-unfolding all_of
 all_of-made item [] = refl
 all_of-made item (x ∷ xs) = ap (before (item x)) (all_of-made item xs)
 
 pub all_of-items : {A B : Type 0} (item : A → B) (made : Option (List A))
     → all_of (items_of item made) ≡ option_map (map item) made
-unfolding all_of
 all_of-items item None = refl
 all_of-items item (Some xs) = all_of-made item xs
 
 -- with the end of a table, where it is needed
 pub joined-end : {V B : Type 0} (needed : Bool) (end : Option V) (items : Option (List B))
     → join items (all_of (end_items needed end)) ≡ cond (needed && not (is_some end)) None items
-unfolding join all_of
 joined-end true None None = refl
 joined-end true None (Some xs) = refl
 joined-end true (Some v) None = refl
@@ -115,7 +108,6 @@ module _ {A B : Type 0} (item : ℕ → A → B) (entry : B → A) (slot : B →
 
   -- one slot further
   more : (n : ℕ) (c : Collected n) (o : Option (List A)) → made n ≡ o → IsCollected (suc n)
-  unfolding concat_below each_below join
   more n c None is =
       let both =
       all_of-append (all n) (items_of (item n) (made n))
@@ -156,7 +148,6 @@ module _ {A B : Type 0} (item : ℕ → A → B) (entry : B → A) (slot : B →
   more n c (Some (x ∷ y ∷ xs)) is = absurd (omega (arith, few n (x ∷ y ∷ xs) is))
 
   collected : (n : ℕ) → IsCollected n
-  unfolding all_of concat_below each_below join
   collected zero = inl (record { items = []; are = refl; table = refl; rows = refl })
   collected (suc n) =
       elim (collected n) [
@@ -202,14 +193,12 @@ module _ {A B : Type 0} (item : ℕ → A → B) (made : ℕ → Option (List A)
   joined : (n : ℕ) (first : Option (List B)) (o : Option (List A)) (items : List B)
       → ((xs : List B) → first ≡ Some xs → Holds xs) → made n ≡ o
       → join first (option_map (map (item n)) o) ≡ Some items → Holds items
-  unfolding join
   joined n None o items earlier is e = absurd cc
   joined n (Some ys) None items earlier is e = absurd cc
   joined n (Some ys) (Some xs) items earlier is e =
       subst Holds (same_value (ys ++ map (item n) xs) items e) (more n ys xs is (earlier ys refl))
 
   pub below-holds : (n : ℕ) (items : List B) → all_of (walked n) ≡ Some items → Holds items
-  unfolding concat_below all_of
   below-holds zero items e = subst Holds (same_value [] items e) none
   below-holds (suc n) items e =
       joined n (all_of (walked n)) (made n) items (below-holds n) refl

@@ -52,7 +52,6 @@ module _ {S A : Type 0} (left : S → List (Option A)) (IsCause : S → ErrorOf 
 
       -- it ends with a refusal
       pub walk-fault : (e : ErrorOf) → r ≡ Err e → (all_of (left start) ≡ None) × IsCause start e
-      unfolding all_of join
       walk-fault e is =
           let all =
           h.yielded

@@ -14,8 +14,7 @@ use Rattle.goblin_base.proofs.Below.{least-before}
 use Rattle.goblin_base.proofs.SlotTables.{ends, reads, stop-after, stop-is}
 use Rattle.readings.specs.Reads.{table}
 use Rattle.readings.proofs.Loops.{read-missing, read-refused, read-start, value_of}
-use Rattle.readings.specs.Walks.{end_items, from_slot, items_at, table_walk}
-use Rattle.readings.specs.Walks.{until_refused}
+use Rattle.readings.specs.Walks.{end_items, from_slot, items_at, table_walk, until_refused}
 
 -- ---- causes
 
@@ -32,7 +31,6 @@ IsSlotCause needs_end is_last piece IsMissing IsCause IsLater (Some entry) e =
 
 pub concat_below-first : {A : Type 0} (piece : ℕ → List A) (n : ℕ)
     → concat_below piece (suc n) ≡ piece 0 ++ concat_below (λ i. piece (suc i)) n
-unfolding concat_below
 concat_below-first piece zero = sym (append-nil (piece 0))
 concat_below-first {A} piece (suc n) =
     ap (λ (xs : List A). xs ++ piece (suc n)) (concat_below-first piece n)
@@ -40,14 +38,12 @@ concat_below-first {A} piece (suc n) =
 
 pub concat_below-same : {A : Type 0} (f g : ℕ → List A) (n : ℕ) → ((i : ℕ) → f i ≡ g i)
     → concat_below f n ≡ concat_below g n
-unfolding concat_below
 concat_below-same f g zero same = refl
 concat_below-same f g (suc n) same = rw (concat_below-same f g n same, same n) refl
 
 pub until_refused-made : {A B : Type 0} (item : A → B) (xs : List A) (items : List (Option B))
     → until_refused (map (λ x. Some (item x)) xs ++ items)
     ≡ map (λ x. Some (item x)) xs ++ until_refused items
-unfolding until_refused
 until_refused-made item [] items = refl
 until_refused-made {B = B} item (x ∷ xs) items =
     ap (λ (ys : List (Option B)). Some (item x) ∷ ys) (until_refused-made item xs items)
@@ -55,7 +51,6 @@ until_refused-made {B = B} item (x ∷ xs) items =
 -- items after others may end earlier
 pub until_refused-later : {A : Type 0} (xs ys : List (Option A))
     → until_refused (xs ++ until_refused ys) ≡ until_refused (xs ++ ys)
-unfolding until_refused
 until_refused-later [] [] = refl
 until_refused-later [] (None ∷ ys) = refl
 until_refused-later {A} [] (Some y ∷ ys) =
@@ -95,7 +90,6 @@ module _ {V B : Type 0} (needs_end : Bool) (is_last : V → Bool) (items : V →
 
   -- at most the last of these is a refusal
   pub slot-once : (entry : Option V) → until_refused (from entry) ≡ from entry
-  unfolding until_refused
   slot-once None = ended needs_end
     where
       ended : (needed : Bool) → until_refused (end needed) ≡ end needed
@@ -178,7 +172,6 @@ module _ {V B : Type 0} (slots : SlotFormat V) (items : ℕ → V → List (Opti
 
   end_once : (needed : Bool) (end : Option V)
       → until_refused {A = B} (end_items needed end) ≡ end_items needed end
-  unfolding until_refused
   end_once true None = refl
   end_once true (Some v) = refl
   end_once false end = refl
@@ -186,7 +179,7 @@ module _ {V B : Type 0} (slots : SlotFormat V) (items : ℕ → V → List (Opti
   -- the table stops at once
   at_stop : (end : Option V) → reads slots bytes o ≡ end → ends_table slots.is_last end ≡ true
       → left o ≡ end_items needs_end end
-  unfolding table_walk concat_below
+  unfolding table_walk
   at_stop end r e =
       let none = stop-first slots bytes o wide end r e in
       let at : slot_place slots o (stop slots bytes o) ≡ o =

@@ -25,20 +25,18 @@ use Rattle.goblin_base.specs.Tables.{slot_table}
 use Rattle.goblin_base.specs.Values as values
 use Rattle.goblin_base.specs.Values.{IsValueFault}
 use Rattle.goblin_base.proofs.Below.{concat_below-agree}
-use Rattle.goblin_base.proofs.Footprints.{agree-below, same-all_at}
-use Rattle.goblin_base.proofs.Footprints.{same-counted_table_if, same-number_at}
-use Rattle.goblin_base.proofs.Footprints.{same-record_at, same-slice_at, same-text_at}
+use Rattle.goblin_base.proofs.Footprints.{same-counted_table_if, same-number_at, same-record_at}
+use Rattle.goblin_base.proofs.Footprints.{same-slice_at, same-text_at, agree-below, same-all_at}
 use Rattle.goblin_base.proofs.Inside.{below-in, counted-in, led-in, none-in, rest-in, slice-in}
 use Rattle.goblin_base.proofs.Inside.{stretch-in}
 use Rattle.goblin_base.proofs.Parts.{agree-moved, agree-moved_slice, between-in, rest-moved-in}
 use Rattle.goblin_base.proofs.Parts.{same-bytes_between, same-front_through, same-string_table}
 use Rattle.goblin_base.proofs.Parts.{search-in, slice-moved-in, string_table-not_memory}
 use Rattle.goblin_base.proofs.Picks.{checked-not_memory, pick-inside, pick-local, pick-not_memory}
-use Rattle.goblin_base.proofs.Readings.{beside-inside, beside-local}
-use Rattle.goblin_base.proofs.Readings.{kept-local, malformed-not_memory, slice-not_memory}
-use Rattle.goblin_base.proofs.Readings.{table-inside, table-local, table-not_memory}
-use Rattle.goblin_base.proofs.Readings.{text-not_memory, then-inside, then-local}
-use Rattle.goblin_base.proofs.Readings.{then-not_memory, value-local}
+use Rattle.goblin_base.proofs.Readings.{beside-inside, beside-local, kept-local}
+use Rattle.goblin_base.proofs.Readings.{malformed-not_memory, slice-not_memory, table-inside}
+use Rattle.goblin_base.proofs.Readings.{table-local, table-not_memory, text-not_memory, then-inside}
+use Rattle.goblin_base.proofs.Readings.{then-local, then-not_memory, value-local}
 
 -- ---- what reads nothing
 

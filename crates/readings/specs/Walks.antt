@@ -20,7 +20,7 @@ refusal_of None = None ∷ []
 refusal_of (Some x) = []
 
 -- the items up to the first None, and that one
-unfoldable pub until_refused : {A : Type 0} → List (Option A) → List (Option A)
+abbrev pub until_refused : {A : Type 0} → List (Option A) → List (Option A)
 until_refused [] = []
 until_refused (None ∷ items) = None ∷ []
 until_refused (Some x ∷ items) = Some x ∷ until_refused items

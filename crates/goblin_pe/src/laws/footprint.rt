@@ -40,7 +40,7 @@ fn add_after<'a, 'e>(
 }
 
 // Marks the footprint of a whole file: of its header, and of what follows if there is a header.
-#[tactic(auto, unfolding(crate::specs::Whole::whole_file, goblin_base::specs::Footprints::led_to), using(goblin_base::proofs::Marks::marking))]
+#[tactic(auto, unfolding(crate::specs::Whole::whole_file), using(goblin_base::proofs::Marks::marking))]
 fn add_whole<'e>(
     alloc: Global,
     marks: &mut Marks,

@@ -309,7 +309,7 @@ impl<'a> Layout<'a> {
     /// # Errors
     /// As [`Layout::exports`].
     #[inline(always)]
-    #[tactic(auto, unfolding(crate::specs::Whole::export_part, crate::specs::Whole::part_map))]
+    #[tactic(auto, unfolding(crate::specs::Whole::export_part))]
     pub fn exports_by<'m>(&self, finder: Finder<'m>) -> Result<Part<Exports<'a, 'm>>>
         requires { map_of finder ≡ layout_map self.now }
         ensures value { let m = layout_map self.now in

@@ -11,12 +11,10 @@ ghost use Rattle.goblin_pe_import.specs.ImportDirectory.{TakesLibraries};
 ghost use Rattle.goblin_pe_import.specs.ImportReadings.{import_data};
 ghost use Rattle.goblin_pe_import.specs.Imports.{IsImportListFault, imports_of, kept_count};
 ghost use Rattle.goblin_pe.specs.TakenMemory.{TakesExports, TakesImports, TakesTables};
-ghost use Rattle.goblin_pe.specs.Whole.{IsReadAnd};
-ghost use Rattle.goblin_pe.specs.Whole.{IsListedImportsFault, entry_format, export_part};
-ghost use Rattle.goblin_pe.specs.Whole.{import_data_part};
-ghost use Rattle.goblin_pe.specs.Whole.{both_import_parts, import_read_view, items_part};
-ghost use Rattle.goblin_pe.specs.Whole.{listed_imports_part};
-ghost use Rattle.goblin_pe.specs.Whole.{listed_view, part_map, table_parts, table_places};
+ghost use Rattle.goblin_pe.specs.Whole.{IsReadAnd, IsListedImportsFault, entry_format, export_part};
+ghost use Rattle.goblin_pe.specs.Whole.{import_data_part, both_import_parts, import_read_view};
+ghost use Rattle.goblin_pe.specs.Whole.{items_part, listed_imports_part, listed_view, part_map};
+ghost use Rattle.goblin_pe.specs.Whole.{table_parts, table_places};
 
 use crate::export::{Export, ExportData};
 use crate::import::{Import, ImportData};
@@ -102,7 +100,7 @@ impl Places {
     }
 
     // The list of imports.
-    #[tactic(auto, unfolding(crate::specs::Whole::listed_imports_part, crate::specs::Whole::part_then, crate::specs::Whole::part_map), using(crate::proofs::Parts::becomes_answered, crate::proofs::TakenTables::becomes_taken))]
+    #[tactic(auto, unfolding(crate::specs::Whole::listed_imports_part), using(crate::proofs::Parts::becomes_answered, crate::proofs::TakenTables::becomes_taken))]
     fn imports<'a>(
         &self,
         alloc: Global,
@@ -147,7 +145,7 @@ impl Places {
     }
 
     // The export data, and the exports that it lists.
-    #[tactic(auto, unfolding(crate::specs::Whole::export_part, crate::specs::Whole::part_of, crate::specs::Whole::part_map))]
+    #[tactic(auto, unfolding(crate::specs::Whole::export_part))]
     fn exports<'a>(
         &self,
         alloc: Global,
@@ -236,7 +234,6 @@ fn exports_of<'a>(
 }
 
 // Export data and the exports that it lists, each as a part of its own.
-#[tactic(auto, unfolding(crate::specs::Whole::part_map))]
 pub(super) fn export_parts<'a>(
     read: Part<ExportRead<'a>>,
 ) -> (Part<ExportData<'a>>, Part<Vec<Export<'a>>>)

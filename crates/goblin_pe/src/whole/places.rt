@@ -80,7 +80,7 @@ impl Places {
     }
 
     // The base relocations.
-    #[tactic(auto, unfolding(crate::specs::Whole::relocation_part, crate::specs::Whole::part_map))]
+    #[tactic(auto, unfolding(crate::specs::Whole::relocation_part))]
     pub(super) fn relocations<'a>(
         &self,
         bytes: &'a [u8],

@@ -58,7 +58,7 @@ impl Layout<'_> {
     }
 
     // Marks the bytes of the base relocations, if there is a directory for them.
-    #[tactic(auto, unfolding(crate::specs::Whole::relocation_part, goblin_pe_sect::specs::AddressReadings::relocation_data, goblin_base::specs::Footprints::led_to), using(goblin_base::proofs::Marks::marking))]
+    #[tactic(auto, unfolding(crate::specs::Whole::relocation_part, goblin_pe_sect::specs::AddressReadings::relocation_data), using(goblin_base::proofs::Marks::marking))]
     fn mark_relocations(&self, marks: &mut Marks)
         ensures { let m = layout_map self.now in
             let read = relocation_part m.opts (offset_of m) (layout_places self.now) in

@@ -1,8 +1,7 @@
 //! The entries of an export directory's tables, in memory or as bytes of the file.
 
 ghost use Rattle.std.specs.Prelude.{◌≡◌, ◌<◌, ◌*◌, IfOk, IfSome, List, OnErr, Some, length};
-ghost use Rattle.std.specs.Prelude.{option_map};
-ghost use Rattle.std.specs.Prelude.{slice_get, vec_capacity};
+ghost use Rattle.std.specs.Prelude.{option_map, slice_get, vec_capacity};
 ghost use Rattle.goblin_base.specs.Answers.{GivesOrMemory};
 ghost use Rattle.goblin_base.specs.Bytes.{slice_at};
 ghost use Rattle.goblin_base.specs.Reading.{Reads};
@@ -113,7 +112,7 @@ impl<'a> TablesInFile<'a> {
 
     // The tables that the record at a directory's address leads to, if its counts fit the file.
     #[inline(always)]
-    #[tactic(auto, unfolding(crate::specs::ExportReadings::export_data, crate::specs::ExportReadings::tables_if, crate::specs::ExportReadings::fitting))]
+    #[tactic(auto, unfolding(crate::specs::ExportReadings::export_data))]
     pub(crate) fn find(
         bytes: &'a [u8],
         directory: DataDirectory,
@@ -215,7 +214,7 @@ fn table_of<'e, V: Drop, F: Fn(usize) -> Option<V>>(
 }
 
 // The bytes of the entry of `width` bytes at an index, where there is one.
-#[tactic(auto, using(crate::proofs::WholeEntries::entry_inside, crate::proofs::WholeEntries::entry_outside))]
+#[tactic(auto, using(crate::proofs::WholeEntries::entries))]
 fn entry_of(entries: &[u8], width: usize, index: usize) -> Option<&[u8]>
     requires { 0 < width }
     ensures value { option_map (λ s. s.now) result ≡ slice_at entries.now (width * index) width }

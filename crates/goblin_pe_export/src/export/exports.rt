@@ -9,9 +9,8 @@ ghost use Rattle.goblin_pe_sect.specs.Addresses.{map_of, offset_of};
 ghost use Rattle.goblin_pe_export.specs.ExportReadings.{export_read};
 ghost use Rattle.goblin_pe_export.specs.ExportRecords.{tables_in};
 ghost use Rattle.goblin_pe_export.specs.ExportWalks.{AreExportsOver, GivesExport, KeepsOver};
-ghost use Rattle.goblin_pe_export.specs.ExportWalks.{exports_at, exports_position};
-ghost use Rattle.goblin_pe_export.specs.ExportWalks.{NumberedExport, exports_bound, exports_left};
-ghost use Rattle.goblin_pe_export.specs.ExportWalks.{numbered_export};
+ghost use Rattle.goblin_pe_export.specs.ExportWalks.{exports_at, exports_position, NumberedExport};
+ghost use Rattle.goblin_pe_export.specs.ExportWalks.{exports_bound, exports_left, numbered_export};
 ghost use Rattle.goblin_pe_export.specs.ExportWalks.{numbered_from, walked_export, walked_tables};
 
 use crate::export::Export;

@@ -5,10 +5,8 @@ ghost use Rattle.goblin_base.specs.Reading.{Reads};
 ghost use Rattle.goblin_base.specs.Record.{WritesRecord};
 ghost use Rattle.goblin_pe_export.specs.declared.export.tables.ExportDirectoryTable.{ExportDirectoryTable};
 ghost use Rattle.goblin_pe_export.specs.ExportReadings.{export_record_at, fitting};
-ghost use Rattle.goblin_pe_export.specs.ExportRecords.{address_entry};
-ghost use Rattle.goblin_pe_export.specs.ExportRecords.{export_directory_fields};
-ghost use Rattle.goblin_pe_export.specs.ExportRecords.{export_directory_record};
-ghost use Rattle.goblin_pe_export.specs.ExportRecords.{table_bytes};
+ghost use Rattle.goblin_pe_export.specs.ExportRecords.{address_entry, export_directory_fields};
+ghost use Rattle.goblin_pe_export.specs.ExportRecords.{export_directory_record, table_bytes};
 
 use goblin_base::{Cause, Endian, Error, Field, Record, Result, field_u16, field_u32, put_fields};
 use goblin_pe_sect::DataDirectory;
@@ -73,7 +71,6 @@ impl Record for ExportDirectoryTable {
         SIZEOF_EXPORT_DIRECTORY_TABLE
     }
 
-    #[tactic(auto, unfolding(crate::specs::ExportRecords::export_directory_record))]
     fn in_record(bytes: &[u8], endian: Endian) -> ExportDirectoryTable {
         ExportDirectoryTable {
             export_flags: field_u32(bytes, 0, endian),
@@ -90,7 +87,7 @@ impl Record for ExportDirectoryTable {
         }
     }
 
-    #[tactic(auto, unfolding(crate::specs::ExportRecords::export_directory_fields), using(crate::proofs::ExportDirectoryRoundTrip::export_directory_back, crate::proofs::ExportDirectoryRoundTrip::export_directory_again))]
+    #[tactic(auto, using(crate::proofs::ExportDirectoryRoundTrip::round_trip))]
     fn put(self, bytes: &mut [u8], endian: Endian) {
         let fields = [
             Field::U32(self.export_flags),
@@ -218,7 +215,6 @@ pub(crate) fn room(bytes: &[u8], begin: usize, width: usize, count: u32) -> usiz
 }
 
 // Refuses a record that counts more entries than the file has bytes.
-#[tactic(auto, unfolding(crate::specs::ExportReadings::fitting))]
 pub(crate) fn test_counts(bytes: &[u8], table: &ExportDirectoryTable) -> Result<()>
     ensures { Reads (λ fits. table.now) result (fitting table.now) bytes.now }
 {

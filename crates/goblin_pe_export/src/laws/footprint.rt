@@ -22,7 +22,7 @@ use goblin_pe_sect::section_table::SectionTable;
 use std::alloc::Global;
 
 // Marks the text at a place, where there is one.
-#[tactic(auto, unfolding(goblin_base::specs::Footprints::led_to), using(goblin_base::proofs::Marks::marking))]
+#[tactic(auto, using(goblin_base::proofs::Marks::marking))]
 fn add_text(marks: &mut Marks, bytes: &[u8], place: Option<usize>)
     ensures { let reached = led_to place (stretch_footprint bytes.now) in
         marks.new ≡ marked marks.old reached }
@@ -35,7 +35,7 @@ fn add_text(marks: &mut Marks, bytes: &[u8], place: Option<usize>)
 
 // Marks a table of `count` entries of `width` bytes at a place, up to the first that is not whole;
 // without a place there is none.
-#[tactic(auto, unfolding(goblin_base::specs::Footprints::led_to), using(goblin_base::proofs::Marks::marking, crate::proofs::WholeEntries::entries_inside))]
+#[tactic(auto, using(goblin_base::proofs::Marks::marking, crate::proofs::WholeEntries::entries_inside))]
 fn add_table(marks: &mut Marks, bytes: &[u8], place: Option<usize>, width: usize, count: u32)
     requires { 0 < width }
     ensures { let reached = led_to place
@@ -84,7 +84,7 @@ fn add_tables(
 }
 
 // Marks the footprint of the export data of a directory.
-#[tactic(auto, unfolding(crate::specs::ExportReadings::export_data, crate::specs::ExportReadings::tables_if, crate::specs::ExportReadings::fitting, goblin_base::specs::Footprints::led_to), using(goblin_base::proofs::Marks::marking))]
+#[tactic(auto, unfolding(crate::specs::ExportReadings::export_data), using(goblin_base::proofs::Marks::marking))]
 fn add_export_data(
     marks: &mut Marks,
     bytes: &[u8],
@@ -109,7 +109,7 @@ fn add_export_data(
 }
 
 // Marks the texts of a name pointer and of an address, where that is a forwarder's.
-#[tactic(auto, unfolding(crate::specs::ExportReadings::row_of, crate::specs::ExportReadings::reexport_of, goblin_pe_sect::specs::AddressReadings::name_at), using(goblin_base::proofs::Marks::marking))]
+#[tactic(auto, unfolding(crate::specs::ExportReadings::row_of, goblin_pe_sect::specs::AddressReadings::name_at), using(goblin_base::proofs::Marks::marking))]
 fn add_names(
     marks: &mut Marks,
     bytes: &[u8],
@@ -131,7 +131,7 @@ fn add_names(
 }
 
 // Marks what the name pointer at an index leads to.
-#[tactic(auto, unfolding(crate::specs::ExportReadings::export_row, goblin_base::specs::Footprints::led_to), using(goblin_base::proofs::Marks::marking))]
+#[tactic(auto, unfolding(crate::specs::ExportReadings::export_row), using(goblin_base::proofs::Marks::marking))]
 fn add_pointer<T: Entries>(
     marks: &mut Marks,
     bytes: &[u8],
@@ -169,7 +169,7 @@ fn add_pointers<T: Entries>(marks: &mut Marks, bytes: &[u8], tables: &T, address
 }
 
 /// Marks the footprint of the export data of a directory, and of the exports that it lists.
-#[tactic(auto, unfolding(crate::specs::ExportReadings::export_read, goblin_base::specs::Footprints::led_to), using(goblin_base::proofs::Marks::marking))]
+#[tactic(auto, unfolding(crate::specs::ExportReadings::export_read), using(goblin_base::proofs::Marks::marking))]
 pub fn add_exports(
     marks: &mut Marks,
     bytes: &[u8],

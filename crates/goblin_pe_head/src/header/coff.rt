@@ -75,7 +75,6 @@ impl Record for CoffHeader {
         SIZEOF_COFF_HEADER
     }
 
-    #[tactic(auto, unfolding(crate::specs::CoffHeader::coff_header))]
     fn in_record(bytes: &[u8], endian: Endian) -> CoffHeader {
         CoffHeader {
             machine: field_u16(bytes, 0, endian),
@@ -88,7 +87,7 @@ impl Record for CoffHeader {
         }
     }
 
-    #[tactic(auto, unfolding(crate::specs::CoffHeader::coff_fields), using(crate::proofs::CoffHeaderRoundTrip::coff_back, crate::proofs::CoffHeaderRoundTrip::coff_again))]
+    #[tactic(auto, using(crate::proofs::CoffHeaderRoundTrip::round_trip))]
     fn put(self, bytes: &mut [u8], endian: Endian) {
         let fields = [
             Field::U16(self.machine),
@@ -242,7 +241,7 @@ impl CoffHeader {
     /// # Errors
     /// [`Error::Read`] if the four bytes run past the end of the file; [`Error::Malformed`] with
     /// [`Cause::CoffLength`] if the length is below 4; and as [`Strtab::parse`].
-    #[tactic(auto, unfolding(crate::specs::CoffReadings::strings_of, crate::specs::CoffReadings::strings_at))]
+    #[tactic(auto, unfolding(crate::specs::CoffReadings::strings_of))]
     pub fn strings<'a>(&self, alloc: Global, bytes: &'a [u8]) -> Result<Option<Strtab<'a>>>
         ensures { Reads (λ t. t) result (reading.strings_of self.now) bytes.now }
     {

@@ -82,7 +82,6 @@ pub struct DosHeader {
 
 impl DosHeader {
     // The DOS header in a record's bytes.
-    #[tactic(auto, unfolding(crate::specs::DosHeader::dos_record))]
     pub(crate) fn in_record(bytes: &[u8], endian: Endian) -> DosHeader
         requires { length bytes.now ≡ 64 }
         ensures { result ≡ dos_record endian bytes.now }
@@ -127,7 +126,7 @@ impl DosHeader {
     }
 
     // The record's bytes.
-    #[tactic(auto, unfolding(crate::specs::DosHeader::dos_fields), using(crate::proofs::DosHeaderRoundTrip::dos_again))]
+    #[tactic(auto, using(crate::proofs::DosHeaderRoundTrip::dos_again))]
     pub(crate) fn to_bytes(&self, endian: Endian) -> [u8; SIZEOF_DOS_HEADER]
         ensures made { result ≡ encoding endian (dos_fields self.now) }
         ensures again { ReadsBack 64 dos_record dos_fields self.now }

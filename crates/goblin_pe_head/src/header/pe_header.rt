@@ -12,8 +12,7 @@ ghost use Rattle.goblin_pe_head.specs.DosStub.{stub_bytes};
 ghost use Rattle.goblin_pe_head.specs.CoffHeader.{coff_fields, coff_header};
 ghost use Rattle.goblin_pe_head.specs.DosHeader.{dos_fields, dos_record};
 ghost use Rattle.goblin_pe_head.specs.HeaderLaws.{FieldsReadBack, HeaderReadsBack};
-ghost use Rattle.goblin_pe_head.specs.HeaderLaws.{HeaderWritesBack};
-ghost use Rattle.goblin_pe_head.specs.HeaderLaws.{IsConsistent};
+ghost use Rattle.goblin_pe_head.specs.HeaderLaws.{HeaderWritesBack, IsConsistent};
 ghost use Rattle.goblin_pe_head.specs.HeaderReadings as reading;
 ghost use Rattle.goblin_pe_head.specs.OptionalHeader.{written_bytes};
 ghost use Rattle.goblin_pe_head.specs.PeHeader.{IsUnwrittenPart, default_header, header_bytes};
@@ -60,7 +59,7 @@ impl Default for Header<'_> {
     ghost is_default = { λ header. header_value header ≡ default_header };
 
     /// Zeros, the default stub, and neither a Rich header nor an optional header.
-    #[tactic(auto, unfolding(crate::specs::PeHeader::default_header, crate::specs::PeHeader::zero_dos_header))]
+    #[tactic(auto, unfolding(crate::specs::PeHeader::default_header))]
     fn default() -> Self {
         Header {
             dos_header: DosHeader::default(),
@@ -187,7 +186,7 @@ impl<'a> Header<'a> {
     /// # Errors
     /// [`Error::Malformed`] with [`Cause::NoPeSignature`] if there are no four bytes;
     /// [`Error::Read`] if the COFF header runs past the end; as the reader of [`OptionalHeader`].
-    #[tactic(auto, unfolding(crate::specs::HeaderReadings::header_without_dos, crate::specs::PeHeader::zero_dos_header))]
+    #[tactic(auto, unfolding(crate::specs::HeaderReadings::header_without_dos))]
     pub fn parse_without_dos(bytes: &'a [u8]) -> Result<Self>
         ensures { Reads header_value result reading.header_without_dos bytes.now }
     {

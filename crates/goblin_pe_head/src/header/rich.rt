@@ -12,8 +12,7 @@ ghost use Rattle.goblin_pe_head.specs.HeaderLaws.{RichIsMarked, RichIsUnmarked};
 ghost use Rattle.goblin_pe_head.specs.HeaderReadings as reading;
 ghost use Rattle.goblin_pe_head.specs.RichHeader.{PaddingFits, dans_place, leading_words};
 ghost use Rattle.goblin_pe_head.specs.RichHeader.{least_below, marker_place, other_place};
-ghost use Rattle.goblin_pe_head.specs.RichHeader.{rich_value};
-ghost use Rattle.goblin_pe_head.specs.RichHeader.{word_at};
+ghost use Rattle.goblin_pe_head.specs.RichHeader.{rich_value, word_at};
 ghost use Rattle.goblin_pe_head.specs.RichMetadata.{AreEntriesOf, metadata_at, metadata_fields};
 ghost use Rattle.goblin_pe_head.specs.RichMetadata.{metadata_items, metadata_left, metadata_record};
 ghost use Rattle.goblin_pe_head.specs.RichReadings as rich_reading;
@@ -172,7 +171,6 @@ impl Record for RichMetadata {
         RICH_METADATA_SIZE
     }
 
-    #[tactic(auto, unfolding(crate::specs::RichMetadata::metadata_record))]
     fn in_record(bytes: &[u8], endian: Endian) -> RichMetadata {
         RichMetadata {
             build: field_u16(bytes, 0, endian),
@@ -181,7 +179,7 @@ impl Record for RichMetadata {
         }
     }
 
-    #[tactic(auto, unfolding(crate::specs::RichMetadata::metadata_fields), using(crate::proofs::RichMetadataRoundTrip::metadata_back, crate::proofs::RichMetadataRoundTrip::metadata_again))]
+    #[tactic(auto, using(crate::proofs::RichMetadataRoundTrip::round_trip))]
     fn put(self, bytes: &mut [u8], endian: Endian) {
         let fields = [
             Field::U16(self.build),
@@ -243,7 +241,7 @@ impl Iterator for RichMetadataIterator<'_> {
 
     ghost remaining = { λ it. at_most ((length it.bytes.now + 7) / 8) };
 
-    #[tactic(auto, using(crate::proofs::RichEntries::items_more, crate::proofs::RichEntries::items_rest, crate::proofs::RichEntries::items_none))]
+    #[tactic(auto, using(crate::proofs::RichEntries::items))]
     fn next(&mut self) -> Option<Result<RichMetadata>> {
         if self.bytes.is_empty() {
             return None;

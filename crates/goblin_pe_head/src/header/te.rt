@@ -79,7 +79,6 @@ impl Record for TeHeader {
         SIZEOF_TE_HEADER
     }
 
-    #[tactic(auto, unfolding(crate::specs::TeHeader::te_record))]
     fn in_record(bytes: &[u8], endian: Endian) -> TeHeader {
         TeHeader {
             signature: field_u16(bytes, 0, endian),
@@ -101,7 +100,7 @@ impl Record for TeHeader {
         }
     }
 
-    #[tactic(auto, unfolding(crate::specs::TeHeader::te_fields), using(crate::proofs::TeHeaderRoundTrip::te_back, crate::proofs::TeHeaderRoundTrip::te_again))]
+    #[tactic(auto, using(crate::proofs::TeHeaderRoundTrip::round_trip))]
     fn put(self, bytes: &mut [u8], endian: Endian) {
         let fields = [
             Field::U16(self.signature),
@@ -145,7 +144,7 @@ impl TeHeader {
     /// # Errors
     /// [`Error::Read`] if the 40 bytes run past the end of the file; [`Error::Malformed`] with
     /// [`Cause::StrippedSize`] if fewer than 40 bytes were stripped. `offset` is then unchanged.
-    #[tactic(auto, unfolding(crate::specs::TeReadings::te_header, crate::specs::TeHeader::te_adjusted))]
+    #[tactic(auto, unfolding(crate::specs::TeReadings::te_header))]
     pub fn parse(bytes: &[u8], offset: &mut usize) -> Result<TeHeader>
         ensures value { Reads (λ h. h) result (reading.te_header offset.old) bytes.now }
         ensures ok { OnOk result (offset.new ≡ offset.old + 40) }

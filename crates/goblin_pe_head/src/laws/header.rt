@@ -1,8 +1,7 @@
 //! Lists which positions of a file its header depends on.
 
 ghost use Rattle.std.specs.Prelude.{◌≡◌, ◌<◌, ◌≤◌, ◌+◌, ◌^◌, ◌++◌, Bool, IfErr, IfOk, IfSome};
-ghost use Rattle.std.specs.Prelude.{OnErr};
-ghost use Rattle.std.specs.Prelude.{length};
+ghost use Rattle.std.specs.Prelude.{OnErr, length};
 ghost use Rattle.goblin_base.specs.Answers.{IsMemory};
 ghost use Rattle.goblin_base.specs.Marks.{IsFootprint, marked};
 ghost use Rattle.goblin_base.specs.Footprints.{slice_footprint};
@@ -61,7 +60,7 @@ fn add_searched(marks: &mut Marks, stretch: &[u8], place: Option<usize>, width: 
 }
 
 // Marks what the search for a Rich header looked at in a stretch after the DOS header.
-#[tactic(auto, using(goblin_base::proofs::Marks::marking, crate::proofs::HeaderRanges::marker_missing))]
+#[tactic(auto, using(goblin_base::proofs::Marks::marking, crate::proofs::HeaderRanges::no_marker))]
 fn add_markers(marks: &mut Marks, stretch: &[u8])
     requires { length stretch.now + 64 < 2 ^ 32 }
     ensures { let reached = moved_by 64 (rich_reading.rich_in.reaches stretch.now) in
@@ -161,7 +160,7 @@ fn add_parts(marks: &mut Marks, bytes: &[u8], offset: usize)
 }
 
 /// Marks the footprint of the header of a file, in either mode.
-#[tactic(auto, unfolding(crate::specs::HeaderReadings::pe_header, crate::specs::HeaderReadings::stub_in, goblin_base::specs::Footprints::led_to), using(goblin_base::proofs::Marks::marking))]
+#[tactic(auto, unfolding(crate::specs::HeaderReadings::pe_header, crate::specs::HeaderReadings::stub_in), using(goblin_base::proofs::Marks::marking))]
 pub fn add_header(marks: &mut Marks, bytes: &[u8])
     ensures { (strict : Bool)
         → marks.new ≡ marked marks.old ((reading.pe_header strict).reaches bytes.now) }

@@ -57,7 +57,6 @@ impl Record for StandardFields32 {
         SIZEOF_STANDARD_FIELDS_32
     }
 
-    #[tactic(auto, unfolding(crate::specs::OptionalHeader::standard_32_record))]
     fn in_record(bytes: &[u8], endian: Endian) -> StandardFields32 {
         StandardFields32 {
             magic: field_u16(bytes, 0, endian),
@@ -72,7 +71,7 @@ impl Record for StandardFields32 {
         }
     }
 
-    #[tactic(auto, unfolding(crate::specs::OptionalHeader::standard_32_fields), using(crate::proofs::OptionalFieldsRoundTrip::standard_32_back, crate::proofs::OptionalFieldsRoundTrip::standard_32_again))]
+    #[tactic(auto, using(crate::proofs::OptionalFieldsRoundTrip::round_trips))]
     fn put(self, bytes: &mut [u8], endian: Endian) {
         let fields = [
             Field::U16(self.magic),
@@ -148,7 +147,6 @@ impl Record for StandardFields64 {
         SIZEOF_STANDARD_FIELDS_64
     }
 
-    #[tactic(auto, unfolding(crate::specs::OptionalHeader::standard_64_record))]
     fn in_record(bytes: &[u8], endian: Endian) -> StandardFields64 {
         StandardFields64 {
             magic: field_u16(bytes, 0, endian),
@@ -162,7 +160,7 @@ impl Record for StandardFields64 {
         }
     }
 
-    #[tactic(auto, unfolding(crate::specs::OptionalHeader::standard_64_fields), using(crate::proofs::OptionalFieldsRoundTrip::standard_64_back, crate::proofs::OptionalFieldsRoundTrip::standard_64_again))]
+    #[tactic(auto, using(crate::proofs::OptionalFieldsRoundTrip::round_trips))]
     fn put(self, bytes: &mut [u8], endian: Endian) {
         let fields = [
             Field::U16(self.magic),

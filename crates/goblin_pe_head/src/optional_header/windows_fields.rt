@@ -100,7 +100,6 @@ impl Record for WindowsFields32 {
         SIZEOF_WINDOWS_FIELDS_32
     }
 
-    #[tactic(auto, unfolding(crate::specs::OptionalHeader::windows_32_record))]
     fn in_record(bytes: &[u8], endian: Endian) -> WindowsFields32 {
         WindowsFields32 {
             image_base: field_u32(bytes, 0, endian),
@@ -127,7 +126,7 @@ impl Record for WindowsFields32 {
         }
     }
 
-    #[tactic(auto, unfolding(crate::specs::OptionalHeader::windows_32_fields), using(crate::proofs::OptionalFieldsRoundTrip::windows_32_back, crate::proofs::OptionalFieldsRoundTrip::windows_32_again))]
+    #[tactic(auto, using(crate::proofs::OptionalFieldsRoundTrip::round_trips))]
     fn put(self, bytes: &mut [u8], endian: Endian) {
         let fields = [
             Field::U32(self.image_base),
@@ -251,7 +250,6 @@ impl Record for WindowsFields64 {
     }
 
     #[inline(always)]
-    #[tactic(auto, unfolding(crate::specs::OptionalHeader::windows_64_record))]
     fn in_record(bytes: &[u8], endian: Endian) -> WindowsFields64 {
         WindowsFields64 {
             image_base: field_u64(bytes, 0, endian),
@@ -278,7 +276,7 @@ impl Record for WindowsFields64 {
         }
     }
 
-    #[tactic(auto, unfolding(crate::specs::OptionalHeader::windows_64_fields), using(crate::proofs::OptionalFieldsRoundTrip::windows_64_back, crate::proofs::OptionalFieldsRoundTrip::windows_64_again))]
+    #[tactic(auto, using(crate::proofs::OptionalFieldsRoundTrip::round_trips))]
     fn put(self, bytes: &mut [u8], endian: Endian) {
         let fields = [
             Field::U64(self.image_base),

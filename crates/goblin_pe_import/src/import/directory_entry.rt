@@ -46,7 +46,6 @@ impl Record for ImportDirectoryEntry {
         SIZEOF_IMPORT_DIRECTORY_ENTRY
     }
 
-    #[tactic(auto, unfolding(crate::specs::ImportRecords::import_record))]
     fn in_record(bytes: &[u8], endian: Endian) -> ImportDirectoryEntry {
         ImportDirectoryEntry {
             import_lookup_table_rva: field_u32(bytes, 0, endian),
@@ -57,7 +56,7 @@ impl Record for ImportDirectoryEntry {
         }
     }
 
-    #[tactic(auto, unfolding(crate::specs::ImportRecords::import_fields), using(crate::proofs::ImportDirectoryRoundTrip::import_record_back, crate::proofs::ImportDirectoryRoundTrip::record_again))]
+    #[tactic(auto, using(crate::proofs::ImportDirectoryRoundTrip::round_trip))]
     fn put(self, bytes: &mut [u8], endian: Endian) {
         let fields = [
             Field::U32(self.import_lookup_table_rva),

@@ -484,7 +484,7 @@ impl<'a, 'm, 'e, T: Bitfield<'a>> Imports<'a, 'm, 'e, T> {
     /// In strict mode [`Error::Malformed`] with [`Cause::Unmapped`] if the directory's address has
     /// no file offset.
     #[inline(always)]
-    #[tactic(auto, unfolding(crate::specs::ImportReadings::import_data, crate::specs::ImportReadings::libraries_past_front, crate::specs::ImportWalks::imports_at, goblin_base::specs::Answers::all_of))]
+    #[tactic(auto, unfolding(crate::specs::ImportReadings::import_data, crate::specs::ImportWalks::imports_at))]
     pub fn of(
         bytes: &'a [u8],
         directory: DataDirectory,

@@ -29,7 +29,7 @@ pub struct LeftOut {
 }
 
 // Whether an entry is left out: its address has an offset, but no whole hint is there.
-#[tactic(auto, unfolding(crate::specs::LeftOut::is_entry_left_out, crate::specs::LookupReadings::kept_entry, crate::specs::LookupReadings::kept_name, crate::specs::LookupReadings::hint_name))]
+#[tactic(auto, unfolding(crate::specs::LeftOut::is_entry_left_out, crate::specs::LookupReadings::kept_entry, crate::specs::LookupReadings::hint_name))]
 fn is_entry_left_out<'a, T: Bitfield<'a>>(
     entry: &T,
     bytes: &'a [u8],

@@ -100,7 +100,7 @@ fn lookup_table_if<'a, 'e, T: Bitfield<'a>>(
 
 // The name of a library; in permissive mode the empty one where none can be read.
 #[inline(always)]
-#[tactic(auto, unfolding(goblin_pe_sect::specs::AddressReadings::name_or_none), using(crate::proofs::LibraryNames::taken, crate::proofs::LibraryNames::missing))]
+#[tactic(auto, using(crate::proofs::LibraryNames::taken, crate::proofs::LibraryNames::missing))]
 pub(super) fn library_name<'a, 'e>(
     bytes: &'a [u8],
     rva: u32,

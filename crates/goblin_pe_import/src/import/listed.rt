@@ -7,11 +7,10 @@ ghost use Rattle.std.specs.Option.{option_copied};
 ghost use Rattle.goblin_base.specs.Answers.{AnswersOrMemory, GivesOrMemory, IsMemory};
 ghost use Rattle.goblin_pe_import.specs.ImportBound.{AreFew};
 ghost use Rattle.goblin_pe_import.specs.ImportLookup.{entry_view};
-ghost use Rattle.goblin_pe_import.specs.Imports.{IsImportListFault, IsOverflow};
-ghost use Rattle.goblin_pe_import.specs.Imports.{first_without_slots};
-ghost use Rattle.goblin_pe_import.specs.Imports.{has_slots, import_of, import_offset, imports_by};
-ghost use Rattle.goblin_pe_import.specs.Imports.{imports_of, kept_count, kept_entries};
-ghost use Rattle.goblin_pe_import.specs.Imports.{library_imports, ordinal_name, origin};
+ghost use Rattle.goblin_pe_import.specs.Imports.{IsImportListFault, IsOverflow, has_slots, origin};
+ghost use Rattle.goblin_pe_import.specs.Imports.{first_without_slots, import_of, import_offset};
+ghost use Rattle.goblin_pe_import.specs.Imports.{imports_by, imports_of, kept_count, kept_entries};
+ghost use Rattle.goblin_pe_import.specs.Imports.{library_imports, ordinal_name};
 
 use crate::import::ImportData;
 use crate::import::bitfield::Bitfield;
@@ -173,7 +172,6 @@ fn count_of(libraries: &[SyntheticImportDirectoryEntry]) -> usize
 }
 
 // Appends the import of an entry, for which there is room.
-#[tactic(auto, unfolding(crate::specs::Imports::entry_name, crate::specs::Imports::entry_has_name, crate::specs::Imports::entry_ordinal, crate::specs::Imports::entry_name_rva))]
 fn push_entry<'a, 'e>(
     alloc: Global,
     imports: &mut Vec<Import<'a>>,

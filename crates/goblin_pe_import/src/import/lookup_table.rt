@@ -10,8 +10,7 @@ ghost use Rattle.goblin_base.specs.Tables.{stop};
 ghost use Rattle.goblin_pe_sect.specs.Options.{default_options, is_strict};
 ghost use Rattle.goblin_pe_sect.specs.Addresses.{TakesMap, map_by, map_of, offset_of};
 ghost use Rattle.goblin_pe_sect.specs.Addresses.{reads_strictly};
-ghost use Rattle.goblin_pe_import.specs.ImportLookup.{KeepsEntries};
-ghost use Rattle.goblin_pe_import.specs.ImportLookup.{entry_slots, lookup_slots};
+ghost use Rattle.goblin_pe_import.specs.ImportLookup.{KeepsEntries, entry_slots, lookup_slots};
 ghost use Rattle.goblin_pe_import.specs.ImportLookup.{entry_view, hint_name_view, kept_view};
 ghost use Rattle.goblin_pe_import.specs.LookupReadings as reading;
 
@@ -125,7 +124,7 @@ pub enum SyntheticImportLookupTableEntry<'a> {
 impl<'a> SyntheticImportLookupTableEntry<'a> {
     // What a table keeps of an entry: `None` if it leads nowhere, or in permissive mode to no hint.
     #[inline(always)]
-    #[tactic(auto, unfolding(crate::specs::LookupReadings::kept_entry, crate::specs::LookupReadings::kept_name))]
+    #[tactic(auto, unfolding(crate::specs::LookupReadings::kept_entry))]
     pub(super) fn kept<'e, T: Bitfield<'a>>(
         entry: &T,
         bytes: &'a [u8],
@@ -155,7 +154,7 @@ impl<'a> SyntheticImportLookupTableEntry<'a> {
     // whose address lies among those about names that the finder keeps. `None` says nothing of the
     // entry.
     #[inline(always)]
-    #[tactic(auto, unfolding(crate::specs::LookupReadings::kept_entry, crate::specs::LookupReadings::kept_name))]
+    #[tactic(auto, unfolding(crate::specs::LookupReadings::kept_entry))]
     pub(super) fn plain<T: Bitfield<'a>>(
         entry: &T,
         bytes: &'a [u8],
@@ -267,7 +266,7 @@ impl<'a> SyntheticImportLookupTableEntry<'a> {
     ///
     /// # Errors
     /// As [`SyntheticImportLookupTableEntry::parse_with_opts`].
-    #[tactic(auto, using(crate::proofs::LookupSlots::no_table, crate::proofs::LookupSlots::a_table, crate::proofs::LookupSlots::slots, crate::proofs::LookupSlots::rising, crate::proofs::LookupSlots::below))]
+    #[tactic(auto, using(crate::proofs::LookupSlots::tables))]
     pub fn parse_with_slots<'e, T: Bitfield<'a>>(
         alloc: Global,
         bytes: &'a [u8],

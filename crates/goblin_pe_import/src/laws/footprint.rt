@@ -42,7 +42,7 @@ fn add_hint(marks: &mut Marks, bytes: &[u8], offset: usize)
 }
 
 // Marks what an entry of a lookup table leads to.
-#[tactic(auto, unfolding(crate::specs::LookupReadings::kept_entry, crate::specs::LookupReadings::kept_name), using(goblin_base::proofs::Marks::marking))]
+#[tactic(auto, unfolding(crate::specs::LookupReadings::kept_entry), using(goblin_base::proofs::Marks::marking))]
 fn add_entry<'a, T: Bitfield<'a>>(
     marks: &mut Marks,
     entry: &T,
@@ -102,7 +102,7 @@ fn add_lookup_table<'a, T: Bitfield<'a>>(
 }
 
 // Marks the footprint of the address table at a place, where there is one.
-#[tactic(auto, unfolding(goblin_base::specs::Footprints::led_to), using(goblin_base::proofs::Marks::marking))]
+#[tactic(auto, using(goblin_base::proofs::Marks::marking))]
 fn add_address_table<'a, T: Bitfield<'a>>(marks: &mut Marks, bytes: &'a [u8], table: Option<usize>)
     ensures { let reached =
         led_to table (λ o. (address_table T.format o).reaches bytes.now) in
@@ -120,7 +120,7 @@ fn add_address_table<'a, T: Bitfield<'a>>(marks: &mut Marks, bytes: &'a [u8], ta
 }
 
 // Marks the text at a place, where there is one.
-#[tactic(auto, unfolding(goblin_base::specs::Footprints::led_to), using(goblin_base::proofs::Marks::marking))]
+#[tactic(auto, using(goblin_base::proofs::Marks::marking))]
 fn add_text(marks: &mut Marks, bytes: &[u8], place: Option<usize>)
     ensures { let reached = led_to place (stretch_footprint bytes.now) in
         marks.new ≡ marked marks.old reached }
@@ -174,7 +174,7 @@ fn add_libraries<'a, T: Bitfield<'a>>(
 }
 
 /// Marks the footprint of the import data of a directory at the address `rva`.
-#[tactic(auto, unfolding(crate::specs::ImportReadings::import_data, crate::specs::ImportReadings::libraries_past_front, goblin_base::specs::Footprints::led_to), using(goblin_base::proofs::Marks::marking))]
+#[tactic(auto, unfolding(crate::specs::ImportReadings::import_data), using(goblin_base::proofs::Marks::marking))]
 pub fn add_imports<'a, T: Bitfield<'a>>(
     marks: &mut Marks,
     bytes: &'a [u8],

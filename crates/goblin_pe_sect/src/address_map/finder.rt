@@ -146,7 +146,7 @@ impl<'m> Finder<'m> {
     /// # Errors
     /// As [`safe_try_name`](crate::utils::safe_try_name).
     #[inline(always)]
-    #[tactic(auto, unfolding(crate::specs::AddressReadings::name_or_none, crate::specs::AddressReadings::name_at))]
+    #[tactic(auto, unfolding(crate::specs::AddressReadings::name_at))]
     pub fn name<'a, 'e>(&mut self, bytes: &'a [u8], rva: u32) -> ResultOf<'e, Option<&'a str>>
         ensures value { let m = map_of self.old in
             Reads (option_map (λ s. s.now)) result

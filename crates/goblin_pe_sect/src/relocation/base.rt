@@ -8,9 +8,8 @@ ghost use Rattle.goblin_base.specs.Reading.{Reads};
 ghost use Rattle.goblin_base.specs.Record.{WritesRecord};
 ghost use Rattle.goblin_pe_sect.specs.declared.relocation.base.RelocationWord.{RelocationWord};
 ghost use Rattle.goblin_pe_sect.specs.AddressReadings.{relocation_data};
-ghost use Rattle.goblin_pe_sect.specs.BaseRelocations.{AreBlocksOf, FindsItem};
-ghost use Rattle.goblin_pe_sect.specs.BaseRelocations.{block_at, block_item, block_items};
-ghost use Rattle.goblin_pe_sect.specs.BaseRelocations.{blocks_left};
+ghost use Rattle.goblin_pe_sect.specs.BaseRelocations.{AreBlocksOf, FindsItem, block_at};
+ghost use Rattle.goblin_pe_sect.specs.BaseRelocations.{block_item, block_items, blocks_left};
 ghost use Rattle.goblin_pe_sect.specs.BaseRelocations.{relocation_bytes, word_fields, word_items};
 ghost use Rattle.goblin_pe_sect.specs.BaseRelocations.{word_record, words_left};
 ghost use Rattle.goblin_pe_sect.specs.Mapping.{file_offset};
@@ -134,7 +133,7 @@ impl<'a> RelocationData<'a> {
     /// # Errors
     /// As the iterator of [`blocks`](RelocationData::blocks): fewer than 8 bytes are left, or the
     /// block's size is below 8 or runs past the directory.
-    #[tactic(auto, using(crate::proofs::BlockItems::block_first, crate::proofs::BlockItems::items_err, crate::proofs::BlockItems::items_past))]
+    #[tactic(auto, using(crate::proofs::BlockItems::items))]
     pub fn block_at(&self, offset: usize) -> Option<Result<RelocationBlock<'a>>>
         ensures found { FindsItem (relocation_bytes self.now) offset result }
         ensures low { IfSome result (λ found. offset < 2 ^ 63) }
@@ -221,7 +220,7 @@ impl<'a> Iterator for RelocationBlockIterator<'a> {
 
     ghost remaining = { λ it. at_most ((length it.bytes.now - it.offset + 7) / 8) };
 
-    #[tactic(auto, using(crate::proofs::BlockItems::block_first, crate::proofs::BlockItems::items_err, crate::proofs::BlockItems::items_past))]
+    #[tactic(auto, using(crate::proofs::BlockItems::items))]
     fn next(&mut self) -> Option<Result<RelocationBlock<'a>>> {
         if self.offset >= self.bytes.len() {
             return None;
@@ -278,14 +277,13 @@ impl Record for RelocationWord {
         RELOCATION_WORD_SIZE
     }
 
-    #[tactic(auto, unfolding(crate::specs::BaseRelocations::word_record))]
     fn in_record(bytes: &[u8], endian: Endian) -> RelocationWord {
         RelocationWord {
             value: field_u16(bytes, 0, endian),
         }
     }
 
-    #[tactic(auto, unfolding(crate::specs::BaseRelocations::word_fields), using(crate::proofs::RelocationsRoundTrip::word_back, crate::proofs::RelocationsRoundTrip::word_again))]
+    #[tactic(auto, using(crate::proofs::RelocationsRoundTrip::round_trips))]
     fn put(self, bytes: &mut [u8], endian: Endian) {
         let fields = [Field::U16(self.value)];
         put_fields(bytes, RELOCATION_WORD_SIZE, &fields, endian);
@@ -344,7 +342,7 @@ impl Iterator for RelocationWordIterator<'_> {
 
     ghost remaining = { λ it. at_most ((length it.bytes.now + 1) / 2) };
 
-    #[tactic(auto, using(crate::proofs::WordItems::words_more, crate::proofs::WordItems::words_rest, crate::proofs::WordItems::words_none))]
+    #[tactic(auto, using(crate::proofs::WordItems::words))]
     fn next(&mut self) -> Option<Result<RelocationWord>> {
         if self.bytes.is_empty() {
             return None;

@@ -38,7 +38,7 @@ impl<'a> SectionRecords<'a> {
     /// The first section, without its name from the string table, and the records after it; `None`
     /// where there is none. A walk by it takes fewer steps than one by indexes.
     #[inline(always)]
-    #[tactic(auto, using(crate::proofs::SectionRecords::sections_more, crate::proofs::SectionRecords::sections_none), unfolding(crate::specs::SectionTable::section_record))]
+    #[tactic(auto, using(crate::proofs::SectionRecords::sections))]
     pub fn split_first(&self) -> Option<(SectionTable, SectionRecords<'a>)>
         ensures { MatchOption result (recorded_sections self.now ≡ [])
             (λ both. recorded_sections self.now ≡ both.0 ∷ recorded_sections both.1) }

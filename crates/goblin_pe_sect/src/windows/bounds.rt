@@ -1,7 +1,6 @@
 //! The pieces of the address space. A search sees where they begin by a call that counts.
 
-ghost use Rattle.std.specs.Prelude.{◌≡◌, ◌+◌, ◌*◌, ◌^◌, ◌<◌, ◌≤◌, ◌↔◌, IsTrue, length};
-ghost use Rattle.std.specs.Prelude.{slice_index};
+ghost use Rattle.std.specs.Prelude.{◌≡◌, ◌+◌, ◌*◌, ◌^◌, ◌<◌, ◌≤◌, ◌↔◌, IsTrue, length, slice_index};
 ghost use Rattle.goblin_pe_sect.specs.WindowIndex.{begins_of};
 ghost use Rattle.goblin_pe_sect.specs.WindowIndexFields.{KeepsBoundsAlone};
 

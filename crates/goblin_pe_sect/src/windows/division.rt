@@ -5,8 +5,7 @@
 //! its owner.
 
 ghost use Rattle.std.specs.Prelude.{◌≡◌, ◌+◌, ◌*◌, ◌<◌, ◌≤◌, ◌∷◌, ℕ, [], ◌++◌, length, IsTrue};
-ghost use Rattle.std.specs.Prelude.{IfOk};
-ghost use Rattle.std.specs.Prelude.{None, Some, vec_capacity};
+ghost use Rattle.std.specs.Prelude.{IfOk, None, Some, vec_capacity};
 ghost use Rattle.goblin_pe_sect.specs.WindowDivision.{HasPieceRoom, IsDivision};
 ghost use Rattle.goblin_pe_sect.specs.WindowIndex.{begins_of, owners_of};
 

@@ -52,7 +52,6 @@ impl Record for AuxFunctionDefinition {
         COFF_SYMBOL_SIZE
     }
 
-    #[tactic(auto, unfolding(crate::specs::AuxiliarySymbols::function_definition_record))]
     fn in_record(bytes: &[u8], endian: Endian) -> AuxFunctionDefinition {
         AuxFunctionDefinition {
             tag_index: field_u32(bytes, 0, endian),
@@ -63,7 +62,7 @@ impl Record for AuxFunctionDefinition {
         }
     }
 
-    #[tactic(auto, unfolding(crate::specs::AuxiliarySymbols::function_definition_fields), using(crate::proofs::AuxiliarySymbolsRoundTrip::function_definition_back, crate::proofs::AuxiliarySymbolsRoundTrip::function_definition_again))]
+    #[tactic(auto, using(crate::proofs::AuxiliarySymbolsRoundTrip::round_trips))]
     fn put(self, bytes: &mut [u8], endian: Endian) {
         let fields = [
             Field::U32(self.tag_index),
@@ -130,7 +129,6 @@ impl Record for AuxBeginAndEndFunction {
         COFF_SYMBOL_SIZE
     }
 
-    #[tactic(auto, unfolding(crate::specs::AuxiliarySymbols::begin_and_end_function_record))]
     fn in_record(bytes: &[u8], endian: Endian) -> AuxBeginAndEndFunction {
         AuxBeginAndEndFunction {
             unused1: field_array(bytes, 0),
@@ -141,7 +139,7 @@ impl Record for AuxBeginAndEndFunction {
         }
     }
 
-    #[tactic(auto, unfolding(crate::specs::AuxiliarySymbols::begin_and_end_function_fields), using(crate::proofs::AuxiliarySymbolsRoundTrip::begin_and_end_function_back, crate::proofs::AuxiliarySymbolsRoundTrip::begin_and_end_function_again))]
+    #[tactic(auto, using(crate::proofs::AuxiliarySymbolsRoundTrip::round_trips))]
     fn put(self, bytes: &mut [u8], endian: Endian) {
         let fields = [
             Field::Bytes(&self.unused1),
@@ -203,7 +201,6 @@ impl Record for AuxWeakExternal {
         COFF_SYMBOL_SIZE
     }
 
-    #[tactic(auto, unfolding(crate::specs::AuxiliarySymbols::weak_external_record))]
     fn in_record(bytes: &[u8], endian: Endian) -> AuxWeakExternal {
         AuxWeakExternal {
             tag_index: field_u32(bytes, 0, endian),
@@ -212,7 +209,7 @@ impl Record for AuxWeakExternal {
         }
     }
 
-    #[tactic(auto, unfolding(crate::specs::AuxiliarySymbols::weak_external_fields), using(crate::proofs::AuxiliarySymbolsRoundTrip::weak_external_back, crate::proofs::AuxiliarySymbolsRoundTrip::weak_external_again))]
+    #[tactic(auto, using(crate::proofs::AuxiliarySymbolsRoundTrip::round_trips))]
     fn put(self, bytes: &mut [u8], endian: Endian) {
         let fields = [
             Field::U32(self.tag_index),
@@ -281,7 +278,6 @@ impl Record for AuxSectionDefinition {
         COFF_SYMBOL_SIZE
     }
 
-    #[tactic(auto, unfolding(crate::specs::AuxiliarySymbols::section_definition_record))]
     fn in_record(bytes: &[u8], endian: Endian) -> AuxSectionDefinition {
         AuxSectionDefinition {
             length: field_u32(bytes, 0, endian),
@@ -294,7 +290,7 @@ impl Record for AuxSectionDefinition {
         }
     }
 
-    #[tactic(auto, unfolding(crate::specs::AuxiliarySymbols::section_definition_fields), using(crate::proofs::AuxiliarySymbolsRoundTrip::section_definition_back, crate::proofs::AuxiliarySymbolsRoundTrip::section_definition_again))]
+    #[tactic(auto, using(crate::proofs::AuxiliarySymbolsRoundTrip::round_trips))]
     fn put(self, bytes: &mut [u8], endian: Endian) {
         let fields = [
             Field::U32(self.length),

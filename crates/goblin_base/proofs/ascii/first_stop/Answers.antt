@@ -1,5 +1,5 @@
 use Rattle.std.proofs.Common.{arith}
-use Rattle.goblin_base.proofs.AsciiRuns.{byte_after, run_after}
+use Rattle.goblin_base.proofs.AsciiRuns.{run_after}
 use Rattle.goblin_base.proofs.ascii.first_stop.Goals as goal
 
 pub returns-in-Some-clause-plain : goal.returns-in-Some-clause-plain
@@ -9,6 +9,3 @@ returns-in-Some-clause-plain c =
 pub lanes-preserved : goal.lanes-preserved
 lanes-preserved c =
     (omega (arith, c.lanes-test.true), run_after c.args.bytes.now c.lanes.at 16 c.lanes.invariant.1 (c.stop_in_lanes.ensures.none c.in_default.is), omega (arith, c.lanes.invariant.2))
-
-pub returns-in-Some-clause-stops : goal.returns-in-Some-clause-stops
-returns-in-Some-clause-stops c = rw (← byte_after c.args.bytes.now c.lanes.at c.in-Some.run') c.in-Some.ensures.stops

@@ -14,7 +14,6 @@ use crate::export::tables::ExportAddressTableEntry;
 use goblin_pe_sect::address_map::Finder;
 
 // Whether an entry of the address table is no forwarder, or one whose text can be read.
-#[tactic(auto, unfolding(crate::specs::ExportReadings::reexport_of))]
 fn reads_forwarder(bytes: &[u8], address: ExportAddressTableEntry, finder: &mut Finder<'_>) -> bool
     ensures value { let m = map_of finder.old in
         result ≡ reads_forwarder (offset_of m) bytes.now address }

@@ -3,7 +3,7 @@ use Rattle.goblin_base.specs.declared.endian.Endian.TheVariants.{Little}
 use Rattle.goblin_base.proofs.RecordItems.{length-records_in}
 use Rattle.goblin_pe_sect.specs.BaseRelocations.{word_record}
 use Rattle.goblin_pe_records.specs.Onward.{GivesOnward}
-use Rattle.goblin_pe_records.specs.Words.{block_words, word_said, words_said}
+use Rattle.goblin_pe_records.specs.Words.{word_said, words_said}
 use Rattle.goblin_pe_records.proofs.word.next_words.Goals as goal
 
 pub returns : goal.returns

@@ -19,7 +19,6 @@ unfolding directories_at entry
 all-entries count o bytes le = rw (le-leb count 16 le) refl
 
 pub entries-init : goal.entries-init
-unfolding concat_below
 entries-init c = sym (marked_nil c.args.marks.now)
 
 pub entries-preserved : goal.entries-preserved
@@ -30,10 +29,3 @@ entries-preserved c =
     let same = slice-cut bytes (c.args.offset + 8 * c.entries.i) c.saturating_add-place.result short c.saturating_add-place.ensures 8 (omega arith) in
     marked_below (entry bytes c.args.offset) c.entries.i c.args.marks.now c.entries.marks c.add_slice.new.marks c.entries.invariant
     (c.add_slice.ensures ∙ ap (marked c.entries.marks) same)
-
-pub returns : goal.returns
-unfolding entry
-returns c =
-    let end : c.entries.i ≡ c.args.count = omega (arith, c.entries-test.false, c.entries.auto.i-end) in
-    let all = all-entries c.args.count c.args.offset c.args.bytes.now c.if-count-gt-NUM_DATA_DIRECTORIES.false in
-    rw (all, ← end) c.entries.invariant

@@ -1,4 +1,4 @@
-use Rattle.std.proofs.Common.{List, Option, [], ap, arith, length, refl, sym, unwrap_or, ◌≡◌, ◌∙◌}
+use Rattle.std.proofs.Common.{ℕ, List, Option, [], ap, arith, length, refl, sym, unwrap_or, ◌≡◌, ◌∙◌}
 use Rattle.std.specs.Option.{option_to_list}
 use Rattle.std.proofs.lemmas.Result.{err_from_is_err_and}
 use Rattle.goblin_base.specs.Tables.{concat_below}
@@ -7,25 +7,26 @@ use Rattle.goblin_pe_sect.specs.declared.address_map.AddressMap.{AddressMap}
 use Rattle.goblin_pe_export.specs.ExportRecords.{ExportRow}
 use Rattle.goblin_pe_export.specs.Exports.{export_row}
 use Rattle.goblin_pe_export.proofs.ExportRoom.{room_expected}
-use Rattle.goblin_pe_export.proofs.ExportRows.{row_more, row_none, rows_listed, rows_none}
+use Rattle.goblin_pe_export.proofs.ExportRows.{row_more, row_none, rows_listed}
 use Rattle.goblin_pe_export.proofs.export.Export.parse_by.Goals as goal
 use Rattle.goblin_pe_export.proofs.export.Export.parse_by.Goals.{in-Some+in_ok-add_row, in_default}
 
 pub rows-init : goal.rows-init
 rows-init c =
-    (c.new-rows.ensures.items ∙ sym (rows_none _), (λ _. c.new-rows.ensures.capacity, omega (arith, c.new-rows.ensures.capacity)), c.of-finder.ensures)
+    (c.new-rows.ensures.items, (λ _. c.new-rows.ensures.capacity, omega (arith, c.new-rows.ensures.capacity)), c.of-finder.ensures)
 
 pub rows-preserved : goal.rows-preserved
 rows-preserved c =
-    let row : AddressMap → Option ExportRow =
-    λ m. export_row (offset_of (map_of m)) c.args.bytes.now c.args.export_data.now c.rows.index in
-    let here = ap row c.rows.invariant.2 in
+    let row : AddressMap → ℕ → Option ExportRow =
+    λ m. export_row (offset_of (map_of m)) c.args.bytes.now c.args.export_data.now in
+    let each = row c.args.address_map.now in
+    let here = ap (λ m. row m c.rows.index) c.rows.invariant.2 in
     let same = c.of_pointer-export.ensures.same ∙ c.rows.invariant.2 in
     elim c.match-export.branch [
       | in-Some+in_ok-add_row w ↦
           rw w.rows-is
-          (w.in_ok-add_row.ensures.added ∙ row_more _ _ _ c.rows.invariant.0 _ (sym w.in-Some.ensures.value.0 ∙ here), w.in_ok-add_row.ensures.room c.rows.invariant.1, same)
-      | in_default w ↦ rw w.rows-is (row_none _ _ _ c.rows.invariant.0 (sym w.in_default.ensures.value ∙ here), c.rows.invariant.1, same)
+          (w.in_ok-add_row.ensures.added ∙ row_more each c.rows.index _ c.rows.invariant.0 _ (sym w.in-Some.ensures.value.0 ∙ here), w.in_ok-add_row.ensures.room c.rows.invariant.1, same)
+      | in_default w ↦ rw w.rows-is (row_none each c.rows.index _ c.rows.invariant.0 (sym w.in_default.ensures.value ∙ here), c.rows.invariant.1, same)
     ]
 
 pub returns-in_err-add_row-clause-grown : goal.returns-in_err-add_row-clause-grown

@@ -1,6 +1,5 @@
 use Rattle.std.proofs.Common.{◌≡◌, ℕ, Option, List, length, sym, arith}
 use Rattle.goblin_base.specs.Footprints.{Range}
-use Rattle.goblin_base.specs.Tables.{concat_below}
 use Rattle.goblin_base.proofs.Marks.{marked_nil}
 use Rattle.goblin_base.proofs.Ranges.{marked_below}
 use Rattle.goblin_pe_sect.specs.Addresses.{map_of, offset_of}
@@ -13,7 +12,6 @@ row_reach : (ℕ → Option ℕ) → ExportTables → List ℕ → ℕ → List 
 row_reach offset_of tables bytes i = (export_row offset_of tables i).reaches bytes
 
 pub pointers-init : goal.pointers-init
-unfolding concat_below
 pointers-init g c = sym (marked_nil c.args.marks.now)
 
 pub pointers-preserved : goal.pointers-preserved

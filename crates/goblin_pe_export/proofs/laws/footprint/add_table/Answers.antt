@@ -1,12 +1,11 @@
 use Rattle.std.proofs.Common.{◌≡◌, ◌+◌, ◌-◌, ◌*◌, ◌/◌, [], length, sym, ◌∙◌, arith}
 use Rattle.std.specs.Prelude.{min}
-use Rattle.goblin_base.specs.Footprints.{led_to, positions}
+use Rattle.goblin_base.specs.Footprints.{positions}
 use Rattle.goblin_base.proofs.Marks.{marked_nil}
 use Rattle.goblin_base.proofs.SlotFootprints.{positions-none}
 use Rattle.goblin_pe_export.proofs.laws.footprint.add_table.Goals as goal
 
 pub returns-then-whole-eq0 : goal.returns-then-whole-eq0
-unfolding led_to
 returns-then-whole-eq0 c =
     let begin = c.in-Some.begin in
     let zero : min ((length c.args.bytes.now - begin) / c.args.width) c.args.count ≡ 0 = sym c.room-whole.ensures ∙ c.if-whole-eq0.true in

@@ -1,7 +1,7 @@
 use Rattle.std.proofs.Common.{◌≡◌, None, Some, [], ◌++◌, append-nil, drop}
 use Rattle.goblin_base.specs.declared.endian.Endian.TheVariants.{Little}
 use Rattle.goblin_base.specs.Bytes.{number_at}
-use Rattle.goblin_base.specs.Footprints.{led_to, slice_footprint}
+use Rattle.goblin_base.specs.Footprints.{slice_footprint}
 use Rattle.goblin_base.proofs.Numbers.{rest_is_drop}
 use Rattle.goblin_base.proofs.Ranges.{marked_then}
 use Rattle.readings.specs.Reads.{in_rest}
@@ -10,7 +10,6 @@ use Rattle.goblin_pe_head.proofs.HeaderRanges.{led_by, optional-reaches}
 use Rattle.goblin_pe_head.proofs.laws.header.add_optional_header.Goals as goal
 
 pub returns-in_default : goal.returns-in_default
-unfolding led_to
 returns-in_default c =
     let bytes = c.args.bytes.now in
     let p = c.args.offset in
@@ -19,7 +18,6 @@ returns-in_default c =
     rw (optional-reaches p bytes, none, all) c.add_slice.ensures
 
 pub returns-in_default-fixed_fields : goal.returns-in_default-fixed_fields
-unfolding led_to
 returns-in_default-fixed_fields c =
     let old = c.args.marks.now in
     let bytes = c.args.bytes.now in
@@ -33,7 +31,6 @@ returns-in_default-fixed_fields c =
     (marked_then old c.add_slice.new.marks c.add_fields.new.marks (slice_footprint bytes p 2) fields c.add_slice.ensures c.add_fields.ensures)
 
 pub returns : goal.returns
-unfolding led_to
 returns c =
     let old = c.args.marks.now in
     let bytes = c.args.bytes.now in

@@ -1,14 +1,12 @@
 use Rattle.std.proofs.Common.{◌≡◌, ◌+◌, [], ◌++◌, append-nil, ◌∙◌, arith}
-use Rattle.goblin_base.specs.Footprints.{led_to, slice_footprint}
+use Rattle.goblin_base.specs.Footprints.{slice_footprint}
 use Rattle.goblin_base.proofs.Ranges.{marked_then}
 use Rattle.readings.specs.Reads.{in_rest}
 use Rattle.goblin_pe_head.specs.HeaderReadings.{optional_header}
-use Rattle.goblin_pe_head.proofs.HeaderRanges.{optional-none, optional-there}
-use Rattle.goblin_pe_head.proofs.HeaderRanges.{parts-reaches}
+use Rattle.goblin_pe_head.proofs.HeaderRanges.{optional-none, optional-there, parts-reaches}
 use Rattle.goblin_pe_head.proofs.laws.header.add_parts.Goals as goal
 
 pub returns-in_default : goal.returns-in_default
-unfolding led_to
 returns-in_default c =
     let old = c.args.marks.now in
     let bytes = c.args.bytes.now in
@@ -19,7 +17,6 @@ returns-in_default c =
     (marked_then old c.add_slice.new.marks c.add_slice-2.new.marks (slice_footprint bytes p 4) coff c.add_slice.ensures c.add_slice-2.ensures)
 
 pub returns-then-coff_header-eq0 : goal.returns-then-coff_header-eq0
-unfolding led_to
 returns-then-coff_header-eq0 c =
     let old = c.args.marks.now in
     let bytes = c.args.bytes.now in
@@ -31,7 +28,6 @@ returns-then-coff_header-eq0 c =
     (marked_then old c.add_slice.new.marks c.add_slice-2.new.marks (slice_footprint bytes p 4) coff c.add_slice.ensures c.add_slice-2.ensures)
 
 pub returns : goal.returns
-unfolding led_to
 returns c =
     let old = c.args.marks.now in
     let bytes = c.args.bytes.now in

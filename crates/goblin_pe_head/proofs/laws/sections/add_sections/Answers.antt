@@ -1,7 +1,6 @@
 use Rattle.std.proofs.Common.{◌≡◌, ◌+◌, ◌*◌, ℕ, Bool, List, ap, sym, ◌∙◌, arith}
 use Rattle.goblin_base.specs.Footprints.{Range}
 use Rattle.goblin_base.specs.Marks.{marked}
-use Rattle.goblin_base.specs.Tables.{concat_below}
 use Rattle.goblin_base.proofs.Ranges.{marked_below}
 use Rattle.goblin_pe_sect.specs.Options.{is_strict}
 use Rattle.goblin_pe_sect.specs.SectionReadings.{named_section_at}
@@ -23,7 +22,6 @@ section-here strict table strings start place i bytes same at =
     ∙ ap (λ (p : ℕ). (named_section_at strict table p).reaches bytes) at
 
 pub records-init : goal.records-init
-unfolding concat_below
 records-init c = record { at = omega arith; listed = sym (marked_nil c.args.marks.now) }
 
 pub records-preserved : goal.records-preserved

@@ -1,12 +1,10 @@
 use Rattle.std.proofs.Common.{ap, sym, ◌∙◌, refl, Some, inr, arith}
 use Rattle.std.proofs.lemmas.Option.{slice_get-get_or}
 use Rattle.std.proofs.lemmas.Result.{err_from_is_err_and}
-use Rattle.goblin_base.specs.Tables.{each_below}
 use Rattle.goblin_pe_import.proofs.Imports.{entries-counted, entries-left, library-next, library-refused, slots-refused, slots-there}
 use Rattle.goblin_pe_import.proofs.import.listed.imports_of.Goals as goal
 
 pub libraries-init : goal.libraries-init
-unfolding each_below
 libraries-init c =
     let few = c.in_ok-imports.imports.small in (
       rw c.in_ok-imports.ensures.items refl,
@@ -41,7 +39,7 @@ pub libraries-preserved : goal.libraries-preserved
 libraries-preserved c =
     let here = slice_get-get_or _ _ _ c.libraries-test.true ∙ ap Some (sym c.library-item.is) in
     let rest = entries-left c.args.libraries.now c.libraries.library-index c.library-item.result here in (
-      library-next _ _ _ _ _ _ c.libraries.invariant.0 here c.in_ok-push_imports.ensures.value,
+      library-next _ c.args.libraries.now c.libraries.library-index _ _ _ c.libraries.invariant.0 here c.in_ok-push_imports.ensures.value,
       omega (arith, rest, c.libraries.invariant.1, c.in_ok-push_imports.ensures.counted),
       c.in_ok-push_imports.ensures.same ∙ c.libraries.invariant.2,
     )

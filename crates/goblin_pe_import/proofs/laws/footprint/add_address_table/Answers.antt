@@ -1,5 +1,4 @@
 use Rattle.std.proofs.Common.{sym, arith}
-use Rattle.goblin_base.specs.Footprints.{led_to}
 use Rattle.goblin_base.proofs.Marks.{marked_nil}
 use Rattle.goblin_base.proofs.SlotFootprints.{ranges-end, ranges-next, ranges-start}
 use Rattle.goblin_pe_import.proofs.laws.footprint.add_address_table.Goals as goal
@@ -12,6 +11,5 @@ slots-preserved-in-Some-next_entry g c =
     rw c.size_of-size.ensures.width (ranges-next _ _ _ _ _ _ _ c.slots.invariant _ _ c.in-Some-next_entry.ensures.0 c.in-Some-next_entry.ensures.1 (sym (marked_nil _)))
 
 pub returns : goal.returns
-unfolding led_to
 returns g c =
     rw (c.in-Some.is, ← ranges-end _ _ _ _ _ _ _ c.slots.invariant c.in_default-next_entry.ensures, ← c.size_of-size.ensures.width) c.add_slots.ensures

@@ -1,8 +1,9 @@
-use Rattle.goblin_pe_sect.proofs.Stretches.{rising_all, begins-among, owners-among, owners-sections}
+use Rattle.goblin_pe_sect.proofs.Stretches.{begins-among, owners-among, owners-sections}
+use Rattle.goblin_pe_sect.proofs.Halving.{rising_to}
 use Rattle.goblin_pe_sect.proofs.windows.owners.put_pieces.Goals as goal
 
 pub push_pieces-requires-clause-rising : goal.push_pieces-requires-clause-rising
-push_pieces-requires-clause-rising c = rising_all c.args.begins.now c.requires.rising
+push_pieces-requires-clause-rising c = rising_to c.args.begins.now c.requires.rising
 
 pub returns-clause-begins : goal.returns-clause-begins
 returns-clause-begins c =

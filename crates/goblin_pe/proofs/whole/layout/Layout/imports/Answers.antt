@@ -28,7 +28,7 @@ returns-in_ok-imports-in-Some-clause-walks c =
     list-walked m.opts (offset_of m) (layout_places c.args.self.now) c.in-Some.directory asked c.in-Some.is (layout_bytes c.args.self.now) _ _ (rw c.walked-bytes.ensures.same at c.imports_at.ensures.walks) c.in_ok-imports-in-Some.was
 
 pub returns-in_default-clause-walks : goal.returns-in_default-clause-walks
-unfolding import_list import_data_part part_map
+unfolding import_list import_data_part
 returns-in_default-clause-walks c =
     let m = layout_map c.args.self.now in
     let format = entry_format (layout_places c.args.self.now).magic in
