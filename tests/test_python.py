@@ -392,6 +392,14 @@ class Package(Case):
         self.assertEqual(sum(it.startswith("import ") for it in listed), len(pe.imports))
         self.assertIn("imports absent", succeed([*LISTS, "--no-imports", BY_NAME], env=self.env))
 
+    def test_of_two_refused_tables_the_first_is_told(self):
+        """The imports, whose directory has an address that no section maps, before the exports."""
+        image = images.with_directory(images.with_directory(BY_NAME.read_bytes(), 0, 0x9000, 40), 1, 0xA000, 40)
+        with self.assertRaises(package().Refused) as told:
+            package().Pe(bytes(image))
+        self.assertEqual(run([*LISTS, self.written("both.dll", image)], env=self.env), (1, b"", b"refused: %s\n" % str(told.exception).encode()))
+        self.assertIn("0xa000", str(told.exception))
+
     def test_a_listing_that_can_not_be_written(self):
         status, _, said = run(["sh", "-c", 'exec "$@" > /dev/full', "sh", *LISTS, BY_NAME], env=self.env)
         self.assertEqual(status, 1)

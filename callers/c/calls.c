@@ -125,12 +125,9 @@ static bool is_object(void)
 
 static bool is_sound(void)
 {
+    static const struct goblin_pe_damage none;
     struct goblin_pe_damage damage;
-    struct goblin_pe_fault fault = goblin_pe_read_damage(bytes, length, NULL, &damage);
-    return fault.status == GOBLIN_PE_STATUS_OK && damage.dos_stub.status == GOBLIN_PE_STATUS_OK &&
-           damage.section_names.status == GOBLIN_PE_STATUS_OK && damage.imports.status == GOBLIN_PE_STATUS_OK &&
-           damage.exports.status == GOBLIN_PE_STATUS_OK && damage.relocations.status == GOBLIN_PE_STATUS_OK &&
-           !damage.left_out_libraries && !damage.left_out_entries && !damage.left_out_exports;
+    return is_ok(goblin_pe_read_damage(bytes, length, NULL, &damage)) && !memcmp(&damage, &none, sizeof damage);
 }
 
 /* Whether a header takes as many bytes as is told without room, in no less room, and the section table follows those

@@ -42,9 +42,9 @@ def export(x: Export) -> str:
 
 def image(pe: Layout, has_imports: bool = True) -> Iterator[str]:
     """The lines of an image, of which none is kept. Each table comes by two walks: one that counts, and is refused before there
-    is a line, and one that gives the rows."""
-    exports, relocations = pe._counted(DirectoryType.EXPORT_TABLE), pe._counted(DirectoryType.BASE_RELOCATION_TABLE)
+    is a line, and one that gives the rows. The first that is refused is the one for which `Pe` is refused."""
     imports = pe._counted(DirectoryType.IMPORT_TABLE) if has_imports else (State.ABSENT, 0)
+    exports, relocations = pe._counted(DirectoryType.EXPORT_TABLE), pe._counted(DirectoryType.BASE_RELOCATION_TABLE)
     return lines_of(pe, imports, exports, relocations)
 
 
