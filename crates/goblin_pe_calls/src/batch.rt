@@ -6,7 +6,7 @@ ghost use Rattle.goblin_base.specs.Answers.{IsMemory};
 ghost use Rattle.goblin_pe.specs.Addresses.{MapOfAddresses};
 ghost use Rattle.goblin_pe.specs.Layouts.{layout_bytes, layout_map, layout_places};
 ghost use Rattle.goblin_pe.specs.Whole.{TablePlaces};
-ghost use Rattle.goblin_pe_calls.specs.Batches.{Batch, Fills, GivesRecords};
+ghost use Rattle.goblin_pe_calls.specs.Batches.{Batch, GivesRecords};
 
 use crate::places::layout_at;
 use goblin_pe::options::ParseOptions;
@@ -37,8 +37,14 @@ pub trait Batched<'a>: Sized {
         ensures filled { let m = layout_map layout.now in
             let places = layout_places layout.now in
             let bytes = layout_bytes layout.now in
-            let old : Batch Self.Position Self = record { position = position.old; records = records.old } in
-            let new : Batch Self.Position Self = record { position = position.new; records = records.new } in
+            let old : Batch Self.Position Self = record {
+              position = position.old;
+              records = records.old;
+            } in
+            let new : Batch Self.Position Self = record {
+              position = position.new;
+              records = records.new;
+            } in
             MatchResult result (gives m places bytes old new)
             (λ e. is_fault m places bytes old e × (new ≡ old)) }
         ensures refused { IfErr result (λ e. ¬ IsMemory e) };
@@ -59,8 +65,14 @@ pub fn give<'a, 'e, T: Batched<'a>>(
     records: &mut [T],
     count: &mut usize,
 ) -> ResultOf<'e, ()>
-    ensures { let old : Batch T.Position T = record { position = position.old; records = records.old } in
-        let new : Batch T.Position T = record { position = position.new; records = records.new } in
+    ensures { let old : Batch T.Position T = record {
+      position = position.old;
+      records = records.old;
+    } in
+        let new : Batch T.Position T = record {
+          position = position.new;
+          records = records.new;
+        } in
         GivesRecords opts.now places.now bytes.now T.gives T.is_fault old new count.old count.new
         result }
 {
