@@ -1,8 +1,7 @@
 -- Runs of bytes that are ASCII and no NUL.
 use Rattle.std.proofs.Common.{◌≡◌, ℕ, ◌+◌, ◌-◌, ◌<◌, List, length, sym, ap, ◌∙◌, arith, inl, inr}
-use Rattle.std.specs.Prelude.{slice_index, slice_range}
+use Rattle.std.proofs.Common.{slice_index, slice_range, get_or-drop}
 use Rattle.std.proofs.lemmas.Bool.{cases_lt}
-use Rattle.std.proofs.lemmas.List.{get_or-drop}
 use Rattle.goblin_base.proofs.Numbers.{rest_is_drop}
 
 -- the byte is ASCII and no NUL

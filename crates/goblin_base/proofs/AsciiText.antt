@@ -1,6 +1,5 @@
 -- A run of ASCII without a NUL is the text before the first NUL.
-use Rattle.std.proofs.Common.{◌≡◌, ℕ, ◌<◌, ◌≤◌, false, List, take, length, IsUtf8, IsAscii, Some, ap, ◌∙◌, arith, inl, inr}
-use Rattle.std.specs.Prelude.{◌==◌, slice_index}
+use Rattle.std.proofs.Common.{◌≡◌, ℕ, ◌<◌, ◌≤◌, false, List, take, length, IsUtf8, IsAscii, Some, ap, ◌∙◌, arith, inl, inr, ◌==◌, slice_index}
 use Rattle.std.specs.List.{position_or_len}
 use Rattle.std.proofs.lemmas.Bool.{cases_lt, ne_eqb, eq-eqb, cond-true}
 use Rattle.std.proofs.lemmas.List.{get_or-take, length-take, get_or_past}

@@ -1,10 +1,7 @@
 -- What is reached lies in the file: one lemma for each form of footprint.
-use Rattle.std.proofs.Common.{◌≡◌, ◌<◌, ◌≤◌, ◌+◌, ◌*◌, ℕ, zero, suc, min}
-use Rattle.std.proofs.Common.{Bool, true, false, cond, nat_le, nat_lt, Option, Some, None}
-use Rattle.std.proofs.Common.{List, [], ◌∷◌, ◌++◌, length, subst, refl, arith, inl, inr}
-use Rattle.std.specs.List.{All}
-use Rattle.std.specs.Option.{is_some}
-use Rattle.std.specs.Prelude.{is_none}
+use Rattle.std.proofs.Common.{◌≡◌, ◌<◌, ◌≤◌, ◌+◌, ◌*◌, ℕ, zero, suc, min, Bool, true, false, cond}
+use Rattle.std.proofs.Common.{nat_le, nat_lt, Option, Some, None, List, [], ◌∷◌, ◌++◌, length}
+use Rattle.std.proofs.Common.{subst, refl, arith, inl, inr, is_none, All, is_some}
 use Rattle.std.proofs.lemmas.Bool.{cases_lt, leb-true, ltb-true}
 use Rattle.std.proofs.lemmas.List.Elements.{All-append, All-cons, All-nil}
 use Rattle.goblin_base.specs.Bytes.{stretch}

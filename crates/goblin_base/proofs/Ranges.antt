@@ -1,10 +1,9 @@
 -- Ranges that are marked: those of a text, those of a part of the bytes, and those of pieces one
 -- after the other.
 use Rattle.std.proofs.Common.{Bool, ◌≡◌, ℕ, zero, suc, ◌+◌, ◌-◌, min, true, false, nat_le, nat_lt}
-use Rattle.std.proofs.Common.{Option, Some, None, List, [], ◌++◌, length, take, drop}
-use Rattle.std.proofs.Common.{ap, sym, ◌∙◌, refl, arith, inl, inr}
+use Rattle.std.proofs.Common.{Option, Some, None, List, [], ◌++◌, length, take, drop, ap, sym, ◌∙◌}
+use Rattle.std.proofs.Common.{refl, arith, inl, inr, lt-ltb, ltb-false, ltb-true}
 use Rattle.std.proofs.lemmas.Bool.{cases_Bool, le-leb, le-ltb, leb-false, leb-true}
-use Rattle.std.proofs.lemmas.Bool.{lt-ltb, ltb-false, ltb-true}
 use Rattle.std.proofs.lemmas.List.{length-drop, map-append}
 use Rattle.goblin_base.specs.Bytes.{before_nul}
 use Rattle.goblin_base.specs.Footprints.{Range, led_to, positions, slice_footprint}

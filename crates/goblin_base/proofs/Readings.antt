@@ -1,10 +1,8 @@
 -- The laws of readings, once for each way to put them together; and what they give for two files.
-use Rattle.std.proofs.Common.{◌≡◌, ◌<◌, ◌+◌, ◌-◌, ◌++◌, ℕ, Bool, cond, nat_lt, length, drop}
-use Rattle.std.proofs.Common.{List, Option, Some, None, Result, ap, subst, sym, inl, inr, ◌∙◌}
-use Rattle.std.proofs.Common.{arith, take_all}
-use Rattle.std.specs.Prelude.{IsSomeAnd, option_map, slice_range}
+use Rattle.std.proofs.Common.{◌≡◌, ◌<◌, ◌+◌, ◌-◌, ◌++◌, ℕ, Bool, cond, nat_lt, length, drop, List}
+use Rattle.std.proofs.Common.{Option, Some, None, Result, ap, subst, sym, inl, inr, ◌∙◌, arith}
+use Rattle.std.proofs.Common.{take_all, IsSomeAnd, option_map, slice_range, length-drop}
 use Rattle.std.proofs.lemmas.Bool.{cases_Bool, cond-false, ltb-true}
-use Rattle.std.proofs.lemmas.List.{length-drop}
 use Rattle.std.specs.declared.alloc.AllocError.{AllocError}
 use Rattle.goblin_base.specs.declared.endian.Endian.{Endian}
 use Rattle.goblin_base.specs.declared.error.CauseOf.{CauseOf}

@@ -1,7 +1,6 @@
 -- The result of a read of a file, in one definition: its value, if it has one; which cause is true,
 -- if it has none; and which positions of the file it reaches.
-use Rattle.std.specs.Prelude.{◌≡◌, ◌<◌, ◌≤◌, ℕ, List, Option, Some, Result, length}
-use Rattle.std.specs.List.{All}
+use Rattle.std.specs.Prelude.{◌≡◌, ◌<◌, ◌≤◌, ℕ, List, Option, Some, Result, length, All}
 use Rattle.goblin_base.specs.declared.error.ErrorOf.{ErrorOf}
 use Rattle.goblin_base.specs.Answers.{Answers, AnswersOrMemory, IsMemory}
 use Rattle.goblin_base.specs.Footprints.{Agree, Alike, AlikeOrMemory, Range}

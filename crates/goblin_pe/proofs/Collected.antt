@@ -1,7 +1,6 @@
 -- What is made of a file's imports, one by one, and of its export tables is made of the file's own value.
-use Rattle.std.proofs.Common.{◌≡◌, ◌∙◌, ℕ, List, Bool, true, false}
-use Rattle.std.proofs.Common.{Option, Some, None, refl, ap, inl, inr}
-use Rattle.std.specs.Prelude.{◌⊎◌, option_map}
+use Rattle.std.proofs.Common.{◌≡◌, ◌∙◌, ℕ, List, Bool, true, false, Option, Some, None, refl, ap}
+use Rattle.std.proofs.Common.{inl, inr, ◌⊎◌, option_map}
 use Rattle.goblin_base.specs.declared.error.ErrorOf.{ErrorOf}
 use Rattle.goblin_base.specs.Reading.{Reading}
 use Rattle.goblin_base.proofs.Steps as steps

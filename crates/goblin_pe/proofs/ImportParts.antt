@@ -1,10 +1,7 @@
 -- The imports of a file as a part of it: permissive mode refuses no import data, and the part has what a walk over them collects.
-use Rattle.std.proofs.Common.{◌≡◌, ℕ, Bool, true, false, cond, List, Option, Some, None, IsSome, refl, subst, sym, ap, ◌∙◌, length, map, not, ◌&&◌, ◌==◌, ◌<◌, ◌^◌}
-use Rattle.std.specs.Prelude.{option_map, Result, Ok, Err}
-use Rattle.std.specs.List.{flat_map}
+use Rattle.std.proofs.Common.{◌≡◌, ℕ, Bool, true, false, cond, List, Option, Some, None, IsSome, refl, subst, sym, ap, ◌∙◌, length, map, not, ◌&&◌, ◌==◌, ◌<◌, ◌^◌, option_map, Result, Ok, Err, map-id, flat_map}
 use Rattle.goblin_base.specs.declared.error.ErrorOf.{ErrorOf}
 use Rattle.goblin_base.specs.Answers.{◌>>=◌, all_of}
-use Rattle.std.proofs.lemmas.List.{map-id}
 use Rattle.goblin_base.specs.Bytes.{IsBytes}
 use Rattle.goblin_base.specs.Reading.{Reading, ReadsOrMemory}
 use Rattle.goblin_base.specs.Tables as tables

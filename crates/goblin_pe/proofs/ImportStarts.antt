@@ -1,6 +1,5 @@
 -- Where the imports of a file start, and a walk from there on.
-use Rattle.std.proofs.Common.{◌≡◌, ℕ, List, Option, None, Some, Result, Ok, Err, Bool, true, false, refl, subst, sym, ◌∙◌}
-use Rattle.std.specs.Prelude.{IfErr, IfOk, IfSome, IsSome, IsSomeAnd, option_map}
+use Rattle.std.proofs.Common.{◌≡◌, ℕ, List, Option, None, Some, Result, Ok, Err, Bool, true, false, refl, subst, sym, ◌∙◌, IfErr, IfOk, IfSome, IsSome, IsSomeAnd, option_map}
 use Rattle.goblin_base.specs.declared.error.ErrorOf.{ErrorOf}
 use Rattle.goblin_base.specs.Answers.{IsMemory}
 use Rattle.goblin_base.specs.Reading.{Reading}

@@ -1,10 +1,7 @@
 -- What is kept of each library's imports is what is kept of the list of all imports.
 use Rattle.std.proofs.Common.{◌≡◌, ◌∙◌, ◌≤◌, ◌++◌, ◌∷◌, ℕ, zero, suc, List, [], Bool, true, false}
 use Rattle.std.proofs.Common.{IsSome, None, Option, Some, ap, append-nil, arith, length, map, refl}
-use Rattle.std.proofs.Common.{sym, take_all}
-use Rattle.std.specs.Prelude.{get_or, slice_get, take, unwrap_or}
-use Rattle.std.specs.List.{flat_map}
-use Rattle.std.proofs.Math.Seq.{take-suc}
+use Rattle.std.proofs.Common.{sym, take_all, get_or, slice_get, take, unwrap_or, take-suc, flat_map}
 use Rattle.std.proofs.lemmas.List.{map-append}
 use Rattle.std.proofs.lemmas.List.Concat.{flat_map-append}
 use Rattle.std.proofs.lemmas.Option.{get_or_from_slice_get}
@@ -20,7 +17,7 @@ use Rattle.goblin_pe.specs.declared.whole.Part.{Part}
 use Rattle.goblin_pe.specs.declared.whole.Part.TheVariants.{Absent, Refused}
 use Rattle.goblin_pe.specs.declared.whole.Part.TheVariants as part
 use Rattle.goblin_pe.specs.Whole.{TablePlaces, entry_format, listed_imports_part}
-use Rattle.goblin_pe.specs.Whole.{part_map, part_of, part_then}
+use Rattle.goblin_pe.specs.Whole.{part_map, part_of}
 
 -- the imports of import data that a list can be made from
 unfoldable pub listed_imports : ℕ → Part (List ImportedLibrary) → Part (List ImportValue)

@@ -1,6 +1,5 @@
 -- A file that has the bytes of a key agrees with the file whose key it is, and the other way round.
-use Rattle.std.proofs.Common.{◌≡◌, ℕ, List, length, sym, subst, ◌∙◌}
-use Rattle.std.specs.List.{All}
+use Rattle.std.proofs.Common.{◌≡◌, ℕ, List, length, sym, subst, ◌∙◌, All}
 use Rattle.goblin_pe_sect.specs.declared.options.ParseOptions.{ParseOptions}
 use Rattle.goblin_base.specs.Footprints.{Agree, Range}
 use Rattle.goblin_pe.specs.Keys.{HasKeptRange, IsKeyOf, KeptRange}

@@ -1,6 +1,5 @@
 -- Of the part of a file that is its import data a list of imports can be made.
-use Rattle.std.proofs.Common.{◌≡◌, ℕ, ◌<◌, ◌^◌, Bool, true, false, cond, List, [], length, Option, Some, None, IsSome, refl, subst}
-use Rattle.std.specs.Prelude.{unwrap_or}
+use Rattle.std.proofs.Common.{◌≡◌, ℕ, ◌<◌, ◌^◌, Bool, true, false, cond, List, [], length, Option, Some, None, IsSome, refl, subst, unwrap_or}
 use Rattle.goblin_base.specs.Bytes.{IsBytes}
 use Rattle.goblin_base.proofs.Steps.{same_value}
 use Rattle.goblin_pe_sect.specs.declared.data_directories.DataDirectory.{DataDirectory}
@@ -15,7 +14,7 @@ use Rattle.goblin_pe.specs.declared.whole.Part.{Part}
 use Rattle.goblin_pe.specs.declared.whole.Part.TheVariants.{Absent, Refused}
 use Rattle.goblin_pe.specs.declared.whole.Part.TheVariants as part
 use Rattle.goblin_pe.proofs.KeptImports.{HasList, listed_imports}
-use Rattle.goblin_pe.specs.Whole.{TablePlaces, entry_format, import_data_part, listed_imports_part, part_at, part_map, part_of, part_then}
+use Rattle.goblin_pe.specs.Whole.{TablePlaces, entry_format, import_data_part, listed_imports_part, part_at, part_of}
 
 part-there : {A : Type 0} (strict : Bool) (table : Option (List A)) → IsSome table → part_of strict table ≡ Some (part.Read (unwrap_or table []))
 part-there strict None there = absurd cc

@@ -1,6 +1,5 @@
 -- Files that agree on what a read of the whole file reaches have the same exports with their numbers.
-use Rattle.std.proofs.Common.{◌≡◌, ◌∙◌, ◌<◌, ◌≤◌, ◌+◌, ◌-◌, ◌++◌, ℕ, zero, suc, List, length, Bool, true, false, Option, Some, None, refl, ap, subst, arith}
-use Rattle.std.specs.Prelude.{filter_map}
+use Rattle.std.proofs.Common.{◌≡◌, ◌∙◌, ◌<◌, ◌≤◌, ◌+◌, ◌-◌, ◌++◌, ℕ, zero, suc, List, length, Bool, true, false, Option, Some, None, refl, ap, subst, arith, filter_map}
 use Rattle.std.specs.List.{cons_option, range_with_len}
 use Rattle.goblin_base.specs.Footprints.{Agree}
 use Rattle.goblin_base.proofs.Footprints.{agree-below, agree-led, agree-left, agree-right}

@@ -1,6 +1,5 @@
 -- What the records of sections tell without the names from the string table, and what it says of the sections.
-use Rattle.std.proofs.Common.{◌≡◌, ℕ, ◌+◌, ◌*◌, ◌/◌, ◌<◌, List, Bool, length, map, refl, sym, ap, subst, ◌∙◌, arith}
-use Rattle.std.specs.Prelude.{IsSome, None, Ok, Err, Option, Result, Some, option_map}
+use Rattle.std.proofs.Common.{◌≡◌, ℕ, ◌+◌, ◌*◌, ◌/◌, ◌<◌, List, Bool, length, map, refl, sym, ap, subst, ◌∙◌, arith, IsSome, None, Ok, Err, Option, Result, Some, option_map}
 use Rattle.std.specs.Result.{result_err}
 use Rattle.std.specs.List.{range_with_len}
 use Rattle.std.proofs.lemmas.List.FromFn.{length-map-range_with_len}

@@ -1,6 +1,5 @@
 -- Want of memory for sections tells that there are some, and that the file has room for them.
-use Rattle.std.proofs.Common.{◌≡◌, ◌∙◌, ◌<◌, ◌+◌, ◌*◌, List, [], ℕ, zero, suc, Bool, ap, arith, length, sym}
-use Rattle.std.specs.Prelude.{◌/◌, IsSomeAnd, Some}
+use Rattle.std.proofs.Common.{◌≡◌, ◌∙◌, ◌<◌, ◌+◌, ◌*◌, List, [], ℕ, zero, suc, Bool, ap, arith, length, sym, ◌/◌, IsSomeAnd, Some}
 use Rattle.goblin_base.specs.declared.error.ErrorOf.{ErrorOf}
 use Rattle.goblin_base.specs.Answers.{IsMemory}
 use Rattle.goblin_pe_head.specs.declared.header.te.TeHeader.{TeHeader}

@@ -1,7 +1,6 @@
 -- What the tables of a layout reach is what those of its file reach.
-use Rattle.std.proofs.Common.{◌≡◌, Bool, List, ℕ, None, Option, Some, ap, append-nil, sym, ◌∙◌}
+use Rattle.std.proofs.Common.{◌≡◌, Bool, List, ℕ, None, Option, Some, ap, append-nil, sym, ◌∙◌, map}
 use Rattle.std.specs.Option.{option_map}
-use Rattle.std.specs.Prelude.{map}
 use Rattle.goblin_base.specs.Marks.{marked}
 use Rattle.goblin_base.proofs.Marks.{marked_append}
 use Rattle.goblin_pe_sect.specs.declared.options.ParseOptions.{ParseOptions}

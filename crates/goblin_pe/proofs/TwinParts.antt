@@ -1,7 +1,6 @@
 -- The readers of headers and of single tables have the same values, and answer alike, for files
 -- that agree on what each reaches.
-use Rattle.std.proofs.Common.{◌≡◌, ℕ, Bool, List, None, Option, IsSomeAnd}
-use Rattle.std.specs.Prelude.{option_map}
+use Rattle.std.proofs.Common.{◌≡◌, ℕ, Bool, List, None, Option, IsSomeAnd, option_map}
 use Rattle.goblin_base.specs.declared.endian.Endian.{Endian}
 use Rattle.goblin_base.specs.declared.error.ErrorOf.{ErrorOf}
 use Rattle.goblin_base.specs.Answers.{IsMemory}

@@ -1,7 +1,6 @@
 -- A whole file: its header, its sections, and the tables that its directories lead to.
-use Rattle.std.specs.Prelude.{◌≡◌, ℕ, ◌+◌, ◌==◌, Bool, true, false, if◌then◌else◌, List, Option}
-use Rattle.std.specs.Prelude.{Some, None, Result, Ok, Err, Vec, IsSomeAnd, map, option_map}
-use Rattle.std.specs.List.{flat_map}
+use Rattle.std.specs.Prelude.{◌≡◌, ℕ, ◌+◌, ◌==◌, Bool, true, false, if◌then◌else◌, List, Option, Ok}
+use Rattle.std.specs.Prelude.{Some, None, Result, Err, Vec, IsSomeAnd, map, option_map, flat_map}
 use Rattle.std.specs.Global.{Global}
 use Rattle.std.specs.declared.alloc.AllocError.{AllocError}
 use Rattle.std.proofs.Common.{inl, inr}

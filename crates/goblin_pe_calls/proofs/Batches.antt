@@ -1,10 +1,9 @@
 -- A loop that fills records with what comes next.
-use Rattle.std.proofs.Common.{◌≡◌, ◌⊎◌, ℕ, ◌+◌, ◌<◌, ◌≤◌, List, [], ◌∷◌, ◌++◌, length, map, take, drop, set, ap, subst, sym, refl, arith, ◌∙◌, inl, inr}
-use Rattle.std.specs.Prelude.{Option, None, Some, min}
+use Rattle.std.proofs.Common.{◌≡◌, ◌⊎◌, ℕ, ◌+◌, ◌<◌, ◌≤◌, List, [], ◌∷◌, ◌++◌, length, map, take, drop, set, ap, subst, sym, refl, arith, ◌∙◌, inl, inr, Option, None, Some, min}
 use Rattle.std.proofs.Math.Nat.{min-eq_left, min-eq_right}
 use Rattle.std.proofs.Math.Seq.{drop-append_seam, take-append_seam}
 use Rattle.std.proofs.lemmas.List.{append_assoc, length-append, length-map, length-set, map-append, take_all}
-use Rattle.goblin_pe_calls.specs.Batches.{AtBatch, IsBatch, IsRefusedNext, values_before}
+use Rattle.goblin_pe_calls.specs.Batches.{AtBatch, IsBatch, values_before}
 use Rattle.goblin_pe_records.specs.Filled.{Filled}
 use Rattle.goblin_pe_records.proofs.Items.{room}
 

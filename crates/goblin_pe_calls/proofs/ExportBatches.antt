@@ -1,6 +1,5 @@
 -- A loop that fills records with the exports of a file from a position on.
-use Rattle.std.proofs.Common.{◌≡◌, ◌⊎◌, ℕ, zero, suc, ◌+◌, ◌<◌, ◌≤◌, List, [], ◌∷◌, ◌++◌, length, drop, set, ap, refl, subst, sym, arith, ◌∙◌, inl, inr}
-use Rattle.std.specs.Prelude.{IsSomeAnd, Option, None, Some}
+use Rattle.std.proofs.Common.{◌≡◌, ◌⊎◌, ℕ, zero, suc, ◌+◌, ◌<◌, ◌≤◌, List, [], ◌∷◌, ◌++◌, length, drop, set, ap, refl, subst, sym, arith, ◌∙◌, inl, inr, IsSomeAnd, Option, None, Some}
 use Rattle.std.specs.Iterator.{YieldsFirstBy}
 use Rattle.goblin_pe_export.specs.declared.export.exports.Exports.{Exports}
 use Rattle.goblin_pe_export.specs.declared.export.exports.WalkedExport.{WalkedExport}

@@ -1,7 +1,5 @@
 -- Memory is asked for only where a table has an entry.
-use Rattle.std.proofs.Common.{◌≡◌, ◌<◌, ◌+◌, ◌++◌, ◌∷◌, [], ℕ, List, Option, Some, None, Result, Ok, Err}
-use Rattle.std.proofs.Common.{ap, arith, inl, inr, length, map, refl, subst, suc, sym, zero}
-use Rattle.std.specs.Prelude.{IfErr, IfSome, IsSome, IsSomeAnd, MatchOption, option_map}
+use Rattle.std.proofs.Common.{◌≡◌, ◌<◌, ◌+◌, ◌++◌, ◌∷◌, [], ℕ, List, Option, Some, None, Result, Ok, Err, ap, arith, inl, inr, length, map, refl, subst, suc, sym, zero, IfErr, IfSome, IsSome, IsSomeAnd, MatchOption, option_map}
 use Rattle.std.proofs.lemmas.List.{length-append, length-map}
 use Rattle.goblin_base.specs.declared.error.ErrorOf.{ErrorOf}
 use Rattle.goblin_base.specs.Answers.{◌>>=◌, IsMemory, all_of}
@@ -9,7 +7,7 @@ use Rattle.goblin_base.specs.Reading.{Reading}
 use Rattle.goblin_base.proofs.Steps.{same_value}
 use Rattle.readings.specs.Reads.{pair_of}
 use Rattle.readings.specs.Walks.{IsBegun}
-use Rattle.goblin_pe.specs.Walks.{GivesNext, IsWalkOf}
+use Rattle.goblin_pe.specs.Walks.{IsWalkOf}
 use Rattle.goblin_pe_sect.specs.declared.options.ParseOptions.{ParseOptions}
 use Rattle.goblin_pe_sect.specs.Options.{is_strict}
 use Rattle.goblin_pe_sect.specs.SectionTable.{Section}
@@ -32,7 +30,6 @@ use Rattle.goblin_pe.specs.Whole.{AreListed, TableParts, TablePlaces, WholeFile,
 use Rattle.goblin_pe.specs.Whole.{both_import_parts, offset_by, places_in, sections_after, table_parts}
 use Rattle.goblin_pe.specs.Whole.{whole_file, whole_of, whole_with}
 use Rattle.goblin_pe.proofs.Layouts.{tables-value}
-use Rattle.goblin_pe.proofs.Walked.{AtMade}
 use Rattle.goblin_pe_calls.specs.Blocks.{blocks_in}
 use Rattle.goblin_pe_calls.specs.Growth.{FileBegins, HasEntries, HasRecords, HasTables}
 use Rattle.goblin_pe_calls.specs.Growth.{StartBegins, TablesBegin, TakesRecords}

@@ -1,7 +1,5 @@
 -- A loop that fills records with the imports of a file from a position on.
-use Rattle.std.proofs.Common.{◌≡◌, ◌≢◌, ◌⊎◌, append-nil, ℕ, ◌+◌, ◌<◌, ◌≤◌, ◌^◌, Bool, true, false, List, [], ◌∷◌, ◌++◌, length, map, drop, set, ap, subst, sym, refl, arith, ◌∙◌, inl, inr}
-use Rattle.std.specs.Prelude.{◌==◌, ◌&&◌, if◌then◌else◌, IsSome, IsSomeAnd, MatchResult, Option, None, Result, Some, Ok, Err, option_map, unwrap_or}
-use Rattle.std.proofs.lemmas.Bool.{ne_eqb}
+use Rattle.std.proofs.Common.{◌≡◌, ◌≢◌, ◌⊎◌, append-nil, ℕ, ◌+◌, ◌<◌, ◌≤◌, ◌^◌, Bool, true, false, List, [], ◌∷◌, ◌++◌, length, map, drop, set, ap, subst, sym, refl, arith, ◌∙◌, inl, inr, ◌==◌, ◌&&◌, if◌then◌else◌, IsSome, IsSomeAnd, MatchResult, Option, None, Result, Some, Ok, Err, option_map, unwrap_or, ne_eqb}
 use Rattle.std.proofs.lemmas.List.{append_assoc, length-append, length-map}
 use Rattle.goblin_base.specs.declared.error.ErrorOf.{ErrorOf}
 use Rattle.readings.specs.Reads.{given, pick}

@@ -1,6 +1,5 @@
 -- What is read of a file by the places that a caller says.
-use Rattle.std.proofs.Common.{◌≡◌, ℕ, List, None, Some, subst}
-use Rattle.std.specs.Prelude.{IsSomeAnd}
+use Rattle.std.proofs.Common.{◌≡◌, ℕ, List, None, Some, subst, IsSomeAnd}
 use Rattle.goblin_base.specs.declared.error.ErrorOf.{ErrorOf}
 use Rattle.goblin_base.specs.Answers.{FirstFault}
 use Rattle.goblin_pe_sect.specs.declared.options.ParseOptions.{ParseOptions}

@@ -1,6 +1,5 @@
 -- The sections of an image that was read have their names from its string table.
-use Rattle.std.proofs.Common.{◌≡◌, ◌∙◌, ◌+◌, ◌*◌, Bool, List, ap, length, map, subst, sym, ℕ}
-use Rattle.std.specs.Prelude.{IsSomeAnd, Some, option_map}
+use Rattle.std.proofs.Common.{◌≡◌, ◌∙◌, ◌+◌, ◌*◌, Bool, List, ap, length, map, subst, sym, ℕ, IsSomeAnd, Some, option_map}
 use Rattle.std.proofs.lemmas.List.{length-map}
 use Rattle.goblin_base.proofs.Steps.{mapped, step}
 use Rattle.goblin_pe_sect.specs.declared.options.ParseOptions.{ParseOptions}

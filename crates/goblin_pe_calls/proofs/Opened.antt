@@ -1,7 +1,5 @@
 -- The records that were collected of a file are those of its imports and its exports.
-use Rattle.std.proofs.Common.{◌≡◌, ◌∙◌, ℕ, List, map, Option, Some, None, refl, ap, subst}
-use Rattle.std.specs.Global.{Global}
-use Rattle.std.specs.Prelude.{option_map, Result, Ok, Err, Vec}
+use Rattle.std.proofs.Common.{◌≡◌, ◌∙◌, ℕ, List, map, Option, Some, None, refl, ap, subst, option_map, Result, Ok, Err, Vec, Global}
 use Rattle.std.proofs.lemmas.List.{length-map}
 use Rattle.goblin_base.specs.declared.error.ErrorOf.{ErrorOf}
 use Rattle.goblin_base.specs.Answers.{IsMemory}

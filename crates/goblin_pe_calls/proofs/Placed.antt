@@ -1,8 +1,5 @@
 -- The places of a header lead back to the sections after it and to its tables.
-use Rattle.std.proofs.Common.{◌≡◌, ◌≢◌, ◌∙◌, ℕ, zero, suc, ◌+◌, ◌*◌, ◌<◌, ◌≤◌, Bool, true, false, List, Option, None, Some, ap, arith, length, map, refl, rules, subst, sym, tests}
-use Rattle.std.specs.Prelude.{◌==◌, nat_le, nat_lt, option_map, slice_range, unwrap_or}
-use Rattle.std.specs.Option.{is_some}
-use Rattle.std.proofs.lemmas.Bool.{ne_eqb}
+use Rattle.std.proofs.Common.{◌≡◌, ◌≢◌, ◌∙◌, ℕ, zero, suc, ◌+◌, ◌*◌, ◌<◌, ◌≤◌, Bool, true, false, List, Option, None, Some, ap, arith, length, map, refl, rules, subst, sym, tests, ◌==◌, nat_le, nat_lt, option_map, slice_range, unwrap_or, ne_eqb, is_some}
 use Rattle.goblin_base.specs.Answers.{all_at}
 use Rattle.goblin_base.specs.Bytes.{slice_at}
 use Rattle.goblin_base.proofs.Steps.{all_at-each, all_at-zero}

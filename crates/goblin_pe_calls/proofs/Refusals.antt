@@ -1,6 +1,5 @@
 -- A file that was read has room for its sections.
-use Rattle.std.proofs.Common.{◌<◌, List, ℕ, arith, length}
-use Rattle.std.specs.Prelude.{◌/◌, IfSome, IsSome, IsSomeAnd, Option, None, Some}
+use Rattle.std.proofs.Common.{◌<◌, List, ℕ, arith, length, ◌/◌, IfSome, IsSome, IsSomeAnd, Option, None, Some}
 use Rattle.goblin_pe_head.specs.PeHeader.{PeHeader}
 use Rattle.goblin_pe_head.specs.SectionRoom.{HasRoom}
 

@@ -1,6 +1,5 @@
 -- A header that strict mode read is written back from its records.
-use Rattle.std.proofs.Common.{◌≡◌, ◌∙◌, ◌+◌, ℕ, Bool, true, false, cond, nat_le, List, [], ◌∷◌, length, map, take, drop, refl, sym, ap, subst, arith}
-use Rattle.std.specs.Prelude.{◌==◌, IfSome, Option, Some, None, option_map}
+use Rattle.std.proofs.Common.{◌≡◌, ◌∙◌, ◌+◌, ℕ, Bool, true, false, cond, nat_le, List, [], ◌∷◌, length, map, take, drop, refl, sym, ap, subst, arith, ◌==◌, IfSome, Option, Some, None, option_map}
 use Rattle.std.proofs.lemmas.List.{append-nil, length-map, take_all}
 use Rattle.goblin_base.specs.declared.endian.Endian.TheVariants.{Little}
 use Rattle.goblin_base.specs.Bytes.{number_at}

@@ -1,6 +1,5 @@
 -- The records of what an export directory says, and of the export address table, as definitions.
-use Rattle.std.specs.Prelude.{ℕ, Bool, true, false, List, [], unwrap_or}
-use Rattle.std.specs.Option.{is_some}
+use Rattle.std.specs.Prelude.{ℕ, Bool, true, false, List, [], unwrap_or, is_some}
 use Rattle.goblin_pe_export.specs.declared.export.tables.ExportAddressTableEntry.{ExportAddressTableEntry}
 use Rattle.goblin_pe_export.specs.declared.export.tables.ExportAddressTableEntry.TheVariants as slot
 use Rattle.goblin_pe_export.specs.declared.export.tables.ExportDirectoryTable.{ExportDirectoryTable}

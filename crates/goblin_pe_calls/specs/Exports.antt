@@ -1,7 +1,6 @@
 -- The records of exports, as definitions.
-use Rattle.std.specs.Prelude.{ℕ, Bool, List, [], Option, Some, None, Vec, map, unwrap_or}
+use Rattle.std.specs.Prelude.{ℕ, Bool, List, [], Option, Some, None, Vec, map, unwrap_or, is_some}
 use Rattle.std.specs.Global.{Global}
-use Rattle.std.specs.Option.{is_some}
 use Rattle.goblin_pe_sect.specs.declared.options.ParseOptions.{ParseOptions}
 use Rattle.goblin_pe.specs.ExportRecords.{ExportTables}
 use Rattle.goblin_pe.specs.ExportWalks.{NumberedExport, numbered_from}

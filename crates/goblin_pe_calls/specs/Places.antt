@@ -1,7 +1,6 @@
 -- Where the sections and the tables of a file lie, as the record that a caller keeps.
 use Rattle.std.specs.Prelude.{◌≡◌, ℕ, ◌*◌, ◌==◌, Bool, if◌then◌else◌, List, [], length, Option}
-use Rattle.std.specs.Prelude.{None, Some, IsSomeAnd, unwrap_or}
-use Rattle.std.specs.Option.{is_some}
+use Rattle.std.specs.Prelude.{None, Some, IsSomeAnd, unwrap_or, is_some}
 use Rattle.goblin_base.specs.Reading.{Reading}
 use Rattle.readings.specs.Reads.{given, mapped, pick, slice_at}
 use Rattle.goblin_pe_sect.specs.declared.data_directories.DataDirectory.{DataDirectory}

@@ -1,7 +1,6 @@
 -- What the tables of an export directory reach, by how many whole entries they have.
 use Rattle.std.proofs.Common.{◌≡◌, ◌<◌, ◌+◌, ◌-◌, ◌*◌, ◌/◌, ℕ, Option, None, Some, List, ◌++◌}
-use Rattle.std.proofs.Common.{length, refl, ap, arith}
-use Rattle.std.specs.Prelude.{min}
+use Rattle.std.proofs.Common.{length, refl, ap, arith, min}
 use Rattle.goblin_base.specs.Footprints.{Range, counted_footprint, led_to, positions}
 use Rattle.goblin_base.specs.Footprints.{stretch_footprint}
 use Rattle.goblin_base.specs.Tables.{Format}

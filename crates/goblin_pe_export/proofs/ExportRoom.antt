@@ -1,10 +1,8 @@
 -- How many exports are expected: no more than there are, where they are more than a few.
-use Rattle.std.proofs.Common.{◌≡◌, ◌<◌, ◌≤◌, ◌+◌, ◌/◌, ℕ, zero, suc, List, length}
-use Rattle.std.proofs.Common.{◌-◌, Option, Some, None, refl, arith, inl, inr}
-use Rattle.std.specs.Prelude.{if◌then◌else◌, max, option_and_then, option_to_list, slice_get, Vec}
-use Rattle.std.specs.Prelude.{vec_capacity, vec_len}
-use Rattle.std.specs.Global.{Global}
-use Rattle.std.proofs.lemmas.List.{length-append}
+use Rattle.std.proofs.Common.{◌≡◌, ◌<◌, ◌≤◌, ◌+◌, ◌/◌, ℕ, zero, suc, List, length, ◌-◌, Option}
+use Rattle.std.proofs.Common.{Some, None, refl, arith, inl, inr, if◌then◌else◌, max}
+use Rattle.std.proofs.Common.{option_and_then, option_to_list, slice_get, Vec, vec_capacity}
+use Rattle.std.proofs.Common.{vec_len, length-append, Global}
 use Rattle.std.proofs.lemmas.Option.{slice_get_cases}
 use Rattle.goblin_base.specs.Tables.{concat_below}
 use Rattle.readings.specs.Reads.{◌>>=◌, taken}

@@ -1,7 +1,6 @@
 -- The exports, row by row.
 use Rattle.std.proofs.Common.{◌≡◌, ◌++◌, ◌+◌, ℕ, List, [], ◌∷◌, Option, Some, None, length, refl}
-use Rattle.std.proofs.Common.{sym, ap, ◌∙◌, append-nil}
-use Rattle.std.specs.Prelude.{◌==◌, false, option_to_list}
+use Rattle.std.proofs.Common.{sym, ap, ◌∙◌, append-nil, ◌==◌, false, option_to_list}
 use Rattle.goblin_base.specs.Tables.{concat_below}
 use Rattle.goblin_base.proofs.Below.{concat_below-next}
 use Rattle.goblin_pe_export.specs.ExportReadings as reading

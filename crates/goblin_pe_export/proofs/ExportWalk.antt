@@ -1,9 +1,8 @@
 -- What comes of a walk over exports.
 use Rattle.std.proofs.Common.{◌≡◌, ◌<◌, ◌≤◌, ◌++◌, ◌+◌, ◌-◌, ℕ, zero, suc, List, [], ◌∷◌, Option}
-use Rattle.std.proofs.Common.{Some, None, length, map, refl, sym, ap, ◌∙◌, arith}
-use Rattle.std.specs.Prelude.{◌==◌, false, filter_map, option_map, option_to_list}
+use Rattle.std.proofs.Common.{Some, None, length, map, refl, sym, ap, ◌∙◌, arith, ◌==◌, false}
+use Rattle.std.proofs.Common.{filter_map, option_map, option_to_list, ne_eqb}
 use Rattle.std.specs.List.{cons_option, range_with_len}
-use Rattle.std.proofs.lemmas.Bool.{ne_eqb}
 use Rattle.std.proofs.lemmas.List.Elements.{filter_map-append}
 use Rattle.std.proofs.lemmas.List.FromFn.{length-range_with_len}
 use Rattle.goblin_base.specs.declared.endian.Endian.TheVariants.{Little}

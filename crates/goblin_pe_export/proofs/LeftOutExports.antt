@@ -1,10 +1,7 @@
 -- A name pointer gives an export or is left out.
-use Rattle.std.proofs.Common.{◌≡◌, ◌+◌, ◌-◌, ℕ, suc, Bool, true, false, List, [], ◌∷◌, Option, Some, None, cond, map, length, ap, arith, refl, subst, sym, ◌∙◌}
-use Rattle.std.specs.Prelude.{count_by, not, option_map}
+use Rattle.std.proofs.Common.{◌≡◌, ◌+◌, ◌-◌, ℕ, suc, Bool, true, false, List, [], ◌∷◌, Option, Some, None, cond, map, length, ap, arith, refl, subst, sym, ◌∙◌, count_by, not, option_map, map-id, is_some}
 use Rattle.std.specs.Int.{from_bool}
-use Rattle.std.specs.Option.{is_some}
 use Rattle.std.specs.List.{cons_option, filter_map, range_with_len}
-use Rattle.std.proofs.lemmas.List.{map-id}
 use Rattle.std.proofs.lemmas.List.Sums.{sum_by-append}
 use Rattle.std.proofs.lemmas.List.FromFn.{length-range_with_len, sum_by-map-range_with_len_more}
 use Rattle.goblin_pe_export.specs.ExportRecords.{ExportTables}

@@ -1,7 +1,6 @@
 -- How many name pointers of an export directory give no export.
-use Rattle.std.specs.Prelude.{ℕ, Bool, List, Option, count_by, length, not}
+use Rattle.std.specs.Prelude.{ℕ, Bool, List, Option, count_by, length, not, is_some}
 use Rattle.std.specs.List.{range_with_len}
-use Rattle.std.specs.Option.{is_some}
 use Rattle.goblin_pe_export.specs.ExportReadings.{reexport_of}
 use Rattle.goblin_pe_export.specs.ExportRecords.{ExportTables}
 use Rattle.goblin_pe_export.specs.Exports.{export_row}

@@ -1,7 +1,6 @@
 -- A DOS header that was read is written as it stood, and one that was written is read again.
-use Rattle.std.proofs.Common.{◌∷◌, refl, ◌≡◌, ℕ, zero, suc, ◌+◌, ◌≤◌, List, length, map, take, take_all, drop, slice_index, sym, ap, ◌∙◌, add-one, arith}
+use Rattle.std.proofs.Common.{◌∷◌, refl, ◌≡◌, ℕ, zero, suc, ◌+◌, ◌≤◌, List, length, map, take, take_all, drop, slice_index, sym, ap, ◌∙◌, add-one, arith, drop-cons}
 use Rattle.std.specs.List.{range_with_len}
-use Rattle.std.proofs.Math.Seq.{drop-cons}
 use Rattle.goblin_base.specs.declared.endian.Endian.{Endian}
 use Rattle.goblin_base.specs.Record.{WritesBack, FieldsFit, ReadsBack}
 use Rattle.goblin_base.proofs.RecordRoundTrip.{writes_back, reads_back}

@@ -1,6 +1,5 @@
 -- The header of a file is never refused for want of memory: that is a law of its reading.
-use Rattle.std.proofs.Common.{◌≡◌, Bool, List, ℕ}
-use Rattle.std.specs.Prelude.{IsSome, None}
+use Rattle.std.proofs.Common.{◌≡◌, Bool, List, ℕ, IsSome, None}
 use Rattle.goblin_base.specs.declared.error.ErrorOf.{ErrorOf}
 use Rattle.goblin_base.specs.Answers.{IsMemory}
 use Rattle.goblin_pe_head.specs.HeaderReadings.{pe_header}

@@ -1,8 +1,6 @@
 -- A header that was read is written as its bytes stand, with the missing directories after them, and is read again.
-use Rattle.std.proofs.Common.{◌≡◌, ℕ, ◌+◌, ◌-◌, ◌≤◌, ◌&&◌, Bool, true, false, cond, nat_le, List, [], ◌∷◌, ◌++◌, take, drop, length, Option, Some, None, refl, sym, ap, ◌∙◌, subst, arith, ◌*◌, nat_eq, nat_lt, append_assoc, inl, inr}
-use Rattle.std.specs.Prelude.{◌==◌, IsSomeAnd, option_map, slice_range, option_and_then}
+use Rattle.std.proofs.Common.{◌≡◌, ℕ, ◌+◌, ◌-◌, ◌≤◌, ◌&&◌, Bool, true, false, cond, nat_le, List, [], ◌∷◌, ◌++◌, take, drop, length, Option, Some, None, refl, sym, ap, ◌∙◌, subst, arith, ◌*◌, nat_eq, nat_lt, append_assoc, inl, inr, ◌==◌, IsSomeAnd, option_map, slice_range, option_and_then, append-nil, length-drop}
 use Rattle.std.proofs.lemmas.Bool.{and_parts, eqb-true, leb-true, le-leb}
-use Rattle.std.proofs.lemmas.List.{append-nil, length-drop}
 use Rattle.std.proofs.lemmas.Option.{cond_some}
 use Rattle.goblin_base.specs.declared.endian.Endian.TheVariants.{Little}
 use Rattle.goblin_base.specs.Bytes.{IsBytes, number_at, number_bytes, overwritten, replaced, slice_at}

@@ -1,8 +1,6 @@
 -- The entries of a Rich header, one by one.
-use Rattle.std.proofs.Common.{◌≡◌, ℕ, ◌+◌, ◌-◌, ◌/◌, ◌%◌, ◌<◌, ◌≤◌, List, [], ◌∷◌, length, drop, take, ◌∙◌, inl, inr, arith}
-use Rattle.std.specs.Prelude.{Ok, Err}
+use Rattle.std.proofs.Common.{◌≡◌, ℕ, ◌+◌, ◌-◌, ◌/◌, ◌%◌, ◌<◌, ◌≤◌, List, [], ◌∷◌, length, drop, take, ◌∙◌, inl, inr, arith, Ok, Err, length-drop}
 use Rattle.std.proofs.lemmas.Bool.{cases_lt}
-use Rattle.std.proofs.lemmas.List.{length-drop}
 use Rattle.goblin_base.specs.declared.error.ErrorOf.TheVariants.{Read}
 use Rattle.goblin_base.specs.declared.error.ReadFault.TheVariants.{TooBig}
 use Rattle.goblin_base.proofs.RecordItems.{length-record_items, record_items-more, record_items-none, record_items-rest, rest_item-none, rest_item-one}

@@ -1,10 +1,8 @@
 -- The least places of the words of a Rich header.
-use Rattle.std.proofs.Common.{◌≡◌, ℕ, Bool, true, false, cond, zero, suc, ◌+◌, ◌-◌, ◌*◌, ◌%◌, ◌<◌, ◌≤◌, ◌⊎◌, ◌&&◌, nat_lt, List, length, drop, take, refl, subst, ap, sym, ◌∙◌, inl, inr, arith}
-use Rattle.std.specs.Prelude.{◌==◌, Option, Some, None, IsSomeAnd, option_map, slice_range}
+use Rattle.std.proofs.Common.{◌≡◌, ℕ, Bool, true, false, cond, zero, suc, ◌+◌, ◌-◌, ◌*◌, ◌%◌, ◌<◌, ◌≤◌, ◌⊎◌, ◌&&◌, nat_lt, List, length, drop, take, refl, subst, ap, sym, ◌∙◌, inl, inr, arith, ◌==◌, Option, Some, None, IsSomeAnd, option_map, slice_range, length-take, length-take-le, take-take}
 use Rattle.std.specs.List.{find, range_with_len}
 use Rattle.std.specs.Int.Bits.{bit_xor}
 use Rattle.std.proofs.lemmas.Bool.{cases_eq, eqb-true, eq-eqb, ltb-true}
-use Rattle.std.proofs.lemmas.List.{length-take, length-take-le, take-take}
 use Rattle.goblin_base.specs.declared.endian.Endian.TheVariants.{Little}
 use Rattle.goblin_base.proofs.Fronts.{HaveFront, slice-front}
 use Rattle.goblin_base.proofs.Numbers.{number-slice, read_number}

@@ -1,9 +1,7 @@
 -- Sections one after the other: where one is missing, and what is answered of those that are moved.
-use Rattle.std.proofs.Common.{◌≡◌, ℕ, ◌+◌, ◌*◌, ◌/◌, ◌-◌, ◌<◌, ◌≤◌, Bool, true, false, List, length}
-use Rattle.std.proofs.Common.{[], ◌∷◌, ◌∙◌, arith, ap, map, refl, inr, sym}
+use Rattle.std.proofs.Common.{◌≡◌, ℕ, ◌+◌, ◌*◌, ◌/◌, ◌-◌, ◌<◌, ◌≤◌, Bool, true, false, List, length, [], ◌∷◌, ◌∙◌, arith, ap, map, refl, inr, sym, Result, Ok, Err, None, Option, Some, nat_le, option_map}
 use Rattle.std.specs.List.{range_with_len}
 use Rattle.std.proofs.lemmas.Simd.{map-map}
-use Rattle.std.specs.Prelude.{Result, Ok, Err, None, Option, Some, nat_le, option_map}
 use Rattle.std.proofs.lemmas.Bool.{lt-leb}
 use Rattle.std.proofs.Math.Bool.{and-false}
 use Rattle.goblin_base.specs.declared.error.CauseOf.TheVariants.{StrippedSize}

@@ -1,10 +1,8 @@
 -- The first place of a word, found by its first byte.
-use Rattle.std.proofs.Common.{◌≡◌, ◌≢◌, ℕ, Bool, true, false, cond, zero, suc, ◌+◌, ◌-◌, ◌%◌, ◌^◌, ◌<◌, ◌≤◌, List, length, get_or, map, replicate, refl, ap, sym, ◌∙◌, inl, inr, arith, Fits, w8, not}
-use Rattle.std.specs.Prelude.{◌==◌, Some, None, drop, slice_index, slice_range}
+use Rattle.std.proofs.Common.{◌≡◌, ◌≢◌, ℕ, Bool, true, false, cond, zero, suc, ◌+◌, ◌-◌, ◌%◌, ◌^◌, ◌<◌, ◌≤◌, List, length, get_or, map, replicate, refl, ap, sym, ◌∙◌, inl, inr, arith, Fits, w8, not, ◌==◌, Some, None, drop, slice_index, slice_range, get_or-drop, get_or-take, length-drop, length-take}
 use Rattle.std.specs.List.{find, prefix_len, range_with_len}
 use Rattle.std.specs.Int.Bits.{bit_xor, xor_assoc, xor_self, xor_zero_r}
 use Rattle.std.proofs.lemmas.Bool.{cases_eq, cases_lt, eqb-true, eq-eqb, false_from_ne_true, ne_eqb}
-use Rattle.std.proofs.lemmas.List.{get_or-drop, get_or-take, length-drop, length-take}
 use Rattle.std.proofs.lemmas.Simd.{bitmask_splat, length-chunk, none_from_empty_mask, run_in_chunk_fails, run_in_chunk_le, trailing_mask_l}
 use lib.Count.{count_trailing_zeros}
 use lib.Lanes.{chunk, mask_l, top, zip2}

@@ -1,7 +1,5 @@
 -- The entries of an address table.
-use Rattle.std.proofs.Common.{◌≡◌, ◌+◌, ◌-◌, ◌≤◌, ℕ, List, length, Some, None, false, sym, ap, ◌∙◌, arith, refl}
-use Rattle.std.specs.Prelude.{nat_lt, option_map, slice_range}
-use Rattle.std.proofs.lemmas.Bool.{le-ltb}
+use Rattle.std.proofs.Common.{◌≡◌, ◌+◌, ◌-◌, ◌≤◌, ℕ, List, length, Some, None, false, sym, ap, ◌∙◌, arith, refl, nat_lt, option_map, slice_range, le-ltb}
 use Rattle.goblin_base.specs.Record.{record_at}
 use Rattle.goblin_base.proofs.Numbers.{slice_at-inside}
 

@@ -1,6 +1,5 @@
 -- The error that ends a walk over imports.
-use Rattle.std.proofs.Common.{ℕ, ◌+◌, Bool, List, Option, Some, None}
-use Rattle.std.specs.Prelude.{Err, Ok, Result, unwrap_or}
+use Rattle.std.proofs.Common.{ℕ, ◌+◌, Bool, List, Option, Some, None, Err, Ok, Result, unwrap_or}
 use Rattle.goblin_base.specs.declared.error.ErrorOf.{ErrorOf}
 use Rattle.goblin_base.specs.Answers.{FirstFault, IsMemory, all_of}
 use Rattle.goblin_base.specs.Tables.{Format}

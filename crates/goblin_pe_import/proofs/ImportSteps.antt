@@ -1,7 +1,6 @@
 -- The loop that looks for the next import.
-use Rattle.std.proofs.Common.{◌≡◌, ◌≤◌, ◌+◌, ℕ, Bool, true, List, [], ◌∷◌, Option, Some}
-use Rattle.std.proofs.Common.{None, refl, sym, subst, ◌∙◌, arith}
-use Rattle.std.specs.Prelude.{Err, IfErr, IfOk, Ok, Result}
+use Rattle.std.proofs.Common.{◌≡◌, ◌≤◌, ◌+◌, ℕ, Bool, true, List, [], ◌∷◌, Option, Some, None, refl}
+use Rattle.std.proofs.Common.{sym, subst, ◌∙◌, arith, Err, IfErr, IfOk, Ok, Result}
 use Rattle.goblin_base.specs.declared.error.ErrorOf.{ErrorOf}
 use Rattle.goblin_base.specs.Answers.{FirstFault, ◌>>=◌, all_of}
 use Rattle.goblin_base.specs.Tables.{Format}

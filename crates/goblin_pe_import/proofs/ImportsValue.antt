@@ -1,10 +1,5 @@
 -- What a walk over all imports collects is what import data has.
-use Rattle.std.proofs.Common.{◌≡◌, ◌<◌, ◌≤◌, ◌+◌, ◌-◌, ◌*◌, ◌^◌, ℕ, Bool, true, false, cond, List}
-use Rattle.std.proofs.Common.{[], ◌∷◌, ◌++◌, map, length, Option, Some, None, refl, sym, ap, subst, ◌∙◌}
-use Rattle.std.proofs.Common.{append-nil, arith, lit≤, zero, suc, IsSome, not, ◌&&◌, inl, inr}
-use Rattle.std.specs.Prelude.{is_none, option_map, slice_get, unwrap_or}
-use Rattle.std.specs.List.{flat_map}
-use Rattle.std.specs.Option.{is_some}
+use Rattle.std.proofs.Common.{◌≡◌, ◌<◌, ◌≤◌, ◌+◌, ◌-◌, ◌*◌, ◌^◌, ℕ, Bool, true, false, cond, List, [], ◌∷◌, ◌++◌, map, length, Option, Some, None, refl, sym, ap, subst, ◌∙◌, append-nil, arith, lit≤, zero, suc, IsSome, not, ◌&&◌, inl, inr, is_none, option_map, slice_get, unwrap_or, flat_map, is_some}
 use Rattle.std.proofs.lemmas.Bool.{and_left, cases_Bool, eq-eqb, lt-ltb}
 use Rattle.std.proofs.lemmas.List.{get_or_append_left, length-append, length-map, map-append, map-id}
 use Rattle.std.proofs.lemmas.List.Concat.{flat_map-append}

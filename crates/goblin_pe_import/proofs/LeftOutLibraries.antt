@@ -1,6 +1,5 @@
 -- Which libraries permissive mode leaves out: those without an address table.
-use Rattle.std.proofs.Common.{◌≡◌, ℕ, false, Option, None, Some, List, [], refl}
-use Rattle.std.specs.Prelude.{IsSome, is_none, option_map}
+use Rattle.std.proofs.Common.{◌≡◌, ℕ, false, Option, None, Some, List, [], refl, IsSome, is_none, option_map}
 use Rattle.goblin_base.specs.Tables.{Format}
 use Rattle.readings.specs.Reads.{in_its_place, pair_of}
 use Rattle.goblin_pe_sect.specs.AddressReadings.{name_at}

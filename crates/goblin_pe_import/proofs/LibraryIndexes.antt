@@ -1,11 +1,9 @@
 -- The libraries of a directory with the indexes of their records: record by record, and the loop
 -- that reads them.
-use Rattle.std.proofs.Common.{◌≡◌, ◌≤◌, ◌+◌, ◌-◌, ◌*◌, ◌/◌, ◌++◌, ◌∷◌, ℕ, zero, suc, Bool, true, false}
-use Rattle.std.proofs.Common.{List, [], Option, Some, None, length, map, cond, not, ◌&&◌}
-use Rattle.std.proofs.Common.{refl, sym, ap, ◌∙◌, arith, lit≤}
-use Rattle.std.specs.Prelude.{option_map}
+use Rattle.std.proofs.Common.{◌≡◌, ◌≤◌, ◌+◌, ◌-◌, ◌*◌, ◌/◌, ◌++◌, ◌∷◌, ℕ, zero, suc, Bool, true}
+use Rattle.std.proofs.Common.{false, List, [], Option, Some, None, length, map, cond, not, ◌&&◌}
+use Rattle.std.proofs.Common.{refl, sym, ap, ◌∙◌, arith, lit≤, option_map, is_some}
 use Rattle.std.specs.List.{filter, range_with_len}
-use Rattle.std.specs.Option.{is_some}
 use Rattle.std.proofs.lemmas.List.Elements.{filter-append}
 use Rattle.goblin_base.specs.declared.error.ErrorOf.{ErrorOf}
 use Rattle.goblin_base.specs.Answers.{◌>>=◌}

@@ -1,6 +1,5 @@
 -- The name of a library: the text that a reader of names takes, and the empty one where it takes none.
-use Rattle.std.proofs.Common.{◌≡◌, ℕ, Bool, true, false, List, [], Option, Some, None, ap, refl}
-use Rattle.std.specs.Prelude.{option_map, unwrap_or}
+use Rattle.std.proofs.Common.{◌≡◌, ℕ, Bool, true, false, List, [], Option, Some, None, ap, refl, option_map, unwrap_or}
 use Rattle.goblin_base.proofs.Steps.{same_value}
 use Rattle.readings.specs.Reads.{in_its_place}
 

@@ -1,7 +1,6 @@
 -- A lookup table with its slots: the table alone, and the slots alone, which rise, and lie below
 -- the table's stop.
-use Rattle.std.proofs.Common.{◌≡◌, ◌<◌, ℕ, List, Option, None, Some, refl, sym, subst}
-use Rattle.std.specs.List.{All}
+use Rattle.std.proofs.Common.{◌≡◌, ◌<◌, ℕ, List, Option, None, Some, refl, sym, subst, All}
 use Rattle.std.specs.List.Sorted.{IsStrictlyIncreasing}
 use Rattle.goblin_base.specs.Tables.{SlotFormat, kept_slots, stop}
 use Rattle.readings.specs.Reads.{with_slots}

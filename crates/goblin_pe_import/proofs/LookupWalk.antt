@@ -1,9 +1,5 @@
 -- The loop that looks for the next entry that a lookup table keeps.
-use Rattle.std.proofs.Common.{◌≡◌, ◌≤◌, ◌<◌, ◌+◌, ◌-◌, ◌/◌, ℕ, zero, suc, Bool, true, false, List, [], ◌∷◌, ◌++◌, map}
-use Rattle.std.proofs.Common.{Option, Some, None, Result, Ok, Err, refl, ap, sym, subst, ◌∙◌}
-use Rattle.std.proofs.Common.{◌*◌, append_assoc, arith, length, not, ◌&&◌}
-use Rattle.std.specs.Option.{is_some}
-use Rattle.std.specs.Prelude.{IfSome, option_map}
+use Rattle.std.proofs.Common.{◌≡◌, ◌≤◌, ◌<◌, ◌+◌, ◌-◌, ◌/◌, ℕ, zero, suc, Bool, true, false, List, [], ◌∷◌, ◌++◌, map, Option, Some, None, Result, Ok, Err, refl, ap, sym, subst, ◌∙◌, ◌*◌, append_assoc, arith, length, not, ◌&&◌, IfSome, option_map, is_some}
 use Rattle.std.proofs.lemmas.List.{length-map, map-append}
 use Rattle.std.proofs.Math.Nat.{mul-div_cancel_left}
 use Rattle.goblin_base.specs.declared.error.ErrorOf.{ErrorOf}

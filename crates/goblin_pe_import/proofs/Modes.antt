@@ -1,7 +1,5 @@
 -- Where a table may end, by the mode.
-use Rattle.std.proofs.Common.{◌≡◌, Bool, true, false, not, ◌&&◌, ◌||◌, Option, None, Some, refl}
-use Rattle.std.specs.Prelude.{option_map}
-use Rattle.std.specs.Option.{is_some}
+use Rattle.std.proofs.Common.{◌≡◌, Bool, true, false, not, ◌&&◌, ◌||◌, Option, None, Some, refl, option_map, is_some}
 
 -- a table may end anywhere in permissive mode, and else in a slot that is in the file
 pub ends : (strict may : Bool) {A B : Type 0} (f : A → B) (slot : Option A) → may ≡ (not strict || is_some slot) → may ≡ true → (strict && not (is_some (option_map f slot))) ≡ false

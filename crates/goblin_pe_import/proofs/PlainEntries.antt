@@ -1,7 +1,5 @@
 -- Entries of a lookup table that are plain.
-use Rattle.std.proofs.Common.{◌≡◌, ◌≤◌, ◌+◌, ◌∙◌, ℕ, Bool, true, false, List, length, Some, refl, sym, ap, arith}
-use Rattle.std.specs.Prelude.{slice_range}
-use Rattle.std.proofs.lemmas.Bool.{le-leb}
+use Rattle.std.proofs.Common.{◌≡◌, ◌≤◌, ◌+◌, ◌∙◌, ℕ, Bool, true, false, List, length, Some, refl, sym, ap, arith, slice_range, le-leb}
 use Rattle.goblin_base.specs.Bytes.{number, number_at, text_at}
 use Rattle.goblin_base.specs.declared.endian.Endian.TheVariants.{Little}
 use Rattle.goblin_base.proofs.Numbers.{number_in_rest}

@@ -1,8 +1,7 @@
 -- Tables of slots: the loop that adds up what the entries before the stop amount to.
-use Rattle.std.proofs.Common.{◌≡◌, ◌≤◌, ◌+◌, ℕ, zero, suc, Bool, true, false, Option, Some}
-use Rattle.std.proofs.Common.{None, List, sym, ap, ◌∙◌, refl, arith, add-one}
+use Rattle.std.proofs.Common.{◌≡◌, ◌≤◌, ◌+◌, ℕ, zero, suc, Bool, true, false, Option, Some, None}
+use Rattle.std.proofs.Common.{List, sym, ap, ◌∙◌, refl, arith, add-one, mul-le-mul_left}
 use Rattle.std.specs.Int.{from_bool}
-use Rattle.std.proofs.Math.Nat.{mul-le-mul_left}
 use Rattle.goblin_base.specs.Tables.{SlotFormat, ends_table, slot_at}
 use Rattle.goblin_base.proofs.SlotTables.{Reaches, reach-next, reach-start, reach-stop, reach-value, reads}
 use Rattle.goblin_pe_import.specs.LeftOut.{amount_of, sum_below, sum_of_slots}

@@ -1,9 +1,6 @@
 -- A library that is listed is one that memory is taken for.
-use Rattle.std.proofs.Common.{◌≡◌, ◌<◌, ◌∷◌, ◌&&◌, ℕ, zero, suc, Bool, not, List, [], length}
-use Rattle.std.proofs.Common.{Option, Some, None, ap, arith, inl, inr, subst, sym, IsSomeAnd}
-use Rattle.std.specs.Option.{is_some}
+use Rattle.std.proofs.Common.{◌≡◌, ◌<◌, ◌∷◌, ◌&&◌, ℕ, zero, suc, Bool, not, List, [], length, Option, Some, None, ap, arith, inl, inr, subst, sym, IsSomeAnd, length-append, is_some}
 use Rattle.std.proofs.lemmas.Bool.{cases_lt}
-use Rattle.std.proofs.lemmas.List.{length-append}
 use Rattle.goblin_base.specs.Answers.{◌>>=◌}
 use Rattle.goblin_base.specs.Tables.{Format, each_below, slot_at, slot_table, stop}
 use Rattle.goblin_base.proofs.Below.{join-parts}

@@ -2,9 +2,7 @@
 -- libraries and of the entries.
 use Rattle.std.specs.Prelude.{◌≡◌, ◌⊎◌, ℕ, ◌+◌, ◌*◌, ◌^◌, ◌++◌, ◌==◌, nat_lt, not, IsSomeAnd, Bool}
 use Rattle.std.specs.Prelude.{true, false, if◌then◌else◌, codes, List, [], length, map, slice_get}
-use Rattle.std.specs.Prelude.{sum_by, Option, Some, None, unwrap_or}
-use Rattle.std.specs.Fmt.{decimal}
-use Rattle.std.specs.List.{find}
+use Rattle.std.specs.Prelude.{sum_by, Option, Some, None, unwrap_or, decimal, find}
 use Rattle.goblin_base.specs.declared.error.ErrorOf.{ErrorOf}
 use Rattle.goblin_base.specs.declared.error.ErrorOf.TheVariants.{Malformed}
 use Rattle.goblin_base.specs.declared.error.CauseOf.TheVariants.{Overflow, SlotCount}

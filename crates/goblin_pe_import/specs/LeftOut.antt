@@ -1,9 +1,8 @@
 -- How much permissive mode leaves out of the imports of a directory, over a map of addresses to
 -- file offsets.
-use Rattle.std.specs.Prelude.{ℕ, zero, suc, ◌+◌, Bool, false, ◌&&◌, not, if◌then◌else◌}
-use Rattle.std.specs.Prelude.{List, Option, Some, None, is_none}
+use Rattle.std.specs.Prelude.{ℕ, zero, suc, ◌+◌, Bool, false, ◌&&◌, not, if◌then◌else◌, List}
+use Rattle.std.specs.Prelude.{Option, Some, None, is_none, is_some}
 use Rattle.std.specs.Int.{from_bool}
-use Rattle.std.specs.Option.{is_some}
 use Rattle.goblin_base.specs.Tables.{Format, SlotFormat, is_kept, slot_at, stop}
 use Rattle.goblin_pe_import.specs.ImportEntries.{EntryValue, entry_slots}
 use Rattle.goblin_pe_import.specs.ImportReadings.{first_record_offset, library_of}

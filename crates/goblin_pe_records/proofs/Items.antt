@@ -1,8 +1,6 @@
 -- A loop that fills records of items, of which the last may be a refusal.
-use Rattle.std.proofs.Common.{◌≡◌, ℕ, suc, ◌+◌, ◌/◌, ◌%◌, ◌<◌, false, ◌≤◌, List, [], ◌∷◌, ◌++◌, length, map, take, drop, set, ap, subst, sym, refl, arith, ◌∙◌, inl, inr}
-use Rattle.std.specs.Prelude.{Result, Ok, Err, ◌==◌}
+use Rattle.std.proofs.Common.{◌≡◌, ℕ, suc, ◌+◌, ◌/◌, ◌%◌, ◌<◌, false, ◌≤◌, List, [], ◌∷◌, ◌++◌, length, map, take, drop, set, ap, subst, sym, refl, arith, ◌∙◌, inl, inr, Result, Ok, Err, ◌==◌, drop_of_length-le}
 use Rattle.std.proofs.lemmas.Bool.{cases_lt, ne_eqb}
-use Rattle.std.proofs.Math.ListN.{drop_of_length-le}
 use Rattle.std.proofs.lemmas.List.{append_assoc, append-nil, drop-set-lt, length-append, length-map, length-set, map-append, map-id, set_past, take-append-le, take_all, take_more_set}
 use Rattle.std.proofs.lemmas.Grind.{drop_more_same}
 use Rattle.goblin_base.specs.declared.error.ErrorOf.{ErrorOf}

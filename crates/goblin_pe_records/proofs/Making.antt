@@ -1,6 +1,5 @@
 -- Loops that make records in memory of their own.
-use Rattle.std.proofs.Common.{◌≡◌, ℕ, ◌+◌, ◌<◌, ◌≤◌, arith, List, [], ◌∷◌, ◌++◌, length, map, take, ap, sym, ◌∙◌}
-use Rattle.std.specs.Prelude.{OnErr, slice_index_or, Result, Ok, Err}
+use Rattle.std.proofs.Common.{◌≡◌, ℕ, ◌+◌, ◌<◌, ◌≤◌, arith, List, [], ◌∷◌, ◌++◌, length, map, take, ap, sym, ◌∙◌, OnErr, slice_index_or, Result, Ok, Err}
 use Rattle.std.proofs.lemmas.List.{append_assoc, append-nil, length-append, map-append, map_more, take_all}
 use Rattle.goblin_base.specs.declared.error.ErrorOf.{ErrorOf}
 use Rattle.goblin_pe_records.specs.declared.fault.PeFault.{PeFault}

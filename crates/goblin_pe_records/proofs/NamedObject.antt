@@ -1,6 +1,5 @@
 -- Sections of an object that were read have their names from its string table.
-use Rattle.std.proofs.Common.{◌≡◌, ◌∙◌, ℕ, ◌+◌, ◌*◌, Bool, List, ap, length, map, subst, sym}
-use Rattle.std.specs.Prelude.{IsSomeAnd, Some, option_map}
+use Rattle.std.proofs.Common.{◌≡◌, ◌∙◌, ℕ, ◌+◌, ◌*◌, Bool, List, ap, length, map, subst, sym, IsSomeAnd, Some, option_map}
 use Rattle.std.proofs.lemmas.List.{length-map}
 use Rattle.goblin_base.specs.declared.endian.Endian.TheVariants.{Little}
 use Rattle.goblin_base.specs.Record.{record_at}

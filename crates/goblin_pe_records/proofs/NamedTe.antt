@@ -1,6 +1,5 @@
 -- Sections of a Terse Executable that were read have their names from the front of the file.
-use Rattle.std.proofs.Common.{◌≡◌, ℕ, ◌+◌, ◌*◌, true, List, map, refl, ap, subst, sym, ◌∙◌}
-use Rattle.std.specs.Prelude.{IsSomeAnd, Some, option_map}
+use Rattle.std.proofs.Common.{◌≡◌, ℕ, ◌+◌, ◌*◌, true, List, map, refl, ap, subst, sym, ◌∙◌, IsSomeAnd, Some, option_map}
 use Rattle.std.proofs.lemmas.Simd.{map-map}
 use Rattle.goblin_base.proofs.Steps.{mapped, step}
 use Rattle.goblin_pe_sect.specs.SectionReadings.{named_section_at}

@@ -1,6 +1,5 @@
 -- A value that may not be there, as it is seen.
-use Rattle.std.proofs.Common.{◌≡◌, Bool, true, false, ap, sym, ◌∙◌}
-use Rattle.std.specs.Prelude.{Option, option_map}
+use Rattle.std.proofs.Common.{◌≡◌, Bool, true, false, ap, sym, ◌∙◌, Option, option_map}
 use Rattle.goblin_pe_records.specs.Found.{Puts}
 
 -- what is put is what is seen of it

@@ -1,8 +1,5 @@
 -- Where a symbol table and its string table lie.
-use Rattle.std.proofs.Common.{◌≡◌, ◌≤◌, ℕ, ◌+◌, ◌-◌, ◌*◌, Bool, true, false, cond, List, length, refl, ap, sym, subst, ◌∙◌, arith, inl, inr, ◌⊎◌}
-use Rattle.std.specs.Prelude.{◌==◌, drop, IsSomeAnd, Option, Some, None, nat_le, nat_lt, option_map, slice_range}
-use Rattle.std.proofs.lemmas.Bool.{le-leb, leb-true}
-use Rattle.std.proofs.lemmas.List.{length-drop, length-take}
+use Rattle.std.proofs.Common.{◌≡◌, ◌≤◌, ℕ, ◌+◌, ◌-◌, ◌*◌, Bool, true, false, cond, List, length, refl, ap, sym, subst, ◌∙◌, arith, inl, inr, ◌⊎◌, ◌==◌, drop, IsSomeAnd, Option, Some, None, nat_le, nat_lt, option_map, slice_range, le-leb, leb-true, length-drop, length-take}
 use Rattle.goblin_base.specs.declared.endian.Endian.TheVariants.{Little}
 use Rattle.goblin_base.specs.Bytes.{number_at, slice_at, text_of}
 use Rattle.goblin_base.specs.Parts.{bytes_between}

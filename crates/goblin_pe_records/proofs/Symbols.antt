@@ -1,7 +1,5 @@
 -- The symbols of a table from an index on, one by one.
-use Rattle.std.proofs.Common.{◌≡◌, ◌<◌, ◌≤◌, ℕ, zero, suc, ◌+◌, ◌*◌, ◌/◌, List, [], ◌∷◌, length, take, drop, set, nat_lt, nat_le, true, arith, ap, sym, refl, ◌∙◌, inl, inr}
-use Rattle.std.specs.Prelude.{Some, slice_index_or}
-use Rattle.std.proofs.lemmas.List.{take_all}
+use Rattle.std.proofs.Common.{◌≡◌, ◌<◌, ◌≤◌, ℕ, zero, suc, ◌+◌, ◌*◌, ◌/◌, List, [], ◌∷◌, length, take, drop, set, nat_lt, nat_le, true, arith, ap, sym, refl, ◌∙◌, inl, inr, Some, slice_index_or, take_all}
 use Rattle.goblin_base.specs.Bytes.{slice_at}
 use Rattle.goblin_pe_symbol.specs.Symbols.{aux, record_of, symbol_of}
 use Rattle.goblin_pe_symbol.proofs.SymbolHeads.{symbols_next, symbols_past}

@@ -1,6 +1,5 @@
 -- What records say that are filled, or written.
-use Rattle.std.proofs.Common.{◌≡◌, ◌-◌, ◌++◌, ◌∙◌, ℕ, List, length, map, take, drop, ap, sym}
-use Rattle.std.specs.Prelude.{None, Option, replicate}
+use Rattle.std.proofs.Common.{◌≡◌, ◌-◌, ◌++◌, ◌∙◌, ℕ, List, length, map, take, drop, ap, sym, None, Option, replicate}
 use Rattle.std.proofs.lemmas.List.{drop-replicate, length-map, map-id, take-append-drop}
 use Rattle.goblin_pe_sect.specs.declared.data_directories.DataDirectory.{DataDirectory}
 use Rattle.goblin_pe_records.specs.declared.directory.PeDirectory.{PeDirectory}

@@ -1,8 +1,7 @@
 -- Refusals as numbers.
 use Rattle.std.specs.Prelude.{◌≡◌, ◌⊎◌, ℕ, ◌-◌, ◌%◌, ◌^◌, ◌==◌, nat_lt, List, [], ◌∷◌, codes, drop}
 use Rattle.std.specs.Prelude.{length, if◌then◌else◌, Option, Some, None, Result, Ok, Err, slice_get}
-use Rattle.std.specs.Prelude.{option_map, ⊤}
-use Rattle.std.specs.Str.{bytes_eq}
+use Rattle.std.specs.Prelude.{option_map, ⊤, bytes_eq}
 use Rattle.goblin_base.specs.ErrorText.{cause_text, fault_text, magic_text, memory_text, short_text}
 use Rattle.goblin_base.specs.declared.error.CauseOf.{CauseOf}
 use Rattle.goblin_base.specs.declared.error.ReadFault.{ReadFault}

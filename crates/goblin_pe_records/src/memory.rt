@@ -1,7 +1,6 @@
 //! What a loader sees at an address of an image.
 
-ghost use Rattle.std.specs.Prelude.{◌≡◌, IfSome, find, map, option_map};
-ghost use Rattle.std.specs.Option.{option_copied};
+ghost use Rattle.std.specs.Prelude.{◌≡◌, IfSome, find, map, option_map, option_copied};
 ghost use Rattle.goblin_base.specs.Reading.{Reads};
 ghost use Rattle.goblin_pe_records.specs.Calls.{ReadsWithout};
 ghost use Rattle.goblin_pe_records.specs.Memory.{InMemory, is_in_memory, memory_at, memory_end};

@@ -1,8 +1,7 @@
 -- What the sections' windows map.
-use Rattle.std.proofs.Common.{◌≡◌, ℕ, Bool, true, false, cond, List, [], ◌∷◌, find, length, map, Option, None, Some, refl, ap, ◌∙◌, arith}
+use Rattle.std.proofs.Common.{◌≡◌, ℕ, Bool, true, false, cond, List, [], ◌∷◌, find, length, map, Option, None, Some, refl, ap, ◌∙◌, arith, option_map}
 use Rattle.std.proofs.Math.Path.{fun_ext}
 use Rattle.std.specs.Int.{is_power_of_two}
-use Rattle.std.specs.Option.{option_map}
 use Rattle.goblin_pe_sect.specs.Mapping.{file_offset, is_in_window, offset_in, read_size}
 use Rattle.goblin_pe_sect.specs.SectionTable.{Section, unnamed}
 use Rattle.goblin_pe_sect.specs.WindowIndex.{Pieces, located}

@@ -1,7 +1,6 @@
 -- The address of a file offset.
-use Rattle.std.proofs.Common.{◌≡◌, ℕ, ◌+◌, ◌-◌, ◌<◌, ◌≤◌, ◌==◌, Bool, true, false, cond, List, Option, Some, None, find, slice_get, MatchOption, refl, ap, sym, subst, ◌∙◌, arith, rules, tests}
+use Rattle.std.proofs.Common.{◌≡◌, ℕ, ◌+◌, ◌-◌, ◌<◌, ◌≤◌, ◌==◌, Bool, true, false, cond, List, Option, Some, None, find, slice_get, MatchOption, refl, ap, sym, subst, ◌∙◌, arith, rules, tests, option_and_then}
 use Rattle.std.specs.Int.{is_power_of_two}
-use Rattle.std.specs.Option.{option_and_then}
 use Rattle.std.proofs.lemmas.Bool.Decides.{nat_tests}
 use Rattle.goblin_pe_sect.specs.declared.options.ParseOptions.{ParseOptions}
 use Rattle.goblin_pe_sect.specs.Mapping.{IsMappedFromNowhere, MapsTo, MapsNowhere, file_address, file_offset, is_at, maps_to, offset_in, rva_in, InWindow}

@@ -1,12 +1,9 @@
 -- Digits, one digit_after the other.
-use Rattle.std.proofs.Common.{suc, ◌-◌, ◌/◌, ◌%◌, ◌≡◌, ℕ, ◌+◌, ◌*◌, ◌^◌, ◌<◌, ◌≤◌, List, [], ◌∷◌, ◌++◌, Bool, true, false, ◌&&◌, refl, take, drop, map, length, ap, sym, ◌∙◌, arith, append_assoc}
-use Rattle.std.specs.Prelude.{if◌then◌else◌, nat_lt, position, slice_index, slice_set, IfSome, None, Some}
+use Rattle.std.proofs.Common.{suc, ◌-◌, ◌/◌, ◌%◌, ◌≡◌, ℕ, ◌+◌, ◌*◌, ◌^◌, ◌<◌, ◌≤◌, List, [], ◌∷◌, ◌++◌, Bool, true, false, ◌&&◌, refl, take, drop, map, length, ap, sym, ◌∙◌, arith, append_assoc, if◌then◌else◌, nat_lt, position, slice_index, slice_set, IfSome, None, Some, le-ltb, take-suc}
 use Rattle.std.specs.List.{list_all, position_or_len}
 use Rattle.std.proofs.lemmas.List.{length-append, map-append, take-set-le, drop-set, append-nil, take-append-drop}
 use Rattle.std.proofs.lemmas.List.Folds.{list_all_at, list_all_more}
-use Rattle.std.proofs.lemmas.Bool.{le-ltb}
 use Rattle.std.proofs.Math.Nat.{pow-le-pow_right, pow-suc, pow-zero}
-use Rattle.std.proofs.Math.Seq.{take-suc}
 use Rattle.goblin_pe_sect.specs.declared.digits.Digits.{Digits}
 use Rattle.goblin_pe_sect.specs.declared.digits.Digits.TheVariants.{Decimal, Base64}
 use Rattle.goblin_pe_sect.specs.Digits.{alphabet, digits_sum, digit, numeral, radix, digit_byte, last_digits}

@@ -1,8 +1,5 @@
 -- The data directories by the room in the file: what they are, and which cause is true of them.
-use Rattle.std.proofs.Common.{◌≡◌, ◌≢◌, ◌/◌, ◌%◌, ◌+◌, ◌-◌, ◌*◌, ◌<◌, ◌≤◌, ◌&&◌, ◌||◌, ℕ, zero, suc, Bool, true}
-use Rattle.std.proofs.Common.{false, cond, get_or, nat_eq, nat_le, List, length, map}
-use Rattle.std.proofs.Common.{Option, Some, None, refl, replicate, set, subst, sym, ap, ◌∙◌, inl, inr, arith}
-use Rattle.std.specs.Prelude.{option_and_then, option_map, slice_range}
+use Rattle.std.proofs.Common.{◌≡◌, ◌≢◌, ◌/◌, ◌%◌, ◌+◌, ◌-◌, ◌*◌, ◌<◌, ◌≤◌, ◌&&◌, ◌||◌, ℕ, zero, suc, Bool, true, false, cond, get_or, nat_eq, nat_le, List, length, map, Option, Some, None, refl, replicate, set, subst, sym, ap, ◌∙◌, inl, inr, arith, option_and_then, option_map, slice_range}
 use Rattle.std.specs.List.{range_with_len, slice_get}
 use Rattle.std.proofs.lemmas.Bool.{cases_eq, cases_lt, eq-eqb, eqb-false, le-leb, leb-false}
 use Rattle.std.proofs.lemmas.Bool.{leb-true, lt-leb, ne_eqb}

@@ -1,7 +1,6 @@
 -- The entries of the data directories: read and written one after the other, and walked by their kinds.
-use Rattle.std.proofs.Common.{◌≡◌, ◌≢◌, ℕ, zero, suc, ◌+◌, ◌-◌, ◌*◌, ◌<◌, ◌≤◌, true, false, nat_le, nat_lt, List, [], ◌∷◌, ◌++◌, length, drop, get_or, set, map, Option, Some, None, refl, sym, ap, ◌∙◌, inl, inr, add-one, arith}
+use Rattle.std.proofs.Common.{◌≡◌, ◌≢◌, ℕ, zero, suc, ◌+◌, ◌-◌, ◌*◌, ◌<◌, ◌≤◌, true, false, nat_le, nat_lt, List, [], ◌∷◌, ◌++◌, length, drop, get_or, set, map, Option, Some, None, refl, sym, ap, ◌∙◌, inl, inr, add-one, arith, ◌==◌, ◌&&◌, ◌||◌, if◌then◌else◌, slice_range, zip, filter_map}
 use Rattle.std.specs.List.{cons_option, range_with_len}
-use Rattle.std.specs.Prelude.{◌==◌, ◌&&◌, ◌||◌, if◌then◌else◌, slice_range, zip, filter_map}
 use Rattle.std.proofs.lemmas.Bool.{and_parts, eqb-true, leb-true, or_cases, le-leb, lt-leb, lt-ltb, le-ltb, ne_eqb, cases_lt}
 use Rattle.std.proofs.lemmas.Option.{cond_some}
 use Rattle.std.proofs.lemmas.Slice.Zip.{length-zip}

@@ -1,6 +1,5 @@
 -- What strict mode reads of a section, permissive mode reads, too.
-use Rattle.std.proofs.Common.{ℕ, Bool, true, false, cond, List, Option, Some, None}
-use Rattle.std.specs.Prelude.{nat_eq, slice_index}
+use Rattle.std.proofs.Common.{ℕ, Bool, true, false, cond, List, Option, Some, None, nat_eq, slice_index}
 use Rattle.goblin_base.specs.declared.endian.Endian.TheVariants.{Little}
 use Rattle.goblin_base.specs.Bytes.{bounded_text_at}
 use Rattle.goblin_base.specs.Reading.{Reading, Repeats}

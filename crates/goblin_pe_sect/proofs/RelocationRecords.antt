@@ -1,6 +1,5 @@
 -- The relocations of an object, one by one.
-use Rattle.std.proofs.Common.{◌≡◌, ℕ, ◌-◌, ◌/◌, ◌<◌, ◌≤◌, List, [], ◌∷◌, length, drop, take, arith}
-use Rattle.std.proofs.lemmas.List.{length-drop}
+use Rattle.std.proofs.Common.{◌≡◌, ℕ, ◌-◌, ◌/◌, ◌<◌, ◌≤◌, List, [], ◌∷◌, length, drop, take, arith, length-drop}
 use Rattle.goblin_base.specs.declared.endian.Endian.TheVariants.{Little}
 use Rattle.goblin_base.proofs.RecordItems.{length-records_in, records_in-more, records_in-none}
 use Rattle.goblin_pe_sect.specs.Relocations.{relocation_record, relocations_in}

@@ -1,6 +1,5 @@
 -- A name that was written says what it was written for.
-use Rattle.std.proofs.Common.{◌≡◌, ℕ, zero, suc, ◌+◌, ◌==◌, ◌&&◌, Bool, true, false, nat_lt, nat_eq, List, [], ◌∷◌, ◌++◌, take, length, refl, ap, sym, ◌∙◌, arith, take_all, nat_le, ◌-◌, if◌then◌else◌, ◌<◌, ◌≤◌, ◌/◌, ◌%◌, ◌^◌, not, map}
-use Rattle.std.specs.Prelude.{Some, replicate, Option, None}
+use Rattle.std.proofs.Common.{◌≡◌, ℕ, zero, suc, ◌+◌, ◌==◌, ◌&&◌, Bool, true, false, nat_lt, nat_eq, List, [], ◌∷◌, ◌++◌, take, length, refl, ap, sym, ◌∙◌, arith, take_all, nat_le, ◌-◌, if◌then◌else◌, ◌<◌, ◌≤◌, ◌/◌, ◌%◌, ◌^◌, not, map, Some, replicate, Option, None, option_map}
 use Rattle.std.specs.List.{list_all, position_or_len}
 use Rattle.std.specs.Str.{is_utf8, IsAscii}
 use Rattle.std.proofs.lemmas.Str.{is_utf8-from_IsUtf8, IsUtf8-from_ascii}
@@ -9,7 +8,6 @@ use Rattle.std.proofs.lemmas.Bool.{and_parts, ltb-true, eqb-true, leb-true, fals
 use Rattle.std.proofs.lemmas.List.{length-append, length-replicate, append-nil, length-map}
 use Rattle.std.proofs.Math.Seq.{take-append_seam}
 use Rattle.std.proofs.lemmas.Option.{cond_some}
-use Rattle.std.specs.Option.{option_map}
 use Rattle.goblin_base.specs.Bytes.{before_nul, bounded_text_at}
 use Rattle.goblin_pe_sect.specs.declared.digits.Digits.{Digits}
 use Rattle.goblin_pe_sect.specs.declared.digits.Digits.TheVariants.{Decimal, Base64}

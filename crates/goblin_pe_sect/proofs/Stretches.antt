@@ -1,8 +1,6 @@
 -- The first window that holds an address, among fewer windows.
-use Rattle.std.proofs.Common.{◌≡◌, ℕ, zero, suc, ◌+◌, ◌-◌, ◌<◌, ◌≤◌, Bool, true, false, cond, not, List, [], ◌∷◌, ◌++◌, length, get_or, slice_get, take, drop, map, nat_lt, Option, Some, None, find, refl, ap, sym, ◌∙◌, arith, tests, rules, add-one, append_assoc}
+use Rattle.std.proofs.Common.{◌≡◌, ℕ, zero, suc, ◌+◌, ◌-◌, ◌<◌, ◌≤◌, Bool, true, false, cond, not, List, [], ◌∷◌, ◌++◌, length, get_or, slice_get, take, drop, map, nat_lt, Option, Some, None, find, refl, ap, sym, ◌∙◌, arith, tests, rules, add-one, append_assoc, option_map, option_and_then}
 use Rattle.std.specs.List.{filter, position, position_or_len, enumerate_from}
-use Rattle.std.specs.List.Sorted.{IsStrictlyIncreasing}
-use Rattle.std.specs.Option.{option_map, option_and_then}
 use Rattle.std.proofs.lemmas.List.{map-append, take-append-drop}
 use Rattle.std.proofs.lemmas.List.Quantifiers.{position-Some}
 use Rattle.std.proofs.lemmas.Option.{slice_get_past}
@@ -15,7 +13,6 @@ use Rattle.goblin_pe_sect.specs.SectionTable.{Section}
 use Rattle.goblin_pe_sect.specs.declared.windows.bounds.Piece.{Piece}
 use Rattle.goblin_pe_sect.specs.declared.windows.owners.Owner.{Owner}
 use Rattle.goblin_pe_sect.specs.declared.windows.owners.Window.{Window}
-use Rattle.goblin_pe_sect.proofs.Halving.{rising_to}
 
 -- ---- what finds the same
 

@@ -1,8 +1,6 @@
 -- Tables of sections that differ only in the order of their sections.
-use Rattle.std.specs.Prelude.{IsTrue, ℕ, List}
+use Rattle.std.specs.Prelude.{IsTrue, ℕ, List, AllPairs, IsPermutation}
 use Rattle.std.specs.Int.{is_power_of_two}
-use Rattle.std.specs.List.{AllPairs}
-use Rattle.std.specs.List.Sorted.{IsPermutation}
 use Rattle.goblin_pe_sect.specs.SectionTable.{Section}
 use Rattle.goblin_pe_sect.specs.Mapping.{InWindow}
 

@@ -1,8 +1,7 @@
 -- The windows of sections, as they are passed down from a range of the address space to its halves.
-use Rattle.std.specs.Prelude.{ℕ, ◌≡◌, ◌≤◌, ◌<◌, Bool, ◌&&◌, nat_le, nat_lt, List, Option}
-use Rattle.std.specs.Prelude.{find, length, map, slice_index}
+use Rattle.std.specs.Prelude.{ℕ, ◌≡◌, ◌≤◌, ◌<◌, Bool, ◌&&◌, nat_le, nat_lt, List, Option, find}
+use Rattle.std.specs.Prelude.{length, map, slice_index, option_map}
 use Rattle.std.specs.List.{enumerate_from}
-use Rattle.std.specs.Option.{option_map}
 use Rattle.goblin_pe_sect.specs.declared.options.ParseOptions.{ParseOptions}
 use Rattle.goblin_pe_sect.specs.declared.windows.bounds.Piece.{Piece}
 use Rattle.goblin_pe_sect.specs.declared.windows.owners.Owner.{Owner}

@@ -1,6 +1,5 @@
 -- A symbol that was read is written as it stood, and one that was written is read again; and what a name says that stores a number.
-use Rattle.std.proofs.Common.{◌≡◌, ℕ, ◌<◌, ◌^◌, List, [], ◌∷◌, refl, ap, arith, length, SFits, ◌∙◌}
-use Rattle.std.specs.Prelude.{Some, option_map, slice_range}
+use Rattle.std.proofs.Common.{◌≡◌, ℕ, ◌<◌, ◌^◌, List, [], ◌∷◌, refl, ap, arith, length, SFits, ◌∙◌, Some, option_map, slice_range}
 use Rattle.std.specs.Int.{w16}
 use Rattle.std.proofs.lemmas.Int.{of_z-to_z, to_z-of_z}
 use Rattle.goblin_base.specs.declared.endian.Endian.{Endian}

@@ -1,6 +1,5 @@
 -- A file that has a header has bytes.
-use Rattle.std.proofs.Common.{◌<◌, ℕ, List, [], ◌∷◌, length, arith}
-use Rattle.std.specs.Prelude.{IsSome}
+use Rattle.std.proofs.Common.{◌<◌, ℕ, List, [], ◌∷◌, length, arith, IsSome}
 use Rattle.std.proofs.lemmas.Bool.{false≢true}
 use Rattle.goblin_pe.specs.declared.options.ParseMode.{ParseMode}
 use Rattle.goblin_pe.specs.Options.{is_strict}

@@ -1,7 +1,5 @@
 -- What was read of some bytes.
-use Rattle.std.proofs.Common.{◌≡◌, ◌<◌, ◌≤◌, ℕ, List, ◌++◌, length, Option, Some, None, take, ap, arith, length-append}
-use Rattle.std.specs.Prelude.{IfSome}
-use Rattle.std.proofs.lemmas.List.{length-take-le}
+use Rattle.std.proofs.Common.{◌≡◌, ◌<◌, ◌≤◌, ℕ, List, ◌++◌, length, Option, Some, None, take, ap, arith, length-append, IfSome, length-take-le}
 use Rattle.std.specs.Io.KnownBytes.{Consumes}
 
 -- a reader that gave some bytes had some

@@ -1,6 +1,5 @@
 -- What the words of the command line ask for.
-use Rattle.std.specs.Prelude.{ℕ, List, [], ◌∷◌, Option, None, Some, codes, if◌then◌else◌}
-use Rattle.std.specs.Str.{bytes_eq}
+use Rattle.std.specs.Prelude.{ℕ, List, [], ◌∷◌, Option, None, Some, codes, if◌then◌else◌, bytes_eq}
 use Rattle.goblin_pe.specs.declared.options.ParseMode.{ParseMode}
 use Rattle.goblin_pe.specs.declared.options.ParseMode.TheVariants.{Strict, Permissive}
 

@@ -1,9 +1,7 @@
 -- The digits of a number, which are written to places from the last one on.
-use Rattle.std.proofs.Common.{◌≡◌, ℕ, zero, suc, ◌+◌, ◌-◌, ◌/◌, ◌%◌, ◌^◌, ◌<◌, ◌≤◌, Bool, true, false, cond, IsAscii, IsUtf8, List, [], ◌∷◌, length, set, take, drop, ap, refl, sym, ◌∙◌, arith, div-lt_iff_lt-mul, drop_of_length-le, le-div_iff_mul-le, length-drop, length-set, mod-eq_of_lt, one-mul, pow-suc, take_all}
+use Rattle.std.proofs.Common.{◌≡◌, ℕ, zero, suc, ◌+◌, ◌-◌, ◌/◌, ◌%◌, ◌^◌, ◌<◌, ◌≤◌, Bool, true, false, cond, IsAscii, IsUtf8, List, [], ◌∷◌, length, set, take, drop, ap, refl, sym, ◌∙◌, arith, div-lt_iff_lt-mul, drop_of_length-le, le-div_iff_mul-le, length-drop, length-set, mod-eq_of_lt, one-mul, pow-suc, take_all, ◌==◌, eq-eqb, ne_eqb}
 use Rattle.std.proofs.Math.Nat.{div-eq_of_lt, pow-zero}
-use Rattle.std.specs.Prelude.{◌==◌}
 use Rattle.std.specs.Fmt.{digit_glyph, digits, digits_onto}
-use Rattle.std.proofs.lemmas.Bool.{eq-eqb, ne_eqb}
 use Rattle.std.proofs.lemmas.List.{drop-set}
 use Rattle.std.proofs.lemmas.Str.{IsUtf8-from_ascii}
 use Rattle.std.proofs.lemmas.Str.Ascii.{IsAscii-cons}

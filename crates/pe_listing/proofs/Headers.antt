@@ -1,6 +1,5 @@
 -- A file that was read has a header.
-use Rattle.std.proofs.Common.{◌≡◌, ℕ, List, None, Some, refl, subst, Option}
-use Rattle.std.specs.Prelude.{IsSome}
+use Rattle.std.proofs.Common.{◌≡◌, ℕ, List, None, Some, refl, subst, Option, IsSome}
 use Rattle.goblin_pe.specs.declared.options.ParseMode.{ParseMode}
 use Rattle.goblin_pe.specs.declared.options.ParseOptions.{ParseOptions}
 use Rattle.goblin_pe.specs.Answers.{◌>>=◌}

@@ -1,6 +1,5 @@
 -- A name of which nothing is escaped.
-use Rattle.std.proofs.Common.{◌≡◌, ℕ, Bool, true, false, List, [], ◌∷◌, ◌++◌, ap, ◌∙◌, refl}
-use Rattle.std.specs.Prelude.{◌&&◌}
+use Rattle.std.proofs.Common.{◌≡◌, ℕ, Bool, true, false, List, [], ◌∷◌, ◌++◌, ap, ◌∙◌, refl, ◌&&◌}
 use Rattle.std.specs.List.{list_all}
 use Rattle.pe_listing.specs.Text.{escaped, escaped_byte, is_plain}
 

@@ -1,7 +1,6 @@
 -- The pieces of a line: numbers and names as text.
 use Rattle.std.specs.Prelude.{ℕ, List, [], ◌∷◌, ◌++◌, Bool, false, ◌==◌, nat_le, not, ◌&&◌, codes}
-use Rattle.std.specs.Prelude.{if◌then◌else◌, ◌/◌, ◌%◌}
-use Rattle.std.specs.List.{flat_map}
+use Rattle.std.specs.Prelude.{if◌then◌else◌, ◌/◌, ◌%◌, flat_map}
 use Rattle.std.specs.Fmt.{decimal, digits, digit_glyph}
 
 -- a label, and a number in hexadecimal: `0x` and lower-case digits without leading zeros

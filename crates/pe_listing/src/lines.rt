@@ -1,8 +1,7 @@
 //! The lines that list a file, as the [crate's root](crate) says.
 
 ghost use Rattle.std.specs.Prelude.{◌≡◌, ◌++◌, ℕ, List, OnOk, codes, length, option_map};
-ghost use Rattle.std.specs.Prelude.{string_bytes};
-ghost use Rattle.std.specs.List.{flat_map};
+ghost use Rattle.std.specs.Prelude.{string_bytes, flat_map};
 ghost use Rattle.goblin_pe.specs.PeHeader.{header_value};
 ghost use Rattle.goblin_pe.specs.BaseRelocations.{block_item, block_items, relocation_bytes};
 ghost use Rattle.goblin_pe.specs.Forwarders.{forwarder_value};

@@ -1,7 +1,6 @@
 -- The loop that reads a table of slots: what it answers at each way out, value and cause at once.
-use Rattle.std.proofs.Common.{◌≡◌, ◌<◌, ◌≤◌, ◌+◌, ℕ, Bool, true, false, Option, Some, None, List}
-use Rattle.std.proofs.Common.{[], ◌++◌, ap, ◌∙◌, inl, inr, IsSomeAnd, subst, sym, not, ◌&&◌}
-use Rattle.std.specs.Option.{is_some}
+use Rattle.std.proofs.Common.{IsSomeAnd, is_some, Option, false, subst, Bool, true, Some, None, ◌≡◌}
+use Rattle.std.proofs.Common.{List, ◌++◌, ◌&&◌, ◌<◌, ◌≤◌, ◌+◌, ◌∙◌, inl, inr, sym, not, [], ap, ℕ}
 use Rattle.goblin_base.specs.declared.error.ErrorOf.{ErrorOf}
 use Rattle.goblin_base.specs.Footprints.{Range}
 use Rattle.goblin_base.specs.Reading.{Reading}

@@ -1,10 +1,6 @@
 -- What a walk over a table of slots collects is what the table keeps.
-use Rattle.std.proofs.Common.{◌≡◌, ◌≤◌, ℕ, zero, suc, Bool, true, false, cond, List, [], ◌∷◌, ◌++◌, map}
-use Rattle.std.proofs.Common.{length, Option, Some, None, refl, sym, ap, subst, ◌∙◌, ◌-◌, append-nil, arith}
-use Rattle.std.proofs.Common.{◌⊎◌, inl, inr, ◌&&◌, not}
-use Rattle.std.specs.Prelude.{option_and_then, option_map}
+use Rattle.std.proofs.Common.{◌≡◌, ◌≤◌, ℕ, zero, suc, Bool, true, false, cond, List, [], ◌∷◌, ◌++◌, map, length, Option, Some, None, refl, sym, ap, subst, ◌∙◌, ◌-◌, append-nil, arith, ◌⊎◌, inl, inr, ◌&&◌, not, option_and_then, option_map, is_some}
 use Rattle.std.specs.List.{filter, range_with_len}
-use Rattle.std.specs.Option.{is_some}
 use Rattle.std.proofs.iter.Rest.{range_with_len_last}
 use Rattle.std.proofs.lemmas.List.{map-append}
 use Rattle.std.proofs.lemmas.List.Elements.{filter-append}

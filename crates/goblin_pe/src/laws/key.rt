@@ -1,8 +1,7 @@
 //! What a file is known by to one who has its answer.
 
 ghost use Rattle.std.specs.Prelude.{◌≡◌, ◌↔◌, ◌<◌, ◌≤◌, IfErr, IfOk, IsTrue, List, OnErr, length};
-ghost use Rattle.std.specs.Prelude.{map, ℕ};
-ghost use Rattle.std.specs.List.{All};
+ghost use Rattle.std.specs.Prelude.{map, ℕ, All};
 ghost use Rattle.goblin_base.specs.Answers.{IsMemory};
 ghost use Rattle.goblin_base.specs.Footprints.{Agree};
 ghost use Rattle.goblin_base.specs.Reading.{IsInFile};

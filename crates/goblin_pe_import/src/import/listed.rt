@@ -2,8 +2,7 @@
 
 ghost use Rattle.std.specs.Prelude.{◌≡◌, ◌+◌, ◌<◌, ◌≤◌, ◌++◌, ◌∷◌, [], IfErr, IfOk, None, OnErr};
 ghost use Rattle.std.specs.Prelude.{OnOk, false, length, map, min, option_map, string_bytes, true};
-ghost use Rattle.std.specs.Prelude.{vec_capacity, vec_len};
-ghost use Rattle.std.specs.Option.{option_copied};
+ghost use Rattle.std.specs.Prelude.{vec_capacity, vec_len, option_copied};
 ghost use Rattle.goblin_base.specs.Answers.{AnswersOrMemory, GivesOrMemory, IsMemory};
 ghost use Rattle.goblin_pe_import.specs.ImportBound.{AreFew};
 ghost use Rattle.goblin_pe_import.specs.ImportLookup.{entry_view};

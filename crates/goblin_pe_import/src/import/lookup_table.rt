@@ -1,8 +1,7 @@
 //! Import lookup tables: what is imported from a library, by name or by ordinal.
 
 ghost use Rattle.std.specs.Prelude.{◌≡◌, ◌<◌, [], ◌⊎◌, Bool, IfErr, IfOk, IfSome, Some, length};
-ghost use Rattle.std.specs.Prelude.{map, true};
-ghost use Rattle.std.specs.List.{All};
+ghost use Rattle.std.specs.Prelude.{map, true, All};
 ghost use Rattle.std.specs.List.Sorted.{IsStrictlyIncreasing};
 ghost use Rattle.goblin_base.specs.Answers.{IsMemory};
 ghost use Rattle.goblin_base.specs.Reading.{Reads, ReadsOrMemory};

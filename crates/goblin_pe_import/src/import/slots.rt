@@ -1,7 +1,6 @@
 //! What stands in a slot of a lookup table or of a directory.
 
-ghost use Rattle.std.specs.Prelude.{◌≡◌, ◌||◌, not};
-ghost use Rattle.std.specs.Option.{is_some};
+ghost use Rattle.std.specs.Prelude.{◌≡◌, ◌||◌, not, is_some};
 ghost use Rattle.goblin_base.specs.Bytes.{slice_at};
 ghost use Rattle.goblin_pe_import.specs.ImportEntries.{GivesSlot, entry_slots};
 ghost use Rattle.goblin_pe_import.specs.ImportRecords.{import_slots};

@@ -1,8 +1,7 @@
 //! Which bytes of a file its imports depend on.
 
 ghost use Rattle.std.specs.Prelude.{◌≡◌, ◌+◌, ◌<◌, ◌⊎◌, ◌++◌, IfErr, IfOk, OnErr, if◌then◌else◌};
-ghost use Rattle.std.specs.Prelude.{length};
-ghost use Rattle.std.specs.Option.{is_some};
+ghost use Rattle.std.specs.Prelude.{length, is_some};
 ghost use Rattle.goblin_base.specs.Answers.{IsMemory};
 ghost use Rattle.goblin_base.specs.Marks.{IsFootprint, marked};
 ghost use Rattle.goblin_base.specs.Bytes.{slice_at};

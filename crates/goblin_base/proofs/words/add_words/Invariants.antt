@@ -1,5 +1,4 @@
-use Rattle.std.proofs.Common.{◌≡◌, ◌-◌, ℕ}
-use Rattle.std.specs.Prelude.{vec_capacity, vec_len}
+use Rattle.std.proofs.Common.{◌≡◌, ◌-◌, ℕ, vec_capacity, vec_len}
 use Rattle.goblin_base.specs.Marks.{word_mark}
 use Rattle.goblin_base.proofs.words.add_words.Given as goal
 

@@ -1,5 +1,4 @@
-use Rattle.std.proofs.Common.{◌∙◌, ap, sym, Some}
-use Rattle.std.specs.Prelude.{option_map}
+use Rattle.std.proofs.Common.{◌∙◌, ap, sym, Some, option_map}
 use Rattle.std.proofs.lemmas.Option.{slice_get-map}
 use Rattle.goblin_pe_export.specs.ExportWalks.{walked_tables}
 use Rattle.goblin_pe_calls.specs.declared.export_directory.PeExportAddress.{PeExportAddress}

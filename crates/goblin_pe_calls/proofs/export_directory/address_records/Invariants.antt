@@ -1,5 +1,4 @@
-use Rattle.std.proofs.Common.{◌≡◌, length, map, take}
-use Rattle.std.specs.Prelude.{vec_capacity, vec_len}
+use Rattle.std.proofs.Common.{◌≡◌, length, map, take, vec_capacity, vec_len}
 use Rattle.goblin_pe_export.specs.ExportWalks.{walked_tables}
 use Rattle.goblin_pe_calls.specs.ExportDirectories.{address_said}
 use Rattle.goblin_pe_calls.proofs.export_directory.address_records.Given as goal

@@ -1,5 +1,4 @@
-use Rattle.std.proofs.Common.{ap, ◌∷◌, ◌∙◌, arith}
-use Rattle.std.specs.Prelude.{Result}
+use Rattle.std.proofs.Common.{ap, ◌∷◌, ◌∙◌, arith, Result}
 use Rattle.goblin_base.specs.declared.error.ErrorOf.{ErrorOf}
 use Rattle.goblin_pe_sect.specs.declared.relocation.base.RelocationBlock.{RelocationBlock}
 use Rattle.goblin_pe_sect.specs.BaseRelocations.{block_item, blocks_left}

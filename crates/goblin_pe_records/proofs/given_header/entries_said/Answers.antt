@@ -1,5 +1,4 @@
-use Rattle.std.proofs.Common.{arith, refl, ◌∙◌}
-use Rattle.std.proofs.lemmas.List.{length-set}
+use Rattle.std.proofs.Common.{arith, refl, ◌∙◌, length-set}
 use Rattle.goblin_pe_records.proofs.Filling.{filling-start, filling-next, filling-end, least-end, any-default}
 use Rattle.goblin_pe_records.proofs.Written.{filled-entries}
 use Rattle.goblin_pe_records.proofs.given_header.entries_said.Goals as goal

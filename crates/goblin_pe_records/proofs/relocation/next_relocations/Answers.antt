@@ -1,5 +1,4 @@
-use Rattle.std.proofs.Common.{arith, rules, subst, sym}
-use Rattle.std.specs.Prelude.{IsSomeAnd}
+use Rattle.std.proofs.Common.{arith, rules, subst, sym, IsSomeAnd}
 use Rattle.goblin_base.specs.declared.endian.Endian.TheVariants.{Little}
 use Rattle.goblin_base.proofs.RecordItems.{length-records_in}
 use Rattle.goblin_pe_sect.specs.Relocations.{relocation_record, relocations_in}

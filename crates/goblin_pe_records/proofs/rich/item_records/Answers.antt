@@ -1,6 +1,4 @@
-use Rattle.std.proofs.Common.{◌≡◌, ◌<◌, ◌-◌, ◌/◌, ℕ, inl, inr, List, ap, drop, refl, sym, ◌∷◌, ◌∙◌, arith, length}
-use Rattle.std.proofs.lemmas.List.{length-drop, map-id}
-use Rattle.std.specs.Prelude.{Result, vec_capacity}
+use Rattle.std.proofs.Common.{◌≡◌, ◌<◌, ◌-◌, ◌/◌, ℕ, inl, inr, List, ap, drop, refl, sym, ◌∷◌, ◌∙◌, arith, length, length-drop, map-id, Result, vec_capacity}
 use Rattle.std.proofs.lemmas.Bool.{cases_lt}
 use Rattle.goblin_base.specs.declared.error.ErrorOf.{ErrorOf}
 use Rattle.goblin_pe_head.specs.declared.header.rich.RichMetadata.{RichMetadata}

@@ -1,6 +1,5 @@
 -- The records so far say what the entries so far are, and there is room for those that are left.
-use Rattle.std.proofs.Common.{◌≡◌, ◌+◌, length}
-use Rattle.std.specs.Prelude.{vec_capacity, vec_len}
+use Rattle.std.proofs.Common.{◌≡◌, ◌+◌, length, vec_capacity, vec_len}
 use Rattle.goblin_pe_head.specs.RichHeader.{rich_value}
 use Rattle.goblin_pe_head.specs.RichMetadata.{metadata_left}
 use Rattle.goblin_pe_records.specs.Items.{values_of}

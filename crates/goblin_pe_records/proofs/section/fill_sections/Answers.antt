@@ -1,6 +1,4 @@
-use Rattle.std.proofs.Common.{◌∙◌, ◌<◌, ap, arith, length, sym, ℕ}
-use Rattle.std.specs.Prelude.{min, slice_get}
-use Rattle.std.proofs.lemmas.List.{set-set}
+use Rattle.std.proofs.Common.{◌∙◌, ◌<◌, ap, arith, length, sym, ℕ, min, slice_get, set-set}
 use Rattle.std.proofs.lemmas.Option.{get_or_from_slice_get}
 use Rattle.goblin_base.proofs.Steps.{mapped}
 use Rattle.goblin_pe_sect.specs.SectionTable.{Section, recorded_sections}

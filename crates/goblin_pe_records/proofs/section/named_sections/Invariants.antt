@@ -1,7 +1,6 @@
-use Rattle.std.proofs.Common.{◌≡◌, length, map, take}
+use Rattle.std.proofs.Common.{◌≡◌, length, map, take, vec_capacity, vec_len}
 use Rattle.goblin_pe_sect.specs.Options.{is_strict}
 use Rattle.goblin_pe_sect.specs.SectionTable.{recorded_sections}
-use Rattle.std.specs.Prelude.{vec_capacity, vec_len}
 use Rattle.goblin_pe_records.specs.Filled.{without_text}
 use Rattle.goblin_pe_records.specs.Sections.{named_in, section_said}
 use Rattle.goblin_pe_records.proofs.section.named_sections.Given as goal

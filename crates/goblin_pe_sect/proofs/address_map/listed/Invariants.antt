@@ -1,5 +1,4 @@
-use Rattle.std.proofs.Common.{◌≡◌, length, take}
-use Rattle.std.specs.Prelude.{vec_capacity}
+use Rattle.std.proofs.Common.{◌≡◌, length, take, vec_capacity}
 use Rattle.goblin_pe_sect.specs.SectionTable.{recorded_sections}
 use Rattle.goblin_pe_sect.proofs.address_map.listed.Given as goal
 

@@ -1,22 +1,14 @@
-use Rattle.std.proofs.Common.{◌≡◌, ◌<◌, ◌≤◌, ◌+◌, ◌*◌, ◌^◌, ℕ, List, length, refl, ap, sym, ◌∙◌, rules, arith}
-use Rattle.std.proofs.lemmas.Bool.{le-leb}
+use Rattle.std.proofs.Common.{◌≡◌, ◌<◌, ◌≤◌, ◌+◌, ◌*◌, ◌^◌, ℕ, List, length, ap, sym, ◌∙◌, rules, arith}
 use Rattle.goblin_base.specs.Footprints.{Range, slice_footprint}
-use Rattle.goblin_base.specs.Tables.{concat_below}
 use Rattle.goblin_base.specs.Marks.{marked}
 use Rattle.goblin_base.proofs.Marks.{marked_nil}
 use Rattle.goblin_base.proofs.Ranges.{marked_below}
-use Rattle.goblin_pe_sect.specs.DirectoryReadings.{directories_at}
 use Rattle.goblin_pe_sect.proofs.CutOffsets.{slice-cut}
 use Rattle.goblin_pe_sect.proofs.footprint.add_directories.Goals as goal
 
 -- the record of the directory at an index
 entry : List ℕ → ℕ → ℕ → List Range
 entry bytes o i = slice_footprint bytes (o + 8 * i) 8
-
-all-entries : (count o : ℕ) (bytes : List ℕ) → count ≤ 16
-    → (directories_at count o).reaches bytes ≡ concat_below (entry bytes o) count
-unfolding directories_at entry
-all-entries count o bytes le = rw (le-leb count 16 le) refl
 
 pub entries-init : goal.entries-init
 entries-init c = sym (marked_nil c.args.marks.now)

@@ -1,5 +1,4 @@
-use Rattle.std.proofs.Common.{◌≡◌, ◌++◌, string_bytes, take}
-use Rattle.std.specs.List.{flat_map}
+use Rattle.std.proofs.Common.{◌≡◌, ◌++◌, string_bytes, take, flat_map}
 use Rattle.pe_listing.proofs.lines.push_lines.Given as goal
 
 abbrev pub invariant-lines : goal.invariant-lines

@@ -1,7 +1,5 @@
-use Rattle.std.proofs.Common.{◌++◌, ap, ◌∙◌}
-use Rattle.std.specs.Prelude.{codes, List, string_bytes, length}
+use Rattle.std.proofs.Common.{◌++◌, ap, ◌∙◌, codes, List, string_bytes, length, flat_map}
 use Rattle.goblin_pe.specs.SectionTable.{Section}
-use Rattle.std.specs.List.{flat_map}
 use Rattle.goblin_pe.specs.PeHeader.{header_value}
 use Rattle.goblin_pe.specs.BaseRelocations.{relocation_bytes}
 use Rattle.goblin_pe.specs.Whole.{items_part, part_map}

@@ -1,5 +1,4 @@
-use Rattle.std.proofs.Common.{◌≡◌, ◌++◌, ◌+◌, ◌-◌, length, map, drop}
-use Rattle.std.specs.Prelude.{vec_capacity, vec_len}
+use Rattle.std.proofs.Common.{◌≡◌, ◌++◌, ◌+◌, ◌-◌, length, map, drop, vec_capacity, vec_len}
 use Rattle.goblin_base.specs.Footprints.{Range}
 use Rattle.goblin_base.specs.Marks.{ranges_from, ranges_of}
 use Rattle.goblin_base.proofs.footprint.Marks.list.Given as goal

@@ -1,5 +1,4 @@
-use Rattle.std.proofs.Common.{ℕ, List, Option, [], ap, arith, length, refl, sym, unwrap_or, ◌≡◌, ◌∙◌}
-use Rattle.std.specs.Option.{option_to_list}
+use Rattle.std.proofs.Common.{ℕ, List, Option, [], ap, arith, length, refl, sym, unwrap_or, ◌≡◌, ◌∙◌, option_to_list}
 use Rattle.std.proofs.lemmas.Result.{err_from_is_err_and}
 use Rattle.goblin_base.specs.Tables.{concat_below}
 use Rattle.goblin_pe_sect.specs.Addresses.{map_of, offset_of}

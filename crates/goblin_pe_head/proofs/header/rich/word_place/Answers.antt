@@ -1,5 +1,4 @@
-use Rattle.std.proofs.Common.{◌≡◌, ◌+◌, sym, ◌∙◌, inl, inr, arith, rules}
-use Rattle.std.specs.Prelude.{◌==◌}
+use Rattle.std.proofs.Common.{◌≡◌, ◌+◌, sym, ◌∙◌, inl, inr, arith, rules, ◌==◌}
 use Rattle.std.proofs.lemmas.Bool.{cases_lt, eq-eqb, ne_eqb}
 use Rattle.goblin_pe_head.specs.RichHeader.{word_at}
 use Rattle.goblin_pe_head.proofs.WordPlaces.{found_at, passed_over}

@@ -1,5 +1,4 @@
-use Rattle.std.proofs.Common.{ℕ, ◌≡◌, ◌+◌, ◌-◌, ◌<◌, ◌≤◌, false}
-use Rattle.std.specs.Prelude.{◌==◌}
+use Rattle.std.proofs.Common.{ℕ, ◌≡◌, ◌+◌, ◌-◌, ◌<◌, ◌≤◌, false, ◌==◌}
 use Rattle.goblin_pe_head.specs.RichHeader.{word_at}
 use Rattle.goblin_pe_head.proofs.header.rich.word_place.Given as goal
 

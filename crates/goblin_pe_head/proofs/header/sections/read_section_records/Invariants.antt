@@ -1,6 +1,5 @@
 -- The sections so far are those that stand there, each in the file.
-use Rattle.std.proofs.Common.{◌≡◌, ◌+◌, ◌*◌, ◌<◌, ◌≤◌, ℕ, length}
-use Rattle.std.specs.Prelude.{Some}
+use Rattle.std.proofs.Common.{◌≡◌, ◌+◌, ◌*◌, ◌<◌, ◌≤◌, ℕ, length, Some}
 use Rattle.goblin_pe_sect.specs.Options.{is_strict}
 use Rattle.goblin_pe_head.proofs.SectionRecords.{sections_from, unnamed_from}
 use Rattle.goblin_pe_head.proofs.header.sections.read_section_records.Given as goal

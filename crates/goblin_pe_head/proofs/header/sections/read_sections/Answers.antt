@@ -1,5 +1,4 @@
-use Rattle.std.proofs.Common.{◌+◌, ◌*◌, ℕ, List, ap, arith, subst, sym, ◌∙◌}
-use Rattle.std.specs.Prelude.{Option, Some}
+use Rattle.std.proofs.Common.{◌+◌, ◌*◌, ℕ, List, ap, arith, subst, sym, ◌∙◌, Option, Some}
 use Rattle.std.proofs.lemmas.Result.{err_from_is_err_and}
 use Rattle.goblin_base.proofs.Steps.{all_at-each, all_at-more, all_at-none, all_at-zero}
 use Rattle.goblin_pe_sect.specs.Options.{is_strict}

@@ -1,5 +1,4 @@
-use Rattle.std.proofs.Common.{◌≡◌, ◌+◌, ◌≤◌, length, true, [], Some, sym, ap, ◌∙◌, arith, refl}
-use Rattle.std.specs.Prelude.{option_map}
+use Rattle.std.proofs.Common.{◌≡◌, ◌+◌, ◌≤◌, length, true, [], Some, sym, ap, ◌∙◌, arith, refl, option_map}
 use Rattle.std.proofs.lemmas.Result.{err_from_is_err_and}
 use Rattle.readings.proofs.Loops.{read-end, read-missing, read-next, read-start}
 use Rattle.goblin_base.specs.declared.error.ErrorOf.TheVariants.{Read}

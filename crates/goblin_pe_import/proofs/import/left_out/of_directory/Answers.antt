@@ -1,5 +1,4 @@
-use Rattle.std.proofs.Common.{◌^◌, ◌+◌, ◌-◌, ℕ, ap, refl, ◌∙◌, arith, lit≤}
-use Rattle.std.specs.Prelude.{min}
+use Rattle.std.proofs.Common.{◌^◌, ◌+◌, ◌-◌, ℕ, ap, refl, ◌∙◌, arith, lit≤, min}
 use Rattle.goblin_base.proofs.Records.{record_at-some}
 use Rattle.goblin_pe_sect.specs.Addresses.{map_of, offset_of}
 use Rattle.goblin_base.specs.declared.endian.Endian.TheVariants.{Little}

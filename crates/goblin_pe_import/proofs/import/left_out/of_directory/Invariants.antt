@@ -1,5 +1,4 @@
-use Rattle.std.proofs.Common.{◌≡◌, ◌-◌, ◌^◌, ℕ, length}
-use Rattle.std.specs.Prelude.{min}
+use Rattle.std.proofs.Common.{◌≡◌, ◌-◌, ◌^◌, ℕ, length, min}
 use Rattle.std.specs.Int.{from_bool}
 use Rattle.goblin_pe_sect.specs.Addresses.{map_of, offset_of}
 use Rattle.goblin_pe_import.specs.ImportRecords.{import_slots}

@@ -1,5 +1,4 @@
-use Rattle.std.proofs.Common.{◌≡◌, ◌-◌, ◌^◌, take}
-use Rattle.std.specs.Prelude.{min}
+use Rattle.std.proofs.Common.{◌≡◌, ◌-◌, ◌^◌, take, min}
 use Rattle.goblin_pe_import.specs.Imports.{kept_count}
 use Rattle.goblin_pe_import.proofs.import.listed.count_of.Given as goal
 

@@ -1,5 +1,4 @@
-use Rattle.std.proofs.Common.{◌≡◌, ◌+◌, Some, drop}
-use Rattle.std.specs.Prelude.{vec_capacity, vec_len}
+use Rattle.std.proofs.Common.{◌≡◌, ◌+◌, Some, drop, vec_capacity, vec_len}
 use Rattle.goblin_base.specs.Tables.{each_below}
 use Rattle.goblin_pe_import.specs.Imports.{kept_count}
 use Rattle.goblin_pe_import.proofs.Imports.{imported_at}

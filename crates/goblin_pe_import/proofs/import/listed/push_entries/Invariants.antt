@@ -1,5 +1,4 @@
-use Rattle.std.proofs.Common.{◌≡◌, ◌+◌, map}
-use Rattle.std.specs.Prelude.{vec_capacity, vec_len}
+use Rattle.std.proofs.Common.{◌≡◌, ◌+◌, map, vec_capacity, vec_len}
 use Rattle.goblin_pe_import.specs.ImportLookup.{entry_view}
 use Rattle.goblin_pe_import.specs.Imports.{origin}
 use Rattle.goblin_pe_import.proofs.Imports.{AtEntry}

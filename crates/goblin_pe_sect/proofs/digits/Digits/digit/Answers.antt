@@ -1,5 +1,4 @@
-use Rattle.std.proofs.Common.{ap, ◌∙◌, ℕ, List}
-use Rattle.std.specs.Prelude.{◌==◌, position}
+use Rattle.std.proofs.Common.{ap, ◌∙◌, ℕ, List, ◌==◌, position}
 use Rattle.goblin_pe_sect.specs.Digits.{alphabet}
 use Rattle.goblin_pe_sect.proofs.DigitSums.{position-place}
 use Rattle.goblin_pe_sect.proofs.digits.Digits.digit.Goals as goal

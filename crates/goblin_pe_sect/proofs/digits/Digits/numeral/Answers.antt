@@ -1,6 +1,4 @@
-use Rattle.std.proofs.Common.{◌<◌, ◌≤◌, refl, sym, arith, nat_lt}
-use Rattle.std.specs.Prelude.{slice_index}
-use Rattle.std.proofs.lemmas.Bool.{lt-ltb}
+use Rattle.std.proofs.Common.{◌<◌, ◌≤◌, refl, sym, arith, nat_lt, slice_index, lt-ltb}
 use Rattle.goblin_pe_sect.specs.Digits.{digits_sum, digit, radix}
 use Rattle.goblin_pe_sect.proofs.DigitSums.{all-more, number-more, number_fits, numeral-none}
 use Rattle.goblin_pe_sect.proofs.digits.Digits.numeral.Goals as goal

@@ -1,6 +1,4 @@
-use Rattle.std.proofs.Common.{◌≡◌, ◌+◌, ◌-◌, ◌/◌, ◌%◌, ℕ, ap, sym, ◌∙◌, arith, take, drop, map, ◌++◌}
-use Rattle.std.proofs.Math.Nat.{mod-lt}
-use Rattle.std.proofs.lemmas.List.{length-set}
+use Rattle.std.proofs.Common.{◌≡◌, ◌+◌, ◌-◌, ◌/◌, ◌%◌, ℕ, ap, sym, ◌∙◌, arith, take, drop, map, ◌++◌, length-set, mod-lt}
 use Rattle.goblin_pe_sect.specs.Digits.{digit_byte, last_digits, radix}
 use Rattle.goblin_pe_sect.proofs.DigitSums.{finished, finished-step, finished-end, radix_range}
 use Rattle.goblin_pe_sect.proofs.digits.Digits.write.Goals as goal

@@ -1,5 +1,4 @@
-use Rattle.std.proofs.Common.{◌≡◌, ◌+◌, ◌++◌, map, take}
-use Rattle.std.specs.Prelude.{vec_capacity, vec_len}
+use Rattle.std.proofs.Common.{◌≡◌, ◌+◌, ◌++◌, map, take, vec_capacity, vec_len}
 use Rattle.goblin_pe_sect.specs.WindowStretches.{piece_among}
 use Rattle.goblin_pe_sect.proofs.windows.owners.push_each_piece.Given as goal
 

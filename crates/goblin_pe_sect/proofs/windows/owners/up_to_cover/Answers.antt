@@ -1,5 +1,4 @@
-use Rattle.std.proofs.Common.{◌≡◌, Some}
-use Rattle.std.specs.List.{position}
+use Rattle.std.proofs.Common.{◌≡◌, Some, position}
 use Rattle.goblin_pe_sect.specs.WindowStretches.{window_covers}
 use Rattle.goblin_pe_sect.proofs.Stretches.{find-covered}
 use Rattle.goblin_pe_sect.proofs.windows.owners.up_to_cover.Goals as goal

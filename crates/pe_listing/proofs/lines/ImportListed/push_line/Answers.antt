@@ -1,5 +1,4 @@
-use Rattle.std.proofs.Common.{◌++◌, ap, ◌∙◌}
-use Rattle.std.specs.Prelude.{codes, List, ℕ, string_bytes}
+use Rattle.std.proofs.Common.{◌++◌, ap, ◌∙◌, codes, List, ℕ, string_bytes}
 use Rattle.std.specs.Cow.{cow_str_bytes}
 use Rattle.pe_listing.specs.Lines.{import_line}
 use Rattle.pe_listing.specs.Text.{decimal_field, hex_field, name_field}

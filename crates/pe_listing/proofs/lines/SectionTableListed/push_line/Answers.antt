@@ -1,5 +1,4 @@
-use Rattle.std.proofs.Common.{◌++◌, ap, ◌∙◌, sym}
-use Rattle.std.specs.Prelude.{codes, List, ℕ, string_bytes}
+use Rattle.std.proofs.Common.{◌++◌, ap, ◌∙◌, sym, codes, List, ℕ, string_bytes}
 use Rattle.pe_listing.specs.Lines.{section_line, shown_name}
 use Rattle.pe_listing.specs.Text.{hex_field, name_field}
 use Rattle.pe_listing.proofs.Pushed.{pushed, pushed_last}

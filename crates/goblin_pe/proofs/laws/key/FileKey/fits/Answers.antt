@@ -1,6 +1,4 @@
-use Rattle.std.proofs.Common.{List, subst, sym, ◌∙◌}
-use Rattle.std.specs.List.{All}
-use Rattle.std.proofs.lemmas.Bool.{eqb-true}
+use Rattle.std.proofs.Common.{List, subst, sym, ◌∙◌, eqb-true, All}
 use Rattle.goblin_pe.specs.Keys.{HasKeptRange, KeptRange}
 use Rattle.goblin_pe.specs.Whole.{whole_file}
 use Rattle.goblin_pe.proofs.Keys.{agree-there, there-agree}

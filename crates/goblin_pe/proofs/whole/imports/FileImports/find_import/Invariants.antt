@@ -1,5 +1,4 @@
-use Rattle.std.proofs.Common.{Bool}
-use Rattle.std.specs.Prelude.{find, option_map}
+use Rattle.std.proofs.Common.{Bool, find, option_map}
 use Rattle.std.specs.Fn.{FnReturnsAt}
 use Rattle.goblin_pe_import.specs.Imports.{ImportValue}
 use Rattle.goblin_pe_import.specs.ImportWalks.{walked_value}

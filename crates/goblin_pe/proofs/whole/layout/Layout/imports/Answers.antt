@@ -1,13 +1,11 @@
-use Rattle.std.proofs.Common.{◌≡◌, ◌∙◌, ap, sym, true, false, inl, inr, None}
-use Rattle.std.specs.Prelude.{◌⊎◌}
-use Rattle.std.specs.List.{flat_map}
+use Rattle.std.proofs.Common.{◌≡◌, ◌∙◌, ap, sym, true, false, inl, inr, None, ◌⊎◌, flat_map}
 use Rattle.std.proofs.lemmas.Result.{err_from_is_err_and}
 use Rattle.goblin_pe_sect.specs.declared.options.ParseOptions.{ParseOptions}
 use Rattle.goblin_pe_sect.specs.Addresses.{offset_of, reads_strictly}
 use Rattle.goblin_pe_import.specs.ImportReadings.{import_data}
 use Rattle.goblin_pe_import.specs.Imports.{kept_imports}
 use Rattle.goblin_pe.specs.Layouts.{layout_bytes, layout_map, layout_places}
-use Rattle.goblin_pe.specs.Whole.{entry_format, import_data_part, import_list, part_map}
+use Rattle.goblin_pe.specs.Whole.{entry_format, import_data_part, import_list}
 use Rattle.goblin_pe.proofs.Collected.{unasked_mapped}
 use Rattle.goblin_pe.proofs.ImportParts.{list-refused, list-walked}
 use Rattle.goblin_pe.proofs.ImportStarts.{start-read, start-refused}

@@ -1,5 +1,4 @@
-use Rattle.std.proofs.Common.{◌≡◌, Bool, true, false, cond, List, ◌∷◌, Some, refl, sym, ◌∙◌}
-use Rattle.std.specs.Prelude.{find}
+use Rattle.std.proofs.Common.{◌≡◌, Bool, true, false, cond, List, ◌∷◌, Some, refl, sym, ◌∙◌, find}
 use Rattle.std.proofs.lemmas.Fn.{says_at}
 use Rattle.goblin_pe_export.specs.ExportWalks.{NumberedExport, exports_left, walked_export}
 use Rattle.goblin_pe_export.proofs.export.exports.Exports.find_export.Goals as goal

@@ -1,6 +1,5 @@
 -- The first of those that are left is the first of all.
-use Rattle.std.proofs.Common.{◌≡◌, Bool}
-use Rattle.std.specs.Prelude.{find}
+use Rattle.std.proofs.Common.{◌≡◌, Bool, find}
 use Rattle.std.specs.Fn.{FnReturnsAt}
 use Rattle.readings.specs.Tests.{IsTest}
 use Rattle.goblin_pe_export.specs.ExportWalks.{NumberedExport, exports_left, walked_export}

@@ -1,6 +1,5 @@
 -- The name pointers so far that give no export.
-use Rattle.std.proofs.Common.{◌≡◌, ◌≤◌}
-use Rattle.std.specs.Prelude.{count_by, not}
+use Rattle.std.proofs.Common.{◌≡◌, ◌≤◌, count_by, not}
 use Rattle.std.specs.List.{range_with_len}
 use Rattle.goblin_pe_sect.specs.Addresses.{map_of, offset_of}
 use Rattle.goblin_pe_export.specs.ExportRecords.{tables_in}

@@ -1,5 +1,4 @@
-use Rattle.std.proofs.Common.{◌∷◌, ◌+◌, ap, arith, length, sym, ◌∙◌}
-use Rattle.std.specs.Prelude.{option_map}
+use Rattle.std.proofs.Common.{◌∷◌, ◌+◌, ap, arith, length, sym, ◌∙◌, option_map}
 use Rattle.goblin_pe_sect.specs.Addresses.{map_of, offset_of}
 use Rattle.goblin_pe_sect.specs.declared.address_map.AddressMap.{AddressMap}
 use Rattle.goblin_pe_export.specs.ExportRecords.{ExportTables, name_pointers, tables_in}

@@ -1,5 +1,4 @@
-use Rattle.std.proofs.Common.{None, ap, arith, inl, map, refl}
-use Rattle.std.specs.Prelude.{option_map}
+use Rattle.std.proofs.Common.{None, ap, arith, inl, map, refl, option_map}
 use Rattle.goblin_pe_sect.specs.Options.{is_strict}
 use Rattle.goblin_pe_sect.specs.SectionTable.{recorded_sections, unnamed}
 use Rattle.goblin_pe_head.specs.CoffHeader.{symbols_end}

@@ -1,5 +1,4 @@
-use Rattle.std.proofs.Common.{◌≡◌, ◌+◌, [], ◌++◌, length, arith, ap, sym, ◌∙◌}
-use Rattle.std.proofs.lemmas.List.{append-nil}
+use Rattle.std.proofs.Common.{◌≡◌, ◌+◌, [], ◌++◌, length, arith, ap, sym, ◌∙◌, append-nil}
 use Rattle.goblin_base.specs.Bytes.{replaced}
 use Rattle.goblin_base.proofs.Writing.{length-replaced, written_then}
 use Rattle.goblin_pe_head.specs.PeHeader.{header_parts}

@@ -1,5 +1,4 @@
-use Rattle.std.proofs.Common.{◌+◌, ◌*◌, ap, arith, inl, map, refl, subst, true, Some}
-use Rattle.std.specs.Prelude.{option_map}
+use Rattle.std.proofs.Common.{◌+◌, ◌*◌, ap, arith, inl, map, refl, subst, true, Some, option_map}
 use Rattle.goblin_base.specs.declared.error.CauseOf.TheVariants.{StrippedSize}
 use Rattle.goblin_base.specs.Reading.{Reads}
 use Rattle.readings.specs.Reads.{◌>>=◌, each, mapped, needs}

@@ -1,5 +1,4 @@
-use Rattle.std.proofs.Common.{arith, inl, refl, subst, true}
-use Rattle.std.specs.Prelude.{Some}
+use Rattle.std.proofs.Common.{arith, inl, refl, subst, true, Some}
 use Rattle.goblin_base.specs.declared.error.CauseOf.TheVariants.{StrippedSize}
 use Rattle.goblin_base.specs.Reading.{ReadsOrMemory}
 use Rattle.readings.specs.Reads.{◌>>=◌, needs}
