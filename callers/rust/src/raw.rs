@@ -329,30 +329,38 @@ pub fn footprint(bytes: &[u8], options: &Options, ranges: &mut Ranges<'_>) -> Fa
     unsafe { goblin_pe_raw_footprint(bytes.as_ptr(), bytes.len(), options, ranges) }
 }
 
-/// Goes on with the walk over imports; fills the vector as far as it has room.
-pub fn next_imports<'a>(
-    bytes: &'a [u8],
-    options: &Options,
-    places: &Places,
-    position: &mut ImportPosition,
-    imports: &mut Vec<Import<'a>>,
-) -> Fault {
-    test_interface();
-    fill(imports, |first, room, count| {
-        // SAFETY: as in `read_layout`.
-        unsafe {
-            goblin_pe_raw_next_imports(
-                bytes.as_ptr(),
-                bytes.len(),
-                options,
-                places,
-                position,
-                first,
-                room,
-                count,
-            )
+// Walks that go on in a file whose tables lie at these places: each fills the vector as far as it has room.
+macro_rules! walks {
+    ($($(#[$of:meta])* $name:ident by $call:ident from $position:ty => $record:ty;)*) => {$(
+        $(#[$of])*
+        // (an entry of the address table names no lifetime)
+        #[allow(clippy::needless_lifetimes)]
+        pub fn $name<'a>(
+            bytes: &'a [u8],
+            options: &Options,
+            places: &Places,
+            position: &mut $position,
+            records: &mut Vec<$record>,
+        ) -> Fault {
+            test_interface();
+            fill(records, |first, room, count| {
+                let (file, length) = (bytes.as_ptr(), bytes.len());
+                // SAFETY: as in `read_layout`.
+                unsafe { $call(file, length, options, places, position, first, room, count) }
+            })
         }
-    })
+    )*};
+}
+
+walks! {
+    /// Goes on with the walk over imports.
+    next_imports by goblin_pe_raw_next_imports from ImportPosition => Import<'a>;
+    /// Goes on with the walk over exports.
+    next_exports by goblin_pe_raw_next_exports from usize => Export<'a>;
+    /// Goes on with the walk over the entries of the export address table.
+    next_export_addresses by goblin_pe_raw_next_export_addresses from usize => ExportAddress;
+    /// Goes on with the walk over the blocks of base relocations.
+    next_blocks by goblin_pe_raw_next_blocks from usize => Block<'a>;
 }
 
 /// The record of a library in the import directory, at a file offset.
@@ -363,32 +371,6 @@ pub fn import_record_at(bytes: &[u8], offset: usize) -> Option<ImportDirectoryEn
     let is_there =
         unsafe { goblin_pe_raw_import_record_at(bytes.as_ptr(), bytes.len(), offset, &mut record) };
     is_there.then_some(record)
-}
-
-/// Goes on with the walk over exports; fills the vector as far as it has room.
-pub fn next_exports<'a>(
-    bytes: &'a [u8],
-    options: &Options,
-    places: &Places,
-    position: &mut usize,
-    exports: &mut Vec<Export<'a>>,
-) -> Fault {
-    test_interface();
-    fill(exports, |first, room, count| {
-        // SAFETY: as in `read_layout`.
-        unsafe {
-            goblin_pe_raw_next_exports(
-                bytes.as_ptr(),
-                bytes.len(),
-                options,
-                places,
-                position,
-                first,
-                room,
-                count,
-            )
-        }
-    })
 }
 
 /// Reads what the export directory says.
@@ -403,58 +385,6 @@ pub fn read_export_directory<'a>(
     unsafe {
         goblin_pe_raw_read_export_directory(bytes.as_ptr(), bytes.len(), options, places, directory)
     }
-}
-
-/// Goes on with the walk over the entries of the export address table; fills the vector as far as it has room.
-pub fn next_export_addresses(
-    bytes: &[u8],
-    options: &Options,
-    places: &Places,
-    position: &mut usize,
-    addresses: &mut Vec<ExportAddress>,
-) -> Fault {
-    test_interface();
-    fill(addresses, |first, room, count| {
-        // SAFETY: as in `read_layout`.
-        unsafe {
-            goblin_pe_raw_next_export_addresses(
-                bytes.as_ptr(),
-                bytes.len(),
-                options,
-                places,
-                position,
-                first,
-                room,
-                count,
-            )
-        }
-    })
-}
-
-/// Goes on with the walk over the blocks of base relocations; fills the vector as far as it has room.
-pub fn next_blocks<'a>(
-    bytes: &'a [u8],
-    options: &Options,
-    places: &Places,
-    position: &mut usize,
-    blocks: &mut Vec<Block<'a>>,
-) -> Fault {
-    test_interface();
-    fill(blocks, |first, room, count| {
-        // SAFETY: as in `read_layout`.
-        unsafe {
-            goblin_pe_raw_next_blocks(
-                bytes.as_ptr(),
-                bytes.len(),
-                options,
-                places,
-                position,
-                first,
-                room,
-                count,
-            )
-        }
-    })
 }
 
 /// Reads an object; fills the vector as far as it has room.
