@@ -228,7 +228,7 @@ impl BlockPosition {
 }
 
 impl Position for BlockPosition {
-    // (what follows a batch that is not full is a refusal)
+    // (what follows a batch that is not full, before the end of the directory, is a refusal)
     fn is_end(&self, _is_full: bool) -> bool {
         self.offset >= self.size
     }
@@ -261,7 +261,7 @@ impl<T, P: Position> Batches<T, P> {
         Batches {
             records: Vec::new(),
             next: 0,
-            first: (FIRST_BYTES / size_of::<T>()).min(batch),
+            first: (FIRST_BYTES / size_of::<T>()).clamp(1, batch),
             batch,
             most: batch,
             position,
@@ -674,5 +674,59 @@ impl fmt::Debug for Symbols<'_> {
     /// What is still to come.
     fn fmt(&self, f: &mut fmt::Formatter<'_>) -> fmt::Result {
         f.debug_list().entries(self.clone()).finish()
+    }
+}
+
+#[cfg(test)]
+mod tests {
+    use super::*;
+
+    // What a call reads of a table of so many numbers, which a refusal may follow.
+    fn read(total: usize, refused: bool, position: &mut usize, records: &mut Vec<usize>) -> Fault {
+        let room = records.capacity();
+        records.extend((*position..total).take(room));
+        *position += records.len();
+        Fault {
+            status: u32::from(refused && records.is_empty()),
+            cause: 0,
+            first: 0,
+            second: 0,
+        }
+    }
+
+    // Which number comes after those from one on, each of which comes once.
+    fn rest(mut from: usize, batches: &mut Batches<usize, usize>, total: usize) -> usize {
+        while let Some(record) = batches.next(|at, to| read(total, false, at, to)) {
+            assert_eq!(record.ok(), Some(&from));
+            from += 1;
+        }
+        from
+    }
+
+    // Tables that end before, with and after a batch: the first has room for 128 numbers, others for 256.
+    #[test]
+    fn each_record_comes_once_also_from_a_copy() {
+        for total in [0, 1, 127, 128, 129, 383, 384, 385, 1000] {
+            let mut batches = Batches::new(0, BATCH);
+            assert_eq!(rest(0, &mut batches.clone(), total), total);
+            for index in 0..total {
+                let record = batches.next(|at, to| read(total, false, at, to));
+                assert_eq!(record.unwrap().ok(), Some(&index));
+                assert_eq!(rest(index + 1, &mut batches.clone(), total), total);
+            }
+            assert_eq!(rest(total, &mut batches, total), total);
+        }
+    }
+
+    #[test]
+    fn nothing_comes_after_a_refusal() {
+        let mut batches = Batches::new(0, BATCH);
+        for _ in 0..128 {
+            let record = batches.next(|at, to| read(128, true, at, to));
+            assert!(record.unwrap().is_ok());
+        }
+        let refused = batches.next(|at, to| read(128, true, at, to));
+        assert!(refused.unwrap().is_err());
+        assert!(batches.next(|at, to| read(1000, false, at, to)).is_none());
     }
 }

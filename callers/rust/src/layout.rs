@@ -82,7 +82,8 @@ impl<'a> Layout<'a> {
     /// Reads the header and the sections of an image that lies in memory.
     ///
     /// # Errors
-    /// Why one of them was refused, and memory for the sections.
+    /// Memory for sixteen sections, which is asked for first; why the header or a section was refused; and memory for
+    /// more sections.
     ///
     /// ```no_run
     /// # let bytes = [];

@@ -244,14 +244,16 @@ fn test_interface() {
     });
 }
 
-// Fills a vector with the records of a call, as far as it has room. The call gets a pointer to the room, how many
-// records fit, and a place to say how many there are, also past the room; where it is refused it says none.
+// Fills a vector with the records of a call, as far as it has room; of one that is refused it has none. The call gets a
+// pointer to the room, how many records fit, and a place to say how many there are, also past the room.
 fn fill<T>(records: &mut Vec<T>, call: impl FnOnce(*mut T, usize, &mut usize) -> Fault) -> Fault {
     records.clear();
     let (room, mut count) = (records.capacity(), 0);
     let fault = call(records.as_mut_ptr(), room, &mut count);
-    // SAFETY: the library has filled so many records.
-    unsafe { records.set_len(count.min(room)) };
+    if fault.status == 0 {
+        // SAFETY: the library has filled so many records.
+        unsafe { records.set_len(count.min(room)) };
+    }
     fault
 }
 
@@ -295,7 +297,6 @@ pub fn read_layout<'a>(
     sections: &mut Vec<Section<'a>>,
 ) -> Fault {
     test_interface();
-    layout.sections = 0;
     fill(sections, |first, room, count| {
         // SAFETY: as in `open`; there is room for as many records as it is told.
         let fault = unsafe {
@@ -395,7 +396,6 @@ pub fn read_object<'a>(
     sections: &mut Vec<Section<'a>>,
 ) -> Fault {
     test_interface();
-    object.sections = 0;
     fill(sections, |first, room, count| {
         // SAFETY: as in `read_layout`.
         let fault = unsafe {
@@ -413,7 +413,6 @@ pub fn read_te<'a>(
     sections: &mut Vec<Section<'a>>,
 ) -> Fault {
     test_interface();
-    header.number_of_sections = 0;
     fill(sections, |first, room, count| {
         // SAFETY: as in `read_layout`.
         let fault =
@@ -511,7 +510,6 @@ pub fn read_relocations(
     count: &mut usize,
 ) -> Fault {
     test_interface();
-    *count = 0;
     fill(relocations, |first, room, filled| {
         // SAFETY: as in `kind`; there is room for as many records as it is told.
         let fault = unsafe {
