@@ -69,7 +69,7 @@ pub extern "C" fn goblin_pe_raw_next_imports<'a>(
         IsImportsFault old new count.old count.new) }
 {
     let opts = options_of(options);
-    status_of(give(alloc, bytes, &opts, places, position, records, count))
+    status_of(give::<PeImport>(alloc, bytes, &opts, places, position, records, count))
 }
 
 /// Fills `records` with the exports of a file from a position on, as many as there is room for,
@@ -97,7 +97,7 @@ pub extern "C" fn goblin_pe_raw_next_exports<'a>(
         IsExportBatchFault old new count.old count.new) }
 {
     let opts = options_of(options);
-    status_of(give(alloc, bytes, &opts, places, position, records, count))
+    status_of(give::<PeExport>(alloc, bytes, &opts, places, position, records, count))
 }
 
 /// Puts into `directory` what the export directory of a file says, and lists no export: the record
@@ -152,7 +152,7 @@ pub extern "C" fn goblin_pe_raw_next_export_addresses(
         IsExportBatchFault old new count.old count.new) }
 {
     let opts = options_of(options);
-    status_of(give(alloc, bytes, &opts, places, position, records, count))
+    status_of(give::<PeExportAddress>(alloc, bytes, &opts, places, position, records, count))
 }
 
 /// Fills `records` with the blocks of base relocations of a file from a position on, as many as
@@ -182,7 +182,7 @@ pub extern "C" fn goblin_pe_raw_next_blocks<'a>(
         IsBlocksFault old new count.old count.new) }
 {
     let opts = options_of(options);
-    status_of(give(alloc, bytes, &opts, places, position, records, count))
+    status_of(give::<PeBlock>(alloc, bytes, &opts, places, position, records, count))
 }
 
 /// Fills `records` with all relocations of a section of an object from the index `position` on, as

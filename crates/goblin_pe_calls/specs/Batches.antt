@@ -200,7 +200,7 @@ IsExportsFault m places bytes e =
     let read = export_part m.opts (offset_of m) places in
     (read.value bytes ≡ None) × read.IsCause bytes e
 
--- so a batch is, wherever it begins
+-- why a batch of exports or of entries is refused, wherever it begins
 abbrev pub IsExportBatchFault : {R : Type 0} → MapOfAddresses → TablePlaces → List ℕ → Batch ℕ R
     → ErrorOf → Type 0
 IsExportBatchFault m places bytes old e = IsExportsFault m places bytes e
@@ -208,14 +208,14 @@ IsExportBatchFault m places bytes old e = IsExportsFault m places bytes e
 -- ---- what the export directory says
 
 -- its record, zeros where the exports are not read
-abbrev pub directory_in : Part (ExportTables × List ExportRow) → DirectorySaid
-directory_in Absent = no_export_directory
-directory_in (part.Read read) = directory_said read.0
-directory_in Refused = no_export_directory
+abbrev pub directory_record_in : Part (ExportTables × List ExportRow) → DirectorySaid
+directory_record_in Absent = no_export_directory
+directory_record_in (part.Read read) = directory_said read.0
+directory_record_in Refused = no_export_directory
 
 abbrev pub SaysDirectory : MapOfAddresses → TablePlaces → List ℕ → DirectorySaid → Type 0
 SaysDirectory m places bytes said =
-    IsSomeAnd ((export_part m.opts (offset_of m) places).value bytes) (λ p. said ≡ directory_in p)
+    IsSomeAnd ((export_part m.opts (offset_of m) places).value bytes) (λ p. said ≡ directory_record_in p)
 
 -- ---- entries of the export address table
 

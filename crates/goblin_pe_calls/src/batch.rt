@@ -19,7 +19,8 @@ pub trait Batched<'a>: Sized {
     /// Where the next batch begins.
     type Position;
 
-    /// What a batch holds, of so many records, and where the next one begins.
+    /// What a batch holds, as its caller passes it and as it is filled, of so many records, and
+    /// where the next one begins.
     ghost gives: { MapOfAddresses → TablePlaces → List ℕ → Batch Self.Position Self
         → Batch Self.Position Self → ℕ → Type 0 };
 
