@@ -4,7 +4,7 @@ use std::fmt;
 
 use crate::error::Error;
 use crate::iterators::Sections;
-use crate::memory::room;
+use crate::memory::make_room;
 use crate::raw::{self, TeHeader};
 use crate::rows::Section;
 
@@ -40,8 +40,9 @@ impl<'a> Te<'a> {
     /// # Ok::<(), goblin_pe::Error>(())
     /// ```
     pub fn read(bytes: &'a [u8]) -> Result<Te<'a>, Error> {
-        let mut header = TeHeader::default();
-        let mut sections = room(u8::MAX.into())?;
+        let (mut header, mut sections) = (TeHeader::default(), Vec::new());
+        Error::test(raw::read_te(bytes, &mut header, &mut sections))?;
+        make_room(&mut sections, header.number_of_sections.into())?;
         Error::test(raw::read_te(bytes, &mut header, &mut sections))?;
         Ok(Te {
             bytes,

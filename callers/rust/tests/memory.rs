@@ -55,7 +55,7 @@ fn refused<T>(call: impl FnOnce() -> Result<T, Error>) -> Option<ErrorKind> {
 // It is this crate that is refused memory, before any call of the library: the text is the first.
 #[test]
 fn the_text_of_a_refusal_before_any_call() {
-    let error = refusal(|| Te::read(b"VZ")).unwrap();
+    let error = refusal(|| goblin_pe::Layout::read(b"MZ", &Options::default())).unwrap();
     assert_eq!(error.to_string(), "out of memory");
 }
 
@@ -211,7 +211,7 @@ fn a_walk_over_symbols_needs_no_more_memory() {
 // What is said of a refusal, and shown of a text, takes no memory.
 #[test]
 fn a_refusal_is_told_without_memory() {
-    let error = refusal(|| Te::read(b"VZ")).unwrap();
+    let error = refusal(|| goblin_pe::Layout::read(b"MZ", &Options::default())).unwrap();
     let mut told = [0; 64];
     let written = without_memory(|| {
         let mut room = &mut told[..];
