@@ -235,8 +235,9 @@ static inline struct goblin_pe_fault goblin_pe_next_imports(
 /* Reads the 20 bytes at this file offset as the record of a library in the import directory, puts it into `record`,
    and answers whether the file has them; if not, nothing is changed. Whether they stand in the directory is not
    tested. It has the library's time stamp, its forwarder chain, and the address of its name, at which
-   goblin_pe_bytes_at reads a name that is not UTF-8. The position of a walk names the record of the last import's
-   library after each batch that is full; after one that is not, it may be the end, which names none. */
+   goblin_pe_bytes_at reads a name that is not UTF-8. In a walk's position, `first_record` and 20 for each of `library`
+   are the offset of the record of the last import's library after each batch that is full; after one that is not,
+   it may be the end, which has none. */
 static inline bool goblin_pe_import_record_at(
     const uint8_t *bytes, size_t length, size_t offset, struct goblin_pe_import_directory_entry *record)
 {

@@ -606,15 +606,33 @@ struct goblin_pe_places {
     bool has_relocations;
 };
 
-/* Where a walk over imports goes on; zeros are the beginning. It may be kept, and copied. */
+/* Where a walk over imports is, in numbers; zeros are the beginning. With the file's bytes and
+   places it is the walk: so it may be kept, copied and sent. Any other numbers are a walk, too. */
 struct goblin_pe_import_position {
-    /* The file offset of a library's record; the greatest number once the end has been reached,
-       also of a file without imports. */
-    size_t record_offset;
-    /* The file offset of the slot that is read next, or 0 before the library's first. */
-    size_t slot_offset;
     /* The file offset of the directory's first record, from which records are counted. */
     size_t first_record;
+    /* The file offset of the record that comes after the library, if there is one. */
+    size_t next_record;
+    /* The index of the library's record. */
+    size_t library;
+    /* The file offset of its lookup table. */
+    size_t table_offset;
+    /* The file offset of the slot that is read next in that table, in a library. */
+    size_t place;
+    /* The address of the library's name. */
+    uint32_t name_rva;
+    /* The address of its address table. */
+    uint32_t rva;
+    /* The address of its address table, if that is to be tested after its entries. */
+    uint32_t untested;
+    /* Whether the walk has begun; else the other fields are not looked at. */
+    bool is_begun;
+    /* Whether a record comes after the library. */
+    bool has_next;
+    /* Whether it is in a library. */
+    bool has_place;
+    /* Whether the address table is to be tested. */
+    bool is_untested;
 };
 
 /* An import. */
@@ -1334,10 +1352,19 @@ GOBLIN_PE_IS_AT(places, has_exports, 40);
 GOBLIN_PE_IS_AT(places, has_imports, 41);
 GOBLIN_PE_IS_AT(places, has_relocations, 42);
 
-GOBLIN_PE_HAS_SIZE(import_position, 24, 8);
-GOBLIN_PE_IS_AT(import_position, record_offset, 0);
-GOBLIN_PE_IS_AT(import_position, slot_offset, 8);
-GOBLIN_PE_IS_AT(import_position, first_record, 16);
+GOBLIN_PE_HAS_SIZE(import_position, 56, 8);
+GOBLIN_PE_IS_AT(import_position, first_record, 0);
+GOBLIN_PE_IS_AT(import_position, next_record, 8);
+GOBLIN_PE_IS_AT(import_position, library, 16);
+GOBLIN_PE_IS_AT(import_position, table_offset, 24);
+GOBLIN_PE_IS_AT(import_position, place, 32);
+GOBLIN_PE_IS_AT(import_position, name_rva, 40);
+GOBLIN_PE_IS_AT(import_position, rva, 44);
+GOBLIN_PE_IS_AT(import_position, untested, 48);
+GOBLIN_PE_IS_AT(import_position, is_begun, 52);
+GOBLIN_PE_IS_AT(import_position, has_next, 53);
+GOBLIN_PE_IS_AT(import_position, has_place, 54);
+GOBLIN_PE_IS_AT(import_position, is_untested, 55);
 
 GOBLIN_PE_HAS_SIZE(import, 64, 8);
 GOBLIN_PE_IS_AT(import, name, 0);

@@ -525,7 +525,7 @@ class Layout:
                 if it.library != last:
                     last = it.library
                     yield self._library(data, _Rows(data, address).text(it.dll), begin + 20 * last, last)
-            position.record_offset, position.slot_offset, position.first_record = begin + 20 * (last + 1), 0, begin
+            position.has_place = position.is_untested = False
 
     def _library(self, data: _Kept, name: bytes, offset: int, index: int) -> Library:
         record = _laid_out.laid_out(records.ImportDirectoryEntry)()

@@ -486,17 +486,35 @@ class Places(Record):
 
 @record
 class ImportPosition(Record):
-    """Where a walk over imports goes on; zeros are the beginning. It may be kept, and copied.
+    """Where a walk over imports is, in numbers; zeros are the beginning. With the file's bytes and
+    places it is the walk: so it may be kept, copied and sent. Any other numbers are a walk, too.
 
-    record_offset: The file offset of a library's record; the greatest number once the end has been
-        reached, also of a file without imports.
-    slot_offset: The file offset of the slot that is read next, or 0 before the library's first.
     first_record: The file offset of the directory's first record, from which records are counted.
+    next_record: The file offset of the record that comes after the library, if there is one.
+    library: The index of the library's record.
+    table_offset: The file offset of its lookup table.
+    place: The file offset of the slot that is read next in that table, in a library.
+    name_rva: The address of the library's name.
+    rva: The address of its address table.
+    untested: The address of its address table, if that is to be tested after its entries.
+    is_begun: Whether the walk has begun; else the other fields are not looked at.
+    has_next: Whether a record comes after the library.
+    has_place: Whether it is in a library.
+    is_untested: Whether the address table is to be tested.
     """
 
-    record_offset: Annotated[int, c.c_size_t]
-    slot_offset: Annotated[int, c.c_size_t]
     first_record: Annotated[int, c.c_size_t]
+    next_record: Annotated[int, c.c_size_t]
+    library: Annotated[int, c.c_size_t]
+    table_offset: Annotated[int, c.c_size_t]
+    place: Annotated[int, c.c_size_t]
+    name_rva: Annotated[int, c.c_uint32]
+    rva: Annotated[int, c.c_uint32]
+    untested: Annotated[int, c.c_uint32]
+    is_begun: Annotated[bool, c.c_bool]
+    has_next: Annotated[bool, c.c_bool]
+    has_place: Annotated[bool, c.c_bool]
+    is_untested: Annotated[bool, c.c_bool]
 
 
 @record

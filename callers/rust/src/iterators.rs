@@ -208,7 +208,7 @@ trait Position {
 impl Position for raw::ImportPosition {
     // (what follows a batch that is not full may be a refusal)
     fn is_end(&self, _is_full: bool) -> bool {
-        self.record_offset == usize::MAX
+        self.is_begun && !self.has_next && !self.has_place
     }
 }
 
@@ -517,14 +517,9 @@ impl<'a> WalkLibraries<'a> {
 
     // The next import among those that are read. Others are read from the record after the last one's on.
     fn next_import(&mut self) -> Option<Result<raw::Import<'a>, Error>> {
-        let directory = self.directory;
-        let next = self.last.map(|last| raw::ImportPosition {
-            record_offset: directory + IMPORT_RECORD * (last + 1),
-            slot_offset: 0,
-            first_record: directory,
-        });
         let found = self.batches.next(|position, records| {
-            *position = next.unwrap_or_default();
+            position.has_place = false;
+            position.is_untested = false;
             raw::next_imports(self.bytes, &self.options, &self.places, position, records)
         })?;
         Some(found.copied())

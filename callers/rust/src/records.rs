@@ -414,17 +414,35 @@ pub struct Places {
     pub has_relocations: bool,
 }
 
-/// Where a walk over imports goes on; zeros are the beginning. It may be kept, and copied.
+/// Where a walk over imports is, in numbers; zeros are the beginning. With the file's bytes and
+/// places it is the walk: so it may be kept, copied and sent. Any other numbers are a walk, too.
 #[repr(C)]
 #[derive(Clone, Copy, Default, Debug, PartialEq, Eq, PartialOrd, Ord, Hash)]
 pub struct ImportPosition {
-    /// The file offset of a library's record; the greatest number once the end has been reached,
-    /// also of a file without imports.
-    pub record_offset: usize,
-    /// The file offset of the slot that is read next, or 0 before the library's first.
-    pub slot_offset: usize,
     /// The file offset of the directory's first record, from which records are counted.
     pub first_record: usize,
+    /// The file offset of the record that comes after the library, if there is one.
+    pub next_record: usize,
+    /// The index of the library's record.
+    pub library: usize,
+    /// The file offset of its lookup table.
+    pub table_offset: usize,
+    /// The file offset of the slot that is read next in that table, in a library.
+    pub place: usize,
+    /// The address of the library's name.
+    pub name_rva: u32,
+    /// The address of its address table.
+    pub rva: u32,
+    /// The address of its address table, if that is to be tested after its entries.
+    pub untested: u32,
+    /// Whether the walk has begun; else the other fields are not looked at.
+    pub is_begun: bool,
+    /// Whether a record comes after the library.
+    pub has_next: bool,
+    /// Whether it is in a library.
+    pub has_place: bool,
+    /// Whether the address table is to be tested.
+    pub is_untested: bool,
 }
 
 /// An import.
@@ -1051,10 +1069,19 @@ const _: () = {
     assert!(offset_of!(Places, has_exports) == 40);
     assert!(offset_of!(Places, has_imports) == 41);
     assert!(offset_of!(Places, has_relocations) == 42);
-    assert!(size_of::<ImportPosition>() == 24 && align_of::<ImportPosition>() == 8);
-    assert!(offset_of!(ImportPosition, record_offset) == 0);
-    assert!(offset_of!(ImportPosition, slot_offset) == 8);
-    assert!(offset_of!(ImportPosition, first_record) == 16);
+    assert!(size_of::<ImportPosition>() == 56 && align_of::<ImportPosition>() == 8);
+    assert!(offset_of!(ImportPosition, first_record) == 0);
+    assert!(offset_of!(ImportPosition, next_record) == 8);
+    assert!(offset_of!(ImportPosition, library) == 16);
+    assert!(offset_of!(ImportPosition, table_offset) == 24);
+    assert!(offset_of!(ImportPosition, place) == 32);
+    assert!(offset_of!(ImportPosition, name_rva) == 40);
+    assert!(offset_of!(ImportPosition, rva) == 44);
+    assert!(offset_of!(ImportPosition, untested) == 48);
+    assert!(offset_of!(ImportPosition, is_begun) == 52);
+    assert!(offset_of!(ImportPosition, has_next) == 53);
+    assert!(offset_of!(ImportPosition, has_place) == 54);
+    assert!(offset_of!(ImportPosition, is_untested) == 55);
     assert!(size_of::<Import>() == 64 && align_of::<Import>() == 8);
     assert!(offset_of!(Import, name) == 0);
     assert!(offset_of!(Import, dll) == 16);

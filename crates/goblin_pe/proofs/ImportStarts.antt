@@ -1,102 +1,78 @@
--- Where the imports of a file start, and a walk from there on.
-use Rattle.std.proofs.Common.{◌≡◌, ℕ, List, Option, None, Some, Result, Ok, Err, Bool, true, false, refl, subst, sym, ◌∙◌, IfErr, IfOk, IfSome, IsSome, IsSomeAnd, option_map}
+-- Where the imports of a file begin, and a walk from there on.
+use Rattle.std.proofs.Common.{◌≡◌, ℕ, List, Option, None, Some, Result, Ok, Err, Bool, true, ap, subst, sym, ◌∙◌, IfErr, IfSome, IsSomeAnd}
 use Rattle.goblin_base.specs.declared.error.ErrorOf.{ErrorOf}
 use Rattle.goblin_base.specs.Answers.{IsMemory}
-use Rattle.goblin_base.specs.Reading.{Reading}
+use Rattle.goblin_base.specs.Reading.{Reading, Reads}
+use Rattle.goblin_base.specs.Tables.{Format}
 use Rattle.readings.specs.Reads.{given, pick}
 use Rattle.readings.specs.Walks.{GivesNext}
 use Rattle.goblin_pe_sect.specs.declared.data_directories.DataDirectory.{DataDirectory}
-use Rattle.goblin_pe_sect.specs.declared.options.ParseOptions.{ParseOptions}
-use Rattle.goblin_pe_sect.specs.Options.{is_strict}
 use Rattle.goblin_pe_sect.specs.Addresses.{MapOfAddresses, offset_of, reads_strictly}
+use Rattle.goblin_pe_import.specs.ImportEntries.{EntryValue}
 use Rattle.goblin_pe_import.specs.ImportLookup.{entries_32, entries_64}
-use Rattle.goblin_pe_import.specs.ImportPositions.{first_import}
-use Rattle.goblin_pe_import.specs.ImportWalks.{AreImportsOver, GivesImport, IsAfterImport, IsInTable, imports_bytes, imports_map, position_of, walked_value}
-use Rattle.goblin_pe_import.specs.declared.import.imports.ImportPosition.{ImportPosition}
+use Rattle.goblin_pe_import.specs.ImportCursors.{first_import}
+use Rattle.goblin_pe_import.specs.ImportWalks.{AreImportsOver, GivesImport, HasName, cursor_left, cursor_of, imports_bytes, imports_left, imports_map, no_imports, walked_value}
+use Rattle.goblin_pe_import.specs.declared.import.imports.ImportCursor.{ImportCursor}
 use Rattle.goblin_pe_import.specs.declared.import.imports.Imports.{Imports}
 use Rattle.goblin_pe_import.specs.declared.import.imports.WalkedImport.{WalkedImport}
-use Rattle.goblin_pe.specs.declared.whole.Part.{Part}
 use Rattle.goblin_pe.specs.declared.whole.Part.TheVariants as part
 use Rattle.goblin_pe.specs.declared.whole.imports.FileImports.{FileImports}
 use Rattle.goblin_pe.specs.declared.whole.imports.FileImports.TheVariants.{Narrow, Wide}
-use Rattle.goblin_pe.specs.LayoutPositions.{GivesFileImport, GivesFirst, GivesFrom}
-use Rattle.goblin_pe.specs.LayoutPositions.{PartGives, StartsAt, import_start, start_by, start_in}
+use Rattle.goblin_pe.specs.LayoutCursors.{GivesFileImport, GivesFirst, IsImportWalkAt, PartBegins, StartsAt, begin_in, file_cursor_left, import_begin}
 use Rattle.goblin_pe.specs.Layouts.{IsFileImportsCause, file_imports_left}
-use Rattle.goblin_pe.specs.Whole.{TablePlaces}
+use Rattle.goblin_pe.specs.Whole.{TablePlaces, entry_format}
+use Rattle.goblin_pe_import.proofs.ImportCursors.{cursor_left_of}
 
--- ---- where the imports start
-
-read-first : (m : MapOfAddresses) (magic : ℕ) (bytes : List ℕ) (first : Option (Option ImportPosition))
-    (imports : FileImports) → IsSomeAnd first (λ position. GivesFrom m magic bytes position imports)
-    → IsSomeAnd (option_map part.Read first) (λ s. PartGives m magic bytes s (part.Read imports))
-read-first m magic bytes None imports gives = absurd gives
-read-first m magic bytes (Some position) imports gives = gives
-
-picked : (strict : Bool) (offset_of : ℕ → Option ℕ) (from : Option (Option ImportPosition)) (d : DataDirectory)
-    (bytes : List ℕ) (test : Bool) (directory : Option DataDirectory) → test ≡ true → directory ≡ Some d
-    → (pick test (start_by strict offset_of from directory) (given part.Absent)).value bytes
-    ≡ option_map part.Read ((start_in strict offset_of from d).value bytes)
-picked strict offset_of from d bytes test directory asked there = rw (asked, there) refl
-
--- where there is a directory, and imports are asked for
-pub start-value : (opts : ParseOptions) (offset_of : ℕ → Option ℕ) (places : TablePlaces)
-    (from : Option (Option ImportPosition)) (d : DataDirectory) (bytes : List ℕ)
-    → opts.parse_imports ≡ true → places.imports ≡ Some d
-    → (import_start opts offset_of places from).value bytes
-    ≡ option_map part.Read ((start_in (is_strict opts.parse_mode) offset_of from d).value bytes)
-unfolding import_start
-start-value opts offset_of places from d bytes asked there =
-    picked (is_strict opts.parse_mode) offset_of from d bytes opts.parse_imports places.imports asked there
-
--- there are no others
-pub start-there : (opts : ParseOptions) (offset_of : ℕ → Option ℕ) (places : TablePlaces)
-    (from : Option (Option ImportPosition)) (position : Option ImportPosition) (bytes : List ℕ)
-    → (import_start opts offset_of places from).value bytes ≡ Some (part.Read position)
-    → (opts.parse_imports ≡ true) × IsSome places.imports
-unfolding import_start
-start-there opts offset_of places from position bytes is = there opts.parse_imports places.imports is
-  where
-    there : (test : Bool) (directory : Option DataDirectory)
-        → (pick test (start_by (is_strict opts.parse_mode) offset_of from directory) (given part.Absent)).value bytes
-        ≡ Some (part.Read position) → (test ≡ true) × IsSome directory
-    there true (Some d) is = (refl, refl)
-    there true None is = absurd cc
-    there false directory is = absurd cc
+-- ---- where the imports begin
 
 module _ (m : MapOfAddresses) (places : TablePlaces) (bytes : List ℕ) (d : DataDirectory)
-    (asked : m.opts.parse_imports ≡ true) (there : places.imports ≡ Some d)
-    (r : Result FileImports ErrorOf) where
-  abbrev first : Reading (Option ImportPosition)
+    (asked : m.opts.parse_imports ≡ true) (there : places.imports ≡ Some d) where
+  abbrev first : Reading ImportCursor
   first = first_import (reads_strictly m) (offset_of m) d.virtual_address
 
-  pub start-refused : GivesFirst m places.magic bytes first r → (e : ErrorOf) → r ≡ Err e
-      → StartsAt m places.magic bytes (import_start m.opts (offset_of m) places None) (Err e)
-  unfolding import_start
-  start-refused gives e is =
-      let h = subst (λ (q : Result FileImports ErrorOf). GivesFirst m places.magic bytes first q) is gives in
-      rw (asked, there) (rw h.0 refl, h.1)
+  abbrev begin_by : Bool → Option DataDirectory → Reading ImportCursor
+  begin_by test directory = pick test (begin_in (reads_strictly m) (offset_of m) directory) (given no_imports)
 
-  pub start-read : GivesFirst m places.magic bytes first r → (imports : FileImports)
-      → r ≡ Ok imports
-      → StartsAt m places.magic bytes (import_start m.opts (offset_of m) places None)
-      (Ok (part.Read imports))
-  start-read gives imports is =
-      let h = subst (λ (q : Result FileImports ErrorOf). GivesFirst m places.magic bytes first q) is gives in
-      subst
-      (λ (v : Option (Part (Option ImportPosition))). IsSomeAnd v (λ s. PartGives m places.magic bytes s (part.Read imports)))
-      (sym (start-value m.opts (offset_of m) places None d bytes asked there))
-      (read-first m places.magic bytes (first.value bytes) imports h)
+  begin-value : (import_begin m.opts (offset_of m) places).value bytes ≡ first.value bytes
+  unfolding import_begin
+  begin-value =
+      ap (λ (test : Bool). (begin_by test places.imports).value bytes) asked
+      ∙ ap (λ (directory : Option DataDirectory). (begin_by true directory).value bytes) there
+
+  begin-cause : (e : ErrorOf) → first.IsCause bytes e
+      → (import_begin m.opts (offset_of m) places).IsCause bytes e
+  unfolding import_begin
+  begin-cause e cause =
+      subst (λ (test : Bool). (begin_by test places.imports).IsCause bytes e) (sym asked)
+      (subst (λ (directory : Option DataDirectory). (begin_by true directory).IsCause bytes e) (sym there) cause)
+
+  pub begin-reads : (r : Result ImportCursor ErrorOf) → Reads (λ c. c) r first bytes
+      → Reads (λ c. c) r (import_begin m.opts (offset_of m) places) bytes
+  begin-reads (Ok c) h = begin-value ∙ h
+  begin-reads (Err e) h = (begin-value ∙ h.0, begin-cause e h.1)
+
+  module _ (r : Result FileImports ErrorOf) (gives : GivesFirst m places.magic bytes first r) where
+    gives-by : (q : Result FileImports ErrorOf) → r ≡ q → GivesFirst m places.magic bytes first q
+    gives-by q is = subst (λ (q : Result FileImports ErrorOf). GivesFirst m places.magic bytes first q) is gives
+
+    pub start-refused : (e : ErrorOf) → r ≡ Err e
+        → StartsAt m places.magic bytes (import_begin m.opts (offset_of m) places) (Err e)
+    start-refused e is =
+        let h = gives-by (Err e) is in
+        (begin-value ∙ h.0, begin-cause e h.1)
+
+    pub start-read : (imports : FileImports) → r ≡ Ok imports
+        → StartsAt m places.magic bytes (import_begin m.opts (offset_of m) places)
+        (Ok (part.Read imports))
+    start-read imports is =
+        subst (λ (v : Option ImportCursor). IsSomeAnd v (λ c. PartBegins m places.magic bytes c (part.Read imports)))
+        (sym begin-value) (gives-by (Ok imports) is)
 
 -- ---- a walk from there on
 
 over-again : {T : Type 0} (bytes : List ℕ) (m : MapOfAddresses) (s t : Imports T)
     → AreImportsOver bytes m s → AreImportsOver (imports_bytes s) (imports_map s) t → AreImportsOver bytes m t
 over-again bytes m s t over again = (again.0 ∙ over.0, again.1 ∙ over.1)
-
-after-again : {T : Type 0} (bytes : List ℕ) (r : Option (Result WalkedImport ErrorOf)) (t : Imports T)
-    → imports_bytes t ≡ bytes → IsAfterImport r t
-    → IfSome r (λ r. IfOk r (λ x. IsInTable bytes (position_of t)))
-after-again bytes r t is after = subst (λ (b : List ℕ). IfSome r (λ r. IfOk r (λ x. IsInTable b (position_of t)))) is after
 
 narrow-next : (s t : Imports ℕ) (r : Option (Result WalkedImport ErrorOf))
     → GivesImport entries_32 s r t
@@ -120,10 +96,7 @@ pub narrow_given : (s t : Imports ℕ) (r : Option (Result WalkedImport ErrorOf)
 narrow_given s t r given =
     let next = narrow-next s t r given in (
       next.0,
-      λ m magic bytes walk.
-          (let kept = given.1 walk.2 in
-          let over = over-again bytes m s t walk.1 given.3 in
-          ((walk.0, over, kept.0), after-again bytes r t over.0 kept.1)),
+      λ m magic bytes walk. (walk.0, over-again bytes m s t walk.1 given.3, given.1 walk.2),
       next.1,
       given.4,
     )
@@ -133,10 +106,24 @@ pub wide_given : (s t : Imports ℕ) (r : Option (Result WalkedImport ErrorOf))
 wide_given s t r given =
     let next = wide-next s t r given in (
       next.0,
-      λ m magic bytes walk.
-          (let kept = given.1 walk.2 in
-          let over = over-again bytes m s t walk.1 given.3 in
-          ((walk.0, over, kept.0), after-again bytes r t over.0 kept.1)),
+      λ m magic bytes walk. (walk.0, over-again bytes m s t walk.1 given.3, given.1 walk.2),
       next.1,
       given.4,
     )
+
+-- ---- a walk at a cursor
+
+at-cursor : {T : Type 0} (m : MapOfAddresses) (format own : Format EntryValue) (bytes : List ℕ) (c : ImportCursor)
+    (imports : Imports T) → format ≡ own → AreImportsOver bytes m imports → HasName imports → cursor_of imports ≡ c
+    → imports_left own imports ≡ cursor_left m format bytes c
+at-cursor m format own bytes c imports is over named at =
+    cursor_left_of m own bytes c imports (record { over = over; at = at; named = named })
+    ∙ ap (λ (f : Format EntryValue). cursor_left m f bytes c) (sym is)
+
+-- what is still to come follows from where it is
+pub walk-left : (m : MapOfAddresses) (magic : ℕ) (bytes : List ℕ) (c : ImportCursor) (imports : FileImports)
+    → IsImportWalkAt m magic bytes c imports → file_imports_left imports ≡ file_cursor_left m magic bytes c
+walk-left m magic bytes c (Narrow imports) h =
+    at-cursor m (entry_format magic) entries_32 bytes c imports h.0.0 h.0.1 h.0.2 h.1
+walk-left m magic bytes c (Wide imports) h =
+    at-cursor m (entry_format magic) entries_64 bytes c imports h.0.0 h.0.1 h.0.2 h.1

@@ -2,7 +2,7 @@ pub mod Callers
 pub mod Checksums
 pub mod Damages
 pub mod Keys
-pub mod LayoutPositions
+pub mod LayoutCursors
 pub mod Layouts
 pub mod Modes
 pub mod TableRuns
@@ -60,10 +60,10 @@ pub use Rattle.goblin_pe_head.specs.SectionRoom
 pub use Rattle.goblin_pe_head.specs.TeHeader
 pub use Rattle.goblin_pe_head.specs.TeReadings
 pub use Rattle.goblin_pe_import.specs.ImportBound
+pub use Rattle.goblin_pe_import.specs.ImportCursors
 pub use Rattle.goblin_pe_import.specs.ImportDirectory
 pub use Rattle.goblin_pe_import.specs.ImportEntries
 pub use Rattle.goblin_pe_import.specs.ImportLookup
-pub use Rattle.goblin_pe_import.specs.ImportPositions
 pub use Rattle.goblin_pe_import.specs.ImportReadings
 pub use Rattle.goblin_pe_import.specs.ImportRecords
 pub use Rattle.goblin_pe_import.specs.ImportWalks

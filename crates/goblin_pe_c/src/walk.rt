@@ -36,15 +36,15 @@ use std::alloc::Global;
 /// any, a `count` of 0 is the end. Zeros are the position of the first import; a file without an
 /// import directory, or imports that are not asked for, have none, and in permissive mode neither
 /// has a directory without a file offset, or at the offset 0. Where nothing is left, and there
-/// is room for more, the position's `record_offset` is then the greatest number, and its other
-/// fields are 0; without room the position stays.
+/// is room for more, the position's `is_begun` is true, and its other fields are 0; without room the
+/// position stays.
 ///
 /// The sections and the import directory lie where `places` says, as
 /// [`goblin_pe_raw_read_layout`](crate::whole_file::goblin_pe_raw_read_layout) and
 /// [`goblin_pe_raw_open`](crate::whole_file::goblin_pe_raw_open) say of the file; the header is not
 /// read again. Other numbers are followed as well: what lies there is taken for the section table
-/// and the directory. So are those of a position that no call has left, by which records, slots and
-/// indexes are then counted.
+/// and the directory. So are those of a position that no call has left: it is followed without a
+/// look at the directory.
 ///
 /// Refused, with nothing changed, is a file that is too short for the records of its sections,
 /// where there are any (the status 4); in strict mode an import directory whose address has no

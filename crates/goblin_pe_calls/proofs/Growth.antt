@@ -17,10 +17,11 @@ use Rattle.goblin_pe_head.specs.declared.header.pe_header.Header.{Header}
 use Rattle.goblin_pe_sect.specs.Addresses.{MapOfAddresses, map_by, offset_of}
 use Rattle.goblin_pe.specs.declared.whole.layout.Layout.{Layout}
 use Rattle.goblin_pe.specs.Layouts.{IsLayoutOf, file_imports_left, layout_map, layout_places}
-use Rattle.goblin_pe.specs.LayoutPositions.{PartGives}
+use Rattle.goblin_pe.specs.LayoutCursors.{IsImportWalkAt, file_cursor_left}
+use Rattle.goblin_pe.proofs.ImportStarts.{walk-left}
 use Rattle.goblin_pe.specs.declared.whole.imports.FileImports.{FileImports}
 use Rattle.goblin_pe.specs.declared.whole.Part.TheVariants.{Absent, Refused}
-use Rattle.goblin_pe_import.specs.declared.import.imports.ImportPosition.{ImportPosition}
+use Rattle.goblin_pe_import.specs.declared.import.imports.ImportCursor.{ImportCursor}
 use Rattle.goblin_pe.proofs.SectionRoom.{sections_counted}
 use Rattle.goblin_pe_head.specs.SectionRoom.{HasRoom}
 use Rattle.goblin_pe.specs.declared.whole.Part.{Part}
@@ -32,7 +33,7 @@ use Rattle.goblin_pe.specs.Whole.{whole_file, whole_of, whole_with}
 use Rattle.goblin_pe.proofs.Layouts.{tables-value}
 use Rattle.goblin_pe_calls.specs.Blocks.{blocks_in}
 use Rattle.goblin_pe_calls.specs.Growth.{FileBegins, HasEntries, HasRecords, HasTables}
-use Rattle.goblin_pe_calls.specs.Growth.{StartBegins, TablesBegin, TakesRecords}
+use Rattle.goblin_pe_calls.specs.Growth.{TablesBegin, TakesRecords}
 use Rattle.goblin_pe_calls.specs.Opened.{RecordsOfFile}
 use Rattle.goblin_pe_records.specs.RichHeaders.{entries_of_rich}
 use Rattle.goblin_pe_calls.proofs.Opened.{IsOf}
@@ -76,15 +77,15 @@ pub wherever : {A : Type 0} (P : Type 0) (result : Result A ErrorOf) → P
 wherever P (Ok x) h = tt
 wherever P (Err e) h = λ memory. h
 
--- the imports of a walk from where they start on
+-- the imports of a walk from where they begin
 pub imports-begin : (m : MapOfAddresses) (magic : ℕ) (bytes : List ℕ)
-    (start : Option (Part (Option ImportPosition))) (imports : FileImports)
-    → IsSomeAnd start (λ s. PartGives m magic bytes s (part.Read imports))
-    → IsBegun (file_imports_left imports) → IsSomeAnd start (StartBegins m magic bytes)
-imports-begin m magic bytes None imports gives begun = absurd gives
-imports-begin m magic bytes (Some Absent) imports gives begun = absurd gives
-imports-begin m magic bytes (Some (part.Read position)) imports gives begun = subst IsBegun gives.left begun
-imports-begin m magic bytes (Some Refused) imports gives begun = absurd gives
+    (begin : Option ImportCursor) (imports : FileImports)
+    → IsSomeAnd begin (λ c. IsImportWalkAt m magic bytes c imports)
+    → IsBegun (file_imports_left imports)
+    → IsSomeAnd begin (λ c. IsBegun (file_cursor_left m magic bytes c))
+imports-begin m magic bytes None imports at begun = absurd at
+imports-begin m magic bytes (Some c) imports at begun =
+    subst IsBegun (walk-left m magic bytes c imports at) begun
 
 -- ---- the imports with their libraries
 

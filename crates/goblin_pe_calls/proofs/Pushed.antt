@@ -1,11 +1,11 @@
 -- Imports that a walk gives one by one, and records that are made of them.
-use Rattle.std.proofs.Common.{◌≡◌, ◌∙◌, List, [], ◌∷◌, ◌++◌, Some, Option, Ok, map, refl, ap, subst, sym, append_assoc, ℕ}
+use Rattle.std.proofs.Common.{◌≡◌, ◌∙◌, List, [], ◌∷◌, ◌++◌, Some, Option, Ok, map, refl, ap, sym, append_assoc}
 use Rattle.std.proofs.lemmas.List.{map-append}
 use Rattle.goblin_base.specs.declared.error.ErrorOf.{ErrorOf}
 use Rattle.goblin_base.specs.Tables.{Format}
 use Rattle.goblin_pe_import.specs.ImportEntries.{EntryValue}
 use Rattle.goblin_pe_import.specs.Imports.{ImportValue}
-use Rattle.goblin_pe_import.specs.ImportWalks.{GivesImport, IsImportsCause, IsInTable, imports_left, position_of, walked_value}
+use Rattle.goblin_pe_import.specs.ImportWalks.{GivesImport, IsImportsCause, imports_left, walked_value}
 use Rattle.goblin_pe_import.specs.declared.import.imports.Imports.{Imports}
 use Rattle.goblin_pe_import.specs.declared.import.imports.WalkedImport.{WalkedImport}
 use Rattle.goblin_pe_calls.specs.Imports.{GivesHere, ImportSaid, Pushes, import_said}
@@ -40,9 +40,8 @@ module _ {T : Type 0} (format : Format EntryValue) where
     held = none;
     yielded = refl;
     cause = λ e fault. fault;
-    kept = λ placed. placed;
+    kept = λ named. named;
     over = (refl, refl);
-    inside = λ placed inside. inside;
   }
 
   pub here-more : (s now next : Imports T) (Holds More : List ImportValue → Type 0) → GivesHere format s now Holds → (x : WalkedImport)
@@ -51,15 +50,13 @@ module _ {T : Type 0} (format : Format EntryValue) where
   here-more s now next Holds More h x gives more =
       let so_far : AtWalk (imports_left format) (IsImportsCause format) s now h.values = record { yielded = h.yielded; cause = h.cause } in
       let walk = walk-more (imports_left format) (IsImportsCause format) s now h.values so_far walked_value next x gives.0 in
-      let over = gives.3.0 ∙ h.over.0 in
       record {
         values = h.values ++ walked_value x ∷ [];
         held = more h.values h.held;
         yielded = walk.yielded;
         cause = walk.cause;
-        kept = λ placed. (gives.1 (h.kept placed)).0;
-        over = (over, gives.3.1 ∙ h.over.1);
-        inside = λ placed inside. subst (λ (b : List ℕ). IsInTable b (position_of next)) over (gives.1 (h.kept placed)).1;
+        kept = λ named. gives.1 (h.kept named);
+        over = (gives.3.0 ∙ h.over.0, gives.3.1 ∙ h.over.1);
       }
 
   -- what was made of the imports before, and what was added

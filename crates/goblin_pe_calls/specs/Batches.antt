@@ -1,19 +1,22 @@
 -- Batches: as many records of what comes from a position on as there is room for.
-use Rattle.std.specs.Prelude.{◌≡◌, ℕ, ◌==◌, ◌&&◌, ◌<◌, ◌≤◌, ⊤, true, if◌then◌else◌, List, [], ◌∷◌}
+use Rattle.std.specs.Prelude.{◌≡◌, ℕ, ◌<◌, ◌≤◌, ⊤, true, if◌then◌else◌, List, [], ◌∷◌}
 use Rattle.std.specs.Prelude.{◌+◌, ◌++◌, map, drop, take, length, min, Option, Some, None}
-use Rattle.std.specs.Prelude.{option_map, Result, Ok, Err, IsSome, IsSomeAnd, sum_by, unwrap_or}
+use Rattle.std.specs.Prelude.{Bool, is_some, option_map, Result, Ok, Err, IsSomeAnd, sum_by, unwrap_or}
 use Rattle.goblin_base.specs.declared.error.ErrorOf.{ErrorOf}
 use Rattle.goblin_base.specs.Answers.{FirstFault, IsMemory}
+use Rattle.goblin_base.specs.Reading.{Reading}
 use Rattle.goblin_pe_sect.specs.declared.options.ParseOptions.{ParseOptions}
 use Rattle.goblin_pe_sect.specs.BaseRelocations.{Block, block_items}
 use Rattle.goblin_pe_import.specs.ImportLookup.{entries_32, entries_64}
-use Rattle.goblin_pe_import.specs.declared.import.imports.ImportPosition.{ImportPosition}
+use Rattle.goblin_pe_import.specs.declared.import.imports.ImportCursor.{ImportCursor}
 use Rattle.goblin_pe.specs.Addresses.{MapOfAddresses, offset_of}
 use Rattle.goblin_pe.specs.ExportRecords.{ExportRow, ExportTables}
 use Rattle.goblin_pe.specs.ExportWalks.{NumberedExport, numbered_from}
 use Rattle.goblin_pe.specs.Imports.{ImportValue}
-use Rattle.goblin_pe.specs.LayoutPositions.{IsFileFaultAt, IsImportWalk, file_imports_at}
-use Rattle.goblin_pe.specs.LayoutPositions.{import_start}
+use Rattle.goblin_pe.specs.ImportWalks.{no_imports}
+use Rattle.goblin_pe.specs.LayoutCursors.{IsFileCursorCause, IsImportWalk, file_cursor_left}
+use Rattle.goblin_pe.specs.LayoutCursors.{import_begin}
+use Rattle.goblin_pe.specs.Reads.{given, pick}
 use Rattle.goblin_pe.specs.Layouts.{file_imports_left}
 use Rattle.goblin_pe.specs.Whole.{TablePlaces, export_part, relocation_part}
 use Rattle.goblin_pe.specs.declared.whole.Part.{Part}
@@ -76,54 +79,50 @@ pub record AtBatch {R A B : Type 0} (view : R → B) (said : A → B) (old : Lis
 
 -- ---- imports
 
--- the position that these numbers say; none is the beginning
-abbrev pub position_said : PeImportPosition → Option (Option ImportPosition)
-position_said p =
-    if p.record_offset == 0 && p.slot_offset == 0 then None
-    else if p.record_offset == 0xFFFFFFFFFFFFFFFF then Some None
-    else Some (Some (record {
-      first_record = p.first_record;
-      record_offset = p.record_offset;
-      slot_offset = if p.slot_offset == 0 then None else Some p.slot_offset;
-    }))
+-- a number that is there
+abbrev pub option_said : Bool → ℕ → Option ℕ
+option_said is n = if is then Some n else None
 
--- the numbers of a position
-abbrev pub position_numbers : Option ImportPosition → PeImportPosition
-position_numbers None =
-    record { record_offset = 0xFFFFFFFFFFFFFFFF; slot_offset = 0; first_record = 0 }
-position_numbers (Some at) = record {
-  record_offset = at.record_offset;
-  slot_offset = unwrap_or at.slot_offset 0;
-  first_record = at.first_record;
+-- the cursor that these numbers say
+abbrev pub cursor_said : PeImportPosition → ImportCursor
+cursor_said p = record {
+  first_record = p.first_record;
+  next_record = option_said p.has_next p.next_record;
+  library = p.library;
+  name_rva = p.name_rva;
+  rva = p.rva;
+  table_offset = p.table_offset;
+  place = option_said p.has_place p.place;
+  untested = option_said p.is_untested p.untested;
 }
 
--- the imports from where they start
-abbrev pub imports_from_start : MapOfAddresses → ℕ → List ℕ → Part (Option ImportPosition)
-    → List (Option ImportValue)
-imports_from_start m magic bytes Absent = []
-imports_from_start m magic bytes (part.Read position) = file_imports_at m magic bytes position
-imports_from_start m magic bytes Refused = []
+-- the numbers of a cursor
+abbrev pub cursor_numbers : ImportCursor → PeImportPosition
+cursor_numbers c = record {
+  first_record = c.first_record;
+  next_record = unwrap_or c.next_record 0;
+  library = c.library;
+  table_offset = c.table_offset;
+  place = unwrap_or c.place 0;
+  name_rva = c.name_rva;
+  rva = c.rva;
+  untested = unwrap_or c.untested 0;
+  is_begun = true;
+  has_next = is_some c.next_record;
+  has_place = is_some c.place;
+  is_untested = is_some c.untested;
+}
 
--- which cause is true if the very next of them is refused
-abbrev pub IsFaultIn : MapOfAddresses → ℕ → List ℕ → Part (Option ImportPosition) → ErrorOf
-    → Type 0
-IsFaultIn m magic bytes Absent e = ⊥
-IsFaultIn m magic bytes (part.Read position) e =
-    IsRefusedNext (file_imports_at m magic bytes position)
-    × IsFileFaultAt m magic bytes position e
-IsFaultIn m magic bytes Refused e = ⊥
-
--- where the imports of a file start
-abbrev pub start_value : MapOfAddresses → TablePlaces → List ℕ → PeImportPosition
-    → Option (Part (Option ImportPosition))
-start_value m places bytes p =
-    (import_start m.opts (offset_of m) places (position_said p)).value bytes
+-- the cursor at a position: the one that it says, or else where the imports begin
+abbrev pub import_cursor : MapOfAddresses → TablePlaces → PeImportPosition → Reading ImportCursor
+import_cursor m places p =
+    pick p.is_begun (given (cursor_said p)) (import_begin m.opts (offset_of m) places)
 
 -- the imports of a file from a position on
 abbrev pub imports_from_position : MapOfAddresses → TablePlaces → List ℕ → PeImportPosition
     → Option (List (Option ImportValue))
 imports_from_position m places bytes p =
-    option_map (imports_from_start m places.magic bytes) (start_value m places bytes p)
+    option_map (file_cursor_left m places.magic bytes) ((import_cursor m places p).value bytes)
 
 abbrev pub ImportBatch : Type 0
 ImportBatch = Batch PeImportPosition PeImport
@@ -138,15 +137,17 @@ GivesImports m places bytes old new count =
     IsBatch import_view import_said (values_before left) old.records new.records count
     × (imports_from_position m places bytes new.position ≡ Some (drop count left))
     × (IsRefusedNext left → length old.records ≡ 0)
-    × (IsEnd left old.records count → new.position ≡ position_numbers None)
+    × (IsEnd left old.records count → new.position ≡ cursor_numbers no_imports)
     × (length old.records ≡ 0 → new.position ≡ old.position))
 
--- The start of the imports is refused, or else the very next import, and there is room for it.
+-- Where the imports begin is refused, or else the very next import, and there is room for it.
 abbrev pub IsImportsFault : MapOfAddresses → TablePlaces → List ℕ → ImportBatch → ErrorOf → Type 0
 IsImportsFault m places bytes old e =
-    let start = import_start m.opts (offset_of m) places (position_said old.position) in
-    FirstFault (start.value bytes) (start.IsCause bytes)
-    (λ s e. (0 < length old.records) × IsFaultIn m places.magic bytes s e) e
+    let at = import_cursor m places old.position in
+    FirstFault (at.value bytes) (at.IsCause bytes)
+    (λ c e. (0 < length old.records)
+    × IsRefusedNext (file_cursor_left m places.magic bytes c)
+    × IsFileCursorCause m places.magic bytes c e) e
 
 -- Whatever the records held up to `first`, they hold these imports after it, up to `last`.
 abbrev pub Fills : List PeImport → List PeImport → ℕ → ℕ → List ImportValue → Type 0
@@ -160,15 +161,10 @@ GivesInFile (Narrow s) (Narrow t) Holds = GivesHere entries_32 s t Holds
 GivesInFile (Wide s) (Wide t) Holds = GivesHere entries_64 s t Holds
 GivesInFile s t Holds = ⊥
 
--- a file has imports, and they are asked for
-abbrev pub HasImports : ParseOptions → TablePlaces → Type 0
-HasImports opts places = (opts.parse_imports ≡ true) × IsSome places.imports
-
 -- The walk gives the imports of a file from a position on.
 pub record GoesOn (m : MapOfAddresses) (places : TablePlaces) (bytes : List ℕ)
     (p : PeImportPosition) (imports : FileImports) : Type 0 where
   pub walk : IsImportWalk m places.magic bytes imports
-  pub asked : HasImports m.opts places
   pub left : imports_from_position m places bytes p ≡ Some (file_imports_left imports)
 
 -- ---- exports

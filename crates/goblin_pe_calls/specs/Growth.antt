@@ -1,13 +1,10 @@
 -- Where a call that keeps records of a file takes memory.
-use Rattle.std.specs.Prelude.{ℕ, ◌+◌, ◌<◌, ◌⊎◌, List, [], Option, None, IsSome}
+use Rattle.std.specs.Prelude.{ℕ, ◌+◌, ◌<◌, ◌⊎◌, List, [], IsSome}
 use Rattle.std.specs.Prelude.{IsSomeAnd, MatchOption, length}
 use Rattle.goblin_pe_sect.specs.declared.options.ParseOptions.{ParseOptions}
 use Rattle.goblin_pe.specs.Addresses.{MapOfAddresses, map_by, offset_of}
 use Rattle.goblin_pe.specs.declared.whole.Part.{Part}
-use Rattle.goblin_pe.specs.declared.whole.Part.TheVariants.{Absent, Refused}
-use Rattle.goblin_pe.specs.declared.whole.Part.TheVariants as part
-use Rattle.goblin_pe_import.specs.declared.import.imports.ImportPosition.{ImportPosition}
-use Rattle.goblin_pe.specs.LayoutPositions.{file_imports_at, import_start}
+use Rattle.goblin_pe.specs.LayoutCursors.{file_cursor_left, import_begin}
 use Rattle.goblin_pe.specs.ExportRecords.{ExportRow, ExportTables}
 use Rattle.goblin_pe.specs.PeHeader.{PeHeader}
 use Rattle.goblin_pe_head.specs.SectionRoom.{HasRoom}
@@ -48,16 +45,11 @@ HasRecords w =
 
 -- ---- what comes before a refusal
 
--- the imports from where they start on begin with one
-abbrev pub StartBegins : MapOfAddresses → ℕ → List ℕ → Part (Option ImportPosition) → Type 0
-StartBegins m magic bytes Absent = ⊥
-StartBegins m magic bytes (part.Read position) = IsBegun (file_imports_at m magic bytes position)
-StartBegins m magic bytes Refused = ⊥
-
+-- the imports begin with one
 abbrev pub ImportsBegin : MapOfAddresses → TablePlaces → List ℕ → Type 0
 ImportsBegin m places bytes =
-    IsSomeAnd ((import_start m.opts (offset_of m) places None).value bytes)
-    (StartBegins m places.magic bytes)
+    IsSomeAnd ((import_begin m.opts (offset_of m) places).value bytes)
+    (λ c. IsBegun (file_cursor_left m places.magic bytes c))
 
 -- the imports begin with one; or they can be read, and there is an export or an export address
 abbrev pub TablesBegin : MapOfAddresses → TablePlaces → List ℕ → Type 0

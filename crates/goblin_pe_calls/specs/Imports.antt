@@ -4,9 +4,8 @@ use Rattle.std.specs.Global.{Global}
 use Rattle.goblin_base.specs.declared.error.ErrorOf.{ErrorOf}
 use Rattle.goblin_base.specs.Tables.{Format}
 use Rattle.goblin_pe_import.specs.ImportEntries.{EntryValue}
-use Rattle.goblin_pe_import.specs.ImportWalks.{AreImportsOver, HasPosition, IsImportsCause}
-use Rattle.goblin_pe_import.specs.ImportWalks.{IsInTable, imports_bytes, imports_left, imports_map}
-use Rattle.goblin_pe_import.specs.ImportWalks.{position_of}
+use Rattle.goblin_pe_import.specs.ImportWalks.{AreImportsOver, HasName, IsImportsCause}
+use Rattle.goblin_pe_import.specs.ImportWalks.{imports_bytes, imports_left, imports_map}
 use Rattle.goblin_pe_import.specs.declared.import.imports.Imports.{Imports}
 use Rattle.goblin_pe.specs.Imports.{ImportValue}
 use Rattle.goblin_pe_calls.specs.declared.import.PeImport.{PeImport}
@@ -62,10 +61,8 @@ pub record GivesHere {T : Type 0} (format : Format EntryValue) (s t : Imports T)
   pub held : Holds values
   pub yielded : imports_left format s ≡ map (λ x. Some x) values ++ imports_left format t
   pub cause : (e : ErrorOf) → IsImportsCause format t e → IsImportsCause format s e
-  pub kept : HasPosition format s → HasPosition format t
+  pub kept : HasName s → HasName t
   pub over : AreImportsOver (imports_bytes s) (imports_map s) t
-  pub inside : HasPosition format s → IsInTable (imports_bytes s) (position_of s)
-      → IsInTable (imports_bytes s) (position_of t)
 
 -- what is said of these imports was added
 abbrev pub Pushes : List ImportSaid → List ImportSaid → List ImportValue → Type 0

@@ -12,7 +12,7 @@ ghost use Rattle.goblin_pe_import.specs.ImportWalks.{IsImportsCause, imports_lef
 ghost use Rattle.goblin_pe_import.specs.ImportWalks.{imports_map, walked_value};
 ghost use Rattle.goblin_pe.specs.Layouts.{IsFileImportsCause, file_imports_left, layout_map};
 ghost use Rattle.goblin_pe.specs.Layouts.{layout_bytes, layout_places};
-ghost use Rattle.goblin_pe.specs.LayoutPositions.{file_map};
+ghost use Rattle.goblin_pe.specs.LayoutCursors.{file_map};
 ghost use Rattle.goblin_pe.specs.Whole.{AreListed, both_import_parts, collected_imports};
 ghost use Rattle.goblin_pe.specs.Whole.{import_list};
 ghost use Rattle.goblin_pe.specs.Whole.{part_map};

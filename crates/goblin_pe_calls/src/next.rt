@@ -2,16 +2,16 @@
 
 ghost use Rattle.std.specs.Prelude.{◌≡◌, ◌<◌, ◌≤◌, IfErr, MatchResult, Some, drop, length};
 ghost use Rattle.goblin_base.specs.Answers.{IsMemory};
-ghost use Rattle.goblin_pe_sect.specs.Addresses.{offset_of};
+ghost use Rattle.goblin_base.specs.Reading.{Reads};
+ghost use Rattle.goblin_pe.specs.ImportWalks.{no_imports};
 ghost use Rattle.goblin_pe_export.specs.ExportWalks.{KeepsOver, exports_at, exports_left};
 ghost use Rattle.goblin_pe.specs.Layouts.{IsFileImportsCause, file_imports_left, layout_map};
 ghost use Rattle.goblin_pe.specs.Layouts.{layout_bytes, layout_places};
-ghost use Rattle.goblin_pe.specs.LayoutPositions.{StartsAt, import_start};
 ghost use Rattle.goblin_pe_calls.specs.Batches.{Fills, GivesExports, GivesImports, GivesInFile};
 ghost use Rattle.goblin_pe_calls.specs.Batches.{GoesOn, ImportBatch, IsBatch, IsEnd, IsExportBatchFault};
 ghost use Rattle.goblin_pe_calls.specs.Batches.{IsImportsFault, IsRefusedNext};
-ghost use Rattle.goblin_pe_calls.specs.Batches.{imports_from_position, position_numbers};
-ghost use Rattle.goblin_pe_calls.specs.Batches.{position_said, values_before};
+ghost use Rattle.goblin_pe_calls.specs.Batches.{cursor_numbers, cursor_said, import_cursor};
+ghost use Rattle.goblin_pe_calls.specs.Batches.{imports_from_position, values_before};
 ghost use Rattle.goblin_pe_calls.specs.Exports.{export_said, export_view};
 ghost use Rattle.goblin_pe_calls.specs.Imports.{GivesHere, import_said, import_view};
 
@@ -20,81 +20,87 @@ use crate::export::{PeExport, plain_record, put_export};
 use crate::import::{PeImport, put_import};
 use goblin_base::answer_for;
 use goblin_pe::export::Exports;
-use goblin_pe::import::{Bitfield, ImportPosition, Imports};
+use goblin_pe::import::{Bitfield, ImportCursor, Imports};
 use goblin_pe::{FileImports, Layout, Part, Result, ResultOf};
 
-/// Where a walk over imports goes on; zeros are the beginning. It may be kept, and copied.
+/// Where a walk over imports is, in numbers; zeros are the beginning. With the file's bytes and
+/// places it is the walk: so it may be kept, copied and sent. Any other numbers are a walk, too.
 #[repr(C)]
 #[derive(Copy, Clone)]
 pub struct PeImportPosition {
-    /// The file offset of a library's record; the greatest number once the end has been reached,
-    /// also of a file without imports.
-    pub record_offset: usize,
-    /// The file offset of the slot that is read next, or 0 before the library's first.
-    pub slot_offset: usize,
     /// The file offset of the directory's first record, from which records are counted.
     pub first_record: usize,
+    /// The file offset of the record that comes after the library, if there is one.
+    pub next_record: usize,
+    /// The index of the library's record.
+    pub library: usize,
+    /// The file offset of its lookup table.
+    pub table_offset: usize,
+    /// The file offset of the slot that is read next in that table, in a library.
+    pub place: usize,
+    /// The address of the library's name.
+    pub name_rva: u32,
+    /// The address of its address table.
+    pub rva: u32,
+    /// The address of its address table, if that is to be tested after its entries.
+    pub untested: u32,
+    /// Whether the walk has begun; else the other fields are not looked at.
+    pub is_begun: bool,
+    /// Whether a record comes after the library.
+    pub has_next: bool,
+    /// Whether it is in a library.
+    pub has_place: bool,
+    /// Whether the address table is to be tested.
+    pub is_untested: bool,
 }
 
-// The position that these numbers say; none is the beginning.
-fn position_of(position: &PeImportPosition) -> Option<Option<ImportPosition>>
-    ensures { result ≡ position_said position.now }
+// The cursor that these numbers say.
+fn cursor_said(position: &PeImportPosition) -> ImportCursor
+    ensures { result ≡ cursor_said position.now }
 {
-    let PeImportPosition {
-        record_offset,
-        slot_offset,
-        first_record,
-    } = *position;
-    if record_offset == 0 && slot_offset == 0 {
-        return None;
+    let at = *position;
+    ImportCursor {
+        first_record: at.first_record,
+        next_record: if at.has_next { Some(at.next_record) } else { None },
+        library: at.library,
+        name_rva: at.name_rva,
+        rva: at.rva,
+        table_offset: at.table_offset,
+        place: if at.has_place { Some(at.place) } else { None },
+        untested: if at.is_untested { Some(at.untested) } else { None },
     }
-    if record_offset == usize::MAX {
-        return Some(None);
-    }
-    let slot_offset = if slot_offset == 0 {
-        None
-    } else {
-        Some(slot_offset)
-    };
-    Some(Some(ImportPosition {
-        first_record,
-        record_offset,
-        slot_offset,
-    }))
 }
 
-// The numbers of a position.
-fn position_record(position: Option<ImportPosition>) -> PeImportPosition
-    ensures { result ≡ position_numbers position }
+// The numbers of a cursor.
+fn cursor_numbers(at: ImportCursor) -> PeImportPosition
+    ensures { result ≡ cursor_numbers at }
 {
-    match position {
-        Some(at) => PeImportPosition {
-            record_offset: at.record_offset,
-            slot_offset: at.slot_offset.unwrap_or(0),
-            first_record: at.first_record,
-        },
-        None => PeImportPosition {
-            record_offset: usize::MAX,
-            slot_offset: 0,
-            first_record: 0,
-        },
+    PeImportPosition {
+        first_record: at.first_record,
+        next_record: at.next_record.unwrap_or(0),
+        library: at.library,
+        table_offset: at.table_offset,
+        place: at.place.unwrap_or(0),
+        name_rva: at.name_rva,
+        rva: at.rva,
+        untested: at.untested.unwrap_or(0),
+        is_begun: true,
+        has_next: at.next_record.is_some(),
+        has_place: at.place.is_some(),
+        is_untested: at.untested.is_some(),
     }
 }
 
-// The imports of a file from a position on.
-fn imports_at<'a, 'm, 'e>(
-    layout: &'m Layout<'a>,
-    position: &PeImportPosition,
-) -> ResultOf<'e, Part<FileImports<'a, 'm, 'e>>>
+// The cursor at a position.
+fn cursor_at<'e>(layout: &Layout, position: &PeImportPosition) -> ResultOf<'e, ImportCursor>
     ensures { let m = layout_map layout.now in
-        let places = layout_places layout.now in
-        StartsAt m places.magic (layout_bytes layout.now)
-        (import_start m.opts (offset_of m) places (position_said position.now)) result }
+        Reads (λ c. c) result (import_cursor m (layout_places layout.now) position.now)
+        (layout_bytes layout.now) }
 {
-    match position_of(position) {
-        Some(at) => Ok(layout.imports_from(at)),
-        None => layout.imports(),
+    if position.is_begun {
+        return Ok(cursor_said(position));
     }
+    layout.imports_begin()
 }
 
 // Fills records from `first` on with the plain imports that come next in the library of the walk,
@@ -165,7 +171,7 @@ fn fill_imports<'a, 'm, 'e>(
         (λ count. IsBatch import_view import_said (values_before left) records.old records.new count
         × (imports_from_position m places bytes position.new ≡ Some (drop count left))
         × (IsRefusedNext left → length records.old ≡ 0)
-        × (IsEnd left records.old count → position.new ≡ position_numbers None)
+        × (IsEnd left records.old count → position.new ≡ cursor_numbers no_imports)
         × (length records.old ≡ 0 → position.new ≡ position.old))
         (λ e. IsRefusedNext left × IsFileImportsCause imports.entry e × (0 < length records.old)
         × (records.new ≡ records.old) × (position.new ≡ position.old)) }
@@ -177,29 +183,17 @@ fn fill_imports<'a, 'm, 'e>(
             Some(Ok(import)) => {
                 put_import(&mut records[count], layout.bytes(), &import);
                 count = fill_library(layout.bytes(), &mut imports, records, count + 1);
-                *position = position_record(imports.position());
+                *position = cursor_numbers(imports.cursor());
             }
             Some(Err(error)) if count == 0 => return Err(error),
             Some(Err(_)) => return Ok(count),
             None => {
-                *position = position_record(None);
+                *position = cursor_numbers(ImportCursor::end());
                 return Ok(count);
             }
         }
     }
     Ok(count)
-}
-
-// The position where there are no imports: the end, if there is room for any.
-fn position_without(position: &PeImportPosition, room: usize) -> PeImportPosition
-    ensures asked { 0 < room → result ≡ position_numbers None }
-    ensures unasked { room ≡ 0 → result ≡ position.now }
-{
-    if room == 0 {
-        *position
-    } else {
-        position_record(None)
-    }
 }
 
 // Fills records with the imports of a file that come next, and answers how many.
@@ -217,13 +211,8 @@ fn next_imports<'a>(
         (λ e. IsImportsFault m places bytes old e × (new ≡ old)) }
     ensures refused { IfErr result (λ e. ¬ IsMemory e) }
 {
-    match imports_at(layout, position)? {
-        Part::Read(imports) => fill_imports(layout, imports, position, records),
-        Part::Absent | Part::Refused => {
-            *position = position_without(position, records.len());
-            Ok(0)
-        }
-    }
+    let at = cursor_at(layout, position)?;
+    fill_imports(layout, layout.imports_at(at), position, records)
 }
 
 impl<'a> Batched<'a> for PeImport<'a> {

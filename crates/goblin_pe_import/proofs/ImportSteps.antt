@@ -10,10 +10,10 @@ use Rattle.goblin_pe_import.specs.declared.import.imports.Walk.{Walk}
 use Rattle.goblin_pe_import.specs.declared.import.kept.KeptEntry.{KeptEntry}
 use Rattle.goblin_pe_sect.specs.Addresses.{map_of, offset_of, reads_strictly}
 use Rattle.goblin_pe_import.specs.ImportEntries.{EntryValue}
-use Rattle.goblin_pe_import.specs.Imports.{ImportValue}
-use Rattle.goblin_pe_import.specs.ImportWalks.{GivesLibrary, IsEntriesCause, IsInLibrary, IsLaterCause}
-use Rattle.goblin_pe_import.specs.ImportWalks.{IsPlaced, IsWalkCause, KeptValue, bound_at}
-use Rattle.goblin_pe_import.specs.ImportWalks.{entries_from, imports_at, kept_import, kept_value, later_items, walk_answer, walk_at, walk_origin}
+use Rattle.goblin_pe_import.specs.Imports.{ImportValue, origin}
+use Rattle.goblin_pe_import.specs.ImportWalks.{GivesLibrary, IsEntriesCause, IsLaterCause, IsNamed}
+use Rattle.goblin_pe_import.specs.ImportWalks.{IsWalkCause, KeptValue, bound_next, no_imports}
+use Rattle.goblin_pe_import.specs.ImportWalks.{entries_from, imports_next, kept_import, kept_value, later_items, walk_answer, walk_at}
 use Rattle.goblin_pe_import.specs.ImportWalks.{place_after, walk_bound, walk_left}
 
 one_before : {A : Type 0} (x : A) (o : Option (List A)) (IsNow IsNext IsLater : ErrorOf → Type 0)
@@ -27,7 +27,7 @@ pub record AtImports (format : Format EntryValue) (start now : Walk) : Type 0 wh
   pub same : walk_left format start ≡ walk_left format now
   pub cause : (e : ErrorOf) → IsWalkCause format now e → IsWalkCause format start e
   pub bound : walk_bound now ≤ walk_bound start
-  pub placed : IsPlaced format start → IsInLibrary format now
+  pub named : IsNamed start → IsNamed now
   pub bytes : now.bytes.now ≡ start.bytes.now
   pub finder : now.finder ≡ start.finder
 
@@ -36,9 +36,9 @@ abbrev pub GivesBy : Format EntryValue → Walk → AddressMap → Option (Resul
 GivesBy format s map r =
     let m = map_of map in
     GivesLibrary (walk_left format) (IsWalkCause format)
-    (later_items (reads_strictly m) format (offset_of m) s.bytes.now s.untested s.next)
+    (later_items (reads_strictly m) format (offset_of m) s.bytes.now s.at.untested s.at.first_record s.at.next_record)
     (λ e. (reads_strictly m ≡ true)
-    × IsLaterCause (reads_strictly m) format (offset_of m) s.bytes.now s.untested s.next e)
+    × IsLaterCause (reads_strictly m) format (offset_of m) s.bytes.now s.at.untested s.at.next_record e)
     r
 
 -- what holds of the walk that a call has led to
@@ -51,21 +51,16 @@ imports-start format start = record {
   same = refl;
   cause = λ e fault. fault;
   bound = omega arith;
-  placed = λ placed. placed.0;
+  named = λ named. named;
   bytes = refl;
   finder = refl;
 }
 
 -- a walk that has ended
-pub record HasEnded (t : Walk) : Type 0 where
-  pub place : t.place ≡ None
-  pub untested : t.untested ≡ None
-  pub next : t.next ≡ None
-
-module _ (format : Format EntryValue) (t : Walk) (h : HasEnded t) where
-  pub ended-left : walk_left format t ≡ []
-  unfolding entries_from imports_at
-  ended-left = rw (h.place, h.untested, h.next) refl
+pub ended-left : (format : Format EntryValue) (t : Walk) → t.at ≡ no_imports
+    → walk_left format t ≡ []
+unfolding entries_from imports_next
+ended-left format t ended = rw ended refl
 
 module _ (format : Format EntryValue) (start s : Walk) (h : AtImports format start s) where
   abbrev strict : Bool
@@ -75,19 +70,19 @@ module _ (format : Format EntryValue) (start s : Walk) (h : AtImports format sta
   places = offset_of (map_of s.finder)
 
   abbrev left : Option ℕ → List (Option KeptValue)
-  left = entries_from strict format places s.bytes.now s.table_offset
+  left = entries_from strict format places s.bytes.now s.at.table_offset
 
   abbrev IsCause : Option ℕ → ErrorOf → Type 0
   IsCause = IsEntriesCause strict format places s.bytes.now
 
   abbrev IsLater : ErrorOf → Type 0
-  IsLater = IsLaterCause strict format places s.bytes.now s.untested s.next
+  IsLater = IsLaterCause strict format places s.bytes.now s.at.untested s.at.next_record
 
   abbrev later : List (Option ImportValue)
-  later = later_items strict format places s.bytes.now s.untested s.next
+  later = later_items strict format places s.bytes.now s.at.untested s.at.first_record s.at.next_record
 
   abbrev Steps : Option (Result KeptEntry ErrorOf) → Type 0
-  Steps r = GivesNext kept_value left IsCause s.place r (place_after format.width r)
+  Steps r = GivesNext kept_value left IsCause s.at.place r (place_after format.width r)
 
   module _ (r : Result KeptEntry ErrorOf) (given : Steps (Some r)) where
     -- an entry is kept
@@ -97,7 +92,7 @@ module _ (format : Format EntryValue) (start s : Walk) (h : AtImports format sta
         steps = subst (λ (q : Result KeptEntry ErrorOf). Steps (Some q)) is given
 
         abbrev item : ImportValue
-        item = kept_import format.width (walk_origin s) s.rva s.table_offset (kept_value kept)
+        item = kept_import format.width (origin s.at.library s.dll.now) s.at.rva s.at.table_offset (kept_value kept)
 
         pub next-one : (walk_left format start ≡ Some item ∷ walk_left format (walk_at s place))
             × ((e : ErrorOf) → IsWalkCause format (walk_at s place) e → IsWalkCause format start e)
@@ -108,7 +103,7 @@ module _ (format : Format EntryValue) (start s : Walk) (h : AtImports format sta
                 fault.0,
                 rw (steps.0)
                     (one_before (kept_value kept) (all_of (left (Some (kept.place + format.width))))
-                    (IsCause s.place) (IsCause (Some (kept.place + format.width))) IsLater e (steps.1 e)
+                    (IsCause s.at.place) (IsCause (Some (kept.place + format.width))) IsLater e (steps.1 e)
                     (subst
                     (λ (p : ℕ). FirstFault (all_of (left (Some p))) (IsCause (Some p)) (λ _. IsLater) e)
                     to fault.1)),
@@ -117,7 +112,7 @@ module _ (format : Format EntryValue) (start s : Walk) (h : AtImports format sta
 
     -- an entry is refused
     pub next-fault : (e : ErrorOf) → r ≡ Err e → IfErr r (λ e. strict ≡ true) → (t : Walk)
-        → HasEnded t
+        → (t.at ≡ no_imports)
         → (walk_left format start ≡ None ∷ []) × (walk_left format t ≡ [])
         × IsWalkCause format start e
     next-fault e is strictly_if t ended =
@@ -140,12 +135,12 @@ module _ (format : Format EntryValue) (start s : Walk) (h : AtImports format sta
     cause_later : (e : ErrorOf) → (strict ≡ true) × IsLater e → IsWalkCause format start e
     cause_later e fault = h.cause e (fault.0, rw (none.0) (fault.1))
 
-    pub next-none : Gives None → (t : Walk) → HasEnded t
+    pub next-none : Gives None → (t : Walk) → (t.at ≡ no_imports)
         → (walk_left format start ≡ []) × (walk_left format t ≡ [])
     next-none gives t ended = (same_later ∙ gives, ended-left format t ended)
 
     pub next-refused : (r : Result Walk ErrorOf) (e : ErrorOf) → Gives (Some r) → r ≡ Err e
-        → (t : Walk) → HasEnded t
+        → (t : Walk) → (t.at ≡ no_imports)
         → (walk_left format start ≡ None ∷ []) × (walk_left format t ≡ [])
         × IsWalkCause format start e
     next-refused r e given is t ended =
@@ -155,22 +150,21 @@ module _ (format : Format EntryValue) (start s : Walk) (h : AtImports format sta
     pub next-library : (r : Result Walk ErrorOf) (walk : Walk) → Gives (Some r) → r ≡ Ok walk
         → IfOk r (λ t. t.bytes.now ≡ s.bytes.now)
         → IfOk r (λ t. t.finder ≡ s.finder)
-        → IfOk r (λ t. walk_bound t ≤ bound_at s.bytes.now s.next)
-        → IfOk r (λ t. IsInLibrary format t) → AtImports format start walk
-    next-library r walk given is same_if map_if bound_if placed_if =
+        → IfOk r (λ t. walk_bound t ≤ bound_next s.bytes.now s.at.next_record)
+        → IfOk r IsNamed → AtImports format start walk
+    next-library r walk given is same_if map_if bound_if named_if =
         let gives = subst (λ (q : Result Walk ErrorOf). Gives (Some q)) is given in
         let same =
         subst (λ (q : Result Walk ErrorOf). IfOk q (λ t. t.bytes.now ≡ s.bytes.now)) is same_if in
         let bound =
         subst
-        (λ (q : Result Walk ErrorOf). IfOk q (λ t. walk_bound t ≤ bound_at s.bytes.now s.next)) is
+        (λ (q : Result Walk ErrorOf). IfOk q (λ t. walk_bound t ≤ bound_next s.bytes.now s.at.next_record)) is
         bound_if in
         record {
           same = same_later ∙ sym gives.0;
           cause = λ e fault. cause_later e (gives.1 e fault);
           bound = omega (arith, bound, h.bound);
-          placed = λ _. subst (λ (q : Result Walk ErrorOf). IfOk q (λ t. IsInLibrary format t)) is
-              placed_if;
+          named = λ _. subst (λ (q : Result Walk ErrorOf). IfOk q IsNamed) is named_if;
           bytes = same ∙ h.bytes;
           finder = subst
               (λ (q : Result Walk ErrorOf). IfOk q (λ t. t.finder ≡ s.finder)) is

@@ -6,7 +6,6 @@ use Rattle.std.proofs.lemmas.List.Concat.{flat_map-append}
 use Rattle.std.proofs.lemmas.Option.{slice_get-get_or}
 use Rattle.std.proofs.Math.Seq.{get_or-append_seam}
 use Rattle.goblin_base.specs.declared.endian.Endian.TheVariants.{Little}
-use Rattle.goblin_base.specs.declared.error.ErrorOf.{ErrorOf}
 use Rattle.goblin_base.specs.Answers.{◌>>=◌, all_at, all_of}
 use Rattle.goblin_base.specs.Bytes.{IsBytes}
 use Rattle.goblin_base.specs.Reading.{Reading}
@@ -16,24 +15,28 @@ use Rattle.goblin_base.proofs.Below.{each_below-there, least-before}
 use Rattle.goblin_base.proofs.Records.{record_at-some}
 use Rattle.goblin_base.proofs.Footprints.{same-all_at}
 use Rattle.goblin_base.proofs.Steps.{all_at-more, all_at-zero, same_value, step}
-use Rattle.readings.specs.Reads.{given, mapped, pair_of, pick, with_slots}
+use Rattle.readings.specs.Reads.{given, in_its_place, mapped, pair_of, pick, with_slots}
 use Rattle.readings.specs.Walks.{IsWalkOf, end_items, items_at, refusal_of, table_walk}
 use Rattle.readings.proofs.WalkValues.{all_of-append, all_of-until, joined-end, walk-holds}
 use Rattle.goblin_pe_import.specs.declared.import.directory_entry.ImportDirectoryEntry.{ImportDirectoryEntry}
-use Rattle.goblin_pe_sect.specs.Addresses.{offset_of}
+use Rattle.goblin_pe_sect.specs.Addresses.{MapOfAddresses, offset_of, reads_strictly}
 use Rattle.goblin_pe_import.specs.ImportEntries.{EntryValue, LookupEntry, entry_slots}
-use Rattle.goblin_pe_import.specs.ImportPositions.{first_at}
-use Rattle.goblin_pe_import.specs.ImportReadings.{at_index, kept_library, libraries_at}
+use Rattle.goblin_pe_import.specs.ImportCursors.{before_record}
+use Rattle.goblin_pe_import.specs.ImportReadings.{at_index, first_record_offset, import_data, kept_library}
+use Rattle.goblin_pe_import.specs.ImportReadings.{libraries_at, libraries_if, libraries_past_front}
 use Rattle.goblin_pe_import.specs.ImportReadings.{library_of, lookup_if}
 use Rattle.goblin_pe_import.specs.ImportRecords.{ImportedLibrary, import_record, import_slots, lookup_offset}
 use Rattle.goblin_pe_import.specs.Imports.{ImportValue, Origin, import_at, import_of, imports_by, kept_imports}
 use Rattle.goblin_pe_import.specs.Imports.{origin}
 use Rattle.goblin_pe_import.specs.ImportWalks.{imports_from_record, library_items, addresses_of}
-use Rattle.goblin_pe_import.specs.ImportWalks.{entries_from, library_name, record_index, imports_at}
-use Rattle.goblin_pe_import.specs.ImportWalks.{kept_import, IsCauseAt, KeptValue, begin_at, kept_at}
+use Rattle.goblin_pe_import.specs.ImportWalks.{entries_from, imports_next, library_name, record_index}
+use Rattle.goblin_pe_import.specs.ImportWalks.{IsCursorCause, IsImportsCause, IsWalkAt, KeptValue, cursor_of, imports_bytes}
+use Rattle.goblin_pe_import.specs.ImportWalks.{imports_left, imports_map, items_left, kept_at, kept_import, no_imports}
+use Rattle.goblin_pe_import.specs.declared.import.imports.ImportCursor.{ImportCursor}
+use Rattle.goblin_pe_import.specs.declared.import.imports.Imports.{Imports}
 use Rattle.goblin_pe_import.specs.LookupReadings.{kept_entry}
 use Rattle.goblin_pe_import.proofs.ImportBound.{kept_entry-few}
-use Rattle.goblin_pe_import.proofs.ImportsWalk.{in_two_if, listed}
+use Rattle.goblin_pe_import.proofs.ImportsWalk.{imports-once, in_two_if, listed}
 use Rattle.goblin_pe_import.proofs.LibraryIndexes.{few, libraries-value, numbered_at}
 use Rattle.goblin_pe_import.proofs.LibraryIndexes as indexes
 use Rattle.goblin_pe_import.proofs.ListedImports.{address-low}
@@ -269,7 +272,7 @@ module _ (strict : Bool) (format : Format EntryValue) (offset_of : ℕ → Optio
     at = lookup_offset offset_of r
 
     abbrev entries : List (Option KeptValue)
-    entries = entries_from strict format offset_of bytes (unwrap_or at 0) (begin_at None at)
+    entries = entries_from strict format offset_of bytes (unwrap_or at 0) at
 
     abbrev import_in : List ℕ → KeptValue → ImportValue
     import_in dll =
@@ -295,7 +298,7 @@ module _ (strict : Bool) (format : Format EntryValue) (offset_of : ℕ → Optio
     by_count false made xs is e = absurd cc
 
     library-imports : (dll : List ℕ) (place : Option ℕ) (ks : List KeptValue) (addresses : List ℕ)
-        → all_of (entries_from strict format offset_of bytes (unwrap_or place 0) (begin_at None place))
+        → all_of (entries_from strict format offset_of bytes (unwrap_or place 0) place)
         ≡ Some ks
         → imports_here (library dll (in_two_if place ks) addresses)
         ≡ map
@@ -319,14 +322,14 @@ module _ (strict : Bool) (format : Format EntryValue) (offset_of : ℕ → Optio
         low ks e)
 
     -- collecting what comes of a record gives the imports of its library
-    record-value : all_of (library_items strict format offset_of bytes index None r)
+    record-value : all_of (library_items strict format offset_of bytes index r)
         ≡ option_map (flat_map imports_here) ((kept_library strict format offset_of r).value bytes)
     unfolding library_items library_of
     record-value = by_name ((library_name strict offset_of r).value bytes) refl
       where
         by_name : (name : Option (List ℕ))
             → (library_name strict offset_of r).value bytes ≡ name
-            → all_of (library_items strict format offset_of bytes index None r)
+            → all_of (library_items strict format offset_of bytes index r)
             ≡ option_map (flat_map imports_here)
             ((kept_library strict format offset_of r).value bytes)
         by_name None is = rw is (unnamed imports_here strict _ (name_strict strict _ is))
@@ -372,7 +375,7 @@ module _ (strict : Bool) (format : Format EntryValue) (offset_of : ℕ → Optio
     pieces = numbered_at (indexes.kept_at strict format offset_of bytes o) (few strict format offset_of bytes o)
 
     abbrev items : ℕ → ImportDirectoryEntry → List (Option ImportValue)
-    items p r = library_items strict format offset_of bytes (record_index o p) None r
+    items p r = library_items strict format offset_of bytes (record_index o p) r
 
     abbrev comes_of : ℕ → List (Option ImportValue)
     comes_of i = items_at items (slot_place import_slots o i) (record_at i)
@@ -393,7 +396,7 @@ module _ (strict : Bool) (format : Format EntryValue) (offset_of : ℕ → Optio
             subst (λ (r : ImportDirectoryEntry). r.import_address_table_rva < 2 ^ 32) (sym there.is)
             (address-low strict format offset_of bytes octets (slot_place import_slots o i)) in
             ap
-            (λ (index : ℕ). all_of (library_items strict format offset_of bytes index None r))
+            (λ (index : ℕ). all_of (library_items strict format offset_of bytes index r))
             (in_slot 20 o i (lit≤ tt))
             ∙ record-value i r low ∙ indexed-map i ((kept_library strict format offset_of r).value bytes)
 
@@ -430,20 +433,53 @@ same_option None = refl
 same_option (Some x) = refl
 
 -- the same of a walk that begins at a directory
-pub imports-walked : (strict : Bool) (format : Format EntryValue) (offset_of : ℕ → Option ℕ)
-    (bytes : List ℕ) (o : ℕ) → 1 ≤ format.width → length bytes < 2 ^ 63 → IsBytes bytes
-    → (left : List (Option ImportValue)) (IsCause : ErrorOf → Type 0)
-    → left ≡ imports_at strict format offset_of bytes (Some (first_at o))
-    → ((e : ErrorOf) → IsCause e
-    → (strict ≡ true)
-    × IsCauseAt strict format offset_of bytes (Some (first_at o)) e)
-    → IsWalkOf (λ xs. xs)
-    (mapped (flat_map (kept_imports (λ x. x) format.width)) (libraries_at strict format offset_of o))
-    bytes left IsCause
-unfolding imports_at
-imports-walked strict format offset_of bytes o wide short octets left IsCause from cause = record {
-  value =
-      same_option (all_of left)
-      ∙ ap all_of from ∙ imports-value strict format offset_of bytes wide short octets o;
-  cause = λ e fault. (cause e fault).1;
-}
+module _ (m : MapOfAddresses) (format : Format EntryValue) (bytes : List ℕ) (o : ℕ)
+    (wide : 1 ≤ format.width) (short : length bytes < 2 ^ 63) (octets : IsBytes bytes) where
+  abbrev reading : Reading (List ImportValue)
+  reading =
+      mapped (flat_map (kept_imports (λ x. x) format.width))
+      (libraries_at (reads_strictly m) format (offset_of m) o)
+
+  walked-by : (k : MapOfAddresses) (file dll : List ℕ) (c : ImportCursor) → k ≡ m → file ≡ bytes
+      → c ≡ before_record o
+      → IsWalkOf (λ xs. xs) reading bytes
+      (items_left (reads_strictly k) format (offset_of k) file dll c) (IsCursorCause k format file c)
+  unfolding entries_from imports_next
+  walked-by k file dll c by over at =
+      rw (by, over, at)
+      (record {
+        value =
+            same_option _ ∙ ap all_of (imports-once (reads_strictly m) format (offset_of m) bytes o o)
+            ∙ imports-value (reads_strictly m) format (offset_of m) bytes wide short octets o;
+        cause = λ e fault. fault.1;
+      })
+
+  pub imports-walked : {T : Type 0} (it : Imports T) → IsWalkAt m bytes (before_record o) it
+      → IsWalkOf (λ xs. xs) reading bytes (imports_left format it) (IsImportsCause format it)
+  imports-walked it h =
+      walked-by (imports_map it) (imports_bytes it) it.walk.dll.now (cursor_of it) h.over.1 h.over.0 h.at
+
+-- and of one that permissive mode begins at no record
+module _ (m : MapOfAddresses) (format : Format EntryValue) (bytes : List ℕ) (rva : ℕ) where
+  none-by : (strict : Bool) (place : Option ℕ) → strict ≡ false → first_record_offset strict place ≡ None
+      → (in_its_place strict 0 place
+      >>= λ o. (libraries_past_front strict format (offset_of m) o).value bytes) ≡ Some []
+  none-by true place permissive none = absurd cc
+  none-by false None permissive none = refl
+  none-by false (Some o) permissive none =
+      ap (λ (first : Option ℕ). (libraries_if false format (offset_of m) first).value bytes) none
+
+  pub imports-none : reads_strictly m ≡ false
+      → first_record_offset (reads_strictly m) (offset_of m rva) ≡ None → {T : Type 0} (it : Imports T)
+      → cursor_of it ≡ no_imports
+      → IsWalkOf (λ xs. xs)
+      (mapped (flat_map (kept_imports (λ x. x) format.width))
+      (import_data (reads_strictly m) format (offset_of m) rva))
+      bytes (imports_left format it) (IsImportsCause format it)
+  unfolding entries_from imports_next import_data
+  imports-none permissive none it ended =
+      let read = none-by (reads_strictly m) (offset_of m rva) permissive none in
+      rw (ended) (record {
+        value = sym (ap (option_map (flat_map (kept_imports (λ x. x) format.width))) read);
+        cause = λ e fault. absurd fault.1;
+      })

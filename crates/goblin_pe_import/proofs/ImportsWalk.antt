@@ -1,8 +1,8 @@
 -- The walk over all imports: from one library to the next.
 use Rattle.std.proofs.Common.{◌≡◌, ◌≤◌, ◌+◌, ◌-◌, ◌*◌, ℕ, Bool, true, false, not, ◌&&◌, List, []}
 use Rattle.std.proofs.Common.{◌∷◌, ◌++◌, length, Option, Some, None, refl, sym, ap, subst, ◌∙◌}
-use Rattle.std.proofs.Common.{append_assoc, cond, lit≤, arith, Err, IfOk, IfSome, MatchResult, Ok}
-use Rattle.std.proofs.Common.{Result, is_none, option_map, unwrap_or, mul-le-mul_left, is_some}
+use Rattle.std.proofs.Common.{append_assoc, lit≤, arith, Err, IfOk, MatchResult, Ok}
+use Rattle.std.proofs.Common.{Result, option_map, unwrap_or, mul-le-mul_left, is_some}
 use Rattle.goblin_base.specs.declared.error.ErrorOf.{ErrorOf}
 use Rattle.goblin_base.specs.Answers.{FirstFault, all_of}
 use Rattle.goblin_base.specs.Reading.{Reading}
@@ -14,33 +14,27 @@ use Rattle.readings.specs.Walks.{from_slot, refusal_of, until_refused}
 use Rattle.readings.proofs.Walks.{IsSlotCause, cause-slot, slot-end, slot-going, slot-missing, slot-once}
 use Rattle.readings.proofs.Walks.{walk-slot}
 use Rattle.goblin_pe_import.specs.declared.import.directory_entry.ImportDirectoryEntry.{ImportDirectoryEntry}
-use Rattle.goblin_pe_import.specs.declared.import.imports.ImportPosition.{ImportPosition}
 use Rattle.goblin_pe_import.specs.declared.import.imports.Walk.{Walk}
 use Rattle.goblin_pe_import.specs.ImportEntries.{EntryValue, LookupEntry}
 use Rattle.goblin_pe_import.specs.ImportReadings.{import_record_at, kept_library, libraries_at, library_of, lookup_if}
 use Rattle.goblin_pe_import.specs.ImportRecords.{address_table_rva, import_slots, is_last_record}
 use Rattle.goblin_pe_import.specs.ImportRecords.{lookup_offset}
 use Rattle.goblin_pe_import.specs.Imports.{ImportValue, Origin, origin}
-use Rattle.goblin_pe_import.specs.ImportWalks.{GivesLibrary, IsCauseAt, IsCauseBy, IsEntriesCause}
+use Rattle.goblin_pe_import.specs.ImportWalks.{GivesLibrary, IsEntriesCause, IsNextCause}
 use Rattle.goblin_pe_import.specs.ImportWalks.{IsLaterCause, IsNamedCause, IsRecordCause, IsRecordsCause}
-use Rattle.goblin_pe_import.specs.ImportWalks.{KeptValue, addresses_of, begin_at, bound_at, bound_by}
-use Rattle.goblin_pe_import.specs.ImportWalks.{entries_from, imports_at, is_left_out, one_if, records_bound, slots_bound}
+use Rattle.goblin_pe_import.specs.ImportWalks.{KeptValue, addresses_of, bound_next}
+use Rattle.goblin_pe_import.specs.ImportWalks.{entries_from, imports_next, is_left_out, one_if, slots_bound}
 use Rattle.goblin_pe_import.specs.ImportWalks.{walk_bound}
-use Rattle.goblin_pe_import.specs.ImportWalks.{imports_by_slot, imports_from_record, imports_of_entries, record_index}
+use Rattle.goblin_pe_import.specs.ImportWalks.{imports_from_record, imports_of_entries, record_index}
 use Rattle.goblin_pe_import.specs.ImportWalks.{later_items, library_items, library_name, untested_table}
 use Rattle.goblin_pe_import.proofs.LookupWalk.{in_two, lookup_walked}
 use Rattle.goblin_pe_import.proofs.PermissiveReads.{name_strict}
 
 -- ---- values that may be missing
 
-permissive_by : (first strict b : Bool) → (first && not strict && b) ≡ true → strict ≡ false
-permissive_by true true b e = absurd cc
-permissive_by true false b e = refl
-permissive_by false strict b e = absurd cc
-
-never_strictly : (first b : Bool) → (first && false && b) ≡ false
-never_strictly true b = refl
-never_strictly false b = refl
+permissive_by : (strict b : Bool) → (not strict && b) ≡ true → strict ≡ false
+permissive_by true b e = absurd cc
+permissive_by false b e = refl
 
 two_maps : {A B C : Type 0} (f : A → B) (h : B → C) (o : Option A)
     → option_map h (option_map f o) ≡ option_map (λ x. h (f x)) o
@@ -71,7 +65,7 @@ abbrev pub in_two_if : Option ℕ → List KeptValue → Option (List LookupEntr
 in_two_if None kept = (None, [])
 in_two_if (Some o) kept = (Some (in_two kept).0, (in_two kept).1)
 
--- ---- what comes from a position on
+-- ---- what comes from a record on
 
 module _ (strict : Bool) (format : Format EntryValue) (offset_of : ℕ → Option ℕ)
     (bytes : List ℕ) where
@@ -79,7 +73,7 @@ module _ (strict : Bool) (format : Format EntryValue) (offset_of : ℕ → Optio
   pub listed : 1 ≤ format.width → (at : Option ℕ)
       → (lookup_if strict format offset_of at).value bytes
       ≡ option_map (in_two_if at)
-      (all_of (entries_from strict format offset_of bytes (unwrap_or at 0) (begin_at None at)))
+      (all_of (entries_from strict format offset_of bytes (unwrap_or at 0) at))
   unfolding lookup_if entries_from
   listed wide None = refl
   listed wide (Some o) =
@@ -91,49 +85,45 @@ module _ (strict : Bool) (format : Format EntryValue) (offset_of : ℕ → Optio
     abbrev slots : Option ImportDirectoryEntry
     slots = (import_record_at p).value bytes
 
-    -- what comes from a slot of the library of the record at p on
-    abbrev pub from_record : Option ℕ → Option ImportDirectoryEntry → List (Option ImportValue)
-    from_record slot entry =
+    -- what comes of the record at p and of those after it
+    abbrev pub from_record : Option ImportDirectoryEntry → List (Option ImportValue)
+    from_record entry =
         from_slot strict is_last_record
-        (library_items strict format offset_of bytes (record_index first p) slot)
+        (library_items strict format offset_of bytes (record_index first p))
         (imports_from_record strict format offset_of bytes first (p + 20)) entry
 
-    pub imports-slot : (slot : Option ℕ)
-        → imports_by_slot strict format offset_of bytes first p slot ≡ from_record slot slots
+    pub imports-slot : imports_from_record strict format offset_of bytes first p ≡ from_record slots
     unfolding imports_from_record
-    imports-slot None =
+    imports-slot =
         walk-slot import_slots
-        (λ p r. library_items strict format offset_of bytes (record_index first p) None r) bytes strict
+        (λ p r. library_items strict format offset_of bytes (record_index first p) r) bytes strict
         (lit≤ tt) p slots refl
-    imports-slot (Some place) = refl
 
-    pub imports-once : (slot : Option ℕ)
-        → until_refused (imports_by_slot strict format offset_of bytes first p slot)
-        ≡ imports_by_slot strict format offset_of bytes first p slot
-    imports-once slot =
-        rw (imports-slot slot) (slot-once strict is_last_record
-        (library_items strict format offset_of bytes (record_index first p) slot)
+    pub imports-once : until_refused (imports_from_record strict format offset_of bytes first p)
+        ≡ imports_from_record strict format offset_of bytes first p
+    imports-once =
+        rw imports-slot (slot-once strict is_last_record
+        (library_items strict format offset_of bytes (record_index first p))
         (imports_from_record strict format offset_of bytes first (p + 20)) slots)
 
     -- a cause that is true of the rest of a directory from its first entry on is true of it
-    pub cause-record : 1 ≤ format.width → strict ≡ true → (slot : Option ℕ) (e : ErrorOf)
-        → IsRecordCause strict format offset_of bytes slot p slots e
-        → IsCauseBy strict format offset_of bytes p slot e
+    pub cause-record : 1 ≤ format.width → strict ≡ true → (e : ErrorOf)
+        → IsRecordCause strict format offset_of bytes p slots e
+        → IsRecordsCause strict format offset_of bytes p e
     unfolding libraries_at library_of lookup_if
-    cause-record wide is (Some place) e fault = fault
-    cause-record wide is None e fault =
+    cause-record wide is e fault =
         cause-slot import_slots (kept_library strict format offset_of) bytes strict import_record_at
         (lit≤ tt) p slots refl e (in_slot slots fault)
       where
         in_table : (at : Option ℕ) {A : Type 0} (o : Option A) (IsLater : ErrorOf → Type 0)
-            → FirstFault o (IsEntriesCause strict format offset_of bytes (begin_at None at))
+            → FirstFault o (IsEntriesCause strict format offset_of bytes at)
             (λ _. IsLater) e
             → FirstFault o ((lookup_if strict format offset_of at).IsCause bytes) (λ _. IsLater) e
         in_table None o IsLater fault = fault
         in_table (Some place) o IsLater fault = fault
 
         in_slot : (entry : Option ImportDirectoryEntry)
-            → IsRecordCause strict format offset_of bytes None p entry e
+            → IsRecordCause strict format offset_of bytes p entry e
             → IsSlotCause strict is_last_record (λ r. (kept_library strict format offset_of r).value bytes)
             ((import_record_at p).IsCause bytes)
             (λ r. (kept_library strict format offset_of r).IsCause bytes)
@@ -145,7 +135,7 @@ module _ (strict : Bool) (format : Format EntryValue) (offset_of : ℕ → Optio
             let table = lookup_if strict format offset_of at in
             let addresses = addresses_of format offset_of r in
             let walked =
-            all_of (entries_from strict format offset_of bytes (unwrap_or at 0) (begin_at None at)) in (
+            all_of (entries_from strict format offset_of bytes (unwrap_or at 0) at) in (
               fault.0,
               library-fault strict _ (in_two_if at) (name.value bytes) walked (table.value bytes)
                   (addresses.value bytes) (name.IsCause bytes) (table.IsCause bytes)
@@ -155,13 +145,13 @@ module _ (strict : Bool) (format : Format EntryValue) (offset_of : ℕ → Optio
           where
             after_name : (name : Option (List ℕ))
                 → FirstFault name ((library_name strict offset_of r).IsCause bytes)
-                (λ _. IsNamedCause strict format offset_of bytes None r
+                (λ _. IsNamedCause strict format offset_of bytes r
                 (IsRecordsCause strict format offset_of bytes (p + 20))) e
                 → FirstFault name ((library_name strict offset_of r).IsCause bytes)
                 (λ _. FirstFault
                 (all_of
                 (entries_from strict format offset_of bytes (unwrap_or (lookup_offset offset_of r) 0)
-                (begin_at None (lookup_offset offset_of r))))
+                (lookup_offset offset_of r)))
                 ((lookup_if strict format offset_of (lookup_offset offset_of r)).IsCause bytes)
                 (λ _. FirstFault ((addresses_of format offset_of r).value bytes)
                 ((addresses_of format offset_of r).IsCause bytes)
@@ -170,7 +160,7 @@ module _ (strict : Bool) (format : Format EntryValue) (offset_of : ℕ → Optio
             after_name (Some text) fault =
                 let at = lookup_offset offset_of r in
                 let walked =
-                all_of (entries_from strict format offset_of bytes (unwrap_or at 0) (begin_at None at)) in
+                all_of (entries_from strict format offset_of bytes (unwrap_or at 0) at) in
                 let addresses = addresses_of format offset_of r in
                 let IsLater = IsRecordsCause strict format offset_of bytes (p + 20) in
                 in_table at walked
@@ -178,15 +168,14 @@ module _ (strict : Bool) (format : Format EntryValue) (offset_of : ℕ → Optio
                 (subst
                 (λ (mode : Bool).
                 let table = pick mode addresses (given []) in
-                FirstFault walked (IsEntriesCause strict format offset_of bytes (begin_at None at))
+                FirstFault walked (IsEntriesCause strict format offset_of bytes at)
                 (λ _. FirstFault (table.value bytes) (table.IsCause bytes) (λ _. IsLater)) e)
                 is fault)
 
 -- ---- the library of a record
 
 module _ (strict : Bool) (format : Format EntryValue) (offset_of : ℕ → Option ℕ)
-    (bytes : List ℕ) (first index : ℕ) (r : ImportDirectoryEntry) (slot : Option ℕ) (next : ℕ)
-  where
+    (bytes : List ℕ) (first index : ℕ) (r : ImportDirectoryEntry) (next : ℕ) where
     abbrev name : Reading (List ℕ)
     name = library_name strict offset_of r
 
@@ -197,52 +186,48 @@ module _ (strict : Bool) (format : Format EntryValue) (offset_of : ℕ → Optio
     abbrev pub whole : List (Option ImportValue)
     whole =
         until_refused
-        (library_items strict format offset_of bytes index slot r
+        (library_items strict format offset_of bytes index r
         ++ imports_from_record strict format offset_of bytes first next)
 
     abbrev pub IsWholeCause : ErrorOf → Type 0
     IsWholeCause e =
         FirstFault (name.value bytes) (name.IsCause bytes)
-        (λ _. IsNamedCause strict format offset_of bytes slot r
+        (λ _. IsNamedCause strict format offset_of bytes r
         (IsRecordsCause strict format offset_of bytes next)) e
-
-    abbrev after : Option ImportPosition
-    after = Some (record { first_record = first; record_offset = next; slot_offset = None })
 
     -- what is left of a walk of these parts
     abbrev pub parts_left : Origin → ℕ → ℕ → Option ℕ → Option ℕ → List (Option ImportValue)
     parts_left from rva o at untested =
         until_refused
         (imports_of_entries strict format offset_of bytes from rva o at
-        ++ later_items strict format offset_of bytes untested after)
+        ++ later_items strict format offset_of bytes untested first (Some next))
 
     abbrev pub IsPartsCause : ℕ → Option ℕ → Option ℕ → ErrorOf → Type 0
     IsPartsCause o at untested e =
         (strict ≡ true)
         × FirstFault (all_of (entries_from strict format offset_of bytes o at))
         (IsEntriesCause strict format offset_of bytes at)
-        (λ _. IsLaterCause strict format offset_of bytes untested after) e
+        (λ _. IsLaterCause strict format offset_of bytes untested (Some next)) e
 
-    pub walk-left_out : is_left_out strict format offset_of bytes slot r ≡ true
+    pub walk-left_out : is_left_out strict format offset_of bytes r ≡ true
         → (from : Origin) (rva o : ℕ)
         → (parts_left from rva o None None ≡ whole)
         × ((e : ErrorOf) → IsPartsCause o None None e → (strict ≡ true) × IsWholeCause e)
-    unfolding entries_from library_items imports_at
+    unfolding entries_from library_items imports_next
     walk-left_out out from rva o = (
       rw out refl,
       λ e fault.
-          let is = permissive_by (is_none slot) strict _ out in
+          let is = permissive_by strict _ out in
           absurd (cc (is, fault.0)),
     )
 
     pub walk-unnamed : (e : ErrorOf) → name.value bytes ≡ None → name.IsCause bytes e
-        → (library_items strict format offset_of bytes index slot r ≡ None ∷ []) × (strict ≡ true)
+        → (library_items strict format offset_of bytes index r ≡ None ∷ []) × (strict ≡ true)
         × (name.value bytes ≡ None) × name.IsCause bytes e
     unfolding library_items
     walk-unnamed e none fault =
-        let is = name_strict strict _ none in
-        let never = never_strictly (is_none slot) (is_none (addresses.value bytes)) in (
-          rw (none, is) (ap (λ (left_out : Bool). cond left_out [] (None ∷ [])) never),
+        let is = name_strict strict _ none in (
+          rw (none, is) refl,
           is,
           none,
           fault,
@@ -252,15 +237,15 @@ module _ (strict : Bool) (format : Format EntryValue) (offset_of : ℕ → Optio
     at = lookup_offset offset_of r
 
     module _ (dll : List ℕ) (named : name.value bytes ≡ Some dll)
-        (kept : is_left_out strict format offset_of bytes slot r ≡ false) where
+        (kept : is_left_out strict format offset_of bytes r ≡ false) where
       -- a library that is walked over
-      pub walk-entered : parts_left (origin index dll) r.import_address_table_rva (unwrap_or at 0) (begin_at slot at)
+      pub walk-entered : parts_left (origin index dll) r.import_address_table_rva (unwrap_or at 0) at
           (Some (address_table_rva r)) ≡ whole
-      unfolding library_items imports_at
+      unfolding library_items imports_next
       walk-entered =
           let imports =
           imports_of_entries strict format offset_of bytes (origin index dll) r.import_address_table_rva (unwrap_or at 0)
-          (begin_at slot at) in
+          at in
           let table = untested_table strict format offset_of (Some (address_table_rva r)) in
           rw (kept, named)
           (ap until_refused
@@ -269,20 +254,16 @@ module _ (strict : Bool) (format : Format EntryValue) (offset_of : ℕ → Optio
 
       -- a cause of the one is one of the other
       pub cause-entered : (e : ErrorOf)
-          → IsPartsCause (unwrap_or at 0) (begin_at slot at) (Some (address_table_rva r)) e
+          → IsPartsCause (unwrap_or at 0) at (Some (address_table_rva r)) e
           → (strict ≡ true) × IsWholeCause e
       cause-entered e fault = (fault.0, rw named fault.1)
 
-      pub entered : (parts_left (origin index dll) r.import_address_table_rva (unwrap_or at 0) (begin_at slot at)
+      pub entered : (parts_left (origin index dll) r.import_address_table_rva (unwrap_or at 0) at
           (Some (address_table_rva r)) ≡ whole)
           × ((e : ErrorOf)
-          → IsPartsCause (unwrap_or at 0) (begin_at slot at) (Some (address_table_rva r)) e
+          → IsPartsCause (unwrap_or at 0) at (Some (address_table_rva r)) e
           → (strict ≡ true) × IsWholeCause e)
       entered = (walk-entered, cause-entered)
-
-      pub cause-again : (e : ErrorOf) → (strict ≡ true) × IsWholeCause e
-          → IsPartsCause (unwrap_or at 0) (begin_at slot at) (Some (address_table_rva r)) e
-      cause-again e fault = (fault.0, rw named at fault.1)
 
 -- ---- once the entries of a library have come
 
@@ -291,17 +272,17 @@ module _ (strict : Bool) (format : Format EntryValue) (offset_of : ℕ → Optio
   abbrev table : Reading (List ℕ)
   table = untested_table strict format offset_of untested
 
-  abbrev later : Option ImportPosition → List (Option ImportValue)
-  later next = until_refused (later_items strict format offset_of bytes untested next)
+  abbrev later : ℕ → Option ℕ → List (Option ImportValue)
+  later first next = until_refused (later_items strict format offset_of bytes untested first next)
 
-  abbrev IsCause : Option ImportPosition → ErrorOf → Type 0
+  abbrev IsCause : Option ℕ → ErrorOf → Type 0
   IsCause next e = IsLaterCause strict format offset_of bytes untested next e
 
   -- its address table is missing
-  pub later-refused : (next : Option ImportPosition) (e : ErrorOf)
+  pub later-refused : (first : ℕ) (next : Option ℕ) (e : ErrorOf)
       → (option_map (λ _. tt {0}) (table.value bytes) ≡ None) × table.IsCause bytes e
-      → (later next ≡ None ∷ []) × IsCause next e
-  later-refused next e refused =
+      → (later first next ≡ None ∷ []) × IsCause next e
+  later-refused first next e refused =
       let none = unmapped (λ _. tt {0}) _ refused.0 in
       (rw none refl, rw none refused.1)
 
@@ -313,66 +294,62 @@ module _ (strict : Bool) (format : Format EntryValue) (offset_of : ℕ → Optio
     is_there None e items IsTable IsLater = absurd cc
     is_there (Some x) e items IsTable IsLater = (refl, λ e fault. fault)
 
-    later-from : (next : Option ImportPosition)
-        → later next ≡ until_refused (imports_at strict format offset_of bytes next)
-    later-from next =
+    later-from : (first : ℕ) (next : Option ℕ)
+        → later first next ≡ until_refused (imports_next strict format offset_of bytes first next)
+    later-from first next =
         ap until_refused
-        (is_there (table.value bytes) tested (imports_at strict format offset_of bytes next)
+        (is_there (table.value bytes) tested (imports_next strict format offset_of bytes first next)
         (λ e. ⊥) (λ e. ⊥)).0
 
-    later-cause : (next : Option ImportPosition) (e : ErrorOf)
-        → IsCauseAt strict format offset_of bytes next e → IsCause next e
+    later-cause : (next : Option ℕ) (e : ErrorOf)
+        → IsNextCause strict format offset_of bytes next e → IsCause next e
     later-cause next e fault =
         (is_there (table.value bytes) tested [] (table.IsCause bytes)
-        (IsCauseAt strict format offset_of bytes next)).1 e fault
+        (IsNextCause strict format offset_of bytes next)).1 e fault
 
     -- there are no more records
-    pub later-none : later None ≡ []
-    unfolding imports_at
-    later-none = later-from None
+    pub later-none : (first : ℕ) → later first None ≡ []
+    unfolding imports_next
+    later-none first = later-from first None
 
-    module _ (wide : 1 ≤ format.width) (next : ImportPosition) where
-      abbrev p : ℕ
-      p = next.record_offset
-
+    module _ (wide : 1 ≤ format.width) (first p : ℕ) where
       abbrev index : ℕ
-      index = record_index next.first_record p
+      index = record_index first p
 
       abbrev of_library : ImportDirectoryEntry → List (Option ImportValue)
-      of_library = library_items strict format offset_of bytes index next.slot_offset
+      of_library = library_items strict format offset_of bytes index
 
       abbrev from_next : List (Option ImportValue)
-      from_next = imports_from_record strict format offset_of bytes next.first_record (p + 20)
+      from_next = imports_from_record strict format offset_of bytes first (p + 20)
 
       by_record : (entry : Option ImportDirectoryEntry) → reads import_slots bytes p ≡ entry
-          → later (Some next)
-          ≡ from_record strict format offset_of bytes next.first_record p next.slot_offset entry
-      unfolding imports_at
+          → later first (Some p) ≡ from_record strict format offset_of bytes first p entry
+      unfolding imports_next
       by_record entry r =
-          later-from (Some next) ∙ imports-once strict format offset_of bytes next.first_record p next.slot_offset
-          ∙ imports-slot strict format offset_of bytes next.first_record p next.slot_offset
-          ∙ ap (from_record strict format offset_of bytes next.first_record p next.slot_offset) r
+          later-from first (Some p) ∙ imports-once strict format offset_of bytes first p
+          ∙ imports-slot strict format offset_of bytes first p
+          ∙ ap (from_record strict format offset_of bytes first p) r
 
       by_cause : (entry : Option ImportDirectoryEntry) → reads import_slots bytes p ≡ entry
           → strict ≡ true → (e : ErrorOf)
-          → IsRecordCause strict format offset_of bytes next.slot_offset p entry e
-          → IsCause (Some next) e
+          → IsRecordCause strict format offset_of bytes p entry e
+          → IsCause (Some p) e
       by_cause entry r is e fault =
-          later-cause (Some next) e
-          (cause-record strict format offset_of bytes next.first_record p wide is next.slot_offset e
+          later-cause (Some p) e
+          (cause-record strict format offset_of bytes first p wide is e
           (subst
           (λ (entry : Option ImportDirectoryEntry).
-          IsRecordCause strict format offset_of bytes next.slot_offset p entry e) (sym r) fault))
+          IsRecordCause strict format offset_of bytes p entry e) (sym r) fault))
 
       pub later-end : (entry : Option ImportDirectoryEntry) → reads import_slots bytes p ≡ entry
           → ends_table is_last_record entry ≡ true → (strict && not (is_some entry)) ≡ false
-          → later (Some next) ≡ []
+          → later first (Some p) ≡ []
       later-end entry r z there =
           by_record entry r ∙ slot-end strict is_last_record of_library from_next entry z there
 
       pub later-missing : (e : ErrorOf) → reads import_slots bytes p ≡ None → strict ≡ true
           → (import_record_at p).IsCause bytes e
-          → (later (Some next) ≡ None ∷ []) × (strict ≡ true) × IsCause (Some next) e
+          → (later first (Some p) ≡ None ∷ []) × (strict ≡ true) × IsCause (Some p) e
       later-missing e r m fault = (
         by_record None r ∙ slot-missing strict is_last_record of_library from_next m,
         m,
@@ -384,15 +361,16 @@ module _ (strict : Bool) (format : Format EntryValue) (offset_of : ℕ → Optio
           → is_last_record v ≡ false → {S : Type 0} (left : S → List (Option ImportValue))
           (IsLeft : S → ErrorOf → Type 0) (result : Result S ErrorOf)
           → MatchResult result
-          (λ t. (left t ≡ whole strict format offset_of bytes next.first_record index v next.slot_offset (p + 20))
+          (λ t. (left t ≡ whole strict format offset_of bytes first index v (p + 20))
           × ((e : ErrorOf) → IsLeft t e
-          → (strict ≡ true) × IsWholeCause strict format offset_of bytes next.first_record index v next.slot_offset (p + 20) e))
-          (λ e. (library_items strict format offset_of bytes index next.slot_offset v ≡ None ∷ [])
+          → (strict ≡ true) × IsWholeCause strict format offset_of bytes first index v (p + 20) e))
+          (λ e. (library_items strict format offset_of bytes index v ≡ None ∷ [])
           × (strict ≡ true)
           × ((library_name strict offset_of v).value bytes ≡ None)
           × (library_name strict offset_of v).IsCause bytes e)
-          → GivesLibrary left IsLeft (later_items strict format offset_of bytes untested (Some next))
-          (λ e. (strict ≡ true) × IsCause (Some next) e) (Some result)
+          → GivesLibrary left IsLeft
+          (later_items strict format offset_of bytes untested first (Some p))
+          (λ e. (strict ≡ true) × IsCause (Some p) e) (Some result)
       later-given v r going left IsLeft (Ok t) h = (
         h.0 ∙ sym (by_record (Some v) r ∙ slot-going strict is_last_record of_library from_next v going),
         λ e fault.
@@ -403,7 +381,7 @@ module _ (strict : Bool) (format : Format EntryValue) (offset_of : ℕ → Optio
         by_record (Some v) r ∙ slot-going strict is_last_record of_library from_next v going
             ∙ ap
             (λ (xs : List (Option ImportValue)). until_refused
-            (xs ++ imports_from_record strict format offset_of bytes next.first_record (p + 20)))
+            (xs ++ imports_from_record strict format offset_of bytes first (p + 20)))
             h.0,
         (h.1, by_cause (Some v) r h.1 e (going, rw (h.2) (h.3))),
       )
@@ -426,21 +404,13 @@ fewer n p x y inside few one =
     mul-le-mul_left (n + 2) (omega (arith, inside)) in
     omega (arith, few, one, more)
 
--- a walk that goes on in the library of the record at a position
-pub bound-given : (bytes : List ℕ) (at : ImportPosition) → at.record_offset + 20 ≤ length bytes
+-- a walk that goes on in the library of the record at p
+pub bound-given : (bytes : List ℕ) (p : ℕ) → p + 20 ≤ length bytes
     → (r : Result Walk ErrorOf) → IfOk r (λ t. t.bytes.now ≡ bytes)
-    → IfOk r (λ t. t.next ≡ Some (record at { record_offset = at.record_offset + 20; slot_offset = None }))
-    → IfOk r (λ t. IfSome t.place (λ place. IfSome at.slot_offset (λ slot. place ≡ slot)))
-    → IfOk r (λ t. walk_bound t ≤ bound_at bytes (Some at))
-bound-given bytes at inside (Err e) same next place = tt
-bound-given bytes at inside (Ok t) same next place =
-    rw (same, next) (by_slot at.slot_offset t.place place)
-  where
-    by_slot : (slot place : Option ℕ) → IfSome place (λ place. IfSome slot (λ slot. place ≡ slot))
-        → slots_bound bytes place + one_if t.untested + records_bound bytes (at.record_offset + 20)
-        ≤ bound_by bytes at.record_offset slot
-    by_slot None place is =
-        fewer (length bytes) at.record_offset (slots_bound bytes place) (one_if t.untested) inside
-        (slots_few bytes place) (one_few t.untested)
-    by_slot (Some s) None is = omega (arith, one_few t.untested)
-    by_slot (Some s) (Some p) is = omega (arith, is, one_few t.untested)
+    → IfOk r (λ t. t.at.next_record ≡ Some (p + 20))
+    → IfOk r (λ t. walk_bound t ≤ bound_next bytes (Some p))
+bound-given bytes p inside (Err e) same next = tt
+bound-given bytes p inside (Ok t) same next =
+    rw (same, next)
+    (fewer (length bytes) p (slots_bound bytes t.at.place) (one_if t.at.untested) inside
+    (slots_few bytes t.at.place) (one_few t.at.untested))

@@ -1,8 +1,8 @@
 mod AddressTables
 pub mod ImportBound
 pub mod ImportDirectoryRoundTrip
+pub mod ImportCursors
 mod ImportFaults
-mod ImportPositions
 mod ImportSteps
 pub mod Imports
 mod ImportsValue

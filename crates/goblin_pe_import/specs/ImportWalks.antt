@@ -1,14 +1,14 @@
 -- The walk over all imports: what is still to come.
-use Rattle.std.specs.Prelude.{◌≡◌, ℕ, ◌+◌, ◌-◌, ◌*◌, ◌/◌, ◌≤◌, ◌<◌, Bool, ◌&&◌, not, true, false}
+use Rattle.std.specs.Prelude.{◌≡◌, ℕ, ◌+◌, ◌-◌, ◌*◌, ◌/◌, Bool, ◌&&◌, not, true, false}
 use Rattle.std.specs.Prelude.{if◌then◌else◌, List, [], ◌∷◌, ◌++◌, map, length, Option, Some, None}
-use Rattle.std.specs.Prelude.{option_map, unwrap_or, is_none, Result, Ok, Err, IfErr, IfOk, IfSome}
-use Rattle.std.specs.Prelude.{IsSomeAnd, MatchOption}
+use Rattle.std.specs.Prelude.{option_map, unwrap_or, is_none, Result, Ok, Err, IfErr, IfSome}
+use Rattle.std.specs.Prelude.{MatchOption}
 use Rattle.goblin_base.specs.declared.error.ErrorOf.{ErrorOf}
 use Rattle.goblin_base.specs.Answers.{FirstFault, IsMemory, all_of}
 use Rattle.goblin_base.specs.Reading.{Reading}
 use Rattle.goblin_base.specs.Tables.{Format}
 use Rattle.readings.specs.Reads.{given, or_else, pick}
-use Rattle.readings.specs.Walks.{GivesNext, from_slot, items_of, refusal_of, table_walk}
+use Rattle.readings.specs.Walks.{GivesNext, items_of, refusal_of, table_walk}
 use Rattle.readings.specs.Walks.{until_refused}
 use Rattle.goblin_pe_sect.specs.declared.address_map.finder.Finder.{Finder}
 use Rattle.goblin_pe_sect.specs.AddressReadings.{at_address, name_at}
@@ -22,7 +22,7 @@ use Rattle.goblin_pe_import.specs.Imports.{ImportValue, Origin, import_of, origi
 use Rattle.goblin_pe_import.specs.LookupReadings.{address_table, kept_entry, lookup_table}
 use Rattle.goblin_pe_import.specs.declared.import.directory_entry.ImportDirectoryEntry.{ImportDirectoryEntry}
 use Rattle.goblin_pe_import.specs.declared.import.kept.KeptEntry.{KeptEntry}
-use Rattle.goblin_pe_import.specs.declared.import.imports.ImportPosition.{ImportPosition}
+use Rattle.goblin_pe_import.specs.declared.import.imports.ImportCursor.{ImportCursor}
 use Rattle.goblin_pe_import.specs.declared.import.imports.Imports.{Imports}
 use Rattle.goblin_pe_import.specs.declared.import.imports.PlainImports.{PlainImports}
 use Rattle.goblin_pe_import.specs.declared.import.imports.Walk.{Walk}
@@ -94,10 +94,6 @@ imports_of_entries strict format offset_of bytes from rva o place =
     map (option_map (kept_import format.width from rva o))
     (entries_from strict format offset_of bytes o place)
 
--- where the entries of a table at this offset begin to come: at its first slot, or at a given one
-abbrev pub begin_at : Option ℕ → Option ℕ → Option ℕ
-begin_at slot table = option_map (λ o. unwrap_or slot o) table
-
 -- the name of a record's library
 abbrev pub library_name : Bool → (ℕ → Option ℕ) → ImportDirectoryEntry → Reading (List ℕ)
 library_name strict offset_of r = or_else strict [] (name_at offset_of r.name_rva)
@@ -115,31 +111,30 @@ untested_table strict format offset_of None = given []
 untested_table strict format offset_of (Some rva) =
     pick strict (at_address offset_of rva (address_table format)) (given [])
 
--- the imports of a library of this name from a slot on, and a refusal where it has no address table
-abbrev pub named_items : Bool → Format EntryValue → (ℕ → Option ℕ) → List ℕ → ℕ → Option ℕ
+-- the imports of a library of this name, and a refusal where it has no address table
+abbrev pub named_items : Bool → Format EntryValue → (ℕ → Option ℕ) → List ℕ → ℕ
     → ImportDirectoryEntry → Option (List ℕ) → List (Option ImportValue)
-named_items strict format offset_of bytes index slot r None = None ∷ []
-named_items strict format offset_of bytes index slot r (Some dll) =
+named_items strict format offset_of bytes index r None = None ∷ []
+named_items strict format offset_of bytes index r (Some dll) =
     let table = lookup_offset offset_of r in
     let addresses = untested_table strict format offset_of (Some (address_table_rva r)) in
     imports_of_entries strict format offset_of bytes (origin index dll) r.import_address_table_rva
-    (unwrap_or table 0)
-    (begin_at slot table)
+    (unwrap_or table 0) table
     ++ refusal_of (addresses.value bytes)
 
--- Permissive mode leaves out a library without an address table; from a slot on it is not tested.
-abbrev pub is_left_out : Bool → Format EntryValue → (ℕ → Option ℕ) → List ℕ → Option ℕ
+-- permissive mode leaves out a library without an address table
+abbrev pub is_left_out : Bool → Format EntryValue → (ℕ → Option ℕ) → List ℕ
     → ImportDirectoryEntry → Bool
-is_left_out strict format offset_of bytes slot r =
-    is_none slot && not strict && is_none ((addresses_of format offset_of r).value bytes)
+is_left_out strict format offset_of bytes r =
+    not strict && is_none ((addresses_of format offset_of r).value bytes)
 
--- What comes of the library of the record with an index, from a slot on: its name is needed, then
--- its imports come, then strict mode needs its address table.
-unfoldable pub library_items : Bool → Format EntryValue → (ℕ → Option ℕ) → List ℕ → ℕ → Option ℕ
+-- What comes of the library of the record with an index: its name is needed, then its imports come,
+-- then strict mode needs its address table.
+unfoldable pub library_items : Bool → Format EntryValue → (ℕ → Option ℕ) → List ℕ → ℕ
     → ImportDirectoryEntry → List (Option ImportValue)
-library_items strict format offset_of bytes index slot r =
-    if is_left_out strict format offset_of bytes slot r then []
-    else named_items strict format offset_of bytes index slot r
+library_items strict format offset_of bytes index r =
+    if is_left_out strict format offset_of bytes r then []
+    else named_items strict format offset_of bytes index r
     ((library_name strict offset_of r).value bytes)
 
 -- ---- all imports
@@ -153,25 +148,14 @@ unfoldable pub imports_from_record : Bool → Format EntryValue → (ℕ → Opt
     → List (Option ImportValue)
 imports_from_record strict format offset_of bytes first p =
     table_walk import_slots strict
-    (λ p r. library_items strict format offset_of bytes (record_index first p) None r) bytes p
+    (λ p r. library_items strict format offset_of bytes (record_index first p) r) bytes p
 
--- The imports from a position on: all from a record on, or those of its library from a slot on and
--- then all from the next record on.
-abbrev pub imports_by_slot : Bool → Format EntryValue → (ℕ → Option ℕ) → List ℕ → ℕ → ℕ → Option ℕ
+-- those from the next record on, if there is one
+unfoldable pub imports_next : Bool → Format EntryValue → (ℕ → Option ℕ) → List ℕ → ℕ → Option ℕ
     → List (Option ImportValue)
-imports_by_slot strict format offset_of bytes first p None =
+imports_next strict format offset_of bytes first None = []
+imports_next strict format offset_of bytes first (Some p) =
     imports_from_record strict format offset_of bytes first p
-imports_by_slot strict format offset_of bytes first p (Some place) =
-    from_slot strict is_last_record
-    (library_items strict format offset_of bytes (record_index first p) (Some place))
-    (imports_from_record strict format offset_of bytes first (p + 20))
-    ((import_record_at p).value bytes)
-
-unfoldable pub imports_at : Bool → Format EntryValue → (ℕ → Option ℕ) → List ℕ
-    → Option ImportPosition → List (Option ImportValue)
-imports_at strict format offset_of bytes None = []
-imports_at strict format offset_of bytes (Some at) =
-    imports_by_slot strict format offset_of bytes at.first_record at.record_offset at.slot_offset
 
 -- which cause is true if one of the libraries whose records are in the directory from a place on is
 -- refused
@@ -180,41 +164,33 @@ abbrev pub IsRecordsCause : Bool → Format EntryValue → (ℕ → Option ℕ) 
 IsRecordsCause strict format offset_of bytes p e =
     (libraries_at strict format offset_of p).IsCause bytes e
 
--- Which cause is true if a library that has a name is refused from a slot on, or else what comes
--- later: that of its lookup table, of its address table, and then the later one.
-abbrev pub IsNamedCause : Bool → Format EntryValue → (ℕ → Option ℕ) → List ℕ → Option ℕ
+-- Which cause is true if a library that has a name is refused, or else what comes later: that of its
+-- lookup table, of its address table, and then the later one.
+abbrev pub IsNamedCause : Bool → Format EntryValue → (ℕ → Option ℕ) → List ℕ
     → ImportDirectoryEntry → (IsLater : ErrorOf → Type 0) → ErrorOf → Type 0
-IsNamedCause strict format offset_of bytes slot r IsLater e =
+IsNamedCause strict format offset_of bytes r IsLater e =
     let table = lookup_offset offset_of r in
-    let place = begin_at slot table in
     let addresses = untested_table strict format offset_of (Some (address_table_rva r)) in
-    FirstFault (all_of (entries_from strict format offset_of bytes (unwrap_or table 0) place))
-    (IsEntriesCause strict format offset_of bytes place)
+    FirstFault (all_of (entries_from strict format offset_of bytes (unwrap_or table 0) table))
+    (IsEntriesCause strict format offset_of bytes table)
     (λ _. FirstFault (addresses.value bytes) (addresses.IsCause bytes) (λ _. IsLater)) e
 
 -- the same of the library of the record at p, where there is one
-abbrev pub IsRecordCause : Bool → Format EntryValue → (ℕ → Option ℕ) → List ℕ → Option ℕ → ℕ
+abbrev pub IsRecordCause : Bool → Format EntryValue → (ℕ → Option ℕ) → List ℕ → ℕ
     → Option ImportDirectoryEntry → ErrorOf → Type 0
-IsRecordCause strict format offset_of bytes slot p None e = (import_record_at p).IsCause bytes e
-IsRecordCause strict format offset_of bytes slot p (Some r) e =
+IsRecordCause strict format offset_of bytes p None e = (import_record_at p).IsCause bytes e
+IsRecordCause strict format offset_of bytes p (Some r) e =
     let name = library_name strict offset_of r in
     (is_last_record r ≡ false)
     × FirstFault (name.value bytes) (name.IsCause bytes)
-    (λ _. IsNamedCause strict format offset_of bytes slot r
+    (λ _. IsNamedCause strict format offset_of bytes r
     (IsRecordsCause strict format offset_of bytes (p + 20))) e
 
-abbrev pub IsCauseBy : Bool → Format EntryValue → (ℕ → Option ℕ) → List ℕ → ℕ → Option ℕ
-    → ErrorOf → Type 0
-IsCauseBy strict format offset_of bytes p None e = IsRecordsCause strict format offset_of bytes p e
-IsCauseBy strict format offset_of bytes p (Some place) e =
-    IsRecordCause strict format offset_of bytes (Some place) p ((import_record_at p).value bytes) e
-
--- which cause is true if what comes from a position on is refused
-abbrev pub IsCauseAt : Bool → Format EntryValue → (ℕ → Option ℕ) → List ℕ → Option ImportPosition
-    → ErrorOf → Type 0
-IsCauseAt strict format offset_of bytes None e = ⊥
-IsCauseAt strict format offset_of bytes (Some at) e =
-    IsCauseBy strict format offset_of bytes at.record_offset at.slot_offset e
+-- which cause is true if what comes from the next record on is refused
+abbrev pub IsNextCause : Bool → Format EntryValue → (ℕ → Option ℕ) → List ℕ → Option ℕ → ErrorOf
+    → Type 0
+IsNextCause strict format offset_of bytes None e = ⊥
+IsNextCause strict format offset_of bytes (Some p) e = IsRecordsCause strict format offset_of bytes p e
 
 -- ---- how many more may come
 
@@ -228,56 +204,87 @@ slots_bound bytes (Some place) = length bytes - place + 1
 abbrev pub records_bound : List ℕ → ℕ → ℕ
 records_bound bytes p = (length bytes + 2) * (length bytes - p + 1)
 
-abbrev pub bound_by : List ℕ → ℕ → Option ℕ → ℕ
-bound_by bytes p None = records_bound bytes p
-bound_by bytes p (Some place) =
-    slots_bound bytes (Some place) + 1 + records_bound bytes (p + 20)
-
--- no more than this comes from a position on
-abbrev pub bound_at : List ℕ → Option ImportPosition → ℕ
-bound_at bytes None = 0
-bound_at bytes (Some at) = bound_by bytes at.record_offset at.slot_offset
+-- no more than this comes from the next record on
+abbrev pub bound_next : List ℕ → Option ℕ → ℕ
+bound_next bytes None = 0
+bound_next bytes (Some p) = records_bound bytes p
 
 -- ---- the walk, by what it holds of the library that it is in
 
 -- what comes once the entries of a library have come: its address table is needed where it is still
--- to be tested, and then the imports from a position on come
-abbrev pub later_items : Bool → Format EntryValue → (ℕ → Option ℕ) → List ℕ → Option ℕ
-    → Option ImportPosition → List (Option ImportValue)
-later_items strict format offset_of bytes untested next =
+-- to be tested, and then the imports from the next record on come
+abbrev pub later_items : Bool → Format EntryValue → (ℕ → Option ℕ) → List ℕ → Option ℕ → ℕ
+    → Option ℕ → List (Option ImportValue)
+later_items strict format offset_of bytes untested first next =
     refusal_of ((untested_table strict format offset_of untested).value bytes)
-    ++ imports_at strict format offset_of bytes next
+    ++ imports_next strict format offset_of bytes first next
 
 abbrev pub IsLaterCause : Bool → Format EntryValue → (ℕ → Option ℕ) → List ℕ → Option ℕ
-    → Option ImportPosition → ErrorOf → Type 0
+    → Option ℕ → ErrorOf → Type 0
 IsLaterCause strict format offset_of bytes untested next e =
     let table = untested_table strict format offset_of untested in
     FirstFault (table.value bytes) (table.IsCause bytes)
-    (λ _. IsCauseAt strict format offset_of bytes next) e
+    (λ _. IsNextCause strict format offset_of bytes next) e
 
--- what the imports of the library that it is in are from
-abbrev pub walk_origin : Walk → Origin
-walk_origin w = origin w.library w.dll.now
+-- the cursor at the end
+abbrev pub no_imports : ImportCursor
+no_imports = record {
+  first_record = 0;
+  next_record = None;
+  library = 0;
+  name_rva = 0;
+  rva = 0;
+  table_offset = 0;
+  place = None;
+  untested = None;
+}
 
--- what is still to come
+-- what is still to come at a cursor, whose library has this name
+abbrev pub items_left : Bool → Format EntryValue → (ℕ → Option ℕ) → List ℕ → List ℕ → ImportCursor
+    → List (Option ImportValue)
+items_left strict format offset_of bytes dll c =
+    until_refused
+    (imports_of_entries strict format offset_of bytes (origin c.library dll) c.rva c.table_offset
+    c.place
+    ++ later_items strict format offset_of bytes c.untested c.first_record c.next_record)
+
+-- the name of the library that a cursor is in; none where it can't be read
+abbrev pub name_said : (ℕ → Option ℕ) → List ℕ → ImportCursor → List ℕ
+name_said offset_of bytes c = unwrap_or ((name_at offset_of c.name_rva).value bytes) []
+
+-- what is still to come at a cursor
+abbrev pub cursor_left : MapOfAddresses → Format EntryValue → List ℕ → ImportCursor
+    → List (Option ImportValue)
+cursor_left m format bytes c =
+    items_left (reads_strictly m) format (offset_of m) bytes (name_said (offset_of m) bytes c) c
+
+-- which cause is true if there is a refusal among it, which only strict mode has
+abbrev pub IsCursorCause : MapOfAddresses → Format EntryValue → List ℕ → ImportCursor → ErrorOf
+    → Type 0
+IsCursorCause m format bytes c e =
+    let strict = reads_strictly m in
+    (strict ≡ true)
+    × FirstFault (all_of (entries_from strict format (offset_of m) bytes c.table_offset c.place))
+    (IsEntriesCause strict format (offset_of m) bytes c.place)
+    (λ _. IsLaterCause strict format (offset_of m) bytes c.untested c.next_record) e
+
+-- what is still to come of a walk
 abbrev pub walk_left : Format EntryValue → Walk → List (Option ImportValue)
 walk_left format w =
     let m = map_of w.finder in
-    let strict = reads_strictly m in
-    until_refused
-    (imports_of_entries strict format (offset_of m) w.bytes.now (walk_origin w) w.rva
-    w.table_offset w.place
-    ++ later_items strict format (offset_of m) w.bytes.now w.untested w.next)
+    items_left (reads_strictly m) format (offset_of m) w.bytes.now w.dll.now w.at
 
 abbrev pub IsWalkCause : Format EntryValue → Walk → ErrorOf → Type 0
-IsWalkCause format w e =
-    let m = map_of w.finder in
-    let strict = reads_strictly m in
-    (strict ≡ true)
-    × FirstFault
-    (all_of (entries_from strict format (offset_of m) w.bytes.now w.table_offset w.place))
-    (IsEntriesCause strict format (offset_of m) w.bytes.now w.place)
-    (λ _. IsLaterCause strict format (offset_of m) w.bytes.now w.untested w.next) e
+IsWalkCause format w e = IsCursorCause (map_of w.finder) format w.bytes.now w.at e
+
+-- in a library, it holds the name that its cursor says
+abbrev pub IsNamedAt : Option ℕ → List ℕ → List ℕ → Type 0
+IsNamedAt None dll name = Unit {0}
+IsNamedAt (Some place) dll name = dll ≡ name
+
+abbrev pub IsNamed : Walk → Type 0
+IsNamed w =
+    IsNamedAt w.at.place w.dll.now (name_said (offset_of (map_of w.finder)) w.bytes.now w.at)
 
 -- a refusal that may come where an address table is still to be tested
 abbrev pub one_if : Option ℕ → ℕ
@@ -286,51 +293,13 @@ one_if (Some rva) = 1
 
 abbrev pub walk_bound : Walk → ℕ
 walk_bound w =
-    slots_bound w.bytes.now w.place + one_if w.untested + bound_at w.bytes.now w.next
+    slots_bound w.bytes.now w.at.place + one_if w.at.untested
+    + bound_next w.bytes.now w.at.next_record
 
--- how many bytes are left for the records from a position on
-abbrev pub records_left : List ℕ → Option ImportPosition → ℕ
+-- how many bytes are left for the next records
+abbrev pub records_left : List ℕ → Option ℕ → ℕ
 records_left bytes None = 0
-records_left bytes (Some at) = length bytes - at.record_offset + 1
-
--- the position of a walk that is in a library at a place, or before one
-abbrev pub position_by : Option ℕ → Option ImportPosition → Option ImportPosition
-position_by None next = next
-position_by (Some place) None = None
-position_by (Some place) (Some at) =
-    Some (record at { record_offset = at.record_offset - 20; slot_offset = Some place })
-
--- the library whose record stands before a position has this name and these tables
-pub record IsLibrary (strict : Bool) (format : Format EntryValue) (offset_of : ℕ → Option ℕ)
-    (bytes : List ℕ) (from : Origin) (rva offset : ℕ) (untested : Option ℕ)
-    (next : ImportPosition) : Type 0
-  where
-    pub entry : ImportDirectoryEntry
-    pub past : 20 ≤ next.record_offset
-    pub first : next.slot_offset ≡ None
-    pub is : (import_record_at (next.record_offset - 20)).value bytes ≡ Some entry
-    pub going : is_last_record entry ≡ false
-    pub named : (library_name strict offset_of entry).value bytes ≡ Some from.dll
-    pub indexed : record_index next.first_record (next.record_offset - 20) ≡ from.index
-    pub addresses : entry.import_address_table_rva ≡ rva
-    pub table : lookup_offset offset_of entry ≡ Some offset
-    pub tested : untested ≡ Some (address_table_rva entry)
-
-abbrev pub IsLibraryBy : Format EntryValue → Walk → Option ℕ → Option ImportPosition → Type 0
-IsLibraryBy format w None next = Unit {0}
-IsLibraryBy format w (Some place) None = ⊥
-IsLibraryBy format w (Some place) (Some at) =
-    let m = map_of w.finder in
-    IsLibrary (reads_strictly m) format (offset_of m) w.bytes.now (walk_origin w) w.rva
-    w.table_offset w.untested at
-
--- where a walk is among the entries of a library, it holds what its record says
-abbrev pub IsInLibrary : Format EntryValue → Walk → Type 0
-IsInLibrary format w = IsLibraryBy format w w.place w.next
-
--- The walk is between two calls of `next`: what it holds follows from its position.
-abbrev pub IsPlaced : Format EntryValue → Walk → Type 0
-IsPlaced format w = IsInLibrary format w × (w.place ≡ None → w.untested ≡ None)
+records_left bytes (Some p) = length bytes - p + 1
 
 -- Once the entries of a library have come, the walk goes on at t. `later` is what is to come then,
 -- and `IsCause` says which cause is true if there is a refusal among it.
@@ -357,9 +326,13 @@ imports_left format it = walk_left format it.walk
 abbrev pub IsImportsCause : {T : Type 0} → Format EntryValue → Imports T → ErrorOf → Type 0
 IsImportsCause format it e = IsWalkCause format it.walk e
 
--- what is still to come follows from the position
-abbrev pub HasPosition : {T : Type 0} → Format EntryValue → Imports T → Type 0
-HasPosition format it = IsPlaced format it.walk
+-- where the walk is, in numbers
+abbrev pub cursor_of : {T : Type 0} → Imports T → ImportCursor
+cursor_of it = it.walk.at
+
+-- it holds the name that its cursor says
+abbrev pub HasName : {T : Type 0} → Imports T → Type 0
+HasName it = IsNamed it.walk
 
 -- the bytes that they are in
 abbrev pub imports_bytes : {T : Type 0} → Imports T → List ℕ
@@ -376,25 +349,18 @@ imports_map it = map_of (finder_of it)
 abbrev pub AreImportsOver : {T : Type 0} → List ℕ → MapOfAddresses → Imports T → Type 0
 AreImportsOver bytes m it = (imports_bytes it ≡ bytes) × (imports_map it ≡ m)
 
--- where a walk is
-abbrev pub position_of : {T : Type 0} → Imports T → Option ImportPosition
-position_of it = position_by it.walk.place it.walk.next
+-- the walk over these bytes by this map that is at a cursor
+pub record IsWalkAt {T : Type 0} (m : MapOfAddresses) (bytes : List ℕ) (c : ImportCursor)
+    (it : Imports T) : Type 0 where
+  pub over : AreImportsOver bytes m it
+  pub at : cursor_of it ≡ c
+  pub named : HasName it
 
--- a position between two entries of a library, whose record is in the file
-abbrev pub IsInTable : List ℕ → Option ImportPosition → Type 0
-IsInTable bytes position =
-    IsSomeAnd position (λ at.
-    (at.record_offset < length bytes) × IsSomeAnd at.slot_offset (λ slot. 0 < slot))
-
--- a walk that has just given an import is at such a position
-abbrev pub IsAfterImport : {T : Type 0} → Option (Result WalkedImport ErrorOf) → Imports T → Type 0
-IsAfterImport result it =
-    IfSome result (λ r. IfOk r (λ import. IsInTable (imports_bytes it) (position_of it)))
-
--- a walk that has given no import has ended, and has no position
+-- a walk that has given no import is at the end
 abbrev pub IsAtEnd : {T : Type 0} → Option (Result WalkedImport ErrorOf) → Imports T → Type 0
 IsAtEnd result it =
-    MatchOption result (position_of it ≡ None) (λ r. IfErr r (λ e. position_of it ≡ None))
+    let c = cursor_of it in
+    MatchOption result (c ≡ no_imports) (λ r. IfErr r (λ e. c ≡ no_imports))
 
 -- no more than this comes
 abbrev pub imports_bound : {T : Type 0} → Imports T → ℕ
@@ -405,19 +371,19 @@ abbrev pub IsWalkFault : Walk → ErrorOf → Type 0
 IsWalkFault w e = (reads_strictly (map_of w.finder) ≡ true) × ¬ IsMemory e
 
 -- A call of `next` gives the next import, or such an error, or else has ended the walk; it keeps
--- the position and what is walked over.
+-- what is walked over.
 abbrev pub GivesImport : {T : Type 0} → Format EntryValue → Imports T
     → Option (Result WalkedImport ErrorOf) → Imports T → Type 0
 GivesImport format s result t =
     GivesNext walked_value (imports_left format) (IsImportsCause format) s result t
-    × (HasPosition format s → HasPosition format t × IsAfterImport result t)
+    × (HasName s → HasName t)
     × IfSome result (λ r. IfErr r (IsWalkFault s.walk))
     × AreImportsOver (imports_bytes s) (imports_map s) t
     × IsAtEnd result t
 
 -- the walk at another place of the library that it is in
 abbrev pub walk_at : Walk → ℕ → Walk
-walk_at w place = record w { place = Some place }
+walk_at w place = record w { at = record w.at { place = Some place } }
 
 -- the walk after the plain imports that have come of it
 abbrev pub plain_at : {T : Type 0} → PlainImports T → Imports T

@@ -1,8 +1,8 @@
 pub mod ImportBound
+pub mod ImportCursors
 pub mod ImportDirectory
 pub mod ImportEntries
 pub mod ImportLookup
-pub mod ImportPositions
 pub mod ImportReadings
 pub mod ImportRecords
 pub mod ImportWalks

@@ -40,7 +40,7 @@ pub use bitfield::{
     Bitfield, IMPORT_BY_ORDINAL_32, IMPORT_BY_ORDINAL_64, IMPORT_RVA_MASK_32, IMPORT_RVA_MASK_64,
 };
 pub use directory_entry::{ImportDirectoryEntry, SIZEOF_IMPORT_DIRECTORY_ENTRY};
-pub use imports::{ImportPosition, Imports, PlainImports, WalkedImport};
+pub use imports::{ImportCursor, Imports, PlainImports, WalkedImport};
 pub use left_out::LeftOut;
 pub use library::SyntheticImportDirectoryEntry;
 pub(crate) use library::{address_table_rva, first_record_offset, lookup_offset};

@@ -4,18 +4,17 @@ ghost use Rattle.std.specs.Prelude.{◌≡◌, ◌<◌, ◌^◌, ℕ, Bool, IfSo
 ghost use Rattle.std.specs.Fn.{FnReturnsAt};
 ghost use Rattle.std.specs.Iterator.{UpTo, at_most};
 ghost use Rattle.std.specs.Iterator.SizeHint.{IsWithinCount};
-ghost use Rattle.goblin_base.specs.declared.error.ErrorOf.{ErrorOf};
 ghost use Rattle.goblin_base.specs.Answers.{Answers, all_of};
 ghost use Rattle.readings.specs.Tests.{IsTest, counted, has_any};
 ghost use Rattle.goblin_pe_import.specs.ImportWalks.{walked_value};
 ghost use Rattle.goblin_pe_import.specs.Imports.{ImportValue};
 ghost use Rattle.goblin_pe_sect.specs.Addresses.{MapOfAddresses, map_of};
-ghost use Rattle.goblin_pe.specs.LayoutPositions.{GivesFileImport, IsFileFaultAt, IsImportWalk};
-ghost use Rattle.goblin_pe.specs.LayoutPositions.{file_imports_at, file_map, file_position};
+ghost use Rattle.goblin_pe.specs.LayoutCursors.{GivesFileImport, IsImportWalk, file_cursor};
+ghost use Rattle.goblin_pe.specs.LayoutCursors.{file_cursor_left, file_map};
 ghost use Rattle.goblin_pe.specs.Layouts.{IsFileImportsCause, file_imports_bound};
 ghost use Rattle.goblin_pe.specs.Layouts.{file_imports_left};
 
-use crate::import::{ImportPosition, Imports, WalkedImport};
+use crate::import::{ImportCursor, Imports, WalkedImport};
 use goblin_base::ResultOf;
 use goblin_pe_sect::address_map::Finder;
 use std::iter::FusedIterator;
@@ -34,21 +33,17 @@ pub enum FileImports<'a, 'm, 'e> {
 }
 
 impl<'a, 'm, 'e> FileImports<'a, 'm, 'e> {
-    /// Where the walk is: what is still to come is what
-    /// [`Layout::imports_from`](crate::Layout::imports_from) gives from this position on. `None`
-    /// once the walk has ended.
-    pub fn position(&self) -> Option<ImportPosition>
+    /// Where the walk is: what is still to come is what [`Layout::imports_at`](crate::Layout::imports_at)
+    /// gives at this cursor.
+    pub fn cursor(&self) -> ImportCursor
         ensures left { (m : MapOfAddresses) (magic : ℕ) (bytes : List ℕ)
             → IsImportWalk m magic bytes self.now
-            → file_imports_left self.now ≡ file_imports_at m magic bytes result }
-        ensures cause { (m : MapOfAddresses) (magic : ℕ) (bytes : List ℕ) (e : ErrorOf)
-            → IsImportWalk m magic bytes self.now → IsFileFaultAt m magic bytes result e
-            → IsFileImportsCause self.now e }
-        ensures is { result ≡ file_position self.now }
+            → file_imports_left self.now ≡ file_cursor_left m magic bytes result }
+        ensures is { result ≡ file_cursor self.now }
     {
         match self {
-            FileImports::Narrow(imports) => imports.position(),
-            FileImports::Wide(imports) => imports.position(),
+            FileImports::Narrow(imports) => imports.cursor(),
+            FileImports::Wide(imports) => imports.cursor(),
         }
     }
 

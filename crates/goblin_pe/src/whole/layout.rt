@@ -3,6 +3,7 @@
 ghost use Rattle.std.specs.Prelude.{◌+◌, ◌/◌, ◌<◌, ◌≡◌, IfErr, IfOk, IsErrAnd, None, Ok, Some};
 ghost use Rattle.std.specs.Prelude.{Option, length, map, ℕ};
 ghost use Rattle.std.specs.List.{flat_map};
+ghost use Rattle.goblin_base.specs.declared.error.ErrorOf.{ErrorOf};
 ghost use Rattle.goblin_base.specs.Answers.{GivesOrMemory, IsMemory};
 ghost use Rattle.goblin_base.specs.Reading.{Reads, ReadsOrMemory};
 ghost use Rattle.readings.specs.Reads.{mapped};
@@ -16,12 +17,12 @@ ghost use Rattle.goblin_pe_sect.specs.SectionTable.{recorded_sections, unnamed};
 ghost use Rattle.goblin_pe_sect.specs.WindowIndex.{HasPieces};
 ghost use Rattle.goblin_pe_head.specs.CoffHeader.{IsTooManySections};
 ghost use Rattle.goblin_pe_head.specs.PeHeader.{header_value};
-ghost use Rattle.goblin_pe_import.specs.ImportPositions.{first_import};
+ghost use Rattle.goblin_pe_import.specs.ImportCursors.{first_import};
 ghost use Rattle.goblin_pe_import.specs.ImportReadings.{import_data};
 ghost use Rattle.goblin_pe_import.specs.Imports.{kept_imports};
 ghost use Rattle.goblin_pe.specs.Damages.{exports_left_out, imports_left_out_at, left_out_of};
-ghost use Rattle.goblin_pe.specs.LayoutPositions.{GivesFirst, GivesFrom, StartsAt, file_map};
-ghost use Rattle.goblin_pe.specs.LayoutPositions.{import_start};
+ghost use Rattle.goblin_pe.specs.LayoutCursors.{GivesFirst, IsFileCursorCause, IsImportWalkAt, StartsAt};
+ghost use Rattle.goblin_pe.specs.LayoutCursors.{file_cursor_left, file_map, import_begin};
 ghost use Rattle.goblin_pe.specs.Layouts.{IsExportWalk, IsFileImportsCause, IsLayoutOf, PartWalks};
 ghost use Rattle.goblin_pe.specs.Layouts.{file_imports_left, layout_bytes};
 ghost use Rattle.goblin_pe.specs.Layouts.{layout_map, layout_places, layout_sections};
@@ -34,7 +35,7 @@ ghost use Rattle.goblin_pe.specs.Whole.{part_map, relocation_part, section_table
 ghost use Rattle.goblin_pe.specs.Whole.{sections_after, table_places};
 
 use crate::export::Exports;
-use crate::import::{ImportPosition, Imports, LeftOut};
+use crate::import::{ImportCursor, Imports, LeftOut};
 use crate::whole::places::{Places, part_of};
 use crate::whole::{FileImports, Part};
 use goblin_base::{Result, ResultOf};
@@ -243,7 +244,7 @@ impl<'a> Layout<'a> {
     /// # Errors
     /// In strict mode as [`Imports::of`](crate::import::Imports::of).
     #[inline(always)]
-    #[tactic(auto, unfolding(crate::specs::LayoutPositions::import_start))]
+    #[tactic(auto, unfolding(crate::specs::LayoutCursors::import_begin))]
     pub fn imports<'m, 'e>(&'m self) -> ResultOf<'e, Part<FileImports<'a, 'm, 'e>>>
         ensures walks { let m = layout_map self.now in
             PartWalks file_imports_left IsFileImportsCause (λ xs. xs) result
@@ -253,38 +254,55 @@ impl<'a> Layout<'a> {
         ensures starts { let m = layout_map self.now in
             let places = layout_places self.now in
             StartsAt m places.magic (layout_bytes self.now)
-            (import_start m.opts (offset_of m) places None) result }
+            (import_begin m.opts (offset_of m) places) result }
         ensures over { IfOk result (IfRead (λ walk. file_map walk ≡ layout_map self.now)) }
     {
         let bytes = walked(self.bytes);
         let opts = self.address_map.opts();
         match self.places.imports {
             Some(directory) if opts.parse_imports => {
-                let imports = self.imports_at(bytes, directory)?;
+                let imports = self.imports_in(bytes, directory)?;
                 Ok(Part::Read(imports))
             }
             _ => Ok(Part::Absent),
         }
     }
 
-    /// The imports from a position on, as [`FileImports::position`] gave it, where the file has an
-    /// import directory and they are asked for: what was still to come there. There are none
-    /// without a position.
-    #[tactic(auto, unfolding(crate::specs::LayoutPositions::import_start))]
-    pub fn imports_from<'m, 'e>(
-        &'m self,
-        position: Option<ImportPosition>,
-    ) -> Part<FileImports<'a, 'm, 'e>>
+    /// Before the first import, where the file has an import directory and they are asked for; else
+    /// at the end.
+    ///
+    /// # Errors
+    /// In strict mode as [`ImportCursor::first`].
+    #[tactic(auto, unfolding(crate::specs::LayoutCursors::import_begin))]
+    pub fn imports_begin<'e>(&self) -> ResultOf<'e, ImportCursor>
         ensures { let m = layout_map self.now in
-            let places = layout_places self.now in
-            StartsAt m places.magic (layout_bytes self.now)
-            (import_start m.opts (offset_of m) places (Some position)) (Ok result) }
+            Reads (λ c. c) result (import_begin m.opts (offset_of m) (layout_places self.now))
+            (layout_bytes self.now) }
     {
         match self.places.imports {
-            Some(_) if self.address_map.opts().parse_imports => {
-                Part::Read(self.imports_after(position))
+            Some(directory) if self.address_map.opts().parse_imports => {
+                ImportCursor::first(directory, &mut self.finder())
             }
-            _ => Part::Absent,
+            _ => Ok(ImportCursor::end()),
+        }
+    }
+
+    /// The imports at a cursor, as [`FileImports::cursor`] gave it: what was still to come there.
+    #[tactic(auto, unfolding(crate::specs::Whole::entry_format))]
+    pub fn imports_at<'m, 'e>(&'m self, at: ImportCursor) -> FileImports<'a, 'm, 'e>
+        ensures walk { let m = layout_map self.now in
+            IsImportWalkAt m (layout_places self.now).magic (layout_bytes self.now) at result }
+        ensures left { let m = layout_map self.now in
+            file_imports_left result
+            ≡ file_cursor_left m (layout_places self.now).magic (layout_bytes self.now) at }
+        ensures cause { let m = layout_map self.now in
+            (e : ErrorOf) → IsFileImportsCause result e
+            → IsFileCursorCause m (layout_places self.now).magic (layout_bytes self.now) at e }
+    {
+        if self.places.has_narrow_entries() {
+            FileImports::Narrow(Imports::at_cursor(self.bytes, at, self.finder()))
+        } else {
+            FileImports::Wide(Imports::at_cursor(self.bytes, at, self.finder()))
         }
     }
 
@@ -381,7 +399,7 @@ impl<'a> Layout<'a> {
     // The imports of a directory, as a walk.
     #[inline(always)]
     #[tactic(auto, unfolding(crate::specs::Whole::entry_format))]
-    fn imports_at<'m, 'e>(
+    fn imports_in<'m, 'e>(
         &'m self,
         bytes: &'a [u8],
         directory: DataDirectory,
@@ -405,19 +423,6 @@ impl<'a> Layout<'a> {
         } else {
             let imports = Imports::<u64>::of(bytes, directory, &self.address_map)?;
             Ok(FileImports::Wide(imports))
-        }
-    }
-
-    // The imports from a position on.
-    #[tactic(auto, unfolding(crate::specs::Whole::entry_format))]
-    fn imports_after<'m, 'e>(&'m self, position: Option<ImportPosition>) -> FileImports<'a, 'm, 'e>
-        ensures { let magic = (layout_places self.now).magic in
-            GivesFrom (layout_map self.now) magic (layout_bytes self.now) position result }
-    {
-        if self.places.has_narrow_entries() {
-            FileImports::Narrow(Imports::from_position(self.bytes, position, self.finder()))
-        } else {
-            FileImports::Wide(Imports::from_position(self.bytes, position, self.finder()))
         }
     }
 

@@ -3,7 +3,7 @@
 ghost use Rattle.std.specs.Prelude.{◌≡◌, ◌+◌, ◌-◌, ◌<◌, ◌≤◌, ◌^◌, ◌∷◌, ◌++◌, [], IfErr, IfOk};
 ghost use Rattle.std.specs.Prelude.{IfSome};
 ghost use Rattle.std.specs.Prelude.{MatchOption, MatchResult, None, Some, false, length};
-ghost use Rattle.std.specs.Prelude.{option_map, true};
+ghost use Rattle.std.specs.Prelude.{List, option_map, true, ℕ};
 ghost use Rattle.std.specs.Prelude.{if◌then◌else◌, IsSome, IsSomeAnd, IsOk, Ok};
 ghost use Rattle.std.specs.Iterator.{UpTo, at_most};
 ghost use Rattle.std.specs.Iterator.SizeHint.{IsWithinCount};
@@ -14,26 +14,22 @@ ghost use Rattle.goblin_base.specs.Reading.{Reads};
 ghost use Rattle.readings.specs.Reads.{mapped};
 ghost use Rattle.readings.specs.Walks.{GivesNext, IsWalkOf, Walks, until_refused};
 ghost use Rattle.goblin_pe_sect.specs.Addresses.{map_of, offset_of, reads_strictly};
-ghost use Rattle.goblin_pe_import.specs.ImportPositions.{BeginsAt, GoesOnAt, first_at};
-ghost use Rattle.goblin_pe_import.specs.ImportPositions.{first_import};
-ghost use Rattle.goblin_pe_import.specs.ImportReadings.{import_data, import_record_at};
-ghost use Rattle.goblin_pe_import.specs.ImportReadings.{libraries_at};
+ghost use Rattle.goblin_pe_import.specs.ImportCursors.{BeginsAt, before_record, first_import};
+ghost use Rattle.goblin_pe_import.specs.ImportReadings.{import_data, libraries_at};
 ghost use Rattle.goblin_pe_import.specs.ImportRecords.{is_last_record};
 ghost use Rattle.goblin_pe_import.specs.Imports.{kept_imports, origin};
 ghost use Rattle.goblin_pe_import.specs.ImportWalks.{GivesImport, GivesLibrary, GivesPlain};
-ghost use Rattle.goblin_pe_import.specs.ImportWalks.{HasPosition};
-ghost use Rattle.goblin_pe_import.specs.ImportWalks.{IsCauseAt, plain_at, walk_answer, walk_at};
-ghost use Rattle.goblin_pe_import.specs.ImportWalks.{AreImportsOver, IsImportsCause, IsInLibrary};
-ghost use Rattle.goblin_pe_import.specs.ImportWalks.{imports_at, position_by, position_of};
-ghost use Rattle.goblin_pe_import.specs.ImportWalks.{slots_bound};
-ghost use Rattle.goblin_pe_import.specs.ImportWalks.{IsLaterCause, IsNamedCause, IsPlaced};
+ghost use Rattle.goblin_pe_import.specs.ImportWalks.{HasName, IsCursorCause, IsNamed, IsWalkAt};
+ghost use Rattle.goblin_pe_import.specs.ImportWalks.{IsImportsCause, cursor_left, cursor_of};
+ghost use Rattle.goblin_pe_import.specs.ImportWalks.{IsLaterCause, IsNamedCause};
 ghost use Rattle.goblin_pe_import.specs.ImportWalks.{IsRecordsCause, IsWalkCause, is_left_out};
-ghost use Rattle.goblin_pe_import.specs.ImportWalks.{begin_at, bound_at, imports_bound};
-ghost use Rattle.goblin_pe_import.specs.ImportWalks.{imports_from_record, imports_left};
-ghost use Rattle.goblin_pe_import.specs.ImportWalks.{kept_import};
+ghost use Rattle.goblin_pe_import.specs.ImportWalks.{bound_next, imports_bound, imports_map};
+ghost use Rattle.goblin_pe_import.specs.ImportWalks.{imports_bytes, imports_from_record};
+ghost use Rattle.goblin_pe_import.specs.ImportWalks.{imports_left, kept_import, no_imports};
 ghost use Rattle.goblin_pe_import.specs.ImportWalks.{kept_value, later_items, library_items};
 ghost use Rattle.goblin_pe_import.specs.ImportWalks.{library_name, one_if, records_bound};
-ghost use Rattle.goblin_pe_import.specs.ImportWalks.{record_index, records_left};
+ghost use Rattle.goblin_pe_import.specs.ImportWalks.{plain_at, walk_answer, walk_at};
+ghost use Rattle.goblin_pe_import.specs.ImportWalks.{record_index, records_left, slots_bound};
 ghost use Rattle.goblin_pe_import.specs.ImportWalks.{untested_table, walk_bound, walk_left};
 ghost use Rattle.goblin_pe_import.specs.ImportWalks.{walked_value};
 
@@ -42,6 +38,7 @@ use crate::import::bitfield::Bitfield;
 use crate::import::directory_entry::{ImportDirectoryEntry, SIZEOF_IMPORT_DIRECTORY_ENTRY};
 use crate::import::kept::{KeptEntry, next_kept, plain_kept};
 use crate::import::library::{address_table_rva, first_record_offset, library_name, lookup_offset};
+use crate::import::library::{said_name};
 use crate::import::lookup_table::SyntheticImportLookupTableEntry;
 use crate::import::slots::{may_end, next_record};
 use goblin_base::{Cause, Error, ResultOf};
@@ -69,40 +66,91 @@ pub struct WalkedImport<'a> {
     pub size: usize,
 }
 
-/// A position in the imports of an image, from which a walk can go on.
+/// Where a walk over imports is, in numbers: with the bytes and a map of addresses it is the walk.
 ///
-/// Any numbers give imports, none or a refusal. With a slot these are the imports of that record's
-/// library from the slot on, and then of the records after it, each with an index counted from the
-/// first record that is said, 0 before it. What a walk has tested when it came to the library is
-/// not tested again: so permissive mode gives imports of a library that it leaves out, if the
-/// position is not from a walk.
+/// Any numbers are a walk: they give imports, none, or a refusal.
 #[derive(Debug, Copy, Clone, PartialEq, Eq)]
-pub struct ImportPosition {
+pub struct ImportCursor {
     /// The file offset of the directory's first record, from which records are counted.
     pub first_record: usize,
-    /// The file offset of a library's record in the import directory.
-    pub record_offset: usize,
-    /// The file offset of the slot in its lookup table that is read next; `None` before the first.
-    pub slot_offset: Option<usize>,
+    /// The file offset of the record that comes after the library; `None` at the end.
+    pub next_record: Option<usize>,
+    /// The index of the library's record.
+    pub library: usize,
+    /// The address of the library's name.
+    pub name_rva: u32,
+    /// The address of its address table.
+    pub rva: u32,
+    /// The file offset of its lookup table.
+    pub table_offset: usize,
+    /// The file offset of the slot that comes next in that table; `None` between two libraries.
+    pub place: Option<usize>,
+    /// The address of its address table if that is to be tested after its entries.
+    pub untested: Option<u32>,
 }
 
-// A walk, with what it holds of the library that it is in.
+impl ImportCursor {
+    /// The end: no imports.
+    pub fn end() -> ImportCursor
+        ensures { result ≡ no_imports }
+    {
+        ImportCursor {
+            first_record: 0,
+            next_record: None,
+            library: 0,
+            name_rva: 0,
+            rva: 0,
+            table_offset: 0,
+            place: None,
+            untested: None,
+        }
+    }
+
+    /// Before the first record of a directory, which is at this file offset.
+    pub fn before_record(offset: usize) -> ImportCursor
+        ensures { result ≡ before_record offset }
+    {
+        ImportCursor {
+            first_record: offset,
+            next_record: Some(offset),
+            ..ImportCursor::end()
+        }
+    }
+
+    /// Before the first import of the directory at the address of `directory`.
+    ///
+    /// # Errors
+    /// In strict mode [`Error::Malformed`] with [`Cause::Unmapped`] if the directory's address has
+    /// no file offset.
+    pub fn first<'e>(
+        directory: DataDirectory,
+        finder: &mut Finder<'_>,
+    ) -> ResultOf<'e, ImportCursor>
+        ensures first { (bytes : List ℕ) → let m = map_of finder.old in
+            let rva = directory.virtual_address in
+            Reads (λ c. c) result (first_import (reads_strictly m) (offset_of m) rva) bytes }
+        ensures same { finder.new ≡ finder.old }
+    {
+        let rva = directory.virtual_address;
+        let offset = finder.offset_of(rva);
+        let strictly = finder.reads_strictly();
+        if strictly && offset.is_none() {
+            return Err(Error::Malformed(Cause::Unmapped(rva as usize)));
+        }
+        match first_record_offset(offset, strictly) {
+            Some(offset) => Ok(ImportCursor::before_record(offset)),
+            None => Ok(ImportCursor::end()),
+        }
+    }
+}
+
+// A walk: where it is, and the name of the library there.
 #[derive(Drop)]
 struct Walk<'a, 'm> {
     bytes: &'a [u8],
     finder: Finder<'m>,
-    // The library's name, the index of its record, and the address of its address table.
     dll: &'a str,
-    library: usize,
-    rva: u32,
-    // The file offset of its lookup table, and that of the slot that comes next; `None` between two
-    // libraries.
-    table_offset: usize,
-    place: Option<usize>,
-    // The address of its address table if that is to be tested after its entries.
-    untested: Option<u32>,
-    // Where the walk goes on after the library.
-    next: Option<ImportPosition>,
+    at: ImportCursor,
 }
 
 // Tests the address table that is still to be tested, if there is one. Permissive mode has tested
@@ -133,29 +181,16 @@ fn test_untested<'a, 'e, T: Bitfield<'a>>(
     test_numbers::<T>(bytes, offset)
 }
 
-// Whether permissive mode leaves out the library of a record: it has no address table. From a slot
-// on it is not tested.
+// Whether permissive mode leaves out the library of a record: it has no address table.
 fn is_left_out<'a, T: Bitfield<'a>>(
     bytes: &'a [u8],
     entry: &ImportDirectoryEntry,
-    slot_offset: Option<usize>,
     address_map: &AddressMap,
 ) -> bool
     ensures { let m = map_of address_map.now in
-        result
-        ≡ is_left_out (reads_strictly m) T.format (offset_of m) bytes.now slot_offset entry.now }
+        result ≡ is_left_out (reads_strictly m) T.format (offset_of m) bytes.now entry.now }
 {
-    slot_offset.is_none()
-        && !address_map.reads_strictly()
-        && test_address_table::<T>(bytes, entry, address_map).is_err()
-}
-
-// Where the entries of a table begin to come: at its first slot, or at a given one.
-fn begin_at(slot_offset: Option<usize>, table: Option<usize>) -> Option<usize>
-    ensures { result ≡ begin_at slot_offset table }
-{
-    let offset = table?;
-    Some(slot_offset.unwrap_or(offset))
+    !address_map.reads_strictly() && test_address_table::<T>(bytes, entry, address_map).is_err()
 }
 
 // The import of an entry of the library `dll`, whose record has an index, whose lookup table is at
@@ -212,115 +247,79 @@ fn records_bound(bytes: &[u8], offset: usize) -> Option<usize>
     (bytes.len() + 2).checked_mul(records)
 }
 
-// No more imports come from a position on than this, if it fits.
-fn bound_at(bytes: &[u8], position: Option<ImportPosition>) -> Option<usize>
-    ensures value { IfSome result (λ n. n ≡ bound_at bytes.now position) }
-    ensures fits { bound_at bytes.now position < 2 ^ 64 → IsSome result }
+// No more imports come from the next record on than this, if it fits.
+fn bound_next(bytes: &[u8], next: Option<usize>) -> Option<usize>
+    ensures value { IfSome result (λ n. n ≡ bound_next bytes.now next) }
+    ensures fits { bound_next bytes.now next < 2 ^ 64 → IsSome result }
 {
-    let Some(at) = position else {
-        return Some(0);
-    };
-    if at.slot_offset.is_none() {
-        return records_bound(bytes, at.record_offset);
+    match next {
+        Some(offset) => records_bound(bytes, offset),
+        None => Some(0),
     }
-    let next = at
-        .record_offset
-        .saturating_add(SIZEOF_IMPORT_DIRECTORY_ENTRY);
-    let slots = slots_bound(bytes, at.slot_offset) + 1;
-    slots.checked_add(records_bound(bytes, next)?)
 }
 
 impl<'a, 'm> Walk<'a, 'm> {
-    // A walk from a position on.
-    fn from(bytes: &'a [u8], next: Option<ImportPosition>, finder: Finder<'m>) -> Walk<'a, 'm>
-        ensures bytes { result.bytes.now ≡ bytes.now }
-        ensures finder { result.finder ≡ finder.entry }
-        ensures place { result.place ≡ None }
-        ensures untested { result.untested ≡ None }
-        ensures next { result.next ≡ next }
-    {
-        Walk {
-            bytes,
-            finder,
-            dll: "",
-            library: 0,
-            rva: 0,
-            table_offset: 0,
-            place: None,
-            untested: None,
-            next,
-        }
-    }
-
     // Ends the walk.
     fn end(&mut self)
         ensures bytes { self.new.bytes.now ≡ self.old.bytes.now }
         ensures finder { self.new.finder ≡ self.old.finder }
-        ensures place { self.new.place ≡ None }
-        ensures untested { self.new.untested ≡ None }
-        ensures next { self.new.next ≡ None }
+        ensures at { self.new.at ≡ no_imports }
     {
-        self.place = None;
-        self.untested = None;
-        self.next = None;
+        self.at = ImportCursor::end();
     }
 
-    // Leads the walk to the library of the record at a position, from its slot on, and then to
-    // those whose records are in the directory from the offset `next` on.
+    // Leads the walk to the library of the record at an offset, and then to those whose records are
+    // in the directory from the offset `next` on.
     #[inline(always)]
     fn enter<'e, T: Bitfield<'a>>(
         &mut self,
         entry: &ImportDirectoryEntry,
-        at: ImportPosition,
+        offset: usize,
         next: usize,
     ) -> ResultOf<'e, ()>
         ensures gives { let m = map_of self.old.finder in
             let strict = reads_strictly m in
             let bytes = self.old.bytes.now in
+            let first = self.old.at.first_record in
             let name = library_name strict (offset_of m) entry.now in
-            let slot = at.slot_offset in
-            let index = record_index at.first_record at.record_offset in
-            let items = library_items strict T.format (offset_of m) bytes index slot entry.now in
+            let index = record_index first offset in
+            let items = library_items strict T.format (offset_of m) bytes index entry.now in
             MatchResult (walk_answer self.new result)
             (λ t.
             (walk_left T.format t
             ≡ until_refused
-            (items ++ imports_from_record strict T.format (offset_of m) bytes at.first_record next))
+            (items ++ imports_from_record strict T.format (offset_of m) bytes first next))
             × ((e : ErrorOf) → IsWalkCause T.format t e
             → (strict ≡ true)
             × FirstFault (name.value bytes) (name.IsCause bytes)
-            (λ _. IsNamedCause strict T.format (offset_of m) bytes slot entry.now
+            (λ _. IsNamedCause strict T.format (offset_of m) bytes entry.now
             (IsRecordsCause strict T.format (offset_of m) bytes next)) e))
             (λ e. (items ≡ None ∷ [])
             × (strict ≡ true) × (name.value bytes ≡ None) × name.IsCause bytes e) }
-        ensures placed { IfOk (walk_answer self.new result) (λ t. at.record_offset + 20 ≡ next
-            → (import_record_at at.record_offset).value self.old.bytes.now ≡ Some entry.now
-            → is_last_record entry.now ≡ false → IsInLibrary T.format t) }
+        ensures named { IfOk (walk_answer self.new result) IsNamed }
         ensures bytes { self.new.bytes.now ≡ self.old.bytes.now }
         ensures finder { self.new.finder ≡ self.old.finder }
-        ensures next { IfOk (walk_answer self.new result) (λ t.
-            t.next ≡ Some (record at { record_offset = next; slot_offset = None })) }
-        ensures place { IfOk (walk_answer self.new result)
-            (λ t. IfSome t.place (λ place. IfSome at.slot_offset (λ slot.
-            place ≡ slot))) }
+        ensures next { IfOk (walk_answer self.new result) (λ t. t.at.next_record ≡ Some next) }
     {
-        self.next = Some(ImportPosition {
-            first_record: at.first_record,
-            record_offset: next,
-            slot_offset: None,
-        });
-        if is_left_out::<T>(self.bytes, entry, at.slot_offset, self.finder.address_map()) {
-            self.place = None;
-            self.untested = None;
+        if is_left_out::<T>(self.bytes, entry, self.finder.address_map()) {
+            self.at.next_record = Some(next);
+            self.at.place = None;
+            self.at.untested = None;
             return Ok(());
         }
+        let first_record = self.at.first_record;
         self.dll = library_name(self.bytes, entry.name_rva, &mut self.finder)?;
-        self.library = record_index(at.first_record, at.record_offset);
-        let table = lookup_offset(entry, &mut self.finder);
-        self.rva = entry.import_address_table_rva;
-        self.table_offset = table.unwrap_or(0);
-        self.place = begin_at(at.slot_offset, table);
-        self.untested = Some(address_table_rva(entry));
+        let place = lookup_offset(entry, &mut self.finder);
+        self.at = ImportCursor {
+            first_record,
+            next_record: Some(next),
+            library: record_index(first_record, offset),
+            name_rva: entry.name_rva,
+            rva: entry.import_address_table_rva,
+            table_offset: place.unwrap_or(0),
+            place,
+            untested: Some(address_table_rva(entry)),
+        };
         Ok(())
     }
 
@@ -329,30 +328,31 @@ impl<'a, 'm> Walk<'a, 'm> {
     fn next_library<'e, T: Bitfield<'a>>(&mut self) -> Option<ResultOf<'e, ()>>
         ensures gives { let m = map_of self.old.finder in
             let bytes = self.old.bytes.now in
+            let c = self.old.at in
             GivesLibrary (walk_left T.format) (IsWalkCause T.format)
-            (later_items (reads_strictly m) T.format (offset_of m) bytes self.old.untested
-            self.old.next)
+            (later_items (reads_strictly m) T.format (offset_of m) bytes c.untested c.first_record
+            c.next_record)
             (λ e. (reads_strictly m ≡ true)
             × IsLaterCause (reads_strictly m) T.format (offset_of m) bytes
-            self.old.untested self.old.next e) (option_map (walk_answer self.new) result) }
-        ensures placed { IfSome (option_map (walk_answer self.new) result) (λ r. IfOk r (λ t.
-            IsInLibrary T.format t)) }
+            c.untested c.next_record e) (option_map (walk_answer self.new) result) }
+        ensures named { IfSome (option_map (walk_answer self.new) result) (λ r. IfOk r IsNamed) }
         ensures bytes { self.new.bytes.now ≡ self.old.bytes.now }
         ensures finder { self.new.finder ≡ self.old.finder }
-        ensures nearer { IfSome (option_map (walk_answer self.new) result) (λ r. IfOk r (λ t.
-            records_left self.old.bytes.now t.next < records_left self.old.bytes.now self.old.next)) }
+        ensures nearer { let bytes = self.old.bytes.now in
+            IfSome (option_map (walk_answer self.new) result) (λ r. IfOk r (λ t.
+            records_left bytes t.at.next_record < records_left bytes self.old.at.next_record)) }
         ensures bound { IfSome (option_map (walk_answer self.new) result) (λ r. IfOk r (λ t.
-            walk_bound t ≤ bound_at self.old.bytes.now self.old.next)) }
-        ensures there { IfSome result (λ r. IfErr r (λ e.
-            1 ≤ one_if self.old.untested + bound_at self.old.bytes.now self.old.next)) }
+            walk_bound t ≤ bound_next self.old.bytes.now self.old.at.next_record)) }
+        ensures there { let c = self.old.at in
+            IfSome result (λ r. IfErr r (λ e.
+            1 ≤ one_if c.untested + bound_next self.old.bytes.now c.next_record)) }
     {
-        if let Err(error) = test_untested::<T>(self.bytes, self.untested, &mut self.finder) {
+        if let Err(error) = test_untested::<T>(self.bytes, self.at.untested, &mut self.finder) {
             return Some(Err(error));
         }
-        let Some(at) = self.next else {
+        let Some(offset) = self.at.next_record else {
             return None;
         };
-        let offset = at.record_offset;
         let size = SIZEOF_IMPORT_DIRECTORY_ENTRY;
         let Some(record) = next_record(self.bytes, offset) else {
             if may_end(self.bytes, offset, size, self.finder.reads_strictly()) {
@@ -360,24 +360,7 @@ impl<'a, 'm> Walk<'a, 'm> {
             }
             return Some(Err(Error::Malformed(Cause::ImportRecordEnd(offset))));
         };
-        Some(self.enter::<T>(&record, at, offset + size))
-    }
-
-    // Where the walk is.
-    fn position(&self) -> Option<ImportPosition>
-        ensures { result ≡ position_by self.now.place self.now.next }
-    {
-        let Some(place) = self.place else {
-            return self.next;
-        };
-        let next = self.next?;
-        Some(ImportPosition {
-            first_record: next.first_record,
-            record_offset: next
-                .record_offset
-                .saturating_sub(SIZEOF_IMPORT_DIRECTORY_ENTRY),
-            slot_offset: Some(place),
-        })
+        Some(self.enter::<T>(&record, offset, offset + size))
     }
 
     // No more imports come than this, if it fits.
@@ -385,9 +368,9 @@ impl<'a, 'm> Walk<'a, 'm> {
         ensures value { IfSome result (λ n. n ≡ walk_bound self.now) }
         ensures fits { walk_bound self.now < 2 ^ 64 → IsSome result }
     {
-        let untested = usize::from(self.untested.is_some());
-        let slots = slots_bound(self.bytes, self.place) + untested;
-        slots.checked_add(bound_at(self.bytes, self.next)?)
+        let untested = usize::from(self.at.untested.is_some());
+        let slots = slots_bound(self.bytes, self.at.place) + untested;
+        slots.checked_add(bound_next(self.bytes, self.at.next_record)?)
     }
 
     // The import in the slot at a place of the library that the walk is in, where it is plain;
@@ -400,10 +383,16 @@ impl<'a, 'm> Walk<'a, 'm> {
         ensures inside { IfSome result (λ _. place + T.format.width ≤ length self.now.bytes.now) }
         ensures short { IfSome result (λ _. place + T.format.width < 2 ^ 63) }
     {
-        let Some(kept) = plain_kept::<T>(self.bytes, self.table_offset, place, &self.finder) else {
+        let ImportCursor {
+            library,
+            rva,
+            table_offset,
+            ..
+        } = self.at;
+        let Some(kept) = plain_kept::<T>(self.bytes, table_offset, place, &self.finder) else {
             return None;
         };
-        Some(import_of::<T>(kept, self.dll, self.library, self.rva, self.table_offset))
+        Some(import_of::<T>(kept, self.dll, library, rva, table_offset))
     }
 
     // A copy of the walk.
@@ -414,12 +403,7 @@ impl<'a, 'm> Walk<'a, 'm> {
             bytes: self.bytes,
             finder: self.finder.again(),
             dll: self.dll,
-            library: self.library,
-            rva: self.rva,
-            table_offset: self.table_offset,
-            place: self.place,
-            untested: self.untested,
-            next: self.next,
+            at: self.at,
         }
     }
 
@@ -428,20 +412,25 @@ impl<'a, 'm> Walk<'a, 'm> {
     fn next_import<'e, T: Bitfield<'a>>(&mut self) -> Option<ResultOf<'e, WalkedImport<'a>>>
         ensures steps { GivesNext walked_value (walk_left T.format) (IsWalkCause T.format)
             self.old result self.new }
-        ensures placed { IsPlaced T.format self.old → IsPlaced T.format self.new }
-        ensures inside { IfSome result (λ r. IfOk r (λ _. IsSomeAnd self.new.place (λ place. 0 < place))) }
+        ensures named { IsNamed self.old → IsNamed self.new }
         ensures bytes { self.new.bytes.now ≡ self.old.bytes.now }
         ensures finder { self.new.finder ≡ self.old.finder }
         ensures fewer { IfSome result (λ r. walk_bound self.new < walk_bound self.old) }
-        ensures ended { let position = position_by self.new.place self.new.next in
-            MatchOption result (position ≡ None) (λ r. IfErr r (λ e. position ≡ None)) }
+        ensures ended { let c = self.new.at in
+            MatchOption result (c ≡ no_imports) (λ r. IfErr r (λ e. c ≡ no_imports)) }
     {
         'libraries: loop {
-            match next_kept::<T>(self.bytes, self.table_offset, self.place, &mut self.finder) {
+            let ImportCursor {
+                library,
+                rva,
+                table_offset,
+                place,
+                ..
+            } = self.at;
+            match next_kept::<T>(self.bytes, table_offset, place, &mut self.finder) {
                 Some(Ok(kept)) => {
-                    self.place = Some(kept.place + T::size_of());
-                    let (dll, library) = (self.dll, self.library);
-                    let import = import_of::<T>(kept, dll, library, self.rva, self.table_offset);
+                    self.at.place = Some(kept.place + T::size_of());
+                    let import = import_of::<T>(kept, self.dll, library, rva, table_offset);
                     return Some(Ok(import));
                 }
                 Some(Err(error)) => {
@@ -484,7 +473,7 @@ impl<'a, 'm, 'e, T: Bitfield<'a>> Imports<'a, 'm, 'e, T> {
     /// In strict mode [`Error::Malformed`] with [`Cause::Unmapped`] if the directory's address has
     /// no file offset.
     #[inline(always)]
-    #[tactic(auto, unfolding(crate::specs::ImportReadings::import_data, crate::specs::ImportWalks::imports_at))]
+    #[tactic(auto, unfolding(crate::specs::ImportReadings::import_data, crate::specs::ImportWalks::imports_next))]
     pub fn of(
         bytes: &'a [u8],
         directory: DataDirectory,
@@ -498,10 +487,8 @@ impl<'a, 'm, 'e, T: Bitfield<'a>> Imports<'a, 'm, 'e, T> {
             bytes.now }
         ensures begins { let m = map_of address_map.now in
             let rva = directory.virtual_address in
-            BeginsAt m T.format bytes.now (first_import (reads_strictly m) (offset_of m) rva) result }
+            BeginsAt m bytes.now (first_import (reads_strictly m) (offset_of m) rva) result }
         ensures permissive { reads_strictly (map_of address_map.now) ≡ false → IsOk result }
-        ensures over { IfOk result (AreImportsOver bytes.now (map_of address_map.now)) }
-        ensures position { IfOk result (HasPosition T.format) }
     {
         let rva = directory.virtual_address;
         let strictly = address_map.reads_strictly();
@@ -510,7 +497,7 @@ impl<'a, 'm, 'e, T: Bitfield<'a>> Imports<'a, 'm, 'e, T> {
             if strictly {
                 return Err(Error::Malformed(Cause::Unmapped(rva as usize)));
             }
-            return Ok(Imports::from_position(bytes, None, finder));
+            return Ok(Imports::between(bytes, ImportCursor::end(), finder));
         };
         Ok(Imports::at(bytes, offset, finder))
     }
@@ -522,41 +509,66 @@ impl<'a, 'm, 'e, T: Bitfield<'a>> Imports<'a, 'm, 'e, T> {
             IsWalkOf (λ xs. xs)
             (mapped (flat_map (kept_imports (λ x. x) T.format.width)) libraries) bytes.now
             (imports_left T.format result) (IsImportsCause T.format result) }
-        ensures begins { GoesOnAt (map_of finder.entry) T.format bytes.now
-            (Some (first_at offset)) result }
-        ensures over { AreImportsOver bytes.now (map_of finder.entry) result }
-        ensures position { HasPosition T.format result }
+        ensures begins { IsWalkAt (map_of finder.entry) bytes.now (before_record offset) result }
     {
-        let begin = ImportPosition {
-            first_record: offset,
-            record_offset: offset,
-            slot_offset: None,
-        };
-        Imports::from_position(bytes, Some(begin), finder)
+        Imports::between(bytes, ImportCursor::before_record(offset), finder)
     }
 
-    /// The imports from a position on, as [`Imports::position`] gave it: what was still to come
-    /// there. There are none without a position.
-    pub fn from_position(
-        bytes: &'a [u8],
-        position: Option<ImportPosition>,
-        finder: Finder<'m>,
-    ) -> Imports<'a, 'm, 'e, T>
-        ensures left { let m = map_of finder.entry in
-            imports_left T.format result
-            ≡ imports_at (reads_strictly m) T.format (offset_of m) bytes.now position }
-        ensures cause { let m = map_of finder.entry in
-            (e : ErrorOf) → IsImportsCause T.format result e
-            → (reads_strictly m ≡ true)
-            × IsCauseAt (reads_strictly m) T.format (offset_of m) bytes.now position e }
-        ensures over { AreImportsOver bytes.now (map_of finder.entry) result }
-        ensures position { HasPosition T.format result }
+    // The walk at a cursor between two libraries.
+    #[inline(always)]
+    fn between(bytes: &'a [u8], at: ImportCursor, finder: Finder<'m>) -> Imports<'a, 'm, 'e, T>
+        requires { at.place ≡ None }
+        ensures at { IsWalkAt (map_of finder.entry) bytes.now at result }
+        ensures none { result.walk.dll.now ≡ [] }
         ensures wide { 1 ≤ T.format.width }
     {
+        let dll = "";
         Imports {
-            walk: Walk::from(bytes, position, finder),
+            walk: Walk { bytes, finder, dll, at },
             items: PhantomData,
         }
+    }
+
+    // The walk at a cursor.
+    #[inline(always)]
+    fn walk_of(bytes: &'a [u8], at: ImportCursor, finder: Finder<'m>) -> Imports<'a, 'm, 'e, T>
+        ensures { IsWalkAt (map_of finder.entry) bytes.now at result }
+    {
+        let dll = "";
+        let mut walk = Walk { bytes, finder, dll, at };
+        if at.place.is_some() {
+            walk.dll = said_name(bytes, at.name_rva, &mut walk.finder);
+        }
+        Imports {
+            walk,
+            items: PhantomData,
+        }
+    }
+
+    /// The walk at a cursor, as [`Imports::cursor`] gave it: what was still to come there. Any
+    /// other cursor is a walk, too.
+    #[inline(always)]
+    pub fn at_cursor(
+        bytes: &'a [u8],
+        at: ImportCursor,
+        finder: Finder<'m>,
+    ) -> Imports<'a, 'm, 'e, T>
+        ensures at { IsWalkAt (map_of finder.entry) bytes.now at result }
+        ensures left { imports_left T.format result
+            ≡ cursor_left (map_of finder.entry) T.format bytes.now at }
+        ensures cause { (e : ErrorOf) → IsImportsCause T.format result e
+            → IsCursorCause (map_of finder.entry) T.format bytes.now at e }
+    {
+        Imports::walk_of(bytes, at, finder)
+    }
+
+    /// Where the walk is: what is still to come is what is still to come at this cursor.
+    pub fn cursor(&self) -> ImportCursor
+        ensures left { HasName self.now → imports_left T.format self.now
+            ≡ cursor_left (imports_map self.now) T.format (imports_bytes self.now) result }
+        ensures is { result ≡ cursor_of self.now }
+    {
+        self.walk.at
     }
 
     /// The imports that come next, as long as they are plain; `None` where the walk is in no
@@ -565,9 +577,9 @@ impl<'a, 'm, 'e, T: Bitfield<'a>> Imports<'a, 'm, 'e, T> {
     pub fn plain(&self) -> Option<PlainImports<'a, 'm, 'e, T>>
         ensures begins { IfSome result (λ plain. plain_at plain ≡ self.now) }
         ensures same { IfSome result (λ plain. plain.imports ≡ self.now) }
-        ensures none { result ≡ None → self.now.walk.place ≡ None }
+        ensures none { result ≡ None → self.now.walk.at.place ≡ None }
     {
-        let Some(place) = self.walk.place else {
+        let Some(place) = self.walk.at.place else {
             return None;
         };
         let imports = Imports {
@@ -591,24 +603,7 @@ impl<'a, 'm, 'e, T: Bitfield<'a>> Imports<'a, 'm, 'e, T> {
         requires { plain.now.imports ≡ self.old }
         ensures { self.new ≡ plain_at plain.now }
     {
-        self.walk.place = Some(plain.place);
-    }
-
-    /// Where the walk is: what is still to come is what comes from this position on. `None` once
-    /// the walk has ended.
-    pub fn position(&self) -> Option<ImportPosition>
-        ensures left { let w = self.now.walk in
-            let m = map_of w.finder in
-            HasPosition T.format self.now → imports_left T.format self.now
-            ≡ imports_at (reads_strictly m) T.format (offset_of m) w.bytes.now result }
-        ensures cause { let w = self.now.walk in
-            let m = map_of w.finder in
-            (e : ErrorOf) → HasPosition T.format self.now → reads_strictly m ≡ true
-            → IsCauseAt (reads_strictly m) T.format (offset_of m) w.bytes.now result e
-            → IsImportsCause T.format self.now e }
-        ensures is { result ≡ position_of self.now }
-    {
-        self.walk.position()
+        self.walk.at.place = Some(plain.place);
     }
 }
 
@@ -666,7 +661,7 @@ impl<'a, 'm, 'e, T: Bitfield<'a>> PlainImports<'a, 'm, 'e, T> {
 impl<'a, 'm, 'e, T: Bitfield<'a>> fmt::Debug for Imports<'a, 'm, 'e, T> {
     fn fmt<W: fmt::Write>(&self, f: &mut fmt::Formatter<W>) -> fmt::Result {
         f.debug_struct("Imports")
-            .field("position", &self.walk.position())
+            .field("cursor", &self.walk.at)
             .finish_non_exhaustive()
     }
 }

@@ -1,7 +1,7 @@
 //! The libraries that an image imports from.
 
 ghost use Rattle.std.specs.Prelude.{◌≡◌, ◌⊎◌, ◌<◌, ◌^◌, [], IfErr, IsSomeAnd, map};
-ghost use Rattle.std.specs.Prelude.{option_map, true};
+ghost use Rattle.std.specs.Prelude.{option_map, true, unwrap_or};
 ghost use Rattle.goblin_base.specs.Answers.{IsMemory};
 ghost use Rattle.goblin_base.specs.Reading.{Reads, ReadsOrMemory};
 ghost use Rattle.readings.specs.Reads.{or_else};
@@ -113,6 +113,20 @@ pub(super) fn library_name<'a, 'e>(
 {
     let name = finder.name(bytes, rva)?;
     Ok(name.unwrap_or(no_text(bytes)))
+}
+
+// The name at an address; the empty one where none can be read.
+#[inline(always)]
+#[tactic(auto, using(crate::proofs::LibraryNames::said))]
+pub(super) fn said_name<'a>(bytes: &'a [u8], rva: u32, finder: &mut Finder<'_>) -> &'a str
+    ensures value { let name = name_at (offset_of (map_of finder.old)) rva in
+        result.now ≡ unwrap_or (name.value bytes.now) [] }
+    ensures same { finder.new ≡ finder.old }
+{
+    match finder.name(bytes, rva) {
+        Ok(Some(name)) => name,
+        _ => no_text(bytes),
+    }
 }
 
 // The offset of the first record of a directory that has this offset, where it has one: permissive

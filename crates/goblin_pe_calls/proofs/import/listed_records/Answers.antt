@@ -1,10 +1,10 @@
-use Rattle.std.proofs.Common.{None, Ok, subst}
+use Rattle.std.proofs.Common.{Ok, subst}
 use Rattle.std.proofs.lemmas.Result.{err_from_is_err_and}
 use Rattle.goblin_pe_sect.specs.Addresses.{offset_of}
 use Rattle.goblin_pe.specs.declared.whole.Part.{Part}
 use Rattle.goblin_pe.specs.declared.whole.imports.FileImports.{FileImports}
 use Rattle.goblin_pe.specs.Layouts.{IsFileImportsCause, PartWalks, file_imports_left, layout_map, layout_places}
-use Rattle.goblin_pe.specs.LayoutPositions.{StartsAt, import_start}
+use Rattle.goblin_pe.specs.LayoutCursors.{StartsAt, import_begin}
 use Rattle.goblin_pe.specs.Whole.{import_list}
 use Rattle.goblin_pe_calls.proofs.Growth.{imports-begin, walk-entries}
 use Rattle.goblin_pe_records.proofs.Making.{whichever}
@@ -25,7 +25,7 @@ returns-in_err-records-in-Read-clause-begun c =
     let l = c.args.layout.now in
     let m = layout_map l in
     let places = layout_places l in
-    let start = import_start m.opts (offset_of m) places None in
+    let start = import_begin m.opts (offset_of m) places in
     let gives = subst (λ (p : Part FileImports). StartsAt m places.magic l.bytes.now start (Ok p)) c.in-Read.is c.in_ok-imports.ensures.starts in
     let e = err_from_is_err_and c.from_residual-in_err-records-in-Read.result c.from_residual-in_err-records-in-Read.ensures.1 in
     rw (e.1, e.2)

@@ -1,10 +1,12 @@
-use Rattle.std.proofs.Common.{◌<◌, ◌^◌, Some, Result, length, arith, subst}
+use Rattle.std.proofs.Common.{◌∙◌, Some, Result, ap, subst, sym}
 use Rattle.goblin_base.specs.declared.error.ErrorOf.{ErrorOf}
 use Rattle.goblin_pe_import.specs.declared.import.imports.WalkedImport.{WalkedImport}
-use Rattle.goblin_pe.specs.LayoutPositions.{GivesFileImport}
+use Rattle.goblin_pe.specs.LayoutCursors.{GivesFileImport}
 use Rattle.goblin_pe.specs.Layouts.{layout_map, layout_places}
-use Rattle.goblin_pe_calls.proofs.ImportBatches.{goes-after, goes-end, imports-end, imports-full, imports-refused, library-kept}
+use Rattle.goblin_pe_calls.proofs.ImportBatches.{end-left, goes-at, imports-end, imports-full, imports-refused, library-kept}
 use Rattle.goblin_pe_calls.proofs.ImportBatches.{library-more}
+use Rattle.goblin_pe.specs.ImportWalks.{no_imports}
+use Rattle.goblin_pe_calls.specs.Batches.{cursor_numbers}
 use Rattle.goblin_pe_calls.proofs.next.fill_imports.Goals as goal
 
 pub imports-preserved : goal.imports-preserved
@@ -20,11 +22,9 @@ imports-preserved c =
     let is = subst (λ (r : Result WalkedImport ErrorOf). GivesFileImport now (Some r) next) c.in-Some-Ok.field-0-is c.in-Some-Ok.ensures.steps in
     let kept = is.1 m places.magic bytes c.imports.invariant.goes.walk in
     let fills = c.fill_library-count.ensures.filled in
-    let there = library-kept m places.magic bytes next last _ fills kept.0 kept.1 in
-    let fits = c.bytes.type_inv in
-    let most : length bytes < 2 ^ 63 = rw (← c.bytes.ensures) (omega (arith, fits)) in
-    let goes = goes-after m places bytes c.position_record.result c.position.result last most there.0 c.imports.invariant.goes.asked c.position.ensures.is there.1 (c.position.ensures.left m places.magic bytes there.0) c.position_record.ensures in
-    library-more m places bytes c.args.imports c.args.position.now c.args.records.now now c.imports.position c.imports.records c.imports.count c.imports.invariant x next last c.position_record.result c.put_import.new.place c.fill_library-count.new.records c.fill_library-count.result is c.imports-test.true c.put_import.ensures fills goes
+    let there = library-kept m places.magic bytes next last _ fills kept in
+    let goes = goes-at m places bytes c.cursor_numbers.result c.cursor.result last there (c.cursor.ensures.left m places.magic bytes there) c.cursor_numbers.ensures in
+    library-more m places bytes c.args.imports c.args.position.now c.args.records.now now c.imports.position c.imports.records c.imports.count c.imports.invariant x next last c.cursor_numbers.result c.put_import.new.place c.fill_library-count.new.records c.fill_library-count.result is c.imports-test.true c.put_import.ensures fills goes
 
 pub returns-in-Some-Err-2-clause-filled : goal.returns-in-Some-Err-2-clause-filled
 returns-in-Some-Err-2-clause-filled c =
@@ -44,8 +44,9 @@ returns-in-None-clause-filled c =
     let next = c.next.new.self in
     let kept = c.in-None.ensures.steps.1 m places.magic l.bytes.now c.imports.invariant.goes.walk in
     let none = c.in-None.ensures.steps.0 in
-    let goes = goes-end m places l.bytes.now c.position_record-in-None.result next kept.0 c.imports.invariant.goes.asked none.1 c.position_record-in-None.ensures in
-    let given = imports-end m places l.bytes.now c.args.imports c.args.position.now c.args.records.now now c.imports.position c.imports.records c.imports.count c.imports.invariant next c.position_record-in-None.result c.in-None.ensures.steps goes c.position_record-in-None.ensures c.imports-test.true in
+    let numbers = c.cursor_numbers-in-None.ensures ∙ ap cursor_numbers c.end.ensures in
+    let goes = goes-at m places l.bytes.now c.cursor_numbers-in-None.result no_imports next kept (none.1 ∙ sym (end-left m places l.bytes.now)) numbers in
+    let given = imports-end m places l.bytes.now c.args.imports c.args.position.now c.args.records.now now c.imports.position c.imports.records c.imports.count c.imports.invariant next c.cursor_numbers-in-None.result c.in-None.ensures.steps goes numbers c.imports-test.true in
     (given.batch, given.later, given.next, given.ended, given.stays)
 
 pub returns-clause-filled : goal.returns-clause-filled

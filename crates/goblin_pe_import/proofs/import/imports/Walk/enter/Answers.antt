@@ -6,15 +6,15 @@ use Rattle.goblin_pe_import.proofs.import.imports.Walk.enter.Goals as goal
 pub returns-then-is_left_out-clause-gives : goal.returns-then-is_left_out-clause-gives
 returns-then-is_left_out-clause-gives g c =
     let out = sym (rw c.address_map.ensures at c.is_left_out.ensures) ∙ c.if-is_left_out.true in
-    walk-left_out _ _ _ _ _ _ _ _ _ out _ _ _
+    walk-left_out _ _ _ _ _ _ _ _ out _ _ _
 
 pub returns-in_err-self-clause-gives : goal.returns-in_err-self-clause-gives
 returns-in_err-self-clause-gives g c =
     let e = err_from_is_err_and c.from_residual.result c.from_residual.ensures.1 in
-    rw (e.1, e.2) (walk-unnamed _ _ _ _ c.args.at.first_record _ _ c.args.at.slot_offset c.args.next _ c.in_err-self.ensures.value.0 c.in_err-self.ensures.value.1)
+    rw (e.1, e.2) (walk-unnamed _ _ _ _ c.args.self.now.at.first_record _ _ c.args.next _ c.in_err-self.ensures.value.0 c.in_err-self.ensures.value.1)
 
 pub returns-clause-gives : goal.returns-clause-gives
 returns-clause-gives g c =
     let kept = sym (rw c.address_map.ensures at c.is_left_out.ensures) ∙ c.if-is_left_out.false in
-    rw (c.begin_at-self.ensures, c.unwrap_or-self.ensures, c.lookup_offset-table.ensures.value, c.lookup_offset-table.ensures.same, c.library_name.ensures.same, c.address_table_rva.ensures, c.record_index-self.ensures)
-    (entered _ _ _ _ _ _ _ _ _ _ c.in_ok-self.ensures.value kept)
+    rw (c.unwrap_or.ensures, c.lookup_offset-place.ensures.value, c.lookup_offset-place.ensures.same, c.library_name.ensures.same, c.address_table_rva.ensures, c.record_index.ensures)
+    (entered _ _ _ _ _ _ _ _ _ c.in_ok-self.ensures.value kept)

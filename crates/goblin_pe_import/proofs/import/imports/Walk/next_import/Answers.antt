@@ -18,7 +18,7 @@ returns-in-Some-Ok-clause-steps g c =
 pub returns-in-Some-Err-clause-steps : goal.returns-in-Some-Err-clause-steps
 returns-in-Some-Err-clause-steps g c =
     next-fault g.T.Bitfield.format c.args.self.now c.libraries.self c.libraries.invariant c.in-Some-Err.field-0 c.in-Some-Err.ensures.steps c.in-Some-Err.error c.in-Some-Err.field-0-is c.in-Some-Err.ensures.strictly c.end.new.self
-    (record { place = c.end.ensures.place; untested = c.end.ensures.untested; next = c.end.ensures.next })
+    c.end.ensures.at
 
 pub libraries-preserved : goal.libraries-preserved
 libraries-preserved g c =
@@ -29,7 +29,7 @@ libraries-preserved g c =
     let gives = subst (λ (m : AddressMap). GivesBy g.T.Bitfield.format s m (Some (walk_answer t r))) c.next_kept.ensures.same library.gives in
     next-library g.T.Bitfield.format c.args.self.now s c.libraries.invariant c.in-None.ensures.steps (walk_answer t r) t gives (ap (walk_answer t) c.in-Some-Ok-next_library.field-0-is)
     (walk_answer-ok (λ (t : Walk). t.bytes.now ≡ s.bytes.now) t r library.bytes)
-    (walk_answer-ok (λ (t : Walk). t.finder ≡ s.finder) t r (library.finder ∙ c.next_kept.ensures.same)) library.bound library.placed
+    (walk_answer-ok (λ (t : Walk). t.finder ≡ s.finder) t r (library.finder ∙ c.next_kept.ensures.same)) library.bound library.named
 
 pub returns-in-Some-Err-next_library-clause-steps : goal.returns-in-Some-Err-next_library-clause-steps
 returns-in-Some-Err-next_library-clause-steps g c =
@@ -38,10 +38,10 @@ returns-in-Some-Err-next_library-clause-steps g c =
     let r = c.in-Some-Err-next_library.field-0 in
     let gives = subst (λ (m : AddressMap). GivesBy g.T.Bitfield.format s m (Some (walk_answer t r))) c.next_kept.ensures.same c.in-Some-Err-next_library.ensures.gives in
     next-refused g.T.Bitfield.format c.args.self.now s c.libraries.invariant c.in-None.ensures.steps (walk_answer t r) c.in-Some-Err-next_library.error gives (ap (walk_answer t) c.in-Some-Err-next_library.field-0-is) c.end-in-Some-Err-next_library.new.self
-    (record { place = c.end-in-Some-Err-next_library.ensures.place; untested = c.end-in-Some-Err-next_library.ensures.untested; next = c.end-in-Some-Err-next_library.ensures.next })
+    c.end-in-Some-Err-next_library.ensures.at
 
 pub returns-in-None-next_library-clause-steps : goal.returns-in-None-next_library-clause-steps
 returns-in-None-next_library-clause-steps g c =
     let gives = subst (λ (m : AddressMap). GivesBy g.T.Bitfield.format c.libraries.self m None) c.next_kept.ensures.same c.in-None-next_library.ensures.gives in
     next-none g.T.Bitfield.format c.args.self.now c.libraries.self c.libraries.invariant c.in-None.ensures.steps gives c.end-in-None-next_library.new.self
-    (record { place = c.end-in-None-next_library.ensures.place; untested = c.end-in-None-next_library.ensures.untested; next = c.end-in-None-next_library.ensures.next })
+    c.end-in-None-next_library.ensures.at

@@ -6,4 +6,4 @@ abbrev pub invariant-libraries : goal.invariant-libraries
 invariant-libraries g l = AtImports g.T.Bitfield.format l.initial.self l.self
 
 abbrev pub decreases-libraries : goal.decreases-libraries
-decreases-libraries g l = records_left l.self.bytes.now l.self.next
+decreases-libraries g l = records_left l.self.bytes.now l.self.at.next_record

@@ -1,0 +1,109 @@
+-- The imports of a file at a cursor.
+use Rattle.std.specs.Prelude.{◌≡◌, ℕ, Bool, List, Option, Some, None, Result, Ok, Err}
+use Rattle.std.specs.Prelude.{IfErr, IfSome, IsSomeAnd, MatchOption}
+use Rattle.goblin_base.specs.declared.error.ErrorOf.{ErrorOf}
+use Rattle.goblin_base.specs.Answers.{IsMemory}
+use Rattle.goblin_base.specs.Reading.{Reading}
+use Rattle.readings.specs.Walks.{GivesNext}
+use Rattle.readings.specs.Reads.{given, pick}
+use Rattle.goblin_pe_sect.specs.declared.data_directories.DataDirectory.{DataDirectory}
+use Rattle.goblin_pe_sect.specs.declared.options.ParseOptions.{ParseOptions}
+use Rattle.goblin_pe_sect.specs.Options.{is_strict}
+use Rattle.goblin_pe_sect.specs.Addresses.{MapOfAddresses}
+use Rattle.goblin_pe_import.specs.ImportLookup.{entries_32, entries_64}
+use Rattle.goblin_pe_import.specs.ImportCursors.{first_import}
+use Rattle.goblin_pe_import.specs.Imports.{ImportValue}
+use Rattle.goblin_pe_import.specs.ImportWalks.{AreImportsOver, HasName, IsCursorCause, cursor_left}
+use Rattle.goblin_pe_import.specs.ImportWalks.{cursor_of, imports_map, no_imports, walked_value}
+use Rattle.goblin_pe_import.specs.declared.import.imports.ImportCursor.{ImportCursor}
+use Rattle.goblin_pe_import.specs.declared.import.imports.WalkedImport.{WalkedImport}
+use Rattle.goblin_pe.specs.declared.whole.Part.{Part}
+use Rattle.goblin_pe.specs.declared.whole.Part.TheVariants.{Absent, Refused}
+use Rattle.goblin_pe.specs.declared.whole.Part.TheVariants as part
+use Rattle.goblin_pe.specs.declared.whole.imports.FileImports.{FileImports}
+use Rattle.goblin_pe.specs.declared.whole.imports.FileImports.TheVariants.{Narrow, Wide}
+use Rattle.goblin_pe.specs.Layouts.{IsFileImportsCause, file_imports_left}
+use Rattle.goblin_pe.specs.Whole.{TablePlaces, entry_format}
+
+-- what is still to come at a cursor, by this magic and this map of addresses
+abbrev pub file_cursor_left : MapOfAddresses → ℕ → List ℕ → ImportCursor
+    → List (Option ImportValue)
+file_cursor_left m magic bytes c = cursor_left m (entry_format magic) bytes c
+
+-- which cause is true if there is a refusal among it
+abbrev pub IsFileCursorCause : MapOfAddresses → ℕ → List ℕ → ImportCursor → ErrorOf → Type 0
+IsFileCursorCause m magic bytes c e = IsCursorCause m (entry_format magic) bytes c e
+
+-- where a walk is
+abbrev pub file_cursor : FileImports → ImportCursor
+file_cursor (Narrow imports) = cursor_of imports
+file_cursor (Wide imports) = cursor_of imports
+
+-- the map that a walk goes by
+abbrev pub file_map : FileImports → MapOfAddresses
+file_map (Narrow imports) = imports_map imports
+file_map (Wide imports) = imports_map imports
+
+-- the walk is over these bytes, by this magic and this map of addresses, and holds the name that its
+-- cursor says
+abbrev pub IsImportWalk : MapOfAddresses → ℕ → List ℕ → FileImports → Type 0
+IsImportWalk m magic bytes (Narrow imports) =
+    (entry_format magic ≡ entries_32) × AreImportsOver bytes m imports × HasName imports
+IsImportWalk m magic bytes (Wide imports) =
+    (entry_format magic ≡ entries_64) × AreImportsOver bytes m imports × HasName imports
+
+-- it is at this cursor
+abbrev pub IsImportWalkAt : MapOfAddresses → ℕ → List ℕ → ImportCursor → FileImports → Type 0
+IsImportWalkAt m magic bytes c imports =
+    IsImportWalk m magic bytes imports × (file_cursor imports ≡ c)
+
+-- a walk that has given no import is at the end
+abbrev pub IsAtFileEnd : Option (Result WalkedImport ErrorOf) → FileImports → Type 0
+IsAtFileEnd result imports =
+    let c = file_cursor imports in
+    MatchOption result (c ≡ no_imports) (λ r. IfErr r (λ e. c ≡ no_imports))
+
+-- A call of `next` gives the next import, or an error that is never Memory, or else has ended the
+-- walk; it keeps what is walked over.
+abbrev pub GivesFileImport : FileImports → Option (Result WalkedImport ErrorOf) → FileImports
+    → Type 0
+GivesFileImport s result t =
+    GivesNext walked_value file_imports_left IsFileImportsCause s result t
+    × ((m : MapOfAddresses) (magic : ℕ) (bytes : List ℕ) → IsImportWalk m magic bytes s
+    → IsImportWalk m magic bytes t)
+    × IfSome result (λ r. IfErr r (λ e. ¬ IsMemory e))
+    × IsAtFileEnd result t
+
+-- A call gives the walk from the first import of a directory on, or is refused since that is.
+abbrev pub GivesFirst : MapOfAddresses → ℕ → List ℕ → Reading ImportCursor
+    → Result FileImports ErrorOf → Type 0
+GivesFirst m magic bytes first (Ok imports) =
+    IsSomeAnd (first.value bytes) (λ c. IsImportWalkAt m magic bytes c imports)
+GivesFirst m magic bytes first (Err e) = (first.value bytes ≡ None) × first.IsCause bytes e
+
+-- ---- where a file's imports begin
+
+abbrev pub begin_in : Bool → (ℕ → Option ℕ) → Option DataDirectory → Reading ImportCursor
+begin_in strict offset_of None = given no_imports
+begin_in strict offset_of (Some directory) =
+    first_import strict offset_of directory.virtual_address
+
+-- Before the first import of the directory. There are none without a directory, or where they are
+-- not asked for.
+unfoldable pub import_begin : ParseOptions → (ℕ → Option ℕ) → TablePlaces → Reading ImportCursor
+import_begin opts offset_of places =
+    pick opts.parse_imports (begin_in (is_strict opts.parse_mode) offset_of places.imports)
+    (given no_imports)
+
+-- the imports from there on
+abbrev pub PartBegins : MapOfAddresses → ℕ → List ℕ → ImportCursor → Part FileImports → Type 0
+PartBegins m magic bytes c Absent = c ≡ no_imports
+PartBegins m magic bytes c (part.Read imports) = IsImportWalkAt m magic bytes c imports
+PartBegins m magic bytes c Refused = ⊥
+
+-- A call gives the imports from where they begin, or is refused since that is.
+abbrev pub StartsAt : MapOfAddresses → ℕ → List ℕ → Reading ImportCursor
+    → Result (Part FileImports) ErrorOf → Type 0
+StartsAt m magic bytes begin (Ok result) =
+    IsSomeAnd (begin.value bytes) (λ c. PartBegins m magic bytes c result)
+StartsAt m magic bytes begin (Err e) = (begin.value bytes ≡ None) × begin.IsCause bytes e

@@ -1,0 +1,33 @@
+-- Where the imports of an image begin.
+use Rattle.std.specs.Prelude.{◌≡◌, ℕ, Bool, List, Option, Some, None, IsSomeAnd, Result, Ok, Err}
+use Rattle.goblin_base.specs.declared.error.ErrorOf.{ErrorOf}
+use Rattle.goblin_base.specs.Reading.{Reading}
+use Rattle.readings.specs.Reads.{mapped, or_else}
+use Rattle.goblin_pe_sect.specs.AddressReadings.{offset_at}
+use Rattle.goblin_pe_sect.specs.Addresses.{MapOfAddresses}
+use Rattle.goblin_pe_import.specs.ImportReadings.{first_record_offset}
+use Rattle.goblin_pe_import.specs.ImportWalks.{IsWalkAt, no_imports}
+use Rattle.goblin_pe_import.specs.declared.import.imports.ImportCursor.{ImportCursor}
+use Rattle.goblin_pe_import.specs.declared.import.imports.Imports.{Imports}
+
+-- the cursor before the first record of a directory, which is at this offset
+abbrev pub before_record : ℕ → ImportCursor
+before_record p = record no_imports { first_record = p; next_record = Some p }
+
+-- the same where there is such a record
+abbrev pub before_first : Option ℕ → ImportCursor
+before_first None = no_imports
+before_first (Some p) = before_record p
+
+-- The cursor before the first import of a directory at an address. Permissive mode treats an
+-- address without an offset as one that leads to the front of the file.
+abbrev pub first_import : Bool → (ℕ → Option ℕ) → ℕ → Reading ImportCursor
+first_import strict offset_of rva =
+    mapped (λ o. before_first (first_record_offset strict (Some o)))
+    (or_else strict 0 (offset_at offset_of rva))
+
+-- A call gives the walk from where the imports begin, or is refused since that is.
+abbrev pub BeginsAt : {T : Type 0} → MapOfAddresses → List ℕ → Reading ImportCursor
+    → Result (Imports T) ErrorOf → Type 0
+BeginsAt m bytes first (Ok it) = IsSomeAnd (first.value bytes) (λ c. IsWalkAt m bytes c it)
+BeginsAt m bytes first (Err e) = (first.value bytes ≡ None) × first.IsCause bytes e
