@@ -27,14 +27,14 @@ pub struct Marks {
 }
 
 impl Model for Marks {
-    ghost use Rattle.std.specs.Prelude.{Bool, List, ◌≤◌, ◌*◌, vec_capacity};
+    ghost use Rattle.std.specs.Prelude.{Bool, List, ◌≡◌, ◌+◌, ◌/◌, vec_capacity};
     ghost use Rattle.goblin_base.specs.Marks.{word_marks};
 
     ghost Value = { List Bool };
 
     ghost view = { λ m. word_marks m.len m.words.items };
 
-    ghost invariant = { λ m. m.len ≤ 64 * vec_capacity m.words };
+    ghost invariant = { λ m. vec_capacity m.words ≡ (m.len + 63) / 64 };
 }
 
 impl Marks {
@@ -122,6 +122,7 @@ impl Marks {
     /// [`Error::Memory`](crate::Error::Memory) only, and only if a position is marked.
     pub fn ranges<'e>(&self, alloc: Global) -> ResultOf<'e, Vec<(usize, usize)>>
         ensures listed { IfOk result (λ ranges. ranges.items ≡ ranges_of self.now) }
+        ensures room { IfOk result (λ ranges. vec_capacity ranges ≡ vec_len ranges) }
         ensures refused { IfErr result IsMemory }
         ensures grown { OnErr result (0 < length (ranges_of self.now)) }
     {

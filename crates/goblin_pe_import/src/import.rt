@@ -152,7 +152,7 @@ impl<'a> ImportData<'a> {
             IfErr result
             (λ e.
             IsMemory e
-            → IsSomeAnd (offset_of m directory.virtual_address)
+            → IsSomeAnd (reading.first_record_offset true (offset_of m directory.virtual_address))
             (TakesLibraries true T.format (offset_of m) bytes.now)
             ⊎ TakesMap default_options sections.now file_alignment) }
     {
@@ -191,7 +191,7 @@ impl<'a> ImportData<'a> {
             IfErr result
             (λ e.
             IsMemory e
-            → IsSomeAnd (offset_of m directory.virtual_address)
+            → IsSomeAnd (reading.first_record_offset (reads_strictly m) (offset_of m directory.virtual_address))
             (TakesLibraries (reads_strictly m) T.format (offset_of m) bytes.now)
             ⊎ TakesMap opts.now sections.now file_alignment) }
     {
@@ -220,7 +220,7 @@ impl<'a> ImportData<'a> {
             IfErr result
             (λ e.
             IsMemory e
-            → IsSomeAnd (offset_of m directory.virtual_address)
+            → IsSomeAnd (reading.first_record_offset (reads_strictly m) (offset_of m directory.virtual_address))
             (TakesLibraries (reads_strictly m) T.format (offset_of m) bytes.now)) }
     {
         let rva = directory.virtual_address;

@@ -7,7 +7,8 @@ ghost use Rattle.goblin_pe_sect.specs.Mapping.{file_offset};
 ghost use Rattle.goblin_pe_sect.specs.Addresses.{AreMany, IsIndexed, KeepsWindowsAlone, TakesMap};
 ghost use Rattle.goblin_pe_sect.specs.Addresses.{WalksFew, reads_strictly};
 ghost use Rattle.goblin_pe_sect.specs.Addresses.{map_by, map_of, map_with, offset_of, strict_map};
-ghost use Rattle.goblin_pe_sect.specs.Runs.{IsRun};
+ghost use Rattle.std.specs.Prelude.{◌⊎◌, IfSome, Some};
+ghost use Rattle.goblin_pe_sect.specs.Runs.{IsRun, offset_in_run};
 ghost use Rattle.goblin_pe_sect.specs.SectionTable.{recorded_sections};
 ghost use Rattle.goblin_pe_sect.specs.WindowIndex.{HasPieces, located};
 
@@ -210,6 +211,7 @@ impl<'s> AddressMap<'s> {
         ensures value { result ≡ offset_of (map_of self.now) rva }
         ensures is { IsRun (offset_of (map_of self.now)) run.new }
         ensures walked { IsIndexed self.now → run.new ≡ run.old }
+        ensures about { IfSome result (λ p. IsIndexed self.now ⊎ (offset_in_run run.new rva ≡ Some p)) }
     {
         match &self.windows {
             Windows::Walked(records, file_alignment) => {

@@ -23,6 +23,12 @@ pub enum RawPointerRule {
     ByFileAlignment = 2,
 }
 
+const _: () = prove!(
+    RawPointerRule::AsStored as u8 == 0
+        && RawPointerRule::RoundedTo512 as u8 == 1
+        && RawPointerRule::ByFileAlignment as u8 == 2
+);
+
 /// What a reader does and leaves out.
 #[derive(Debug, Copy, Clone)]
 pub struct ParseOptions {

@@ -1,6 +1,7 @@
 //! The loops that read section tables.
 
 ghost use Rattle.std.specs.Prelude.{◌≡◌, ◌+◌, ◌*◌, ◌<◌, ℕ, map, IfErr, OnErr, OnOk};
+ghost use Rattle.std.specs.Prelude.{IfOk, vec_capacity};
 ghost use Rattle.goblin_base.specs.Answers.{IsMemory};
 ghost use Rattle.goblin_base.specs.Reading.{Reads, ReadsOrMemory};
 ghost use Rattle.readings.specs.Reads.{each, mapped};
@@ -31,6 +32,7 @@ pub(super) fn read_sections(
         (reading.moved_sections displacement strict string_table_offset count offset.old)
         bytes.now }
     ensures grown { IfErr result (λ e. IsMemory e → 0 < count) }
+    ensures room { IfOk result (λ v. vec_capacity v ≡ count) }
     ensures ok { OnOk result (offset.new ≡ offset.old + 40 * count) }
     ensures err { OnErr result (offset.new ≡ offset.old) }
 {

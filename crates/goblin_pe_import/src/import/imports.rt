@@ -623,6 +623,8 @@ impl<'a, 'm, 'e, T: Bitfield<'a>> Iterator for Imports<'a, 'm, 'e, T> {
         ensures lower { IsWithinCount result.0 (at_most (imports_bound self.now)) }
         ensures upper { IfSome result.1 (UpTo (at_most (imports_bound self.now))) }
         ensures fits { imports_bound self.now < 2 ^ 64 → IsSome result.1 }
+        ensures least { result.0 ≡ 0 }
+        ensures most { IfSome result.1 (λ n. n ≡ imports_bound self.now) }
     {
         (0, self.walk.bound())
     }

@@ -6,7 +6,7 @@ ghost use Rattle.goblin_base.specs.Reading.{TwinsOrMemory};
 ghost use Rattle.goblin_pe_sect.specs.Addresses.{TakesMap, map_by, offset_of, reads_strictly};
 ghost use Rattle.goblin_pe_import.specs.ImportDirectory.{TakesLibraries};
 ghost use Rattle.goblin_pe_import.specs.ImportLookup.{KeepsEntries, entry_view};
-ghost use Rattle.goblin_pe_import.specs.ImportReadings.{import_data};
+ghost use Rattle.goblin_pe_import.specs.ImportReadings.{first_record_offset, import_data};
 ghost use Rattle.goblin_pe_import.specs.LookupReadings.{lookup_table};
 
 use crate::import::{Bitfield, ImportData, ImportLookupTable, SyntheticImportLookupTableEntry};
@@ -99,14 +99,14 @@ pub fn twin_imports<'a, 'e, T: Bitfield<'a>>(
         IfErr result.0
         (λ e.
         IsMemory e
-        → IsSomeAnd (offset_of m directory.virtual_address)
+        → IsSomeAnd (first_record_offset (reads_strictly m) (offset_of m directory.virtual_address))
         (TakesLibraries (reads_strictly m) T.format (offset_of m) a.now)
         ⊎ TakesMap opts.now sections.now file_alignment) }
     ensures second_grown { let m = map_by opts.now sections.now file_alignment in
         IfErr result.1
         (λ e.
         IsMemory e
-        → IsSomeAnd (offset_of m directory.virtual_address)
+        → IsSomeAnd (first_record_offset (reads_strictly m) (offset_of m directory.virtual_address))
         (TakesLibraries (reads_strictly m) T.format (offset_of m) b.now)
         ⊎ TakesMap opts.now sections.now file_alignment) }
 {

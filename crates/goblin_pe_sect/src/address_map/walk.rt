@@ -86,6 +86,7 @@ pub(super) fn find_in_records(
     ensures is { let sections = recorded_sections records.entry in
         let offset_of = file_offset opts.now sections file_alignment in
         IsRun offset_of run.old → IsRun offset_of run.new }
+    ensures about { IfSome result (λ p. offset_in_run run.new rva ≡ Some p) }
 {
     if !opts.resolve_rva {
         *run = ALL_ADDRESSES;
