@@ -41,7 +41,7 @@ unfolding read_size
 find_unnamed alignment rva [] = refl
 find_unnamed alignment rva (s ∷ sections) = unnamed_by (is_in_window alignment rva s) s _ _ (find_unnamed alignment rva sections)
 
-offset_by : (opts : ParseOptions) (alignment rva : ℕ) (found : Option Section) → option_map (λ s. offset_in opts alignment s rva) (option_map unnamed found) ≡ option_map (λ s. offset_in opts alignment s rva) found
+offset_by : (opts : ParseOptions) (alignment rva : ℕ) (found : Option Section) → option_map (λ s. offset_in opts s rva) (option_map unnamed found) ≡ option_map (λ s. offset_in opts s rva) found
 offset_by opts alignment rva None = refl
 offset_by opts alignment rva (Some s) = refl
 
@@ -51,7 +51,7 @@ unfolding file_offset
 unnamed_offsets opts sections alignment =
     fun_ext (λ (rva : ℕ).
     ap (λ (x : Option ℕ). cond opts.resolve_rva (cond (is_power_of_two alignment) x None) (Some rva))
-    (ap (option_map (λ s. offset_in opts alignment s rva)) (find_unnamed alignment rva sections) ∙ offset_by opts alignment rva (find (is_in_window alignment rva) sections)))
+    (ap (option_map (λ s. offset_in opts s rva)) (find_unnamed alignment rva sections) ∙ offset_by opts alignment rva (find (is_in_window alignment rva) sections)))
 
 -- so maps by sections that differ in their names alone are the same
 pub unnamed_map : (opts : ParseOptions) (sections : List Section) (alignment : ℕ) → map_by opts (map unnamed sections) alignment ≡ map_by opts sections alignment

@@ -22,7 +22,7 @@ module _ (opts : ParseOptions) (sections : List Section) (alignment p : ℕ) whe
   passed (Some rva) h = found_is (file_offset opts sections alignment rva) h
 
   -- the section that maps an address to the offset has that address there
-  has_address : (s : Section) (rva : ℕ) → is_power_of_two alignment ≡ true → InWindow alignment rva s → p ≡ offset_in opts alignment s rva → rva_in opts alignment p s ≡ Some rva
+  has_address : (s : Section) (rva : ℕ) → is_power_of_two alignment ≡ true → InWindow alignment rva s → p ≡ offset_in opts s rva → rva_in opts alignment p s ≡ Some rva
   has_address s rva even holds is = grind (arith, nat_tests)
 
   finds_itself : (s : Section) (rva : ℕ) → rva_in opts alignment p s ≡ Some rva → file_offset opts sections alignment rva ≡ Some p → maps_to opts sections alignment p (rva_in opts alignment p s) ≡ true

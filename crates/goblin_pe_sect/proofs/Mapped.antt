@@ -51,7 +51,7 @@ found_in_window alignment rva sections s e = in_window alignment rva s (found_pa
 pub found_record : {A : Type 0} (view : A → Section) (alignment rva : ℕ) (records : List A) (r : A) → find (λ x. is_in_window alignment rva (view x)) records ≡ Some r → InWindow alignment rva (view r)
 found_record view alignment rva records r e = in_window alignment rva (view r) (found_passes (λ x. is_in_window alignment rva (view x)) records r e)
 
-said_by : (opts : ParseOptions) (sections : List Section) (alignment rva : ℕ) (found : Option Section) → find (is_in_window alignment rva) sections ≡ found → MatchOption (option_map (λ s. offset_in opts alignment s rva) found) (MapsNowhere sections alignment rva) (MapsTo opts sections alignment rva)
+said_by : (opts : ParseOptions) (sections : List Section) (alignment rva : ℕ) (found : Option Section) → find (is_in_window alignment rva) sections ≡ found → MatchOption (option_map (λ s. offset_in opts s rva) found) (MapsNowhere sections alignment rva) (MapsTo opts sections alignment rva)
 said_by opts sections alignment rva None e = λ k s at. not_in_window alignment rva s (none_passes (is_in_window alignment rva) sections e k s at)
 said_by opts sections alignment rva (Some s) e =
     let first : IsFirstWindow sections alignment rva (position_or_len (is_in_window alignment rva) sections) = record {
@@ -68,7 +68,7 @@ chosen true true x rva on even = refl
 chosen true false x rva on even = absurd (cc)
 chosen false c x rva on even = absurd (cc)
 
-pub file_offset-mapped : (opts : ParseOptions) (sections : List Section) (alignment rva : ℕ) → opts.resolve_rva ≡ true → is_power_of_two alignment ≡ true → file_offset opts sections alignment rva ≡ option_map (λ s. offset_in opts alignment s rva) (find (is_in_window alignment rva) sections)
+pub file_offset-mapped : (opts : ParseOptions) (sections : List Section) (alignment rva : ℕ) → opts.resolve_rva ≡ true → is_power_of_two alignment ≡ true → file_offset opts sections alignment rva ≡ option_map (λ s. offset_in opts s rva) (find (is_in_window alignment rva) sections)
 unfolding file_offset
 file_offset-mapped opts sections alignment rva on even = chosen opts.resolve_rva (is_power_of_two alignment) _ rva on even
 
@@ -105,10 +105,10 @@ unfolding file_offset
 file_offset_injective opts sections alignment first second index even x y e =
     let even' : is_power_of_two alignment ≡ true = search (rules, tests) in
     let one : x.section ≡ y.section = cc (x.is, y.is) in
-    let pointer = ap (raw_begin opts alignment) one in
+    let pointer = ap (raw_begin opts) one in
     let address = ap (λ (s : Section). s.virtual_address) one in
-    let x_at = ap (option_map (λ s. offset_in opts alignment s first)) (first_window-find sections alignment first index x) in
-    let y_at = ap (option_map (λ s. offset_in opts alignment s second)) (first_window-find sections alignment second index y) in
+    let x_at = ap (option_map (λ s. offset_in opts s first)) (first_window-find sections alignment first index x) in
+    let y_at = ap (option_map (λ s. offset_in opts s second)) (first_window-find sections alignment second index y) in
     apart_by opts.resolve_rva (is_power_of_two alignment) _ _ first second even' (λ same.
-    let offsets : offset_in opts alignment x.section first ≡ offset_in opts alignment y.section second = cc (x_at, y_at, same) in
+    let offsets : offset_in opts x.section first ≡ offset_in opts y.section second = cc (x_at, y_at, same) in
     omega (arith, offsets, pointer, address, x.holds, y.holds)) e

@@ -65,7 +65,7 @@ unfolding file_offset
 file_offset-reordered opts xs ys alignment is rva =
     same_choice opts.resolve_rva (is_power_of_two alignment) _ _ (Some rva) (λ even.
     let there : IsTrue (is_power_of_two alignment) = search (rules, tests) in
-    ap (option_map (λ s. offset_in opts alignment s rva)) (find_reordered (is_in_window alignment rva) xs ys is.moved (alone_in_windows alignment rva xs (is.apart there))))
+    ap (option_map (λ s. offset_in opts s rva)) (find_reordered (is_in_window alignment rva) xs ys is.moved (alone_in_windows alignment rva xs (is.apart there))))
 
 -- the two maps are the same
 pub map-reordered : (opts : ParseOptions) (xs ys : List Section) (alignment : ℕ) → IsReordering alignment xs ys → file_offset opts xs alignment ≡ file_offset opts ys alignment

@@ -93,34 +93,34 @@ in_one_piece sections alignment begins cut rva =
       | inr none ↦ absurd (omega (arith, here, stops (omega (arith, start.1)), rising_to begins cut.rising n i (omega arith) start.1))
     ]
 
-section_answers : (opts : ParseOptions) (alignment rva i : ℕ) (o : Option Section) → option_map (owner_offset rva) (option_map (owner_of_section opts alignment i) o) ≡ option_map (λ s. offset_in opts alignment s rva) o
+section_answers : (opts : ParseOptions) (alignment rva i : ℕ) (o : Option Section) → option_map (owner_offset rva) (option_map (owner_of_section opts alignment i) o) ≡ option_map (λ s. offset_in opts s rva) o
 section_answers opts alignment rva i None = refl
 section_answers opts alignment rva i (Some s) = refl
 
-index_answers : (opts : ParseOptions) (sections : List Section) (alignment rva i : ℕ) (b : Bool) → (b ≡ false → slice_get sections i ≡ None) → option_map (owner_offset rva) (option_and_then (λ (i : ℕ). option_map (owner_of_section opts alignment i) (slice_get sections i)) (cond b (Some i) None)) ≡ option_map (λ s. offset_in opts alignment s rva) (slice_get sections i)
+index_answers : (opts : ParseOptions) (sections : List Section) (alignment rva i : ℕ) (b : Bool) → (b ≡ false → slice_get sections i ≡ None) → option_map (owner_offset rva) (option_and_then (λ (i : ℕ). option_map (owner_of_section opts alignment i) (slice_get sections i)) (cond b (Some i) None)) ≡ option_map (λ s. offset_in opts s rva) (slice_get sections i)
 index_answers opts sections alignment rva i true none = section_answers opts alignment rva i (slice_get sections i)
 index_answers opts sections alignment rva i false none = rw (none refl) refl
 
 -- the owner answers as the first section does
-owner_answers : (opts : ParseOptions) (sections : List Section) (alignment begin rva : ℕ) → option_map (owner_offset rva) (first_owner opts sections alignment begin) ≡ option_map (λ s. offset_in opts alignment s rva) (find (is_in_window alignment begin) sections)
+owner_answers : (opts : ParseOptions) (sections : List Section) (alignment begin rva : ℕ) → option_map (owner_offset rva) (first_owner opts sections alignment begin) ≡ option_map (λ s. offset_in opts s rva) (find (is_in_window alignment begin) sections)
 owner_answers opts sections alignment begin rva =
     let i : ℕ = position_or_len (is_in_window alignment begin) sections in
     let past : nat_lt i (length sections) ≡ false → slice_get sections i ≡ None = λ e. slice_get_past sections i (search (rules, tests)) in
-    index_answers opts sections alignment rva i (nat_lt i (length sections)) past ∙ ap (option_map (λ s. offset_in opts alignment s rva)) (sym (find_at (is_in_window alignment begin) sections))
+    index_answers opts sections alignment rva i (nat_lt i (length sections)) past ∙ ap (option_map (λ s. offset_in opts s rva)) (sym (find_at (is_in_window alignment begin) sections))
 
 pub last_owner_some : (owners : List (Option Owner)) (n : ℕ) → 0 < n → last_owner owners n ≡ slice_index_or owners (n - 1) None
 last_owner_some owners zero some = absurd (omega arith)
 last_owner_some owners (suc k) some = let same : k ≡ suc k - 1 = omega arith in ap (λ (j : ℕ). slice_index_or owners j None) same
 
 -- pieces cut at the windows answer as the first section whose window holds the address
-pub mapped_pieces : (opts : ParseOptions) (sections : List Section) (alignment : ℕ) (begins : List ℕ) → IsCut sections alignment begins → (rva : ℕ) → option_map (owner_offset rva) (last_owner (map (first_owner opts sections alignment) begins) (reached begins rva)) ≡ option_map (λ s. offset_in opts alignment s rva) (find (is_in_window alignment rva) sections)
+pub mapped_pieces : (opts : ParseOptions) (sections : List Section) (alignment : ℕ) (begins : List ℕ) → IsCut sections alignment begins → (rva : ℕ) → option_map (owner_offset rva) (last_owner (map (first_owner opts sections alignment) begins) (reached begins rva)) ≡ option_map (λ s. offset_in opts s rva) (find (is_in_window alignment rva) sections)
 mapped_pieces opts sections alignment begins cut rva =
     let n : ℕ = reached begins rva in
     let place = in_one_piece sections alignment begins cut rva in
     let answer : Option Owner → Option ℕ = option_map (owner_offset rva) in
     let owner : last_owner (map (first_owner opts sections alignment) begins) n ≡ first_owner opts sections alignment (slice_index begins (n - 1)) = last_owner_some (map (first_owner opts sections alignment) begins) n place.0 ∙ get_or-map (first_owner opts sections alignment) begins (n - 1) 0 None place.1.within in
     let same : find (is_in_window alignment (slice_index begins (n - 1))) sections ≡ find (is_in_window alignment rva) sections = find_same _ _ sections (same_window sections alignment begins cut rva (n - 1) place.1) in
-    ap answer owner ∙ owner_answers opts sections alignment (slice_index begins (n - 1)) rva ∙ ap (option_map (λ s. offset_in opts alignment s rva)) same
+    ap answer owner ∙ owner_answers opts sections alignment (slice_index begins (n - 1)) rva ∙ ap (option_map (λ s. offset_in opts s rva)) same
 
 -- an owner is that of a section whose window holds the address
 record IsOwned (sections : List Section) (alignment begin : ℕ) (o : Owner) : Type 0 where

@@ -9,7 +9,6 @@ use Rattle.goblin_base.specs.declared.error.ErrorOf.TheVariants.{Malformed}
 use Rattle.goblin_pe_sect.specs.declared.options.ParseOptions.{ParseOptions}
 use Rattle.goblin_pe_sect.specs.declared.options.RawPointerRule.{RawPointerRule}
 use Rattle.goblin_pe_sect.specs.declared.options.RawPointerRule.TheVariants.{AsStored, RoundedTo512}
-use Rattle.goblin_pe_sect.specs.declared.options.RawPointerRule.TheVariants.{ByFileAlignment}
 use Rattle.goblin_pe_sect.specs.Multiples.{greatest_multiple, least_multiple}
 use Rattle.goblin_pe_sect.specs.SectionTable.{Section}
 
@@ -47,24 +46,19 @@ window_of s alignment =
 abbrev pub is_in_window : ℕ → ℕ → Section → Bool
 is_in_window alignment rva s = nat_le s.virtual_address rva && nat_lt rva (window_end s alignment)
 
--- a rule rounds raw pointers at this file alignment: always, never, or where the alignment is 512
--- or more
-abbrev pub rounds : RawPointerRule → ℕ → Bool
-rounds AsStored alignment = false
-rounds RoundedTo512 alignment = true
-rounds ByFileAlignment alignment = nat_le 512 alignment
+-- where raw data with this raw pointer begins for the mapping of addresses, by a rule: at the
+-- pointer as it is stored, or at the greatest multiple of 512 that is at most it
+abbrev pub ruled : RawPointerRule → ℕ → ℕ
+ruled AsStored pointer = pointer
+ruled RoundedTo512 pointer = greatest_multiple 512 pointer
 
--- where a section's raw data begins for the mapping of addresses: at its raw pointer as it is
--- stored, or at the greatest multiple of 512 that is at most it, by the rule of the options
-abbrev pub raw_begin : ParseOptions → ℕ → Section → ℕ
-raw_begin opts alignment s =
-    if rounds opts.raw_pointer_rule alignment
-    then greatest_multiple 512 s.pointer_to_raw_data
-    else s.pointer_to_raw_data
+-- where a section's raw data begins for the mapping of addresses, by the rule of the options
+abbrev pub raw_begin : ParseOptions → Section → ℕ
+raw_begin opts s = ruled opts.raw_pointer_rule s.pointer_to_raw_data
 
 -- the file offset of an address in a section's window: as far after the raw data's start
-abbrev pub offset_in : ParseOptions → ℕ → Section → ℕ → ℕ
-offset_in opts alignment s rva = raw_begin opts alignment s + (rva - s.virtual_address)
+abbrev pub offset_in : ParseOptions → Section → ℕ → ℕ
+offset_in opts s rva = raw_begin opts s + (rva - s.virtual_address)
 
 -- the file offset of an address: that of the first section whose window holds it; and the address
 -- itself where addresses are not mapped. No address has one if the alignment is not a power of two.
@@ -72,7 +66,7 @@ unfoldable pub file_offset : ParseOptions → List Section → ℕ → ℕ → O
 file_offset opts sections alignment rva =
     if opts.resolve_rva
     then (if is_power_of_two alignment
-    then option_map (λ s. offset_in opts alignment s rva)
+    then option_map (λ s. offset_in opts s rva)
     (find (is_in_window alignment rva) sections)
     else None)
     else Some rva
@@ -94,7 +88,7 @@ section_index alignment rva sections =
 -- there, or the alignment is not a power of two
 abbrev pub rva_in : ParseOptions → ℕ → ℕ → Section → Option ℕ
 rva_in opts alignment p s =
-    let begin = raw_begin opts alignment s in
+    let begin = raw_begin opts s in
     let end = begin + read_size s alignment in
     if is_power_of_two alignment && (nat_le begin p && nat_lt p end)
     then Some (s.virtual_address + (p - begin))
@@ -152,7 +146,7 @@ OffsetsApart opts sections alignment =
 abbrev pub MapsTo : ParseOptions → List Section → ℕ → ℕ → ℕ → Type 0
 MapsTo opts sections alignment rva offset =
     (index : ℕ) × (first : IsFirstWindow sections alignment rva index)
-    × (offset ≡ offset_in opts alignment first.section rva)
+    × (offset ≡ offset_in opts first.section rva)
 
 -- no section's window holds the address
 abbrev pub MapsNowhere : List Section → ℕ → ℕ → Type 0

@@ -1,9 +1,10 @@
 -- Options with a name.
-use Rattle.std.specs.Prelude.{Bool, true, false}
+use Rattle.std.specs.Prelude.{ℕ, Bool, true, false, if◌then◌else◌, nat_lt}
 use Rattle.goblin_base.specs.declared.permissive.ParseMode.{ParseMode}
 use Rattle.goblin_base.specs.declared.permissive.ParseMode.TheVariants.{Strict, Permissive}
 use Rattle.goblin_pe_sect.specs.declared.options.ParseOptions.{ParseOptions}
-use Rattle.goblin_pe_sect.specs.declared.options.RawPointerRule.TheVariants.{AsStored}
+use Rattle.goblin_pe_sect.specs.declared.options.RawPointerRule.{RawPointerRule}
+use Rattle.goblin_pe_sect.specs.declared.options.RawPointerRule.TheVariants.{AsStored, RoundedTo512}
 
 -- the options of a file on disk: everything is read, strictly, and addresses are mapped by the
 -- sections, from their raw pointers as stored
@@ -21,6 +22,10 @@ default_options = record {
 -- the options of a TE image: addresses are offsets, and there are no certificates
 abbrev pub te_options : ParseOptions
 te_options = record default_options { resolve_rva = false; parse_attribute_certificates = false }
+
+-- the rule for raw pointers by which pefile maps an image with this file alignment
+abbrev pub rule_by_alignment : ℕ → RawPointerRule
+rule_by_alignment alignment = if nat_lt alignment 512 then AsStored else RoundedTo512
 
 -- the mode is strict
 abbrev pub is_strict : ParseMode → Bool

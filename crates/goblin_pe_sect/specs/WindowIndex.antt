@@ -51,7 +51,7 @@ pub record IsCut (sections : List Section) (alignment : ℕ) (begins : List ℕ)
 -- what an index of windows keeps of a section, by its number in the table
 abbrev pub owner_of_section : ParseOptions → ℕ → ℕ → Section → Owner
 owner_of_section opts alignment i s =
-    record { index = i; address = s.virtual_address; pointer = raw_begin opts alignment s }
+    record { index = i; address = s.virtual_address; pointer = raw_begin opts s }
 
 -- what an index keeps of the first section whose window holds an address
 abbrev pub first_owner : ParseOptions → List Section → ℕ → ℕ → Option Owner

@@ -100,13 +100,13 @@ fn offset_in<S: ToSection>(
     opts: &ParseOptions,
 ) -> usize
     requires { InWindow file_alignment rva (S.section section.now) }
-    ensures { result ≡ offset_in opts.now file_alignment (S.section section.now) rva }
+    ensures { result ≡ offset_in opts.now (S.section section.now) rva }
 {
     let section = section.to_section();
     let distance = rva - section.virtual_address as usize;
     let raw_size = section.size_of_raw_data as usize;
     prove!(distance < raw_size + 4096);
-    raw_begin(&section, file_alignment, opts) as usize + distance
+    raw_begin(&section, opts) as usize + distance
 }
 
 /// The file offset of an address, as [`find_offset`](crate::utils::find_offset).

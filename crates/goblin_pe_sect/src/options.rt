@@ -1,33 +1,39 @@
 //! How a PE file is read.
 
 ghost use Rattle.std.specs.Prelude.{◌≡◌};
-ghost use Rattle.goblin_pe_sect.specs.Options.{default_options, te_options};
+ghost use Rattle.goblin_pe_sect.specs.Options.{default_options, rule_by_alignment, te_options};
 
 pub use goblin_base::ParseMode;
 
-/// Where the raw data of a section begins, for addresses and for its data.
+/// Where the raw data of a section begins for the mapping of addresses.
 ///
 /// Where the raw pointer is a multiple of 512, as the PE/COFF specification asks for the usual file
-/// alignments, all rules say the same. Else rounding is right where `section_alignment` is 4,096
+/// alignments, both rules say the same. Else rounding is right where `section_alignment` is 4,096
 /// or more, and pointers as stored where it is less, since the Windows loader maps such an image as
-/// one flat view of the file.
+/// one flat view of the file. [`RawPointerRule::by_file_alignment`] says which of both is right for
+/// a lawful image.
 #[derive(Debug, PartialEq, Copy, Clone)]
 pub enum RawPointerRule {
     /// At the raw pointer, as goblin maps.
-    AsStored = 0,
+    AsStored,
     /// At the greatest multiple of 512 that is at most the raw pointer.
-    RoundedTo512 = 1,
-    /// By the file alignment, as pefile maps: rounded where that is 512 or more, else as stored. In
-    /// a lawful image it is below 512 only where it equals a `section_alignment` below 4,096, so
-    /// this is right for each such image, without a look at its header before.
-    ByFileAlignment = 2,
+    RoundedTo512,
 }
 
-const _: () = prove!(
-    RawPointerRule::AsStored as u8 == 0
-        && RawPointerRule::RoundedTo512 as u8 == 1
-        && RawPointerRule::ByFileAlignment as u8 == 2
-);
+impl RawPointerRule {
+    /// The rule by which pefile maps an image with this file alignment: rounded where that is 512
+    /// or more, else as stored. In a lawful image it is below 512 only where it equals a
+    /// `section_alignment` below 4,096, so this is the right rule for each such image.
+    pub fn by_file_alignment(file_alignment: u32) -> RawPointerRule
+        ensures { result ≡ rule_by_alignment file_alignment }
+    {
+        if file_alignment < 512 {
+            RawPointerRule::AsStored
+        } else {
+            RawPointerRule::RoundedTo512
+        }
+    }
+}
 
 /// What a reader does and leaves out.
 #[derive(Debug, Copy, Clone)]

@@ -8,7 +8,7 @@ ghost use Rattle.std.specs.Option.{option_copied, option_map};
 ghost use Rattle.goblin_base.specs.Answers.{Answers};
 ghost use Rattle.goblin_base.specs.Reading.{Reads};
 ghost use Rattle.goblin_pe_sect.specs.AddressReadings.{data_at, name_or_none, text_at_address};
-ghost use Rattle.goblin_pe_sect.specs.Mapping.{read_size, window_end, window_of, raw_begin, rounds};
+ghost use Rattle.goblin_pe_sect.specs.Mapping.{read_size, window_end, window_of, raw_begin};
 ghost use Rattle.goblin_pe_sect.specs.Mapping.{file_offset, MapsTo, section_at};
 ghost use Rattle.goblin_pe_sect.specs.Mapping.{MapsNowhere, OffsetsApart, IsMessage};
 ghost use Rattle.goblin_pe_sect.specs.Multiples.{greatest_multiple, least_multiple};
@@ -117,18 +117,6 @@ pub fn window(section: &SectionTable, file_alignment: u32) -> Option<(usize, usi
     }
 }
 
-// Whether the rule rounds raw pointers at this file alignment.
-#[inline(always)]
-fn rounds(rule: RawPointerRule, file_alignment: u32) -> bool
-    ensures { result ≡ rounds rule file_alignment }
-{
-    match rule {
-        RawPointerRule::AsStored => false,
-        RawPointerRule::RoundedTo512 => true,
-        RawPointerRule::ByFileAlignment => file_alignment >= 512,
-    }
-}
-
 /// The section that an address lies in: the first whose window holds it, by which [`find_offset`]
 /// maps it. None does if `file_alignment` is not a power of two.
 #[tactic(auto, using(crate::proofs::First::as_given, crate::proofs::First::found_as_given))]
@@ -143,17 +131,16 @@ pub fn section_at(
 }
 
 /// The file offset at which the section's raw data begins for the mapping of addresses: its raw
-/// pointer, as stored or rounded down to 512 as the rule of `opts` says at this file alignment.
+/// pointer, as stored or rounded down to 512, by the rule of `opts`.
 ///
 /// Source: none; [`RawPointerRule`] says for which images each rule is right.
-pub fn raw_begin(section: &SectionTable, file_alignment: u32, opts: &ParseOptions) -> u32
-    ensures { result ≡ raw_begin opts.now file_alignment section.now }
+pub fn raw_begin(section: &SectionTable, opts: &ParseOptions) -> u32
+    ensures { result ≡ raw_begin opts.now section.now }
 {
     let pointer = section.pointer_to_raw_data;
-    if rounds(opts.raw_pointer_rule, file_alignment) {
-        round_down(pointer as usize, 512) as u32
-    } else {
-        pointer
+    match opts.raw_pointer_rule {
+        RawPointerRule::AsStored => pointer,
+        RawPointerRule::RoundedTo512 => round_down(pointer as usize, 512) as u32,
     }
 }
 

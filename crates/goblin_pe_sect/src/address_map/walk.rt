@@ -56,7 +56,7 @@ fn find_window(
         } else if end <= rva {
             low = low.max(end);
         } else {
-            let pointer = raw_begin(&section, file_alignment, opts) as usize;
+            let pointer = raw_begin(&section, opts) as usize;
             let first = low.max(begin);
             *run = Run {
                 first,

@@ -20,7 +20,7 @@ pub fn rva_in(
     ensures { result ≡ rva_in opts.now file_alignment offset section.now }
 {
     let (first, end) = window(section, file_alignment)?;
-    let begin = raw_begin(section, file_alignment, opts) as usize;
+    let begin = raw_begin(section, opts) as usize;
     if offset < begin || end - first <= offset - begin {
         return None;
     }

@@ -62,7 +62,7 @@ pub(super) fn window_at(
         owner: Owner {
             index,
             address: section.virtual_address,
-            pointer: raw_begin(section, file_alignment, opts),
+            pointer: raw_begin(section, opts),
         },
     }
 }
