@@ -36,38 +36,38 @@ unasked_mapped view f strict true read directory bytes (inr is) = rw is refl
 abbrev pub IsRefused : {Z : Type 0} → List ℕ → Reading Z → ErrorOf → Type 0
 IsRefused bytes r e = (r.value bytes ≡ None) × r.IsCause bytes e
 
-module _ {X Y : Type 0} (import_of : ImportValue → X) (exports_of : Part ExportTables → Y)
+module _ {X Y : Type 0} (imports_of : Part (List ImportValue) → X) (exports_of : Part ExportTables → Y)
     (opts : ParseOptions) (offset_of : ℕ → Option ℕ) (places : TablePlaces) (bytes : List ℕ) where
-  abbrev imports_made : Reading (Part (List X))
-  imports_made = mapped (collected_imports import_of) (both_import_parts opts offset_of places)
+  abbrev imports_made : Reading (X)
+  imports_made = mapped (collected_imports imports_of) (both_import_parts opts offset_of places)
 
   abbrev exports_made : Reading Y
   exports_made = mapped (collected_exports exports_of) (export_part opts offset_of places)
 
   abbrev all_made : Reading (CollectedParts X Y)
-  all_made = mapped (collected_tables import_of exports_of) (table_parts opts offset_of places)
+  all_made = mapped (collected_tables imports_of exports_of) (table_parts opts offset_of places)
 
   pub first-refused : (e : ErrorOf) → IsRefused bytes imports_made e → IsRefused bytes all_made e
   unfolding table_parts
   first-refused e h = rw (steps.unmapped _ _ h.0) (refl, h.1)
 
-  pub second-refused : (x : Part (List X)) (e : ErrorOf) → imports_made.value bytes ≡ Some x
+  pub second-refused : (x : X) (e : ErrorOf) → imports_made.value bytes ≡ Some x
       → IsRefused bytes exports_made e → IsRefused bytes all_made e
   unfolding table_parts
   second-refused x e made h =
       rw ((steps.mapped _ _ x made).is, steps.unmapped _ _ h.0) (refl, h.1)
 
-  pub third-refused : (x : Part (List X)) (y : Y) (e : ErrorOf)
+  pub third-refused : (x : X) (y : Y) (e : ErrorOf)
       → imports_made.value bytes ≡ Some x → exports_made.value bytes ≡ Some y
       → IsRefused bytes (relocation_part opts offset_of places) e → IsRefused bytes all_made e
   unfolding table_parts
   third-refused x y e first second h =
       rw ((steps.mapped _ _ x first).is, (steps.mapped _ _ y second).is, h.0) (refl, h.1)
 
-  abbrev parts_of : Part (List X) → Y → Part (List ℕ) → CollectedParts X Y
+  abbrev parts_of : X → Y → Part (List ℕ) → CollectedParts X Y
   parts_of x y z = record { imports = x; exports = y; relocations = z }
 
-  pub all-read : (x : Part (List X)) (y : Y) (z : Part (List ℕ))
+  pub all-read : (x : X) (y : Y) (z : Part (List ℕ))
       → imports_made.value bytes ≡ Some x → exports_made.value bytes ≡ Some y
       → (relocation_part opts offset_of places).value bytes ≡ Some z
       → all_made.value bytes ≡ Some (parts_of x y z)
@@ -76,10 +76,10 @@ module _ {X Y : Type 0} (import_of : ImportValue → X) (exports_of : Part Expor
       let m = steps.mapped _ _ x first in
       let n = steps.mapped _ _ y second in
       rw (m.is, n.is, third)
-      (ap (λ (x : Part (List X)). Some (parts_of x (collected_exports exports_of n.value) z)) m.made
+      (ap (λ (x : X). Some (parts_of x (collected_exports exports_of n.value) z)) m.made
       ∙ ap (λ (y : Y). Some (parts_of x y z)) n.made)
 
-module _ {X Y : Type 0} (import_of : ImportValue → X) (exports_of : Part ExportTables → Y) where
+module _ {X Y : Type 0} (imports_of : Part (List ImportValue) → X) (exports_of : Part ExportTables → Y) where
   -- what is kept of a file with this header and these sections, and of whose tables this is kept
   abbrev file_with : PeHeader → List Section → CollectedParts X Y → CollectedFileValue X Y
   file_with h sections t = record {
@@ -91,8 +91,8 @@ module _ {X Y : Type 0} (import_of : ImportValue → X) (exports_of : Part Expor
   }
 
   file-collected : (h : PeHeader) (sections : List Section) (parts : TableParts)
-      → collected_file import_of exports_of (whole_of h sections parts)
-      ≡ file_with h sections (collected_tables import_of exports_of parts)
+      → collected_file imports_of exports_of (whole_of h sections parts)
+      ≡ file_with h sections (collected_tables imports_of exports_of parts)
   file-collected h sections parts = refl
 
   module _ (opts : ParseOptions) (h : PeHeader) (sections : List Section) (bytes : List ℕ) where
@@ -102,8 +102,8 @@ module _ {X Y : Type 0} (import_of : ImportValue → X) (exports_of : Part Expor
         (table_parts opts (offset_by opts sections places) places).value bytes
 
     pub file_read : (t : CollectedParts X Y)
-        → option_map (collected_tables import_of exports_of) tables_of ≡ Some t
-        → option_map (collected_file import_of exports_of) (option_map (whole_of h sections) tables_of)
+        → option_map (collected_tables imports_of exports_of) tables_of ≡ Some t
+        → option_map (collected_file imports_of exports_of) (option_map (whole_of h sections) tables_of)
         ≡ Some (file_with h sections t)
     file_read t e =
         let m = steps.mapped tables_of _ t e in

@@ -6,7 +6,7 @@ use Rattle.std.proofs.lemmas.List.Sums.{sum_by-append}
 use Rattle.goblin_base.specs.declared.error.ErrorOf.{ErrorOf}
 use Rattle.goblin_base.specs.Answers.{all_of}
 use Rattle.goblin_pe_import.specs.ImportWalks.{walked_value}
-use Rattle.goblin_pe_import.specs.Imports.{ImportValue}
+use Rattle.goblin_pe_import.specs.Imports.{NumberedImport}
 use Rattle.goblin_pe_import.specs.declared.import.imports.WalkedImport.{WalkedImport}
 use Rattle.goblin_pe.specs.declared.whole.imports.FileImports.{FileImports}
 use Rattle.goblin_pe.specs.LayoutCursors.{GivesFileImport}
@@ -16,15 +16,15 @@ use Rattle.readings.specs.Walks.{GivesNext}
 use Rattle.readings.proofs.Walked.{AtWalk, walk-all, walk-fault, walk-more, walk-start}
 
 -- The walk over imports that began at `start` is now at `now`, and this was gathered of the imports so far.
-pub record Gathers {B : Type 0} (gather : List ImportValue → B) (start now : FileImports) (value : B) : Type 0 where
-  pub items : List ImportValue
+pub record Gathers {B : Type 0} (gather : List NumberedImport → B) (start now : FileImports) (value : B) : Type 0 where
+  pub items : List NumberedImport
   pub at : AtWalk file_imports_left IsFileImportsCause start now items
   pub said : value ≡ gather items
 
-pub gathers_start : {B : Type 0} (gather : List ImportValue → B) (start : FileImports) (value : B) → value ≡ gather [] → Gathers gather start start value
+pub gathers_start : {B : Type 0} (gather : List NumberedImport → B) (start : FileImports) (value : B) → value ≡ gather [] → Gathers gather start start value
 gathers_start gather start value is = record { items = []; at = walk-start file_imports_left IsFileImportsCause start; said = is }
 
-module _ {B : Type 0} (gather : List ImportValue → B) (start now next : FileImports) (value : B) (h : Gathers gather start now value) where
+module _ {B : Type 0} (gather : List NumberedImport → B) (start now next : FileImports) (value : B) (h : Gathers gather start now value) where
   -- one import more
   pub gathers_more : (r : Result WalkedImport ErrorOf) (x : WalkedImport) (more : B) → GivesFileImport now (Some r) next → r ≡ Ok x → more ≡ gather (h.items ++ walked_value x ∷ []) → Gathers gather start next more
   gathers_more r x more given is said = record {
@@ -52,7 +52,7 @@ one-count : {A : Type 0} (p : A → Bool) (x : A) → count_by p (x ∷ []) ≡ 
 one-count p x = omega arith
 
 -- how many of the imports pass a test
-pub count_more : (p : ImportValue → Bool) (start now next : FileImports) (count more : ℕ) (r : Result WalkedImport ErrorOf) (x : WalkedImport)
+pub count_more : (p : NumberedImport → Bool) (start now next : FileImports) (count more : ℕ) (r : Result WalkedImport ErrorOf) (x : WalkedImport)
     → Gathers (counted p) start now count → GivesFileImport now (Some r) next → r ≡ Ok x → more ≡ min (count + cond (p (walked_value x)) 1 0) (2 ^ 64 - 1) → Gathers (counted p) start next more
 count_more p start now next count more r x h given is said =
     gathers_more (counted p) start now next count h r x more given is
@@ -64,9 +64,9 @@ one-found : {A : Type 0} (p : A → Bool) (x : A) → find p (x ∷ []) ≡ cond
 one-found p x = refl
 
 -- the first of the imports that passes a test
-pub find_more : (p : ImportValue → Bool) (start now next : FileImports) (found more : Option ImportValue) (r : Result WalkedImport ErrorOf) (x : WalkedImport)
+pub find_more : (p : NumberedImport → Bool) (start now next : FileImports) (found more : Option NumberedImport) (r : Result WalkedImport ErrorOf) (x : WalkedImport)
     → Gathers (find p) start now found → GivesFileImport now (Some r) next → r ≡ Ok x → more ≡ option_or found (cond (p (walked_value x)) (Some (walked_value x)) None) → Gathers (find p) start next more
 find_more p start now next found more r x h given is said =
     let one = cond (p (walked_value x)) (Some (walked_value x)) None in
     gathers_more (find p) start now next found h r x more given is
-    (said ∙ ap (λ (o : Option ImportValue). option_or o one) h.said ∙ ap (λ (o : Option ImportValue). option_or (find p h.items) o) (sym (one-found p (walked_value x))) ∙ sym (find-append p h.items (walked_value x ∷ [])))
+    (said ∙ ap (λ (o : Option NumberedImport). option_or o one) h.said ∙ ap (λ (o : Option NumberedImport). option_or (find p h.items) o) (sym (one-found p (walked_value x))) ∙ sym (find-append p h.items (walked_value x ∷ [])))

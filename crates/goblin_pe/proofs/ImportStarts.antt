@@ -99,6 +99,8 @@ narrow_given s t r given =
       λ m magic bytes walk. (walk.0, over-again bytes m s t walk.1 given.3, given.1 walk.2),
       next.1,
       given.4,
+      given.3.0,
+      given.3.1,
     )
 
 pub wide_given : (s t : Imports ℕ) (r : Option (Result WalkedImport ErrorOf))
@@ -109,6 +111,8 @@ wide_given s t r given =
       λ m magic bytes walk. (walk.0, over-again bytes m s t walk.1 given.3, given.1 walk.2),
       next.1,
       given.4,
+      given.3.0,
+      given.3.1,
     )
 
 -- ---- a walk at a cursor

@@ -351,16 +351,15 @@ module _ (strict : Bool) (format : Format EntryValue) (offset_of : ℕ → Optio
       (has-beside _ _ (has-or_else strict [] (address.name_at offset_of r.name_rva) (has-name_at r.name_rva)) (has-lookup (lookup_offset offset_of r)))
       (has-at (address_table_rva r) (lookup.address_table format) has-addresses))
 
-  has-libraries : (o : ℕ) → HasOne (imports.libraries_past_front strict format offset_of o)
-  unfolding imports.libraries_at
+  has-libraries : (o : ℕ)
+      → HasOne (imports.read_past_front strict (imports.libraries_at strict format offset_of) o)
   has-libraries o = by (not strict && o == 0)
     where
-      by : (test : Bool) → HasOne (imports.libraries_if strict format offset_of (cond test None (Some o)))
+      by : (test : Bool) → HasOne (imports.read_if (imports.libraries_at strict format offset_of) (cond test None (Some o)))
       by true = has-given []
-      by false = record {
-        one = (has-table import_slots strict imports.import_record_at (imports.kept_library strict format offset_of) o
-            (λ p. has-because (ImportRecordEnd p) (reads.record_at 20 (import_record Little) p)) (λ r. has-or_left_out strict (imports.library_of strict format offset_of r) (has-library r))).one;
-      }
+      by false =
+          has-table import_slots strict imports.import_record_at (imports.kept_library strict format offset_of) o
+          (λ p. has-because (ImportRecordEnd p) (reads.record_at 20 (import_record Little) p)) (λ r. has-or_left_out strict (imports.library_of strict format offset_of r) (has-library r))
 
   pub has-import_data : (rva : ℕ) → HasOne (imports.import_data strict format offset_of rva)
   unfolding imports.import_data

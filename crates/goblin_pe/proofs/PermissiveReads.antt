@@ -27,8 +27,8 @@ use Rattle.goblin_pe.specs.declared.whole.Part.TheVariants.{Absent, Refused}
 use Rattle.goblin_pe.specs.declared.whole.Part.TheVariants as part
 use Rattle.goblin_pe_export.specs.ExportReadings.{export_read}
 use Rattle.goblin_pe_import.specs.ImportEntries.{EntryValue}
-use Rattle.goblin_pe_import.specs.ImportReadings.{import_data, libraries_at, libraries_if}
-use Rattle.goblin_pe_import.specs.ImportReadings.{libraries_past_front}
+use Rattle.goblin_pe_import.specs.ImportReadings.{import_data, libraries_at, read_if}
+use Rattle.goblin_pe_import.specs.ImportReadings.{read_past_front}
 use Rattle.goblin_pe_import.specs.ImportRecords.{ImportedLibrary}
 use Rattle.goblin_pe_import.specs.Imports.{ImportValue, imports_of}
 use Rattle.goblin_pe_import.proofs.ImportBound.{pair_of-left, pair_of-right}
@@ -66,7 +66,7 @@ header_in_modes bytes strict permissive h k =
 past_front : (test : Bool) (format : Format EntryValue) (offset_of : ℕ → Option ℕ)
     (bytes : List ℕ) (o : ℕ) (xs : List ImportedLibrary)
     → (libraries_at false format offset_of o).value bytes ≡ Some xs
-    → (libraries_if false format offset_of (cond test None (Some o))).value bytes
+    → (read_if (libraries_at false format offset_of) (cond test None (Some o))).value bytes
     ≡ Some (cond test [] xs)
 past_front true format offset_of bytes o xs is = refl
 past_front false format offset_of bytes o xs is = is
@@ -74,9 +74,9 @@ past_front false format offset_of bytes o xs is = is
 front_or_not : (format : Format EntryValue) (offset_of : ℕ → Option ℕ) (bytes : List ℕ)
     (place : Option ℕ) (xs : List ImportedLibrary)
     → (in_its_place true 0 place
-    >>= λ o. (libraries_past_front true format offset_of o).value bytes) ≡ Some xs
+    >>= λ o. (read_past_front true (libraries_at true format offset_of) o).value bytes) ≡ Some xs
     → (in_its_place false 0 place
-    >>= λ o. (libraries_past_front false format offset_of o).value bytes)
+    >>= λ o. (read_past_front false (libraries_at false format offset_of) o).value bytes)
     ≡ Some (unless_front place xs)
 front_or_not format offset_of bytes None xs is = absurd cc
 front_or_not format offset_of bytes (Some o) xs is =

@@ -79,7 +79,7 @@ module _ (opts : ParseOptions) (bytes : List ℕ) (short : length bytes < 2 ^ 63
   unfolding table_parts
   tables-there offset_of places imports exports relocations left_out no_imports no_exports no_relocations damage =
       let listed = there (import_list (in_mode Strict opts) offset_of places) bytes imports no_imports damage.imports in
-      let parts = unmapped-there _ ((both_import_parts (in_mode Strict opts) offset_of places).value bytes) _ (list_value (in_mode Strict opts) offset_of places bytes short fit) listed in
+      let parts = unmapped-there _ ((both_import_parts (in_mode Strict opts) offset_of places).value bytes) _ (list_value (in_mode Strict opts) offset_of places bytes short fit) (mapped-there _ _ listed) in
       mapped-there _ _
       (all-there (both_import_parts (in_mode Strict opts) offset_of places) (export_part (in_mode Strict opts) offset_of places) (relocation_part (in_mode Strict opts) offset_of places) bytes parts
       (there (export_part (in_mode Strict opts) offset_of places) bytes exports no_exports damage.exports)

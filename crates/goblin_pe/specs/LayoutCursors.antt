@@ -12,9 +12,10 @@ use Rattle.goblin_pe_sect.specs.Options.{is_strict}
 use Rattle.goblin_pe_sect.specs.Addresses.{MapOfAddresses}
 use Rattle.goblin_pe_import.specs.ImportLookup.{entries_32, entries_64}
 use Rattle.goblin_pe_import.specs.ImportCursors.{first_import}
-use Rattle.goblin_pe_import.specs.Imports.{ImportValue}
+use Rattle.goblin_pe_import.specs.Imports.{NumberedImport}
 use Rattle.goblin_pe_import.specs.ImportWalks.{AreImportsOver, HasName, IsCursorCause, cursor_left}
-use Rattle.goblin_pe_import.specs.ImportWalks.{cursor_of, imports_map, no_imports, walked_value}
+use Rattle.goblin_pe_import.specs.ImportWalks.{cursor_of, imports_bytes, imports_map, no_imports}
+use Rattle.goblin_pe_import.specs.ImportWalks.{walked_value}
 use Rattle.goblin_pe_import.specs.declared.import.imports.ImportCursor.{ImportCursor}
 use Rattle.goblin_pe_import.specs.declared.import.imports.WalkedImport.{WalkedImport}
 use Rattle.goblin_pe.specs.declared.whole.Part.{Part}
@@ -27,7 +28,7 @@ use Rattle.goblin_pe.specs.Whole.{TablePlaces, entry_format}
 
 -- what is still to come at a cursor, by this magic and this map of addresses
 abbrev pub file_cursor_left : MapOfAddresses → ℕ → List ℕ → ImportCursor
-    → List (Option ImportValue)
+    → List (Option NumberedImport)
 file_cursor_left m magic bytes c = cursor_left m (entry_format magic) bytes c
 
 -- which cause is true if there is a refusal among it
@@ -43,6 +44,11 @@ file_cursor (Wide imports) = cursor_of imports
 abbrev pub file_map : FileImports → MapOfAddresses
 file_map (Narrow imports) = imports_map imports
 file_map (Wide imports) = imports_map imports
+
+-- the bytes that it is over
+abbrev pub file_bytes : FileImports → List ℕ
+file_bytes (Narrow imports) = imports_bytes imports
+file_bytes (Wide imports) = imports_bytes imports
 
 -- the walk is over these bytes, by this magic and this map of addresses, and holds the name that its
 -- cursor says
@@ -64,7 +70,7 @@ IsAtFileEnd result imports =
     MatchOption result (c ≡ no_imports) (λ r. IfErr r (λ e. c ≡ no_imports))
 
 -- A call of `next` gives the next import, or an error that is never Memory, or else has ended the
--- walk; it keeps what is walked over.
+-- walk; it keeps the bytes and the map, and what is known of the walk.
 abbrev pub GivesFileImport : FileImports → Option (Result WalkedImport ErrorOf) → FileImports
     → Type 0
 GivesFileImport s result t =
@@ -73,6 +79,8 @@ GivesFileImport s result t =
     → IsImportWalk m magic bytes t)
     × IfSome result (λ r. IfErr r (λ e. ¬ IsMemory e))
     × IsAtFileEnd result t
+    × (file_bytes t ≡ file_bytes s)
+    × (file_map t ≡ file_map s)
 
 -- A call gives the walk from the first import of a directory on, or is refused since that is.
 abbrev pub GivesFirst : MapOfAddresses → ℕ → List ℕ → Reading ImportCursor

@@ -11,7 +11,7 @@ use Rattle.goblin_pe_export.specs.ExportRecords.{ExportRow, ExportTables}
 use Rattle.goblin_pe_export.specs.ExportWalks.{AreExportsOver, exports_left, numbered_from}
 use Rattle.goblin_pe_export.specs.ExportWalks.{walked_tables}
 use Rattle.goblin_pe_import.specs.ImportLookup.{entries_32, entries_64}
-use Rattle.goblin_pe_import.specs.Imports.{ImportValue}
+use Rattle.goblin_pe_import.specs.Imports.{NumberedImport}
 use Rattle.goblin_pe_import.specs.ImportWalks.{IsImportsCause, imports_bound, imports_left}
 use Rattle.goblin_pe.specs.declared.whole.Part.{Part}
 use Rattle.goblin_pe.specs.declared.whole.Part.TheVariants.{Absent, Refused}
@@ -70,7 +70,7 @@ PartWalks left IsCause gather (Err e) reading bytes =
 -- ---- the walk over the imports, whose entries have four bytes or eight
 
 -- what is still to come
-abbrev pub file_imports_left : FileImports → List (Option ImportValue)
+abbrev pub file_imports_left : FileImports → List (Option NumberedImport)
 file_imports_left (Narrow imports) = imports_left entries_32 imports
 file_imports_left (Wide imports) = imports_left entries_64 imports
 

@@ -1,6 +1,6 @@
 -- A whole file: its header, its sections, and the tables that its directories lead to.
 use Rattle.std.specs.Prelude.{◌≡◌, ℕ, ◌+◌, ◌==◌, Bool, true, false, if◌then◌else◌, List, Option, Ok}
-use Rattle.std.specs.Prelude.{Some, None, Result, Err, Vec, IsSomeAnd, map, option_map, flat_map}
+use Rattle.std.specs.Prelude.{Some, None, Result, Err, Vec, IsSomeAnd, map, option_map, flat_map, unwrap_or}
 use Rattle.std.specs.Global.{Global}
 use Rattle.std.specs.declared.alloc.AllocError.{AllocError}
 use Rattle.std.proofs.Common.{inl, inr}
@@ -33,10 +33,10 @@ use Rattle.goblin_pe_export.specs.ExportReadings.{export_read}
 use Rattle.goblin_pe_export.specs.ExportRecords.{ExportRow, ExportTables, export_read_view}
 use Rattle.goblin_pe_import.specs.ImportEntries.{EntryValue}
 use Rattle.goblin_pe_import.specs.ImportLookup.{entries_32, entries_64}
-use Rattle.goblin_pe_import.specs.ImportReadings.{import_data}
-use Rattle.goblin_pe_import.specs.ImportRecords.{ImportedLibrary}
-use Rattle.goblin_pe_import.specs.Imports.{ImportValue, IsImportListFault}
-use Rattle.goblin_pe_import.specs.Imports.{first_without_slots, imports_of, kept_imports}
+use Rattle.goblin_pe_import.specs.ImportReadings.{import_data, numbered_data}
+use Rattle.goblin_pe_import.specs.ImportRecords.{ImportedLibrary, NumberedLibrary}
+use Rattle.goblin_pe_import.specs.Imports.{ImportValue, IsImportListFault, NumberedImport}
+use Rattle.goblin_pe_import.specs.Imports.{first_without_slots, imports_of, numbered_imports}
 
 -- ---- parts
 
@@ -127,16 +127,29 @@ offset_by opts sections places = file_offset opts sections places.file_alignment
 
 -- ---- the tables
 
--- the import data; there is none where imports are not asked for
+-- what is read of the import directory; there is none where imports are not asked for
+abbrev pub imports_part : {A : Type 0} → ParseOptions → (DataDirectory → Reading A) → TablePlaces
+    → Reading (Part A)
+imports_part opts read places =
+    pick opts.parse_imports (part_at (is_strict opts.parse_mode) read places.imports) (given Absent)
+
+-- the import data
 unfoldable pub import_data_part : ParseOptions → (ℕ → Option ℕ) → TablePlaces
     → Reading (Part (List ImportedLibrary))
 import_data_part opts offset_of places =
-    let strict = is_strict opts.parse_mode in
-    pick opts.parse_imports
-    (part_at strict
-    (λ d. import_data strict (entry_format places.magic) offset_of d.virtual_address)
-    places.imports)
-    (given Absent)
+    imports_part opts
+    (λ d.
+    import_data (is_strict opts.parse_mode) (entry_format places.magic) offset_of d.virtual_address)
+    places
+
+-- the same libraries, each with the index of its record
+unfoldable pub numbered_data_part : ParseOptions → (ℕ → Option ℕ) → TablePlaces
+    → Reading (Part (List NumberedLibrary))
+numbered_data_part opts offset_of places =
+    imports_part opts
+    (λ d.
+    numbered_data (is_strict opts.parse_mode) (entry_format places.magic) offset_of d.virtual_address)
+    places
 
 -- the list of imports made from import data
 unfoldable pub listed_imports_part : ParseOptions → TablePlaces → Part (List ImportedLibrary)
@@ -173,17 +186,27 @@ both_import_parts opts offset_of places =
     checked (λ libraries. pair_of (Some libraries) (listed_imports_part opts places libraries))
     IsListedImportsFault listed_imports_part-not_memory (import_data_part opts offset_of places)
 
--- the imports alone, those of each library one by one
+-- the imports alone, those of each library one by one, each with the index of the library's record
 unfoldable pub import_list : ParseOptions → (ℕ → Option ℕ) → TablePlaces
-    → Reading (Part (List ImportValue))
+    → Reading (Part (List NumberedImport))
 import_list opts offset_of places =
-    mapped (part_map (flat_map (kept_imports (λ x. x) (entry_format places.magic).width)))
-    (import_data_part opts offset_of places)
+    mapped (part_map (flat_map (numbered_imports (entry_format places.magic).width)))
+    (numbered_data_part opts offset_of places)
+
+-- those of a file that has such a list
+abbrev pub listed_in : ParseOptions → (ℕ → Option ℕ) → TablePlaces → List ℕ
+    → Part (List NumberedImport)
+listed_in opts offset_of places bytes =
+    unwrap_or ((import_list opts offset_of places).value bytes) Absent
+
+-- imports without the indexes of their libraries
+abbrev pub without_numbers : Part (List NumberedImport) → Part (List ImportValue)
+without_numbers imports = part_map (map (λ x. x.import)) imports
 
 -- The imports alone are the list that is made of the libraries, and are refused as that is.
 pub record AreListed (opts : ParseOptions) (offset_of : ℕ → Option ℕ) (places : TablePlaces)
     (bytes : List ℕ) : Type 0 where
-  pub value : (import_list opts offset_of places).value bytes
+  pub value : option_map without_numbers ((import_list opts offset_of places).value bytes)
       ≡ option_map (λ read. read.1) ((both_import_parts opts offset_of places).value bytes)
   pub cause : (e : ErrorOf) → (import_list opts offset_of places).value bytes ≡ None
       → (import_list opts offset_of places).IsCause bytes e
@@ -269,12 +292,12 @@ whole_after opts h =
 unfoldable pub whole_file : ParseOptions → Reading WholeFile
 whole_file opts = pe_header (is_strict opts.parse_mode) >>= λ h. whole_after opts h
 
--- ---- what a caller makes of a file, of each import and of the export tables
+-- ---- what a caller makes of a file, of its imports and of the export tables
 
 -- what is made of the imports that were read with their libraries
-abbrev pub collected_imports : {X : Type 0} → (ImportValue → X)
-    → Part (List ImportedLibrary) × Part (List ImportValue) → Part (List X)
-collected_imports import_of read = part_map (map import_of) read.1
+abbrev pub collected_imports : {X : Type 0} → (Part (List ImportValue) → X)
+    → Part (List ImportedLibrary) × Part (List ImportValue) → X
+collected_imports imports_of read = imports_of read.1
 
 -- what is made of the export tables that were read with their rows
 abbrev pub collected_exports : {Y : Type 0} → (Part ExportTables → Y)
@@ -283,32 +306,32 @@ collected_exports exports_of read = exports_of (part_map (λ read. read.0) read)
 
 -- what is made of the tables of a file
 pub record CollectedParts (X Y : Type 0) : Type 0 where
-  pub imports : Part (List X)
+  pub imports : X
   pub exports : Y
   pub relocations : Part (List ℕ)
 
-abbrev pub collected_tables : {X Y : Type 0} → (ImportValue → X) → (Part ExportTables → Y)
-    → TableParts → CollectedParts X Y
-collected_tables import_of exports_of parts = record {
-  imports = collected_imports import_of parts.imports;
+abbrev pub collected_tables : {X Y : Type 0} → (Part (List ImportValue) → X)
+    → (Part ExportTables → Y) → TableParts → CollectedParts X Y
+collected_tables imports_of exports_of parts = record {
+  imports = collected_imports imports_of parts.imports;
   exports = collected_exports exports_of parts.exports;
   relocations = parts.relocations;
 }
 
--- a whole file with X made of each of its imports, and Y of its export tables
+-- a whole file with X made of its imports, and Y of its export tables
 pub record CollectedFileValue (X Y : Type 0) : Type 0 where
   pub header : PeHeader
   pub sections : List Section
-  pub imports : Part (List X)
+  pub imports : X
   pub exports : Y
   pub relocations : Part (List ℕ)
 
-abbrev pub collected_file : {X Y : Type 0} → (ImportValue → X) → (Part ExportTables → Y)
-    → WholeFile → CollectedFileValue X Y
-collected_file import_of exports_of w = record {
+abbrev pub collected_file : {X Y : Type 0} → (Part (List ImportValue) → X)
+    → (Part ExportTables → Y) → WholeFile → CollectedFileValue X Y
+collected_file imports_of exports_of w = record {
   header = w.header;
   sections = w.sections;
-  imports = part_map (map import_of) w.imports;
+  imports = imports_of w.imports;
   exports = exports_of w.export_data;
   relocations = w.relocations;
 }

@@ -26,10 +26,10 @@ use Rattle.goblin_pe.proofs.SectionRoom.{sections_counted}
 use Rattle.goblin_pe_head.specs.SectionRoom.{HasRoom}
 use Rattle.goblin_pe.specs.declared.whole.Part.{Part}
 use Rattle.goblin_pe.specs.declared.whole.Part.TheVariants as part
-use Rattle.goblin_pe.specs.Imports.{ImportValue}
+use Rattle.goblin_pe_import.specs.Imports.{NumberedImport}
 use Rattle.goblin_pe.specs.Whole.{AreListed, TableParts, TablePlaces, WholeFile, import_list}
 use Rattle.goblin_pe.specs.Whole.{both_import_parts, offset_by, places_in, sections_after, table_parts}
-use Rattle.goblin_pe.specs.Whole.{whole_file, whole_of, whole_with}
+use Rattle.goblin_pe.specs.Whole.{whole_file, whole_of, whole_with, without_numbers}
 use Rattle.goblin_pe.proofs.Layouts.{tables-value}
 use Rattle.goblin_pe_calls.specs.Blocks.{blocks_in}
 use Rattle.goblin_pe_calls.specs.Growth.{FileBegins, HasEntries, HasRecords, HasTables}
@@ -89,18 +89,36 @@ imports-begin m magic bytes (Some c) imports at begun =
 
 -- ---- the imports with their libraries
 
-second-entries : {A B : Type 0} (o : Option (A × Part (List B)))
-    → IfSome (option_map (λ read. read.1) o) HasEntries → IfSome o (λ read. HasEntries read.1)
-second-entries None h = tt
-second-entries (Some read) h = h
+entries-numbered : (p : Part (List NumberedImport)) → HasEntries p → HasEntries (without_numbers p)
+entries-numbered Absent some = absurd (omega (arith, some))
+entries-numbered (part.Read xs) some =
+    omega (arith, some, length-map xs (λ (x : NumberedImport). x.import))
+entries-numbered Refused some = absurd (omega (arith, some))
+
+second-entries : {A B : Type 0} (o : Option (A × Part (List B))) (p : Part (List B))
+    → Some p ≡ option_map (λ read. read.1) o → HasEntries p → IfSome o (λ read. HasEntries read.1)
+second-entries None p is some = tt
+second-entries (Some read) p is some = subst HasEntries (same_value p read.1 is) some
+
+second-none : {A B : Type 0} (o : Option (A × Part (List B)))
+    → None ≡ option_map (λ read. read.1) o → IfSome o (λ read. HasEntries read.1)
+second-none None is = tt
+second-none (Some read) is = absurd cc
 
 pub parts_entries : (opts : ParseOptions) (offset_of : ℕ → Option ℕ) (places : TablePlaces)
     (bytes : List ℕ) → AreListed opts offset_of places bytes
     → IfSome ((import_list opts offset_of places).value bytes) HasEntries
     → IfSome ((both_import_parts opts offset_of places).value bytes) (λ read. HasEntries read.1)
 parts_entries opts offset_of places bytes listed h =
-    second-entries ((both_import_parts opts offset_of places).value bytes)
-    (subst (λ (o : Option (Part (List ImportValue))). IfSome o HasEntries) listed.value h)
+    by ((import_list opts offset_of places).value bytes) listed.value h
+  where
+    by : (list : Option (Part (List NumberedImport)))
+        → option_map without_numbers list
+        ≡ option_map (λ read. read.1) ((both_import_parts opts offset_of places).value bytes)
+        → IfSome list HasEntries
+        → IfSome ((both_import_parts opts offset_of places).value bytes) (λ read. HasEntries read.1)
+    by None is some = second-none _ is
+    by (Some p) is some = second-entries _ (without_numbers p) is (entries-numbered p some)
 
 -- what something is made of is there
 pub mapped-some : {A B : Type 0} (f : A → B) (o : Option A) (y : B) → option_map f o ≡ Some y → IsSome o

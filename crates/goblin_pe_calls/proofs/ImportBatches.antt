@@ -6,7 +6,7 @@ use Rattle.readings.proofs.Walked.{AtWalk, walk-more, walk-start}
 use Rattle.goblin_pe_import.specs.declared.import.imports.ImportCursor.{ImportCursor}
 use Rattle.goblin_pe_import.specs.declared.import.imports.WalkedImport.{WalkedImport}
 use Rattle.goblin_pe.specs.Addresses.{MapOfAddresses}
-use Rattle.goblin_pe.specs.Imports.{ImportValue}
+use Rattle.goblin_pe.specs.Imports.{NumberedImport}
 use Rattle.goblin_pe.specs.ImportWalks.{entries_from, imports_next, no_imports, walked_value}
 use Rattle.goblin_pe.specs.LayoutCursors.{GivesFileImport, IsFileCursorCause, IsImportWalk, file_cursor_left}
 use Rattle.goblin_pe.specs.Layouts.{IsFileImportsCause, file_imports_left}
@@ -41,7 +41,7 @@ module _ (m : MapOfAddresses) (places : TablePlaces) (bytes : List ℕ) where
     walk = walk;
     left = ap (imports_from_position m places bytes) numbers
         ∙ ap (λ (at : ImportCursor). Some (file_cursor_left m places.magic bytes at)) (said-again c)
-        ∙ ap (λ (items : List (Option ImportValue)). Some items) (sym left);
+        ∙ ap (λ (items : List (Option NumberedImport)). Some items) (sym left);
   }
 
   -- nothing is left at the end
@@ -55,7 +55,7 @@ module _ (m : MapOfAddresses) (places : TablePlaces) (bytes : List ℕ) where
       → GoesOn m places bytes p imports
   goes-start p c imports at walk left = record {
     walk = walk;
-    left = ap (option_map (file_cursor_left m places.magic bytes)) at ∙ ap (λ (items : List (Option ImportValue)). Some items) (sym left);
+    left = ap (option_map (file_cursor_left m places.magic bytes)) at ∙ ap (λ (items : List (Option NumberedImport)). Some items) (sym left);
   }
 
 -- ---- a batch from a cursor on
@@ -64,7 +64,7 @@ module _ (m : MapOfAddresses) (places : TablePlaces) (bytes : List ℕ) (old new
     (at : (import_cursor m places old.position).value bytes ≡ Some c)
     (left : file_imports_left imports ≡ file_cursor_left m places.magic bytes c)
     (causes : (e : ErrorOf) → IsFileImportsCause imports e → IsFileCursorCause m places.magic bytes c e) where
-  abbrev left_of : List (Option ImportValue)
+  abbrev left_of : List (Option NumberedImport)
   left_of = file_imports_left imports
 
   -- what is filled from the walk is filled from there, and a refusal of the very next is one there
@@ -79,26 +79,26 @@ module _ (m : MapOfAddresses) (places : TablePlaces) (bytes : List ℕ) (old new
       → MatchResult r (GivesImports m places bytes old new) (λ e. IsImportsFault m places bytes old e × (new ≡ old))
   batch-answered (Ok count) given =
       subst
-      (λ (all : Option (List (Option ImportValue))). IsSomeAnd all (λ left.
+      (λ (all : Option (List (Option NumberedImport))). IsSomeAnd all (λ left.
       IsBatch import_view import_said (values_before left) old.records new.records count
       × (imports_from_position m places bytes new.position ≡ Some (drop count left)) × (IsRefusedNext left → length old.records ≡ 0)
       × (IsEnd left old.records count → new.position ≡ cursor_numbers no_imports)
       × (length old.records ≡ 0 → new.position ≡ old.position)))
-      (sym (ap (option_map (file_cursor_left m places.magic bytes)) at ∙ ap (λ (items : List (Option ImportValue)). Some items) (sym left))) given
+      (sym (ap (option_map (file_cursor_left m places.magic bytes)) at ∙ ap (λ (items : List (Option NumberedImport)). Some items) (sym left))) given
   batch-answered (Err e) given = (
-    rw at (given.2, subst (λ (items : List (Option ImportValue)). IsRefusedNext items) left given.0, causes e given.1),
+    rw at (given.2, subst (λ (items : List (Option NumberedImport)). IsRefusedNext items) left given.0, causes e given.1),
     rw (given.3, given.4) refl,
   )
 
 -- ---- the imports of a library
 
 -- it gave the values that the records hold
-record AreGivenIn (s t : FileImports) (Holds : List ImportValue → Type 0) : Type 0 where
-  values : List ImportValue
+record AreGivenIn (s t : FileImports) (Holds : List NumberedImport → Type 0) : Type 0 where
+  values : List NumberedImport
   held : Holds values
   walk : AtWalk file_imports_left IsFileImportsCause s t values
 
-library-given : (s t : FileImports) (Holds : List ImportValue → Type 0) → GivesInFile s t Holds → AreGivenIn s t Holds
+library-given : (s t : FileImports) (Holds : List NumberedImport → Type 0) → GivesInFile s t Holds → AreGivenIn s t Holds
 library-given (Narrow s) (Narrow t) Holds gives =
     record { values = gives.values; held = gives.held; walk = record { yielded = gives.yielded; cause = gives.cause } }
 library-given (Wide s) (Wide t) Holds gives =
@@ -107,7 +107,7 @@ library-given (Narrow s) (Wide t) Holds gives = absurd gives
 library-given (Wide s) (Narrow t) Holds gives = absurd gives
 
 -- it keeps what is walked over
-pub library-kept : (m : MapOfAddresses) (magic : ℕ) (bytes : List ℕ) (s t : FileImports) (Holds : List ImportValue → Type 0)
+pub library-kept : (m : MapOfAddresses) (magic : ℕ) (bytes : List ℕ) (s t : FileImports) (Holds : List NumberedImport → Type 0)
     → GivesInFile s t Holds → IsImportWalk m magic bytes s → IsImportWalk m magic bytes t
 library-kept m magic bytes (Narrow s) (Narrow t) Holds gives walk =
     (walk.0, (gives.over.0 ∙ walk.1.0, gives.over.1 ∙ walk.1.1), gives.kept walk.2)
@@ -119,13 +119,13 @@ library-kept m magic bytes (Wide s) (Narrow t) Holds gives walk = absurd gives
 -- nothing was filled, and one record more
 pub filled-none : (records : List PeImport) (first : ℕ) → Fills records records first first []
 filled-none records first base before at =
-    subst (λ (values : List ImportValue). AtBatch import_view import_said base values records first) (sym (append-nil before)) at
+    subst (λ (values : List NumberedImport). AtBatch import_view import_said base values records first) (sym (append-nil before)) at
 
 pub filled-more : (old records : List PeImport) (first count : ℕ) (x : WalkedImport) (r : PeImport) → count < length records
-    → import_view r ≡ import_said (walked_value x) → (values : List ImportValue) → Fills old records first count values
+    → import_view r ≡ import_said (walked_value x) → (values : List NumberedImport) → Fills old records first count values
     → Fills old (set records count r) first (count + 1) (values ++ walked_value x ∷ [])
 filled-more old records first count x r within says values h base before at =
-    subst (λ (values : List ImportValue). AtBatch import_view import_said base values (set records count r) (count + 1))
+    subst (λ (values : List NumberedImport). AtBatch import_view import_said base values (set records count r) (count + 1))
     (append_assoc before values (walked_value x ∷ []))
     (batch-more import_view import_said base (before ++ values) records count (walked_value x) r (h base before at) within says)
 
@@ -134,7 +134,7 @@ filled-more old records first count x r within says values h base before at =
 module _ (m : MapOfAddresses) (places : TablePlaces) (bytes : List ℕ) (start : FileImports) (from : PeImportPosition) (old : List PeImport) where
   -- the records hold what has come so far, and the walk goes on
   pub record AtImports (now : FileImports) (p : PeImportPosition) (records : List PeImport) (count : ℕ) : Type 0 where
-    pub values : List ImportValue
+    pub values : List NumberedImport
     pub at : AtBatch import_view import_said old values records count
     pub walk : AtWalk file_imports_left IsFileImportsCause start now values
     pub goes : GoesOn m places bytes p now
@@ -178,34 +178,34 @@ module _ (m : MapOfAddresses) (places : TablePlaces) (bytes : List ℕ) (start :
         }
 
     -- this is left, and is all that comes from the new numbers on
-    all-given : (q : PeImportPosition) (rest : List (Option ImportValue)) → file_imports_left now ≡ rest
+    all-given : (q : PeImportPosition) (rest : List (Option NumberedImport)) → file_imports_left now ≡ rest
         → imports_from_position m places bytes q ≡ Some rest → (length old ≤ count) ⊎ (values_before rest ≡ [])
         → (count ≡ 0 → IsRefusedNext rest → length old ≡ 0) → (rest ≡ [] → count < length old → q ≡ cursor_numbers no_imports)
         → (length old ≡ 0 → q ≡ from) → AreGiven q records count
     all-given q rest is comes why begun ends stays =
         let left : file_imports_left start ≡ map (λ x. Some x) h.values ++ rest =
-        h.walk.yielded ∙ ap (λ (items : List (Option ImportValue)). map (λ x. Some x) h.values ++ items) is in
-        let some : ImportValue → Option ImportValue = λ x. Some x in
+        h.walk.yielded ∙ ap (λ (items : List (Option NumberedImport)). map (λ x. Some x) h.values ++ items) is in
+        let some : NumberedImport → Option NumberedImport = λ x. Some x in
         let counted : length (map some h.values) ≡ count = length-map h.values some ∙ h.at.counted in
         record {
           batch = batch-end import_view import_said old h.values (values_before rest) (values_before (file_imports_left start)) records count h.at
-              (ap (λ (items : List (Option ImportValue)). values_before items) left ∙ before-all h.values rest) why;
-          later = comes ∙ ap (λ (items : List (Option ImportValue)). Some items)
+              (ap (λ (items : List (Option NumberedImport)). values_before items) left ∙ before-all h.values rest) why;
+          later = comes ∙ ap (λ (items : List (Option NumberedImport)). Some items)
               (left-after (map some h.values) rest (file_imports_left start) count counted left);
           next = refused h.values refl left;
           ended = λ end. ends (left-after (map some h.values) rest (file_imports_left start) count counted left ∙ end.0) end.1;
           stays = stays;
         }
       where
-        refused : (values : List ImportValue) → h.values ≡ values → file_imports_left start ≡ map (λ x. Some x) h.values ++ rest
+        refused : (values : List NumberedImport) → h.values ≡ values → file_imports_left start ≡ map (λ x. Some x) h.values ++ rest
             → IsRefusedNext (file_imports_left start) → length old ≡ 0
         refused [] none left first =
-            let here : file_imports_left start ≡ rest = left ∙ ap (λ (xs : List ImportValue). map (λ x. Some x) xs ++ rest) none in
-            begun (sym h.at.counted ∙ ap (λ (xs : List ImportValue). length xs) none)
-            (subst (λ (items : List (Option ImportValue)). IsRefusedNext items) here first)
+            let here : file_imports_left start ≡ rest = left ∙ ap (λ (xs : List NumberedImport). map (λ x. Some x) xs ++ rest) none in
+            begun (sym h.at.counted ∙ ap (λ (xs : List NumberedImport). length xs) none)
+            (subst (λ (items : List (Option NumberedImport)). IsRefusedNext items) here first)
         refused (x ∷ xs) some left first =
-            let here : file_imports_left start ≡ map (λ x. Some x) (x ∷ xs) ++ rest = left ∙ ap (λ (xs : List ImportValue). map (λ x. Some x) xs ++ rest) some in
-            absurd (subst (λ (items : List (Option ImportValue)). IsRefusedNext items) here first)
+            let here : file_imports_left start ≡ map (λ x. Some x) (x ∷ xs) ++ rest = left ∙ ap (λ (xs : List NumberedImport). map (λ x. Some x) xs ++ rest) some in
+            absurd (subst (λ (items : List (Option NumberedImport)). IsRefusedNext items) here first)
 
     -- without room nothing has come
     stay : length old ≡ 0 → p ≡ from
@@ -227,7 +227,7 @@ module _ (m : MapOfAddresses) (places : TablePlaces) (bytes : List ℕ) (start :
     imports-end next q given goes numbers within =
         let same = h.at.same in
         let none = given.0 in
-        all-given q [] none.0 (goes.left ∙ ap (λ (items : List (Option ImportValue)). Some items) none.1) (inr (before-end [] refl))
+        all-given q [] none.0 (goes.left ∙ ap (λ (items : List (Option NumberedImport)). Some items) none.1) (inr (before-end [] refl))
         (λ first refused. absurd refused) (λ none within. numbers)
         (λ none. absurd (omega (arith, same, within, none)))
 
@@ -236,7 +236,7 @@ module _ (m : MapOfAddresses) (places : TablePlaces) (bytes : List ℕ) (start :
         → AreGiven p records count
     imports-refused e next given some =
         let one = given.0 in
-        all-given p (None ∷ []) one.0 (h.goes.left ∙ ap (λ (items : List (Option ImportValue)). Some items) one.0)
+        all-given p (None ∷ []) one.0 (h.goes.left ∙ ap (λ (items : List (Option NumberedImport)). Some items) one.0)
         (inr (before-refused (None ∷ []) refl)) (λ none refused. absurd (some none)) (λ none within. absurd (cc none))
         (λ none. stay none)
 
@@ -258,11 +258,11 @@ module _ (m : MapOfAddresses) (places : TablePlaces) (bytes : List ℕ) (start :
           position = h.first none;
         }
       where
-        refused : (values : List ImportValue) → h.values ≡ values → file_imports_left now ≡ None ∷ [] → IsRefusedNext (file_imports_left start)
+        refused : (values : List NumberedImport) → h.values ≡ values → file_imports_left now ≡ None ∷ [] → IsRefusedNext (file_imports_left start)
         refused [] empty is =
             let here : file_imports_left start ≡ None ∷ [] =
-            h.walk.yielded ∙ ap (λ (xs : List ImportValue). map (λ x. Some x) xs ++ file_imports_left now) empty ∙ is in
+            h.walk.yielded ∙ ap (λ (xs : List NumberedImport). map (λ x. Some x) xs ++ file_imports_left now) empty ∙ is in
             rw here tt
         refused (x ∷ xs) some is =
-            let counted = sym (ap (λ (xs : List ImportValue). length xs) some) ∙ h.at.counted ∙ none in
+            let counted = sym (ap (λ (xs : List NumberedImport). length xs) some) ∙ h.at.counted ∙ none in
             absurd (omega (arith, counted))

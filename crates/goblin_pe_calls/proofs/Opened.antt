@@ -1,5 +1,5 @@
 -- The records that were collected of a file are those of its imports and its exports.
-use Rattle.std.proofs.Common.{◌≡◌, ◌∙◌, ℕ, List, map, Option, Some, None, refl, ap, subst, option_map, Result, Ok, Err, Vec, Global}
+use Rattle.std.proofs.Common.{◌≡◌, ◌∙◌, ℕ, List, map, Option, Some, None, refl, ap, subst, sym, option_map, unwrap_or, Result, Ok, Err, Vec, Global}
 use Rattle.std.proofs.lemmas.List.{length-map}
 use Rattle.goblin_base.specs.declared.error.ErrorOf.{ErrorOf}
 use Rattle.goblin_base.specs.Answers.{IsMemory}
@@ -20,25 +20,22 @@ use Rattle.goblin_pe.specs.declared.whole.Part.TheVariants.{Absent, Refused}
 use Rattle.goblin_pe.specs.declared.whole.Part.TheVariants as part
 use Rattle.goblin_pe.specs.declared.whole.layout.Layout.{Layout}
 use Rattle.goblin_pe.specs.Layouts.{IsLayoutOf, layout_map, layout_places}
-use Rattle.goblin_pe.specs.Whole.{TableParts, TablePlaces, WholeFile, collected_file}
-use Rattle.goblin_pe.specs.Whole.{collected_tables, offset_by, part_map, places_in, sections_after}
+use Rattle.goblin_pe.specs.Whole.{AreListed, TableParts, TablePlaces, WholeFile, both_import_parts}
+use Rattle.goblin_pe.specs.Whole.{collected_file, collected_tables, import_list, offset_by, part_map}
+use Rattle.goblin_pe.specs.Whole.{places_in, sections_after, without_numbers}
 use Rattle.goblin_pe.specs.Whole.{table_parts, whole_file, whole_of, whole_with}
 use Rattle.goblin_pe.proofs.Collected.{file_read}
 use Rattle.goblin_pe.proofs.Layouts.{tables-cause, tables-value}
 use Rattle.goblin_pe.proofs.NumberedExports.{rows_of_file}
 use Rattle.goblin_pe_calls.specs.declared.records.FileRecords.{FileRecords}
 use Rattle.goblin_pe_calls.specs.Exports.{ExportsSaid, export_said, exports_said, file_exports}
-use Rattle.goblin_pe_calls.specs.Files.{entries_of, table_of}
-use Rattle.goblin_pe_calls.specs.Imports.{import_said}
-use Rattle.goblin_pe_calls.specs.Opened.{RecordsOfFile, opened_file, records_of_file, records_view, tables_view}
+use Rattle.goblin_pe_calls.specs.Files.{table_of}
+use Rattle.goblin_pe_calls.specs.Imports.{file_imports, import_said, imports_said}
+use Rattle.goblin_pe_import.specs.Imports.{NumberedImport}
+use Rattle.goblin_pe_import.proofs.ImportBound.{pair_of-left}
+use Rattle.goblin_pe_calls.specs.Opened.{RecordsOfFile, opened_file, opened_of, records_of_file, records_view, tables_view}
 
 -- ---- tables by what is made of each entry
-
-table-same : {A B : Type 0} (p : Part (List A)) (q : Part (List B)) (f : A → B)
-    → part_map (map f) p ≡ q → table_of p ≡ table_of q
-table-same Absent q f is = rw (← is) refl
-table-same (part.Read xs) q f is = rw (← is, length-map xs f) refl
-table-same Refused q f is = rw (← is) refl
 
 -- a table has as many records as it has views
 pub table-viewed : {A B : Type 0} (view : A → B) (p : Part (Vec A Global))
@@ -48,11 +45,37 @@ table-viewed view Absent = refl
 table-viewed view (part.Read v) = rw (length-map v.items view) refl
 table-viewed view Refused = refl
 
-entries-same : {A B : Type 0} (p : Part (List A)) (q : Part (List B)) (f : A → B)
-    → part_map (map f) p ≡ q → map f (entries_of p) ≡ entries_of q
-entries-same Absent q f is = rw (← is) refl
-entries-same (part.Read xs) q f is = rw (← is) refl
-entries-same Refused q f is = rw (← is) refl
+-- there are as many records of imports as imports
+numbers-table : (p : Part (List NumberedImport))
+    → table_of (without_numbers p) ≡ table_of (part_map (map import_said) p)
+numbers-table Absent = refl
+numbers-table (part.Read xs) =
+    rw (length-map xs (λ (x : NumberedImport). x.import), length-map xs import_said) refl
+numbers-table Refused = refl
+
+imports-in : (opts : ParseOptions) (offset_of : ℕ → Option ℕ) (places : TablePlaces)
+    (bytes : List ℕ) (t : TableParts) → (table_parts opts offset_of places).value bytes ≡ Some t
+    → (both_import_parts opts offset_of places).value bytes ≡ Some t.imports
+unfolding table_parts
+imports-in opts offset_of places bytes t is =
+    let all = steps.mapped _ _ t is in
+    pair_of-left _ _ all.value.0 (pair_of-left _ _ all.value all.is)
+    ∙ ap (λ (x : TableParts). Some x.imports) all.made
+
+imports-table : (opts : ParseOptions) (offset_of : ℕ → Option ℕ) (places : TablePlaces)
+    (bytes : List ℕ) (t : TableParts) → AreListed opts offset_of places bytes
+    → (table_parts opts offset_of places).value bytes ≡ Some t
+    → table_of t.imports.1 ≡ table_of (imports_said opts offset_of places bytes)
+imports-table opts offset_of places bytes t listed is =
+    let both = imports-in opts offset_of places bytes t is in
+    let list = steps.mapped ((import_list opts offset_of places).value bytes) without_numbers t.imports.1
+    (listed.value ∙ ap (option_map (λ read. read.1)) both) in
+    ap table_of (sym list.made)
+    ∙ numbers-table list.value
+    ∙ ap
+    (λ (o : Option (Part (List NumberedImport))).
+    table_of (part_map (map import_said) (unwrap_or o Absent)))
+    (sym list.is)
 
 -- there are as many records of exports as rows
 rows-table : (offset_of : ℕ → Option ℕ) (bytes : List ℕ) (tables : Part ExportTables)
@@ -73,9 +96,8 @@ pub record IsOf (opts : ParseOptions) (bytes : List ℕ) (v : RecordsOfFile) : T
   pub header : whole.header ≡ v.header
   pub sections : map unnamed whole.sections ≡ v.sections
   pub relocations : whole.relocations ≡ v.relocations
-  pub imports : map import_said (entries_of whole.imports) ≡ entries_of v.imports
+  pub imports : file_imports opts bytes whole ≡ v.imports
   pub exports : file_exports opts bytes whole ≡ v.exports
-  pub imports_table : table_of whole.imports ≡ table_of v.imports
   pub exports_table : table_of whole.exports ≡ table_of v.exports.exports
 
 pub file-of-records : (opts : ParseOptions) (bytes : List ℕ) (v : RecordsOfFile)
@@ -84,7 +106,7 @@ pub file-of-records : (opts : ParseOptions) (bytes : List ℕ) (v : RecordsOfFil
 file-of-records opts bytes v is =
     let m = steps.mapped ((whole_file opts).value bytes) (records_of_file opts bytes) v is in
     let w = m.value in
-    let imports : part_map (map import_said) w.imports ≡ v.imports =
+    let imports : file_imports opts bytes w ≡ v.imports =
     ap (λ (x : RecordsOfFile). x.imports) m.made in
     let exports : file_exports opts bytes w ≡ v.exports =
     ap (λ (x : RecordsOfFile). x.exports) m.made in
@@ -94,9 +116,8 @@ file-of-records opts bytes v is =
       header = ap (λ (x : RecordsOfFile). x.header) m.made;
       sections = ap (λ (x : RecordsOfFile). x.sections) m.made;
       relocations = ap (λ (x : RecordsOfFile). x.relocations) m.made;
-      imports = entries-same w.imports v.imports import_said imports;
+      imports = imports;
       exports = exports;
-      imports_table = table-same w.imports v.imports import_said imports;
       exports_table =
           ap table_of (rows_of_file opts bytes w m.is)
           ∙ rows-table (offset_by opts w.sections (places_in w.header.optional_header)) bytes w.export_data
@@ -108,7 +129,7 @@ pub unopened : (opts : ParseOptions) (bytes : List ℕ) (e : ErrorOf)
     → ((whole_file opts).value bytes ≡ None) × (whole_file opts).IsCause bytes e
     → ((opened_file opts).value bytes ≡ None) × (opened_file opts).IsCause bytes e
 unopened opts bytes e refused =
-    (ap (option_map (λ w. (w, file_exports opts bytes w))) refused.0, refused.1)
+    (ap (option_map (opened_of opts bytes)) refused.0, refused.1)
 
 -- ---- the records of a file's tables
 
@@ -120,7 +141,10 @@ collected-whole : (opts : ParseOptions) (bytes : List ℕ) (h : PeHeader) (s : L
     (tables : Option TableParts)
     → option_map (records_of_file opts bytes) (option_map (whole_of h s) tables)
     ≡ option_map without_names
-    (option_map (collected_file import_said (exports_said (offset_by opts s (places_in h.optional_header)) bytes))
+    (option_map
+    (collected_file
+    (λ _. imports_said opts (offset_by opts s (places_in h.optional_header)) (places_in h.optional_header) bytes)
+    (exports_said (offset_by opts s (places_in h.optional_header)) bytes))
     (option_map (whole_of h s) tables))
 collected-whole opts bytes h s None = refl
 collected-whole opts bytes h s (Some tables) = refl
@@ -136,7 +160,7 @@ module _ (opts : ParseOptions) (bytes : List ℕ) (h : Header)
   abbrev MakesTables : Result FileRecords ErrorOf → MapOfAddresses → TablePlaces → List ℕ → Type 0
   MakesTables result m at file =
       ReadsOrMemory tables_view result
-      (mapped (collected_tables import_said (exports_said (offset_of m) file))
+      (mapped (collected_tables (λ _. imports_said m.opts (offset_of m) at file) (exports_said (offset_of m) file))
       (table_parts m.opts (offset_of m) at)) file
 
   makes : (result : Result FileRecords ErrorOf)
@@ -157,8 +181,27 @@ module _ (opts : ParseOptions) (bytes : List ℕ) (h : Header)
   records-read names r made =
       ap (option_map (records_of_file opts bytes)) (tables-value opts bytes (header_value h) header s sections)
       ∙ collected-whole opts bytes (header_value h) s _
-      ∙ ap (option_map without_names) (file_read import_said (exports_said (offset_by opts s places) bytes) opts (header_value h) s bytes (tables_view r) (makes (Ok r) made))
+      ∙ ap (option_map without_names) (file_read (λ _. imports_said opts (offset_by opts s places) places bytes) (exports_said (offset_by opts s places) bytes) opts (header_value h) s bytes (tables_view r) (makes (Ok r) made))
       ∙ ap (λ (x : List Section). Some (record (records_view h l r) { sections = x })) names
+
+  abbrev ListsTables : MapOfAddresses → TablePlaces → List ℕ → Type 0
+  ListsTables m at file = AreListed m.opts (offset_of m) at file
+
+  -- there are as many records of imports as imports
+  pub imports-counted : ListsTables (layout_map l) (layout_places l) l.bytes.now → (w : WholeFile)
+      → (whole_file opts).value bytes ≡ Some w
+      → table_of w.imports ≡ table_of (file_imports opts bytes w)
+  unfolding whole_with
+  imports-counted listed w is =
+      let m = map_by opts s places.file_alignment in
+      let of_file : ListsTables m places bytes =
+      subst (λ (file : List ℕ). ListsTables m places file) of.over
+      (subst (λ (at : TablePlaces). ListsTables m at l.bytes.now) of.placed
+      (subst (λ (m : MapOfAddresses). ListsTables m (layout_places l) l.bytes.now) (of.mapped s sections) listed)) in
+      let all = steps.mapped _ (whole_of (header_value h) s) w
+      (sym (tables-value opts bytes (header_value h) header s sections) ∙ is) in
+      subst (λ (w : WholeFile). table_of w.imports ≡ table_of (file_imports opts bytes w)) all.made
+      (imports-table opts (offset_by opts s places) places bytes all.value of_file all.is)
 
   -- and a file is refused as they are
   pub records-refused : (e : ErrorOf)

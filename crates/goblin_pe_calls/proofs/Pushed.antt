@@ -4,7 +4,7 @@ use Rattle.std.proofs.lemmas.List.{map-append}
 use Rattle.goblin_base.specs.declared.error.ErrorOf.{ErrorOf}
 use Rattle.goblin_base.specs.Tables.{Format}
 use Rattle.goblin_pe_import.specs.ImportEntries.{EntryValue}
-use Rattle.goblin_pe_import.specs.Imports.{ImportValue}
+use Rattle.goblin_pe_import.specs.Imports.{NumberedImport}
 use Rattle.goblin_pe_import.specs.ImportWalks.{GivesImport, IsImportsCause, imports_left, walked_value}
 use Rattle.goblin_pe_import.specs.declared.import.imports.Imports.{Imports}
 use Rattle.goblin_pe_import.specs.declared.import.imports.WalkedImport.{WalkedImport}
@@ -26,7 +26,7 @@ walk-then {S} {A} left IsCause start now next xs ys one two =
 
 -- what is said of one import more
 pub pushed-more : (old new newer : List ImportSaid) (x : WalkedImport) → newer ≡ new ++ import_said (walked_value x) ∷ []
-    → (values : List ImportValue) → Pushes old new values → Pushes old newer (values ++ walked_value x ∷ [])
+    → (values : List NumberedImport) → Pushes old new values → Pushes old newer (values ++ walked_value x ∷ [])
 pushed-more old new newer x more values h =
     more ∙ ap (λ (xs : List ImportSaid). xs ++ import_said (walked_value x) ∷ []) h
     ∙ append_assoc old (map import_said values) (import_said (walked_value x) ∷ [])
@@ -34,7 +34,7 @@ pushed-more old new newer x more values h =
 
 module _ {T : Type 0} (format : Format EntryValue) where
   -- a walk that has given nothing, and one that gives one more
-  pub here-start : (s : Imports T) (Holds : List ImportValue → Type 0) → Holds [] → GivesHere format s s Holds
+  pub here-start : (s : Imports T) (Holds : List NumberedImport → Type 0) → Holds [] → GivesHere format s s Holds
   here-start s Holds none = record {
     values = [];
     held = none;
@@ -44,9 +44,9 @@ module _ {T : Type 0} (format : Format EntryValue) where
     over = (refl, refl);
   }
 
-  pub here-more : (s now next : Imports T) (Holds More : List ImportValue → Type 0) → GivesHere format s now Holds → (x : WalkedImport)
+  pub here-more : (s now next : Imports T) (Holds More : List NumberedImport → Type 0) → GivesHere format s now Holds → (x : WalkedImport)
       → GivesImport format now (Some (Ok x)) next
-      → ((values : List ImportValue) → Holds values → More (values ++ walked_value x ∷ [])) → GivesHere format s next More
+      → ((values : List NumberedImport) → Holds values → More (values ++ walked_value x ∷ [])) → GivesHere format s next More
   here-more s now next Holds More h x gives more =
       let so_far : AtWalk (imports_left format) (IsImportsCause format) s now h.values = record { yielded = h.yielded; cause = h.cause } in
       let walk = walk-more (imports_left format) (IsImportsCause format) s now h.values so_far walked_value next x gives.0 in

@@ -12,7 +12,7 @@ use Rattle.goblin_pe_import.specs.declared.import.imports.ImportCursor.{ImportCu
 use Rattle.goblin_pe.specs.Addresses.{MapOfAddresses, offset_of}
 use Rattle.goblin_pe.specs.ExportRecords.{ExportRow, ExportTables}
 use Rattle.goblin_pe.specs.ExportWalks.{NumberedExport, numbered_from}
-use Rattle.goblin_pe.specs.Imports.{ImportValue}
+use Rattle.goblin_pe.specs.Imports.{NumberedImport}
 use Rattle.goblin_pe.specs.ImportWalks.{no_imports}
 use Rattle.goblin_pe.specs.LayoutCursors.{IsFileCursorCause, IsImportWalk, file_cursor_left}
 use Rattle.goblin_pe.specs.LayoutCursors.{import_begin}
@@ -120,7 +120,7 @@ import_cursor m places p =
 
 -- the imports of a file from a position on
 abbrev pub imports_from_position : MapOfAddresses → TablePlaces → List ℕ → PeImportPosition
-    → Option (List (Option ImportValue))
+    → Option (List (Option NumberedImport))
 imports_from_position m places bytes p =
     option_map (file_cursor_left m places.magic bytes) ((import_cursor m places p).value bytes)
 
@@ -150,13 +150,13 @@ IsImportsFault m places bytes old e =
     × IsFileCursorCause m places.magic bytes c e) e
 
 -- Whatever the records held up to `first`, they hold these imports after it, up to `last`.
-abbrev pub Fills : List PeImport → List PeImport → ℕ → ℕ → List ImportValue → Type 0
-Fills old new first last values = (base : List PeImport) (before : List ImportValue)
+abbrev pub Fills : List PeImport → List PeImport → ℕ → ℕ → List NumberedImport → Type 0
+Fills old new first last values = (base : List PeImport) (before : List NumberedImport)
     → AtBatch import_view import_said base before old first
     → AtBatch import_view import_said base (before ++ values) new last
 
 -- `GivesHere` of the imports of a file
-abbrev pub GivesInFile : FileImports → FileImports → (List ImportValue → Type 0) → Type 0
+abbrev pub GivesInFile : FileImports → FileImports → (List NumberedImport → Type 0) → Type 0
 GivesInFile (Narrow s) (Narrow t) Holds = GivesHere entries_32 s t Holds
 GivesInFile (Wide s) (Wide t) Holds = GivesHere entries_64 s t Holds
 GivesInFile s t Holds = ⊥

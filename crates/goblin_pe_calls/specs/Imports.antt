@@ -1,5 +1,6 @@
 -- The records of imports, as definitions.
-use Rattle.std.specs.Prelude.{◌≡◌, ℕ, Bool, List, [], ◌++◌, Some, Vec, if◌then◌else◌, map}
+use Rattle.std.specs.Prelude.{◌≡◌, ℕ, Bool, List, [], ◌++◌, Option, Some, Vec, if◌then◌else◌}
+use Rattle.std.specs.Prelude.{map}
 use Rattle.std.specs.Global.{Global}
 use Rattle.goblin_base.specs.declared.error.ErrorOf.{ErrorOf}
 use Rattle.goblin_base.specs.Tables.{Format}
@@ -7,7 +8,10 @@ use Rattle.goblin_pe_import.specs.ImportEntries.{EntryValue}
 use Rattle.goblin_pe_import.specs.ImportWalks.{AreImportsOver, HasName, IsImportsCause}
 use Rattle.goblin_pe_import.specs.ImportWalks.{imports_bytes, imports_left, imports_map}
 use Rattle.goblin_pe_import.specs.declared.import.imports.Imports.{Imports}
-use Rattle.goblin_pe.specs.Imports.{ImportValue}
+use Rattle.goblin_pe_import.specs.Imports.{NumberedImport}
+use Rattle.goblin_pe_sect.specs.declared.options.ParseOptions.{ParseOptions}
+use Rattle.goblin_pe.specs.declared.whole.Part.{Part}
+use Rattle.goblin_pe.specs.Whole.{TablePlaces, WholeFile, listed_in, offset_by, part_map, places_in}
 use Rattle.goblin_pe_calls.specs.declared.import.PeImport.{PeImport}
 
 -- a record of an import, its slices as lists
@@ -23,18 +27,30 @@ pub record ImportSaid : Type 0 where
   pub reserved : ℕ
 
 -- the record of an import, which is by name where its name is in the file; by ordinal it has none
-abbrev pub import_said : ImportValue → ImportSaid
+abbrev pub import_said : NumberedImport → ImportSaid
 import_said x = record {
-  name = if x.is_borrowed then x.name else [];
-  dll = x.dll;
+  name = if x.import.is_borrowed then x.import.name else [];
+  dll = x.import.dll;
   library = x.library;
-  slot_rva = x.offset;
-  rva = x.rva;
-  slot = x.slot;
-  ordinal = x.ordinal;
-  is_by_name = x.is_borrowed;
+  slot_rva = x.import.offset;
+  rva = x.import.rva;
+  slot = x.import.slot;
+  ordinal = x.import.ordinal;
+  is_by_name = x.import.is_borrowed;
   reserved = 0;
 }
+
+-- the records of the imports of a file that has a list of them
+abbrev pub imports_said : ParseOptions → (ℕ → Option ℕ) → TablePlaces → List ℕ
+    → Part (List ImportSaid)
+imports_said opts offset_of places bytes =
+    part_map (map import_said) (listed_in opts offset_of places bytes)
+
+-- those of a file
+abbrev pub file_imports : ParseOptions → List ℕ → WholeFile → Part (List ImportSaid)
+file_imports opts bytes w =
+    let places = places_in w.header.optional_header in
+    imports_said opts (offset_by opts w.sections places) places bytes
 
 -- what a record holds
 abbrev pub import_view : PeImport → ImportSaid
@@ -56,8 +72,8 @@ import_views records = map import_view records.items
 
 -- A walk has given some imports, of which this holds, and goes on after them.
 pub record GivesHere {T : Type 0} (format : Format EntryValue) (s t : Imports T)
-    (Holds : List ImportValue → Type 0) : Type 0 where
-  pub values : List ImportValue
+    (Holds : List NumberedImport → Type 0) : Type 0 where
+  pub values : List NumberedImport
   pub held : Holds values
   pub yielded : imports_left format s ≡ map (λ x. Some x) values ++ imports_left format t
   pub cause : (e : ErrorOf) → IsImportsCause format t e → IsImportsCause format s e
@@ -65,5 +81,5 @@ pub record GivesHere {T : Type 0} (format : Format EntryValue) (s t : Imports T)
   pub over : AreImportsOver (imports_bytes s) (imports_map s) t
 
 -- what is said of these imports was added
-abbrev pub Pushes : List ImportSaid → List ImportSaid → List ImportValue → Type 0
+abbrev pub Pushes : List ImportSaid → List ImportSaid → List NumberedImport → Type 0
 Pushes old new values = new ≡ old ++ map import_said values

@@ -12,7 +12,7 @@ use Rattle.goblin_pe.specs.declared.whole.Part.TheVariants as part
 use Rattle.goblin_pe.specs.Layouts.{layout_sections}
 use Rattle.goblin_pe.specs.Whole.{CollectedFileValue, CollectedParts, WholeFile, collected_file}
 use Rattle.goblin_pe.specs.Whole.{offset_by, part_map, places_in, whole_file}
-use Rattle.goblin_pe.proofs.NumberedFootprints.{same-numbered}
+use Rattle.goblin_pe.proofs.NumberedFootprints.{same-listed, same-numbered}
 use Rattle.goblin_pe.specs.declared.whole.layout.Layout.{Layout}
 use Rattle.goblin_pe.specs.BaseRelocations.{relocation_bytes}
 use Rattle.goblin_pe.specs.PeHeader.{header_value}
@@ -29,7 +29,9 @@ use Rattle.goblin_pe_calls.specs.Exports.{ExportsSaid, export_view, exports_said
 use Rattle.goblin_pe_calls.specs.Exports.{file_exports, read_said}
 use Rattle.goblin_pe_calls.specs.Files.{entries_of, file_of}
 use Rattle.goblin_pe_records.specs.Filled.{Filled, without_text}
-use Rattle.goblin_pe_calls.specs.Imports.{ImportSaid, import_said, import_view, import_views}
+use Rattle.goblin_pe_calls.specs.Imports.{ImportSaid, file_imports, import_said, import_view}
+use Rattle.goblin_pe_calls.specs.Imports.{import_views}
+use Rattle.goblin_pe_import.specs.Imports.{NumberedImport}
 use Rattle.goblin_pe_records.specs.RichHeaders.{entries_of_rich}
 use Rattle.goblin_pe_records.specs.Sections.{section_said}
 
@@ -56,22 +58,39 @@ made-same None again f g same made = ap (option_map g) same
 made-same {A} {B} (Some x) again f g same made =
     ap (λ (y : B). Some y) (made x refl) ∙ ap (option_map g) same
 
--- A whole file, and the records of what its export directory leads to, whose numbers the rows of a
--- file do not have. It reaches what the file does.
-abbrev pub opened_file : ParseOptions → Reading (WholeFile × ExportsSaid)
+-- A whole file, with the records of its imports and of what its export directory leads to, which have
+-- numbers that those of a file do not have.
+pub record OpenedFile : Type 0 where
+  pub whole : WholeFile
+  pub imports : Part (List ImportSaid)
+  pub exports : ExportsSaid
+
+abbrev pub opened_of : ParseOptions → List ℕ → WholeFile → OpenedFile
+opened_of opts bytes w = record {
+  whole = w;
+  imports = file_imports opts bytes w;
+  exports = file_exports opts bytes w;
+}
+
+-- what is opened reaches what the file does
+abbrev pub opened_file : ParseOptions → Reading OpenedFile
 opened_file opts =
     let whole = whole_file opts in
     record {
-      value = λ bytes. option_map (λ w. (w, file_exports opts bytes w)) (whole.value bytes);
+      value = λ bytes. option_map (opened_of opts bytes) (whole.value bytes);
       IsCause = whole.IsCause;
       reaches = whole.reaches;
       is_local = λ a b agree.
-          made-same (whole.value a) (whole.value b) (λ w. (w, file_exports opts a w))
-          (λ w. (w, file_exports opts b w)) (whole.is_local a b agree)
+          made-same (whole.value a) (whole.value b) (opened_of opts a) (opened_of opts b)
+          (whole.is_local a b agree)
           (λ w is.
           let offset_of = offset_by opts w.sections (places_in w.header.optional_header) in
-          ap (λ (exports : ExportsSaid). (w, exports))
-          (said-same offset_of a b w.export_data (same-numbered opts a b w is agree)));
+          ap (λ (exports : ExportsSaid). record (opened_of opts a w) { exports = exports })
+          (said-same offset_of a b w.export_data (same-numbered opts a b w is agree))
+          ∙ ap
+          (λ (list : Part (List NumberedImport)).
+          record (opened_of opts b w) { imports = part_map (map import_said) list })
+          (same-listed opts a b w is agree));
       is_inside = whole.is_inside;
       not_memory = whole.not_memory;
     }
@@ -83,12 +102,14 @@ pub record Opened : Type 0 where
   pub directories : List PeDirectory
   pub tables : PeTables
 
--- the tables are those of a file with these records of its exports, each whole
-abbrev pub AreTablesOf : WholeFile → ExportsSaid → PeTables → Type 0
-AreTablesOf w exports t =
+-- the tables are those of a file, each whole
+abbrev pub AreTablesOf : OpenedFile → PeTables → Type 0
+AreTablesOf read t =
+    let w = read.whole in
+    let exports = read.exports in
     (t.rich_entries.now ≡ entries_of_rich w.header.rich_header)
     × (map section_said t.sections.now ≡ map without_text w.sections)
-    × (map import_view t.imports.now ≡ map import_said (entries_of w.imports))
+    × (map import_view t.imports.now ≡ entries_of read.imports)
     × (map export_view t.exports.now ≡ entries_of exports.exports)
     × (t.export_addresses.now ≡ exports.addresses)
     × (directory_view t.export_directory ≡ exports.directory)
@@ -97,29 +118,29 @@ AreTablesOf w exports t =
 
 -- what a call reports of a file whose tables it keeps: the directories as far as there is room, all
 -- else whole
-abbrev pub Opens : WholeFile × ExportsSaid → Opened → Opened → Type 0
+abbrev pub Opens : OpenedFile → Opened → Opened → Type 0
 Opens read old new =
-    let w = read.0 in
+    let w = read.whole in
     (new.file ≡ file_of w)
     × (Filled (λ d. d) (map entry_record (directories_of w.header.optional_header))
     old.directories new.directories)
-    × AreTablesOf w read.1 new.tables
+    × AreTablesOf read new.tables
 
 -- ---- the records while they are made
 
 -- A file whose imports and exports are records, and whose sections have no names from the string
 -- table.
 abbrev pub RecordsOfFile : Type 0
-RecordsOfFile = CollectedFileValue ImportSaid ExportsSaid
+RecordsOfFile = CollectedFileValue (Part (List ImportSaid)) ExportsSaid
 
 abbrev pub records_of_file : ParseOptions → List ℕ → WholeFile → RecordsOfFile
 records_of_file opts bytes w =
     let offset_of = offset_by opts w.sections (places_in w.header.optional_header) in
-    record (collected_file import_said (exports_said offset_of bytes) w)
+    record (collected_file (λ _. file_imports opts bytes w) (exports_said offset_of bytes) w)
     { sections = map unnamed w.sections }
 
 -- the tables as records
-abbrev pub tables_view : FileRecords → CollectedParts ImportSaid ExportsSaid
+abbrev pub tables_view : FileRecords → CollectedParts (Part (List ImportSaid)) ExportsSaid
 tables_view x = record {
   imports = part_map import_views x.imports;
   exports = exports_view x.exports;

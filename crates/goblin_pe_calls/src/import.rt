@@ -21,7 +21,7 @@ ghost use Rattle.goblin_pe_calls.specs.Blocked.{HasLittleRoomIn};
 ghost use Rattle.readings.specs.Walks.{IsBegun};
 ghost use Rattle.goblin_pe_calls.specs.Growth.{HasEntries, ImportsBegin};
 ghost use Rattle.goblin_pe_calls.specs.Imports.{GivesHere, Pushes, import_said};
-ghost use Rattle.goblin_pe_calls.specs.Imports.{import_view, import_views};
+ghost use Rattle.goblin_pe_calls.specs.Imports.{import_view, import_views, imports_said};
 
 use goblin_pe::import::{Bitfield, Imports, SyntheticImportLookupTableEntry, WalkedImport};
 use goblin_pe::{FileImports, Layout, Part, Result, ResultOf};
@@ -269,9 +269,12 @@ pub fn import_records<'a, 'm>(
     requires { map_of finder.old ≡ layout_map layout.now }
     ensures value { let m = layout_map layout.now in
         ReadsOrMemory (part_map import_views) result
-        (mapped (collected_imports import_said)
+        (mapped (collected_imports (λ _. imports_said m.opts (offset_of m)
+        (layout_places layout.now) (layout_bytes layout.now)))
         (both_import_parts m.opts (offset_of m) (layout_places layout.now)))
         (layout_bytes layout.now) }
+    ensures listed { let m = layout_map layout.now in
+        AreListed m.opts (offset_of m) (layout_places layout.now) (layout_bytes layout.now) }
     ensures none { IfOk result HasLittleRoomIn }
     ensures grown { let m = layout_map layout.now in
         let parts = both_import_parts m.opts (offset_of m) (layout_places layout.now) in

@@ -6,11 +6,11 @@ ghost use Rattle.goblin_base.specs.Reading.{ReadsOrMemory};
 ghost use Rattle.goblin_pe.specs.Reads.{mapped};
 ghost use Rattle.goblin_pe_sect.specs.Addresses.{offset_of};
 ghost use Rattle.goblin_pe.specs.Layouts.{layout_bytes, layout_map, layout_places};
-ghost use Rattle.goblin_pe.specs.Whole.{collected_tables, table_parts};
+ghost use Rattle.goblin_pe.specs.Whole.{AreListed, collected_tables, table_parts};
 ghost use Rattle.goblin_pe_calls.specs.Blocked.{HasLittleRoomIn, HaveLittleRoom};
 ghost use Rattle.goblin_pe_calls.specs.Exports.{exports_said};
 ghost use Rattle.goblin_pe_calls.specs.Growth.{HasTables, TablesBegin};
-ghost use Rattle.goblin_pe_calls.specs.Imports.{import_said};
+ghost use Rattle.goblin_pe_calls.specs.Imports.{imports_said};
 ghost use Rattle.goblin_pe_calls.specs.Opened.{tables_view};
 
 use crate::export::{ExportRecords, export_records};
@@ -34,10 +34,14 @@ pub struct FileRecords<'a> {
 pub fn file_records<'a>(alloc: Global, layout: &Layout<'a>) -> Result<FileRecords<'a>>
     ensures value { let m = layout_map layout.now in
         ReadsOrMemory tables_view result
-        (mapped (collected_tables import_said
+        (mapped (collected_tables (λ _. imports_said m.opts (offset_of m)
+        (layout_places layout.now) (layout_bytes layout.now))
         (exports_said (offset_of m) (layout_bytes layout.now)))
         (table_parts m.opts (offset_of m) (layout_places layout.now)))
         (layout_bytes layout.now) }
+    ensures listed { let m = layout_map layout.now in
+        IfOk result (λ _.
+        AreListed m.opts (offset_of m) (layout_places layout.now) (layout_bytes layout.now)) }
     ensures none { IfOk result
         (λ r. HasLittleRoomIn r.imports × HaveLittleRoom r.exports) }
     ensures grown { let m = layout_map layout.now in

@@ -21,7 +21,7 @@ use Rattle.goblin_pe_import.specs.ImportEntries.LookupEntry.{ByOrdinal}
 use Rattle.goblin_pe_import.specs.LookupReadings as reading
 use Rattle.goblin_base.specs.Reading.{Reading}
 use Rattle.readings.specs.Reads.{given, in_its_place, pair_of, with_slots}
-use Rattle.goblin_pe_import.specs.Imports.{ImportValue, has_slots, import_at, imports_by, imports_of, kept_count, kept_entries, library_imports, origin}
+use Rattle.goblin_pe_import.specs.Imports.{ImportValue, has_slots, import_at, imports_by, imports_of, kept_count, kept_entries, library_imports}
 use Rattle.goblin_base.proofs.Kept.{without_test}
 
 -- ---- tables of slots
@@ -126,29 +126,6 @@ pair_of-right (Some v) None both e = absurd cc
 pair_of-right {A} {B} (Some v) (Some w) both e =
     ap (λ (p : A × B). Some p.1) (same_value (v, w) both e)
 
--- the libraries of a directory without their indexes
-module _ (strict : Bool) (format : Format EntryValue) (offset_of : ℕ → Option ℕ) (bytes : List ℕ)
-    (o : ℕ) (all : List ImportedLibrary) where
-  pub record Unnumbered : Type 0 where
-    pub libraries : List ImportedLibrary
-    pub indexes : List ℕ
-    pub are : slot_table import_slots strict
-        (λ r. (directory.kept_library strict format offset_of r).value bytes) bytes o
-        ≡ Some libraries
-    pub same : directory.numbered libraries indexes ≡ all
-
-  pub unnumbered : (directory.libraries_at strict format offset_of o).value bytes ≡ Some all
-      → Unnumbered
-  unfolding directory.libraries_at
-  unnumbered e =
-      let m = mapped ((directory.indexed_at strict format offset_of o).value bytes) _ all e in
-      record {
-        libraries = m.value.0;
-        indexes = m.value.1;
-        are = with_slots-value _ _ m.value m.is;
-        same = m.made;
-      }
-
 -- the libraries of import data: none, or those of the directory at the offset of its address
 module _ (strict : Bool) (format : Format EntryValue) (offset_of : ℕ → Option ℕ) (bytes : List ℕ)
     (rva : ℕ) (xs : List ImportedLibrary) where
@@ -162,7 +139,7 @@ module _ (strict : Bool) (format : Format EntryValue) (offset_of : ℕ → Optio
     where
       by_test : (mode test : Bool) (o : ℕ)
           → ((directory.libraries_at mode format offset_of o).value bytes ≡ Some xs → Holds xs)
-          → (directory.libraries_if mode format offset_of (cond test None (Some o))).value bytes
+          → (directory.read_if (directory.libraries_at mode format offset_of) (cond test None (Some o))).value bytes
           ≡ Some xs
           → Holds xs
       by_test mode true o here e = subst Holds (same_value [] xs e) none
@@ -172,7 +149,7 @@ module _ (strict : Bool) (format : Format EntryValue) (offset_of : ℕ → Optio
           → ((o : ℕ) → place ≡ Some o
           → (directory.libraries_at mode format offset_of o).value bytes ≡ Some xs → Holds xs)
           → (in_its_place mode 0 place
-          >>= λ o. (directory.libraries_past_front mode format offset_of o).value bytes) ≡ Some xs
+          >>= λ o. (directory.read_past_front mode (directory.libraries_at mode format offset_of) o).value bytes) ≡ Some xs
           → Holds xs
       by_place mode (Some o) at e = by_test mode (not mode && nat_eq o 0) o (at o refl) e
       by_place true None at e = absurd cc
@@ -214,28 +191,10 @@ module _ (strict : Bool) (format : Format EntryValue) (offset_of : ℕ → Optio
       subst (λ (l : ImportedLibrary). length (kept_entries l) ≤ entries) m.made
       (lookup_if-few place m.value.0.1 there)
 
-  numbered-few : (xs : List ImportedLibrary) (indexes : List ℕ)
-      → kept_count (directory.numbered xs indexes) ≤ kept_count xs
-  unfolding directory.numbered
-  numbered-few [] indexes = omega arith
-  numbered-few (x ∷ xs) [] = omega arith
-  numbered-few (x ∷ xs) (i ∷ indexes) =
-      let count : ImportedLibrary → ℕ = λ library. length (kept_entries library) in
-      let first = directory.at_index i x in
-      let now = sum_by-append count (first ∷ []) (directory.numbered xs indexes) in
-      let before = sum_by-append count (x ∷ []) xs in
-      let same : kept_count (first ∷ []) ≡ kept_count (x ∷ []) = refl in
-      omega (arith, now, before, same, numbered-few xs indexes)
-
-  table-few : (o : ℕ) (xs : List ImportedLibrary) → slot_table import_slots strict (λ r. or_left_out strict ((directory.library_of strict format offset_of r).value bytes)) bytes o ≡ Some xs → kept_count xs ≤ length bytes / 20 * entries
-  table-few o xs e =
+  libraries_at-few : (o : ℕ) (xs : List ImportedLibrary) → (directory.libraries_at strict format offset_of o).value bytes ≡ Some xs → kept_count xs ≤ length bytes / 20 * entries
+  libraries_at-few o xs e =
       slot_table-count kept_count refl (sum_by-append (λ library. length (kept_entries library))) import_slots strict (λ r. or_left_out strict ((directory.library_of strict format offset_of r).value bytes)) bytes o entries (omega arith)
       (λ r ys is. left_out-or strict ((directory.library_of strict format offset_of r).value bytes) ys (λ ls. kept_count ls ≤ entries) (omega arith) (λ l here. omega (arith, library_of-few r l here)) is) xs e
-
-  libraries_at-few : (o : ℕ) (all : List ImportedLibrary) → (directory.libraries_at strict format offset_of o).value bytes ≡ Some all → kept_count all ≤ length bytes / 20 * entries
-  libraries_at-few o all e =
-      let u = unnumbered strict format offset_of bytes o all e in
-      omega (arith, ap kept_count u.same, numbered-few u.libraries u.indexes, table-few o u.libraries u.are)
 
   -- the entries that the lookup tables of import data keep
   pub import_data-few : (rva : ℕ) (libraries : List ImportedLibrary)
@@ -264,7 +223,7 @@ library_imports-length : (size : ℕ) (library : ImportedLibrary) (xs : List Imp
 unfolding imports_by
 library_imports-length size library xs e =
     let n = length (kept_entries library) in
-    let at = import_at size (origin library.index library.name) library.import_directory_entry.import_address_table_rva (kept_entries library) library.import_lookup_slots in
+    let at = import_at size library.name library.import_directory_entry.import_address_table_rva (kept_entries library) library.import_lookup_slots in
     omega (arith, all_of-length (map at (range_with_len 0 n)) xs (slotted (has_slots library) _ xs e), length-map (range_with_len 0 n) at, length-range_with_len 0 n)
 
 imports_to : (size : ℕ) (libraries : List ImportedLibrary) (n : ℕ) (xs : List ImportValue) → n ≤ length libraries → each_below (λ i. slice_get libraries i >>= library_imports size) n ≡ Some xs → length xs ≡ kept_count (take n libraries)

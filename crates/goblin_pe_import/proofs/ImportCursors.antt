@@ -4,7 +4,8 @@ use Rattle.goblin_base.specs.Tables.{Format}
 use Rattle.readings.specs.Walks.{until_refused}
 use Rattle.goblin_pe_sect.specs.Addresses.{MapOfAddresses, map_of, offset_of, reads_strictly}
 use Rattle.goblin_pe_import.specs.ImportEntries.{EntryValue}
-use Rattle.goblin_pe_import.specs.Imports.{ImportValue, origin}
+use Rattle.goblin_pe_import.specs.Imports.{NumberedImport}
+use Rattle.goblin_pe_import.specs.ImportWalks.{origin}
 use Rattle.goblin_pe_import.specs.ImportWalks.{IsNamed, IsNamedAt, IsWalkAt, cursor_left, cursor_of}
 use Rattle.goblin_pe_import.specs.ImportWalks.{entries_from, imports_bytes, imports_left}
 use Rattle.goblin_pe_import.specs.ImportWalks.{imports_of_entries, name_said, walk_left}
@@ -14,14 +15,14 @@ use Rattle.goblin_pe_import.specs.declared.import.imports.Walk.{Walk}
 
 module _ (format : Format EntryValue) (w : Walk) where
   -- the items of the library that the walk is in, by its name
-  abbrev left_by : Option ℕ → List (Option ImportValue) → List ℕ → List (Option ImportValue)
+  abbrev left_by : Option ℕ → List (Option NumberedImport) → List ℕ → List (Option NumberedImport)
   left_by place later dll =
       let m = map_of w.finder in
       until_refused
       (imports_of_entries (reads_strictly m) format (offset_of m) w.bytes.now
       (origin w.at.library dll) w.at.rva w.at.table_offset place ++ later)
 
-  named-by : (place : Option ℕ) (later : List (Option ImportValue)) (dll name : List ℕ)
+  named-by : (place : Option ℕ) (later : List (Option NumberedImport)) (dll name : List ℕ)
       → IsNamedAt place dll name → left_by place later dll ≡ left_by place later name
   unfolding entries_from
   named-by None later dll name h = refl

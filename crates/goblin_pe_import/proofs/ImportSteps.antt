@@ -10,7 +10,8 @@ use Rattle.goblin_pe_import.specs.declared.import.imports.Walk.{Walk}
 use Rattle.goblin_pe_import.specs.declared.import.kept.KeptEntry.{KeptEntry}
 use Rattle.goblin_pe_sect.specs.Addresses.{map_of, offset_of, reads_strictly}
 use Rattle.goblin_pe_import.specs.ImportEntries.{EntryValue}
-use Rattle.goblin_pe_import.specs.Imports.{ImportValue, origin}
+use Rattle.goblin_pe_import.specs.Imports.{NumberedImport}
+use Rattle.goblin_pe_import.specs.ImportWalks.{origin}
 use Rattle.goblin_pe_import.specs.ImportWalks.{GivesLibrary, IsEntriesCause, IsLaterCause, IsNamed}
 use Rattle.goblin_pe_import.specs.ImportWalks.{IsWalkCause, KeptValue, bound_next, no_imports}
 use Rattle.goblin_pe_import.specs.ImportWalks.{entries_from, imports_next, kept_import, kept_value, later_items, walk_answer, walk_at}
@@ -78,7 +79,7 @@ module _ (format : Format EntryValue) (start s : Walk) (h : AtImports format sta
   abbrev IsLater : ErrorOf → Type 0
   IsLater = IsLaterCause strict format places s.bytes.now s.at.untested s.at.next_record
 
-  abbrev later : List (Option ImportValue)
+  abbrev later : List (Option NumberedImport)
   later = later_items strict format places s.bytes.now s.at.untested s.at.first_record s.at.next_record
 
   abbrev Steps : Option (Result KeptEntry ErrorOf) → Type 0
@@ -91,7 +92,7 @@ module _ (format : Format EntryValue) (start s : Walk) (h : AtImports format sta
         steps : Steps (Some (Ok kept))
         steps = subst (λ (q : Result KeptEntry ErrorOf). Steps (Some q)) is given
 
-        abbrev item : ImportValue
+        abbrev item : NumberedImport
         item = kept_import format.width (origin s.at.library s.dll.now) s.at.rva s.at.table_offset (kept_value kept)
 
         pub next-one : (walk_left format start ≡ Some item ∷ walk_left format (walk_at s place))

@@ -13,46 +13,46 @@ use Rattle.goblin_base.proofs.Steps.{all_at-more, all_at-none, all_at-zero, unma
 use Rattle.goblin_pe_sect.proofs.First.{found_at_first, found_passes, none_passes}
 use Rattle.goblin_pe_import.specs.ImportLookup.{LookupEntry}
 use Rattle.goblin_pe_import.specs.ImportDirectory.{ImportedLibrary}
-use Rattle.goblin_pe_import.specs.Imports.{ImportValue, IsImportListFault, IsSlotCount, Origin, first_without_slots, has_slots, import_at, import_of, import_offset, imports_by, imports_of, kept_count, kept_entries, library_imports}
+use Rattle.goblin_pe_import.specs.Imports.{ImportValue, IsImportListFault, IsSlotCount, first_without_slots, has_slots, import_at, import_of, import_offset, imports_by, imports_of, kept_count, kept_entries, library_imports}
 
 -- over a table's entries and slots
-module _ (size : ℕ) (from : Origin) (rva : ℕ) (entries : List LookupEntry) (slots : List ℕ) where
+module _ (size : ℕ) (dll : List ℕ) (rva : ℕ) (entries : List LookupEntry) (slots : List ℕ) where
   -- `now` is `old` with the imports of the entries before a position after it
   pub record AtEntry (position : ℕ) (old now : List ImportValue) : Type 0 where
     pub made : List ImportValue
-    pub so_far : all_at (import_at size from rva entries slots) position ≡ Some made
+    pub so_far : all_at (import_at size dll rva entries slots) position ≡ Some made
     pub after : now ≡ old ++ made
 
   pub entry-start : (old : List ImportValue) → AtEntry 0 old old
-  entry-start old = record { made = []; so_far = all_at-zero (import_at size from rva entries slots); after = sym (append-nil old) }
+  entry-start old = record { made = []; so_far = all_at-zero (import_at size dll rva entries slots); after = sym (append-nil old) }
 
   -- one entry further
-  pub entry-next : (position slot offset : ℕ) (entry : LookupEntry) (x : ImportValue) (old now : List ImportValue) → AtEntry position old now → slice_get entries position ≡ Some entry → slice_get slots position ≡ Some slot → Some offset ≡ import_offset rva size slot → Some (import_of from slot offset size entry) ≡ Some x → AtEntry (position + 1) old (now ++ x ∷ [])
+  pub entry-next : (position slot offset : ℕ) (entry : LookupEntry) (x : ImportValue) (old now : List ImportValue) → AtEntry position old now → slice_get entries position ≡ Some entry → slice_get slots position ≡ Some slot → Some offset ≡ import_offset rva size slot → Some (import_of dll slot offset size entry) ≡ Some x → AtEntry (position + 1) old (now ++ x ∷ [])
   entry-next position slot offset entry x old now h is in_slot fits same =
-      let this : import_at size from rva entries slots position ≡ Some x = rw (is, in_slot, ← fits) same in
+      let this : import_at size dll rva entries slots position ≡ Some x = rw (is, in_slot, ← fits) same in
       record {
         made = h.made ++ x ∷ [];
-        so_far = all_at-more (import_at size from rva entries slots) position h.made x h.so_far this;
+        so_far = all_at-more (import_at size dll rva entries slots) position h.made x h.so_far this;
         after = ap (λ ys. ys ++ x ∷ []) h.after ∙ append_assoc old h.made (x ∷ []);
       }
 
-  no_offset : (slot : ℕ) (entry : Option LookupEntry) → import_offset rva size slot ≡ None → (entry >>= (λ e. import_offset rva size slot >>= (λ o. Some (import_of from slot o size e)))) ≡ None
+  no_offset : (slot : ℕ) (entry : Option LookupEntry) → import_offset rva size slot ≡ None → (entry >>= (λ e. import_offset rva size slot >>= (λ o. Some (import_of dll slot o size e)))) ≡ None
   no_offset slot None none = refl
   no_offset slot (Some e) none = rw none refl
 
   -- an entry whose slot has no offset
-  pub entry-refused : (position slot : ℕ) (old : List ImportValue) → position < length entries → slice_get slots position ≡ Some slot → import_offset rva size slot ≡ None → option_map (λ made. old ++ made) (imports_by size from rva entries slots) ≡ None
+  pub entry-refused : (position slot : ℕ) (old : List ImportValue) → position < length entries → slice_get slots position ≡ Some slot → import_offset rva size slot ≡ None → option_map (λ made. old ++ made) (imports_by size dll rva entries slots) ≡ None
   unfolding imports_by
   entry-refused position slot old below in_slot none =
-      let this : import_at size from rva entries slots position ≡ None = rw in_slot (no_offset slot (slice_get entries position) none) in
-      let all : all_at (import_at size from rva entries slots) (length entries) ≡ None = all_at-none (import_at size from rva entries slots) (length entries) position below this in
+      let this : import_at size dll rva entries slots position ≡ None = rw in_slot (no_offset slot (slice_get entries position) none) in
+      let all : all_at (import_at size dll rva entries slots) (length entries) ≡ None = all_at-none (import_at size dll rva entries slots) (length entries) position below this in
       rw all refl
 
   -- all entries
-  pub entry-end : (position : ℕ) (old now : List ImportValue) → AtEntry position old now → position ≡ length entries → option_map (λ made. old ++ made) (imports_by size from rva entries slots) ≡ Some now
+  pub entry-end : (position : ℕ) (old now : List ImportValue) → AtEntry position old now → position ≡ length entries → option_map (λ made. old ++ made) (imports_by size dll rva entries slots) ≡ Some now
   unfolding imports_by
   entry-end position old now h end =
-      let all : all_at (import_at size from rva entries slots) (length entries) ≡ Some h.made = ap (all_at (import_at size from rva entries slots)) (sym end) ∙ h.so_far in
+      let all : all_at (import_at size dll rva entries slots) (length entries) ≡ Some h.made = ap (all_at (import_at size dll rva entries slots)) (sym end) ∙ h.so_far in
       rw all (ap Some (sym h.after))
 
 pub entry-read : {A : Type 0} (view : A → LookupEntry) (entries : List A) (position : ℕ) (d : A) → position < length entries → slice_get (map view entries) position ≡ Some (view (get_or entries position d))

@@ -1,8 +1,9 @@
 -- What a walk over all imports collects is what import data has.
 use Rattle.std.proofs.Common.{◌≡◌, ◌<◌, ◌≤◌, ◌+◌, ◌-◌, ◌*◌, ◌^◌, ℕ, Bool, true, false, cond, List, [], ◌∷◌, ◌++◌, map, length, Option, Some, None, refl, sym, ap, subst, ◌∙◌, append-nil, arith, lit≤, zero, suc, IsSome, not, ◌&&◌, inl, inr, is_none, option_map, slice_get, unwrap_or, flat_map, is_some}
 use Rattle.std.proofs.lemmas.Bool.{and_left, cases_Bool, eq-eqb, lt-ltb}
-use Rattle.std.proofs.lemmas.List.{get_or_append_left, length-append, length-map, map-append, map-id}
+use Rattle.std.proofs.lemmas.List.{get_or_append_left, length-append, length-map, map-append}
 use Rattle.std.proofs.lemmas.List.Concat.{flat_map-append}
+use Rattle.std.proofs.lemmas.Simd.{map-map}
 use Rattle.std.proofs.lemmas.Option.{slice_get-get_or}
 use Rattle.std.proofs.Math.Seq.{get_or-append_seam}
 use Rattle.goblin_base.specs.declared.endian.Endian.TheVariants.{Little}
@@ -22,12 +23,13 @@ use Rattle.goblin_pe_import.specs.declared.import.directory_entry.ImportDirector
 use Rattle.goblin_pe_sect.specs.Addresses.{MapOfAddresses, offset_of, reads_strictly}
 use Rattle.goblin_pe_import.specs.ImportEntries.{EntryValue, LookupEntry, entry_slots}
 use Rattle.goblin_pe_import.specs.ImportCursors.{before_record}
-use Rattle.goblin_pe_import.specs.ImportReadings.{at_index, first_record_offset, import_data, kept_library}
-use Rattle.goblin_pe_import.specs.ImportReadings.{libraries_at, libraries_if, libraries_past_front}
-use Rattle.goblin_pe_import.specs.ImportReadings.{library_of, lookup_if}
-use Rattle.goblin_pe_import.specs.ImportRecords.{ImportedLibrary, import_record, import_slots, lookup_offset}
-use Rattle.goblin_pe_import.specs.Imports.{ImportValue, Origin, import_at, import_of, imports_by, kept_imports}
-use Rattle.goblin_pe_import.specs.Imports.{origin}
+use Rattle.goblin_pe_import.specs.ImportReadings.{at_index, first_record_offset, kept_library}
+use Rattle.goblin_pe_import.specs.ImportReadings.{library_of, lookup_if, numbered_data, numbered_libraries_at}
+use Rattle.goblin_pe_import.specs.ImportReadings.{read_if, read_past_front}
+use Rattle.goblin_pe_import.specs.ImportRecords.{ImportedLibrary, NumberedLibrary, import_record, import_slots, lookup_offset}
+use Rattle.goblin_pe_import.specs.Imports.{ImportValue, NumberedImport, at_library, import_at, import_of, imports_by}
+use Rattle.goblin_pe_import.specs.Imports.{numbered_imports}
+use Rattle.goblin_pe_import.specs.ImportWalks.{Origin, origin}
 use Rattle.goblin_pe_import.specs.ImportWalks.{imports_from_record, library_items, addresses_of}
 use Rattle.goblin_pe_import.specs.ImportWalks.{entries_from, imports_next, library_name, record_index}
 use Rattle.goblin_pe_import.specs.ImportWalks.{IsCursorCause, IsImportsCause, IsWalkAt, KeptValue, cursor_of, imports_bytes}
@@ -60,18 +62,18 @@ last_read xs x n long =
     ∙ ap (λ y. Some y) (get_or-append_seam xs x [] x)
 
 -- the imports of one more entry, which has a slot
-imports_by-more : (size : ℕ) (from : Origin) (rva : ℕ) (entries : List LookupEntry) (slots : List ℕ)
+imports_by-more : (size : ℕ) (dll : List ℕ) (rva : ℕ) (entries : List LookupEntry) (slots : List ℕ)
     (made : List ImportValue) (entry : LookupEntry) (slot offset : ℕ)
     → length entries ≡ length slots → offset ≡ rva + size * slot → offset < 2 ^ 64
-    → imports_by size from rva entries slots ≡ Some made
-    → imports_by size from rva (entries ++ entry ∷ []) (slots ++ slot ∷ [])
-    ≡ Some (made ++ import_of from slot offset size entry ∷ [])
+    → imports_by size dll rva entries slots ≡ Some made
+    → imports_by size dll rva (entries ++ entry ∷ []) (slots ++ slot ∷ [])
+    ≡ Some (made ++ import_of dll slot offset size entry ∷ [])
 unfolding imports_by
-imports_by-more size from rva entries slots made entry slot offset counted at low so_far =
+imports_by-more size dll rva entries slots made entry slot offset counted at low so_far =
     let n = length entries in
-    let before : ℕ → Option ImportValue = import_at size from rva entries slots in
+    let before : ℕ → Option ImportValue = import_at size dll rva entries slots in
     let now : ℕ → Option ImportValue =
-    import_at size from rva (entries ++ entry ∷ []) (slots ++ slot ∷ []) in
+    import_at size dll rva (entries ++ entry ∷ []) (slots ++ slot ∷ []) in
     let below : rva + size * slot < 2 ^ 64 = omega (arith, at, low) in
     let same : all_at before n ≡ all_at now n =
     same-all_at before now n (λ j within.
@@ -79,7 +81,7 @@ imports_by-more size from rva entries slots made entry slot offset counted at lo
     rw (one_read entries entry j within, one_read slots slot j in_slots) refl) in
     let in_slot = last_read slots slot n (sym counted) in
     let fits = lt-ltb (rva + size * slot) (2 ^ 64) below in
-    let x : ImportValue = import_of from slot offset size entry in
+    let x : ImportValue = import_of dll slot offset size entry in
     let here : now n ≡ Some x = rw (last_read entries entry n refl, in_slot, fits, at) refl in
     let long : length (entries ++ entry ∷ []) ≡ n + 1 =
     omega (arith, length-append entries (entry ∷ [])) in
@@ -91,12 +93,15 @@ module _ (strict : Bool) (format : Format EntryValue) (offset_of : ℕ → Optio
     (bytes : List ℕ) (o : ℕ) (wide : 1 ≤ format.width) (from : Origin) (rva : ℕ)
     (short : length bytes < 2 ^ 63) (low : rva < 2 ^ 32) where
   -- the imports of these kept entries
+  abbrev import_by : KeptValue → ImportValue
+  import_by k = (kept_import format.width from rva o k).import
+
   abbrev imports : List KeptValue → List ImportValue
-  imports kept = map (kept_import format.width from rva o) kept
+  imports kept = map import_by kept
 
   abbrev AreImports : List KeptValue → Type 0
   AreImports kept =
-      imports_by format.width from rva (in_two kept).0 (in_two kept).1 ≡ Some (imports kept)
+      imports_by format.width from.dll rva (in_two kept).0 (in_two kept).1 ≡ Some (imports kept)
 
   abbrev made : ℕ → Option (List LookupEntry)
   made i =
@@ -120,12 +125,12 @@ module _ (strict : Bool) (format : Format EntryValue) (offset_of : ℕ → Optio
       length-map kept (λ (k : KeptValue). k.entry)
       ∙ sym (length-map kept (λ (k : KeptValue). k.slot)) in
       let longer =
-      imports_by-more format.width from rva (map (λ k. k.entry) kept) (map (λ k. k.slot) kept)
+      imports_by-more format.width from.dll rva (map (λ k. k.entry) kept) (map (λ k. k.slot) kept)
       (imports kept) x n (rva + format.width * n) counted refl below so_far in
       rw (
         map-append (λ (k : KeptValue). k.entry) kept (item n x ∷ []),
         map-append (λ (k : KeptValue). k.slot) kept (item n x ∷ []),
-        map-append (kept_import format.width from rva o) kept (item n x ∷ []),
+        map-append import_by kept (item n x ∷ []),
         slot,
         distance,
       )
@@ -138,7 +143,7 @@ module _ (strict : Bool) (format : Format EntryValue) (offset_of : ℕ → Optio
       → AreImports kept
   unfolding imports_by
   entries-imports kept e =
-      walk-holds item made AreImports (all_at-zero (import_at format.width from rva [] []))
+      walk-holds item made AreImports (all_at-zero (import_at format.width from.dll rva [] []))
       (λ n items xs is so_far.
       let s = step (slot_at (entry_slots format) bytes o n)
       (λ v. (kept_entry strict offset_of v).value bytes) xs is in
@@ -187,13 +192,13 @@ module _ (strict : Bool) (format : Format EntryValue) (offset_of : ℕ → Optio
 -- a library that is not left out has an address table where strict mode does not need one
 same_refusal : (mode : Bool) (table : Reading (List ℕ)) (bytes : List ℕ)
     → (not mode && is_none (table.value bytes)) ≡ false
-    → refusal_of {B = ImportValue} ((pick mode table (given [])).value bytes)
+    → refusal_of {B = NumberedImport} ((pick mode table (given [])).value bytes)
     ≡ refusal_of (table.value bytes)
 same_refusal true table bytes kept = refl
 same_refusal false table bytes kept = none_missing (table.value bytes) kept
   where
     none_missing : (found : Option (List ℕ)) → is_none found ≡ false
-        → [] ≡ refusal_of {B = ImportValue} found
+        → [] ≡ refusal_of {B = NumberedImport} found
     none_missing None is = absurd cc
     none_missing (Some x) is = refl
 
@@ -260,12 +265,12 @@ left-out make f false None (Some x) out = refl
 module _ (strict : Bool) (format : Format EntryValue) (offset_of : ℕ → Option ℕ)
     (bytes : List ℕ) (wide : 1 ≤ format.width) (short : length bytes < 2 ^ 63) where
   -- the imports of a library
-  abbrev imports_in : ImportedLibrary → List ImportValue
-  imports_in = kept_imports (λ x. x) format.width
+  abbrev imports_in : NumberedLibrary → List NumberedImport
+  imports_in = numbered_imports format.width
 
   module _ (index : ℕ) (r : ImportDirectoryEntry) (low : r.import_address_table_rva < 2 ^ 32) where
     -- the imports of a library with this index
-    abbrev imports_here : ImportedLibrary → List ImportValue
+    abbrev imports_here : ImportedLibrary → List NumberedImport
     imports_here library = imports_in (at_index index library)
 
     abbrev at : Option ℕ
@@ -274,13 +279,12 @@ module _ (strict : Bool) (format : Format EntryValue) (offset_of : ℕ → Optio
     abbrev entries : List (Option KeptValue)
     entries = entries_from strict format offset_of bytes (unwrap_or at 0) at
 
-    abbrev import_in : List ℕ → KeptValue → ImportValue
+    abbrev import_in : List ℕ → KeptValue → NumberedImport
     import_in dll =
         kept_import format.width (origin index dll) r.import_address_table_rva (unwrap_or at 0)
 
     abbrev library : List ℕ → Option (List LookupEntry) × List ℕ → List ℕ → ImportedLibrary
     library dll both addresses = record {
-      index = 0;
       import_directory_entry = r;
       name = dll;
       import_lookup_table = both.0;
@@ -291,11 +295,16 @@ module _ (strict : Bool) (format : Format EntryValue) (offset_of : ℕ → Optio
     abbrev table : Reading (List ℕ)
     table = addresses_of format offset_of r
 
-    by_count : (counted : Bool) (made : Option (List ImportValue)) (xs : List ImportValue)
-        → counted ≡ true → made ≡ Some xs
-        → map (λ x. x) (unwrap_or (cond counted made None) []) ≡ xs
-    by_count true made xs is e = rw e (map-id xs)
-    by_count false made xs is e = absurd cc
+    abbrev record_import : List ℕ → Option ℕ → KeptValue → ImportValue
+    record_import dll place k =
+        (kept_import format.width (origin index dll) r.import_address_table_rva (unwrap_or place 0) k).import
+
+    by_count : (counted : Bool) (made : Option (List ImportValue)) (item : KeptValue → ImportValue)
+        (ks : List KeptValue) → counted ≡ true → made ≡ Some (map item ks)
+        → map (at_library index) (unwrap_or (cond counted made None) [])
+        ≡ map (λ k. at_library index (item k)) ks
+    by_count true made item ks is e = rw e (map-map (at_library index) item ks)
+    by_count false made item ks is e = absurd cc
 
     library-imports : (dll : List ℕ) (place : Option ℕ) (ks : List KeptValue) (addresses : List ℕ)
         → all_of (entries_from strict format offset_of bytes (unwrap_or place 0) place)
@@ -306,17 +315,14 @@ module _ (strict : Bool) (format : Format EntryValue) (offset_of : ℕ → Optio
     unfolding entries_from imports_by
     library-imports dll None ks addresses e =
         let none = same_value [] ks e in
-        by_count true (imports_by format.width (origin index dll) r.import_address_table_rva [] []) _ refl
-        (all_at-zero (import_at format.width (origin index dll) r.import_address_table_rva [] [])
-        ∙ ap
-        (λ (ks : List KeptValue). Some
-        (map (kept_import format.width (origin index dll) r.import_address_table_rva 0) ks))
-        none)
+        by_count true (imports_by format.width dll r.import_address_table_rva [] []) (record_import dll None) ks refl
+        (all_at-zero (import_at format.width dll r.import_address_table_rva [] [])
+        ∙ ap (λ (ks : List KeptValue). Some (map (record_import dll None) ks)) none)
     library-imports dll (Some o) ks addresses e =
         let counted =
         length-map ks (λ (k : KeptValue). k.entry)
         ∙ sym (length-map ks (λ (k : KeptValue). k.slot)) in
-        by_count _ (imports_by format.width (origin index dll) r.import_address_table_rva (in_two ks).0 (in_two ks).1) _
+        by_count _ (imports_by format.width dll r.import_address_table_rva (in_two ks).0 (in_two ks).1) (record_import dll (Some o)) ks
         (eq-eqb (length (in_two ks).0) (length (in_two ks).1) counted)
         (entries-imports strict format offset_of bytes o wide (origin index dll) r.import_address_table_rva short
         low ks e)
@@ -342,8 +348,8 @@ module _ (strict : Bool) (format : Format EntryValue) (offset_of : ℕ → Optio
                   (all_of-append (map (option_map (import_in dll)) entries)
                   (refusal_of (table.value bytes))
                   ∙ ap
-                  (λ (o : Option (List ImportValue)). join o
-                  (all_of {A = ImportValue} (refusal_of (table.value bytes))))
+                  (λ (o : Option (List NumberedImport)). join o
+                  (all_of {A = NumberedImport} (refusal_of (table.value bytes))))
                   (all_of-mapped (import_in dll) entries)
                   ∙ library-value strict _ (in_two_if at) (map (import_in dll)) imports_here dll
                   (all_of entries) (table.value bytes) kept
@@ -359,25 +365,25 @@ module _ (strict : Bool) (format : Format EntryValue) (offset_of : ℕ → Optio
       → option_map (flat_map (λ library. imports_in (at_index i library))) kept
       ≡ option_map (flat_map imports_in) (option_map (map (at_index i)) kept)
   indexed-map i None = refl
-  indexed-map i (Some ls) = ap (λ (xs : List ImportValue). Some xs) (each ls)
+  indexed-map i (Some ls) = ap (λ (xs : List NumberedImport). Some xs) (each ls)
     where
       each : (ls : List ImportedLibrary)
           → flat_map (λ library. imports_in (at_index i library)) ls
           ≡ flat_map imports_in (map (at_index i) ls)
       each [] = refl
-      each (l ∷ ls) = ap (λ (xs : List ImportValue). imports_in (at_index i l) ++ xs) (each ls)
+      each (l ∷ ls) = ap (λ (xs : List NumberedImport). imports_in (at_index i l) ++ xs) (each ls)
 
   module _ (octets : IsBytes bytes) (o : ℕ) where
     abbrev record_at : ℕ → Option ImportDirectoryEntry
     record_at i = slot_at import_slots bytes o i
 
-    abbrev pieces : ℕ → Option (List ImportedLibrary)
+    abbrev pieces : ℕ → Option (List NumberedLibrary)
     pieces = numbered_at (indexes.kept_at strict format offset_of bytes o) (few strict format offset_of bytes o)
 
-    abbrev items : ℕ → ImportDirectoryEntry → List (Option ImportValue)
+    abbrev items : ℕ → ImportDirectoryEntry → List (Option NumberedImport)
     items p r = library_items strict format offset_of bytes (record_index o p) r
 
-    abbrev comes_of : ℕ → List (Option ImportValue)
+    abbrev comes_of : ℕ → List (Option NumberedImport)
     comes_of i = items_at items (slot_place import_slots o i) (record_at i)
 
     slot-value : (i : ℕ) → all_of (comes_of i) ≡ option_map (flat_map imports_in) (pieces i)
@@ -405,16 +411,16 @@ module _ (strict : Bool) (format : Format EntryValue) (offset_of : ℕ → Optio
     below-value zero = refl
     below-value (suc n) =
         all_of-append (concat_below comes_of n) (comes_of n)
-        ∙ ap (λ (o : Option (List ImportValue)). join o (all_of (comes_of n))) (below-value n)
+        ∙ ap (λ (o : Option (List NumberedImport)). join o (all_of (comes_of n))) (below-value n)
         ∙ ap
-        (λ (o : Option (List ImportValue)).
+        (λ (o : Option (List NumberedImport)).
         join (option_map (flat_map imports_in) (each_below pieces n)) o)
         (slot-value n)
         ∙ join-mapped imports_in (each_below pieces n) (pieces n)
 
     -- collecting a walk over all imports gives those of the directory's libraries
     pub imports-value : all_of (imports_from_record strict format offset_of bytes o o)
-        ≡ (mapped (flat_map imports_in) (libraries_at strict format offset_of o)).value bytes
+        ≡ (mapped (flat_map imports_in) (numbered_libraries_at strict format offset_of o)).value bytes
     unfolding imports_from_record table_walk
     imports-value =
         let n = stop import_slots bytes o in
@@ -423,7 +429,7 @@ module _ (strict : Bool) (format : Format EntryValue) (offset_of : ℕ → Optio
         ∙ all_of-append (concat_below comes_of n) (end_items strict end)
         ∙ joined-end strict end (all_of (concat_below comes_of n))
         ∙ ap
-        (λ (o : Option (List ImportValue)). cond (strict && not (is_some end)) None o)
+        (λ (o : Option (List NumberedImport)). cond (strict && not (is_some end)) None o)
         (below-value n)
         ∙ test-mapped (flat_map imports_in) (strict && not (is_some end)) (each_below pieces n)
         ∙ ap (option_map (flat_map imports_in)) (sym (libraries-value strict format offset_of bytes o))
@@ -435,16 +441,16 @@ same_option (Some x) = refl
 -- the same of a walk that begins at a directory
 module _ (m : MapOfAddresses) (format : Format EntryValue) (bytes : List ℕ) (o : ℕ)
     (wide : 1 ≤ format.width) (short : length bytes < 2 ^ 63) (octets : IsBytes bytes) where
-  abbrev reading : Reading (List ImportValue)
+  abbrev reading : Reading (List NumberedImport)
   reading =
-      mapped (flat_map (kept_imports (λ x. x) format.width))
-      (libraries_at (reads_strictly m) format (offset_of m) o)
+      mapped (flat_map (numbered_imports format.width))
+      (numbered_libraries_at (reads_strictly m) format (offset_of m) o)
 
   walked-by : (k : MapOfAddresses) (file dll : List ℕ) (c : ImportCursor) → k ≡ m → file ≡ bytes
       → c ≡ before_record o
       → IsWalkOf (λ xs. xs) reading bytes
       (items_left (reads_strictly k) format (offset_of k) file dll c) (IsCursorCause k format file c)
-  unfolding entries_from imports_next
+  unfolding entries_from imports_next numbered_libraries_at
   walked-by k file dll c by over at =
       rw (by, over, at)
       (record {
@@ -463,23 +469,27 @@ module _ (m : MapOfAddresses) (format : Format EntryValue) (bytes : List ℕ) (o
 module _ (m : MapOfAddresses) (format : Format EntryValue) (bytes : List ℕ) (rva : ℕ) where
   none-by : (strict : Bool) (place : Option ℕ) → strict ≡ false → first_record_offset strict place ≡ None
       → (in_its_place strict 0 place
-      >>= λ o. (libraries_past_front strict format (offset_of m) o).value bytes) ≡ Some []
+      >>= λ o.
+      (read_past_front strict (numbered_libraries_at strict format (offset_of m)) o).value bytes)
+      ≡ Some []
   none-by true place permissive none = absurd cc
   none-by false None permissive none = refl
   none-by false (Some o) permissive none =
-      ap (λ (first : Option ℕ). (libraries_if false format (offset_of m) first).value bytes) none
+      ap
+      (λ (first : Option ℕ). (read_if (numbered_libraries_at false format (offset_of m)) first).value bytes)
+      none
 
   pub imports-none : reads_strictly m ≡ false
       → first_record_offset (reads_strictly m) (offset_of m rva) ≡ None → {T : Type 0} (it : Imports T)
       → cursor_of it ≡ no_imports
       → IsWalkOf (λ xs. xs)
-      (mapped (flat_map (kept_imports (λ x. x) format.width))
-      (import_data (reads_strictly m) format (offset_of m) rva))
+      (mapped (flat_map (numbered_imports format.width))
+      (numbered_data (reads_strictly m) format (offset_of m) rva))
       bytes (imports_left format it) (IsImportsCause format it)
-  unfolding entries_from imports_next import_data
+  unfolding entries_from imports_next numbered_data
   imports-none permissive none it ended =
       let read = none-by (reads_strictly m) (offset_of m rva) permissive none in
       rw (ended) (record {
-        value = sym (ap (option_map (flat_map (kept_imports (λ x. x) format.width))) read);
+        value = sym (ap (option_map (flat_map (numbered_imports format.width))) read);
         cause = λ e fault. absurd fault.1;
       })

@@ -16,10 +16,11 @@ use Rattle.readings.proofs.Walks.{walk-slot}
 use Rattle.goblin_pe_import.specs.declared.import.directory_entry.ImportDirectoryEntry.{ImportDirectoryEntry}
 use Rattle.goblin_pe_import.specs.declared.import.imports.Walk.{Walk}
 use Rattle.goblin_pe_import.specs.ImportEntries.{EntryValue, LookupEntry}
-use Rattle.goblin_pe_import.specs.ImportReadings.{import_record_at, kept_library, libraries_at, library_of, lookup_if}
+use Rattle.goblin_pe_import.specs.ImportReadings.{import_record_at, kept_library, library_of, lookup_if}
 use Rattle.goblin_pe_import.specs.ImportRecords.{address_table_rva, import_slots, is_last_record}
 use Rattle.goblin_pe_import.specs.ImportRecords.{lookup_offset}
-use Rattle.goblin_pe_import.specs.Imports.{ImportValue, Origin, origin}
+use Rattle.goblin_pe_import.specs.Imports.{NumberedImport}
+use Rattle.goblin_pe_import.specs.ImportWalks.{Origin, origin}
 use Rattle.goblin_pe_import.specs.ImportWalks.{GivesLibrary, IsEntriesCause, IsNextCause}
 use Rattle.goblin_pe_import.specs.ImportWalks.{IsLaterCause, IsNamedCause, IsRecordCause, IsRecordsCause}
 use Rattle.goblin_pe_import.specs.ImportWalks.{KeptValue, addresses_of, bound_next}
@@ -86,7 +87,7 @@ module _ (strict : Bool) (format : Format EntryValue) (offset_of : ℕ → Optio
     slots = (import_record_at p).value bytes
 
     -- what comes of the record at p and of those after it
-    abbrev pub from_record : Option ImportDirectoryEntry → List (Option ImportValue)
+    abbrev pub from_record : Option ImportDirectoryEntry → List (Option NumberedImport)
     from_record entry =
         from_slot strict is_last_record
         (library_items strict format offset_of bytes (record_index first p))
@@ -110,7 +111,7 @@ module _ (strict : Bool) (format : Format EntryValue) (offset_of : ℕ → Optio
     pub cause-record : 1 ≤ format.width → strict ≡ true → (e : ErrorOf)
         → IsRecordCause strict format offset_of bytes p slots e
         → IsRecordsCause strict format offset_of bytes p e
-    unfolding libraries_at library_of lookup_if
+    unfolding library_of lookup_if
     cause-record wide is e fault =
         cause-slot import_slots (kept_library strict format offset_of) bytes strict import_record_at
         (lit≤ tt) p slots refl e (in_slot slots fault)
@@ -183,7 +184,7 @@ module _ (strict : Bool) (format : Format EntryValue) (offset_of : ℕ → Optio
     addresses = addresses_of format offset_of r
 
     -- what comes of the library, and then of those whose records are in the directory from `next` on
-    abbrev pub whole : List (Option ImportValue)
+    abbrev pub whole : List (Option NumberedImport)
     whole =
         until_refused
         (library_items strict format offset_of bytes index r
@@ -196,7 +197,7 @@ module _ (strict : Bool) (format : Format EntryValue) (offset_of : ℕ → Optio
         (IsRecordsCause strict format offset_of bytes next)) e
 
     -- what is left of a walk of these parts
-    abbrev pub parts_left : Origin → ℕ → ℕ → Option ℕ → Option ℕ → List (Option ImportValue)
+    abbrev pub parts_left : Origin → ℕ → ℕ → Option ℕ → Option ℕ → List (Option NumberedImport)
     parts_left from rva o at untested =
         until_refused
         (imports_of_entries strict format offset_of bytes from rva o at
@@ -272,7 +273,7 @@ module _ (strict : Bool) (format : Format EntryValue) (offset_of : ℕ → Optio
   abbrev table : Reading (List ℕ)
   table = untested_table strict format offset_of untested
 
-  abbrev later : ℕ → Option ℕ → List (Option ImportValue)
+  abbrev later : ℕ → Option ℕ → List (Option NumberedImport)
   later first next = until_refused (later_items strict format offset_of bytes untested first next)
 
   abbrev IsCause : Option ℕ → ErrorOf → Type 0
@@ -288,7 +289,7 @@ module _ (strict : Bool) (format : Format EntryValue) (offset_of : ℕ → Optio
 
   module _ (tested : option_map (λ _. tt {0}) (table.value bytes) ≡ Some (tt {0})) where
     is_there : (found : Option (List ℕ)) → option_map (λ _. tt {0}) found ≡ Some (tt {0})
-        → (items : List (Option ImportValue)) (IsTable IsLater : ErrorOf → Type 0)
+        → (items : List (Option NumberedImport)) (IsTable IsLater : ErrorOf → Type 0)
         → (refusal_of found ++ items ≡ items)
         × ((e : ErrorOf) → IsLater e → FirstFault found IsTable (λ _. IsLater) e)
     is_there None e items IsTable IsLater = absurd cc
@@ -316,10 +317,10 @@ module _ (strict : Bool) (format : Format EntryValue) (offset_of : ℕ → Optio
       abbrev index : ℕ
       index = record_index first p
 
-      abbrev of_library : ImportDirectoryEntry → List (Option ImportValue)
+      abbrev of_library : ImportDirectoryEntry → List (Option NumberedImport)
       of_library = library_items strict format offset_of bytes index
 
-      abbrev from_next : List (Option ImportValue)
+      abbrev from_next : List (Option NumberedImport)
       from_next = imports_from_record strict format offset_of bytes first (p + 20)
 
       by_record : (entry : Option ImportDirectoryEntry) → reads import_slots bytes p ≡ entry
@@ -358,7 +359,7 @@ module _ (strict : Bool) (format : Format EntryValue) (offset_of : ℕ → Optio
 
       -- what a walk goes on with, by what is made of the record's library
       pub later-given : (v : ImportDirectoryEntry) → reads import_slots bytes p ≡ Some v
-          → is_last_record v ≡ false → {S : Type 0} (left : S → List (Option ImportValue))
+          → is_last_record v ≡ false → {S : Type 0} (left : S → List (Option NumberedImport))
           (IsLeft : S → ErrorOf → Type 0) (result : Result S ErrorOf)
           → MatchResult result
           (λ t. (left t ≡ whole strict format offset_of bytes first index v (p + 20))
@@ -380,7 +381,7 @@ module _ (strict : Bool) (format : Format EntryValue) (offset_of : ℕ → Optio
       later-given v r going left IsLeft (Err e) h = (
         by_record (Some v) r ∙ slot-going strict is_last_record of_library from_next v going
             ∙ ap
-            (λ (xs : List (Option ImportValue)). until_refused
+            (λ (xs : List (Option NumberedImport)). until_refused
             (xs ++ imports_from_record strict format offset_of bytes first (p + 20)))
             h.0,
         (h.1, by_cause (Some v) r h.1 e (going, rw (h.2) (h.3))),

@@ -1,25 +1,26 @@
--- The libraries of a directory with the indexes of their records: record by record, and the loop
--- that reads them.
-use Rattle.std.proofs.Common.{◌≡◌, ◌≤◌, ◌+◌, ◌-◌, ◌*◌, ◌/◌, ◌++◌, ◌∷◌, ℕ, zero, suc, Bool, true}
+-- The libraries of a directory with the indexes of their records, record by record.
+use Rattle.std.proofs.Common.{◌≡◌, ◌≤◌, ◌++◌, ◌∷◌, ℕ, zero, suc, Bool, true}
 use Rattle.std.proofs.Common.{false, List, [], Option, Some, None, length, map, cond, not, ◌&&◌}
-use Rattle.std.proofs.Common.{refl, sym, ap, ◌∙◌, arith, lit≤, option_map, is_some}
+use Rattle.std.proofs.Common.{refl, sym, ap, ◌∙◌, arith, option_map, is_some, IfSome}
 use Rattle.std.specs.List.{filter, range_with_len}
 use Rattle.std.proofs.lemmas.List.Elements.{filter-append}
 use Rattle.goblin_base.specs.declared.error.ErrorOf.{ErrorOf}
-use Rattle.goblin_base.specs.Answers.{◌>>=◌}
-use Rattle.goblin_base.specs.Reading.{Reading}
-use Rattle.goblin_base.specs.Tables.{Format, each_below, ends_table, is_kept, join, kept_slots, made_of}
+use Rattle.goblin_base.specs.Answers.{◌>>=◌, FirstFault}
+use Rattle.goblin_base.specs.Footprints.{led_to}
+use Rattle.goblin_base.specs.Tables.{Format, each_below, is_kept, join, kept_slots, made_of}
 use Rattle.goblin_base.specs.Tables.{slot_at, slot_table, stop}
-use Rattle.goblin_base.proofs.SlotTables.{reach-stop, reads}
-use Rattle.readings.specs.Reads.{table, with_slots}
-use Rattle.readings.proofs.Loops.{AtRead, read-end, read-next, read-start}
+use Rattle.readings.specs.Reads.{in_its_place, with_slots}
+use Rattle.goblin_pe_sect.specs.AddressReadings.{offset_at}
 use Rattle.readings.proofs.WalkValues.{range-next}
 use Rattle.goblin_pe_import.specs.declared.import.directory_entry.ImportDirectoryEntry.{ImportDirectoryEntry}
 use Rattle.goblin_pe_import.specs.ImportEntries.{EntryValue}
-use Rattle.goblin_pe_import.specs.ImportReadings.{at_index, import_record_at, kept_library}
-use Rattle.goblin_pe_import.specs.ImportReadings.{libraries_at, library_of, numbered}
-use Rattle.goblin_pe_import.specs.ImportRecords.{ImportedLibrary, import_slots}
-use Rattle.goblin_pe_import.proofs.ImportBound.{left_out-or}
+use Rattle.goblin_pe_import.specs.ImportReadings.{at_index, kept_library}
+use Rattle.goblin_pe_import.specs.ImportReadings.{first_record_offset, import_data, indexed_at, libraries_at}
+use Rattle.goblin_pe_import.specs.ImportReadings.{library_of, numbered, numbered_data}
+use Rattle.goblin_pe_import.specs.ImportReadings.{numbered_libraries_at, read_if, read_past_front}
+use Rattle.goblin_pe_import.specs.ImportRecords.{ImportedLibrary, NumberedLibrary, import_slots}
+use Rattle.goblin_base.proofs.Kept.{without_test}
+use Rattle.goblin_pe_import.proofs.ImportBound.{left_out-or, with_slots-kept, with_slots-value}
 use Rattle.goblin_pe_import.proofs.ListedImports.{pieces-counted}
 
 -- one more record, of which at most one library is kept
@@ -34,7 +35,7 @@ numbered-append [] (y ∷ z ∷ ys) [] n same few = absurd (omega (arith, few))
 numbered-append [] ys (i ∷ indexes) n same few = absurd (omega (arith, same))
 numbered-append (x ∷ xs) ys [] n same few = absurd (omega (arith, same))
 numbered-append (x ∷ xs) ys (i ∷ indexes) n same few =
-    ap (λ (ls : List ImportedLibrary). at_index i x ∷ ls)
+    ap (λ (ls : List NumberedLibrary). at_index i x ∷ ls)
     (numbered-append xs ys indexes n (omega (arith, same)) few)
 
 module _ (made : ℕ → Option (List ImportedLibrary))
@@ -44,7 +45,7 @@ module _ (made : ℕ → Option (List ImportedLibrary))
   kept_below n = filter (λ i. is_kept (made i)) (range_with_len 0 n)
 
   -- what is kept of a record, with its index
-  abbrev pub numbered_at : ℕ → Option (List ImportedLibrary)
+  abbrev pub numbered_at : ℕ → Option (List NumberedLibrary)
   numbered_at i = option_map (map (at_index i)) (made i)
 
   kept-next : (n : ℕ) (ys : List ImportedLibrary) → made n ≡ Some ys
@@ -67,7 +68,7 @@ module _ (made : ℕ → Option (List ImportedLibrary))
   unfolding numbered
   numbered-below zero = refl
   numbered-below (suc n) =
-      ap (λ (o : Option (List ImportedLibrary)). join o (numbered_at n)) (numbered-below n)
+      ap (λ (o : Option (List NumberedLibrary)). join o (numbered_at n)) (numbered-below n)
       ∙ by_parts (each_below made n) (made n) refl refl
     where
       by_parts : (before here : Option (List ImportedLibrary)) → each_below made n ≡ before
@@ -78,7 +79,7 @@ module _ (made : ℕ → Option (List ImportedLibrary))
       by_parts None here so_far is = refl
       by_parts (Some xs) None so_far is = refl
       by_parts (Some xs) (Some ys) so_far is =
-          ap (λ (ls : List ImportedLibrary). Some ls) (sym (numbered-next n xs ys so_far is))
+          ap (λ (ls : List NumberedLibrary). Some ls) (sym (numbered-next n xs ys so_far is))
 
 -- ---- a directory
 
@@ -104,16 +105,17 @@ module _ (strict : Bool) (format : Format EntryValue) (offset_of : ℕ → Optio
       by_slot (Some r) is = one_library r xs is
 
   -- the libraries, record by record
-  pub libraries-value : (libraries_at strict format offset_of o).value bytes
+  pub libraries-value : (numbered_libraries_at strict format offset_of o).value bytes
       ≡ cond (strict && not (is_some (slot_at import_slots bytes o (stop import_slots bytes o)))) None
       (each_below (numbered_at kept_at few) (stop import_slots bytes o))
-  unfolding libraries_at slot_table kept_slots
+  unfolding numbered_libraries_at slot_table kept_slots
   libraries-value =
       let n = stop import_slots bytes o in
       by_test (strict && not (is_some (slot_at import_slots bytes o n))) (each_below kept_at n)
       (each_below (numbered_at kept_at few) n) (kept_below kept_at few n) (numbered-below kept_at few n)
     where
-      by_test : (test : Bool) (before after : Option (List ImportedLibrary)) (indexes : List ℕ)
+      by_test : (test : Bool) (before : Option (List ImportedLibrary))
+          (after : Option (List NumberedLibrary)) (indexes : List ℕ)
           → after ≡ option_map (λ xs. numbered xs indexes) before
           → option_map (λ both. numbered both.0 both.1) (with_slots indexes (cond test None before))
           ≡ cond test None after
@@ -121,74 +123,124 @@ module _ (strict : Bool) (format : Format EntryValue) (offset_of : ℕ → Optio
       by_test false None after indexes is = sym is
       by_test false (Some xs) after indexes is = sym is
 
-  -- The loop: these libraries are read of the records before the one at `place`.
-  pub record AtLibraries (place : ℕ) (libraries : List ImportedLibrary) : Type 0 where
-    pub base : List ImportedLibrary
-    pub at : AtRead import_slots (kept_library strict format offset_of) bytes o place base
-    pub same : libraries ≡ numbered base (kept_below kept_at few at.at.index)
+  -- each library that is kept has an index
+  counted-both : (both : List ImportedLibrary × List ℕ)
+      → (indexed_at strict format offset_of o).value bytes ≡ Some both
+      → length both.1 ≡ length both.0
+  unfolding slot_table kept_slots
+  counted-both both is =
+      let n = stop import_slots bytes o in
+      let end = strict && not (is_some (slot_at import_slots bytes o n)) in
+      let listed = with_slots-value _ _ both is in
+      let made = without_test end (each_below kept_at n) both.0 listed in
+      ap (λ (indexes : List ℕ). length indexes) (sym (with_slots-kept _ _ both is))
+      ∙ pieces-counted kept_at n few both.0 made
 
-  pub libraries-start : AtLibraries o []
+  pub counted : IfSome ((indexed_at strict format offset_of o).value bytes)
+      (λ both. length both.1 ≡ length both.0)
+  counted = each_of ((indexed_at strict format offset_of o).value bytes) counted-both
+    where
+      each_of : (made : Option (List ImportedLibrary × List ℕ))
+          → ((both : List ImportedLibrary × List ℕ) → made ≡ Some both
+          → length both.1 ≡ length both.0)
+          → IfSome made (λ both. length both.1 ≡ length both.0)
+      each_of None holds = tt
+      each_of (Some both) holds = holds both refl
+
+-- ---- the libraries without their indexes
+
+module _ (strict : Bool) (format : Format EntryValue) (offset_of : ℕ → Option ℕ)
+    (bytes : List ℕ) where
+  abbrev pub libraries_of : List NumberedLibrary → List ImportedLibrary
+  libraries_of = map (λ x. x.library)
+
+  numbered-off : (xs : List ImportedLibrary) (indexes : List ℕ) → length indexes ≡ length xs
+      → xs ≡ libraries_of (numbered xs indexes)
   unfolding numbered
-  libraries-start =
-      record { base = []; at = read-start _ _ _ _ (lit≤ tt); same = refl }
+  numbered-off [] indexes same = refl
+  numbered-off (x ∷ xs) [] same = absurd (omega (arith, same))
+  numbered-off (x ∷ xs) (i ∷ indexes) same =
+      ap (λ (ls : List ImportedLibrary). x ∷ ls) (numbered-off xs indexes (omega (arith, same)))
 
-  module _ (place : ℕ) (libraries : List ImportedLibrary) (h : AtLibraries place libraries) where
-    pub libraries-next : (index : ℕ) (ys : List ImportedLibrary) (r : ImportDirectoryEntry)
-        → index ≡ (place - o) / 20
-        → reads import_slots bytes place ≡ Some r → import_slots.is_last r ≡ false
-        → piece r ≡ Some ys
-        → AtLibraries (place + 20) (libraries ++ map (at_index index) ys)
-    libraries-next index ys r here is going kept =
-        let next = read-next _ _ _ _ place h.base h.at ys r is going kept in
-        let n = h.at.at.index in
-        let later : next.at.index ≡ suc n = omega (arith, next.at.here, h.at.at.here) in
-        let place_is : place - o ≡ 20 * n = omega (arith, h.at.at.here) in
-        let counted : index ≡ n = omega (arith, here, place_is) in
-        let made_here : kept_at n ≡ Some ys =
-        ap (λ (s : Option ImportDirectoryEntry). s >>= piece)
-        (ap (reads import_slots bytes) h.at.at.here ∙ is)
-        ∙ kept in
-        record {
-          base = h.base ++ ys;
-          at = next;
-          same = ap (λ (ls : List ImportedLibrary). ls ++ map (at_index index) ys) h.same
-              ∙ ap (λ (i : ℕ). numbered h.base (kept_below kept_at few n) ++ map (at_index i) ys) counted
-              ∙ sym
-              (ap (λ (m : ℕ). numbered (h.base ++ ys) (kept_below kept_at few m)) later
-              ∙ numbered-next kept_at few n h.base ys h.at.at.so_far made_here);
-        }
+  libraries-off : (o : ℕ) → (libraries_at strict format offset_of o).value bytes
+      ≡ option_map libraries_of ((numbered_libraries_at strict format offset_of o).value bytes)
+  unfolding numbered_libraries_at
+  libraries-off o = by ((libraries_at strict format offset_of o).value bytes) refl
+    where
+      by : (made : Option (List ImportedLibrary))
+          → (libraries_at strict format offset_of o).value bytes ≡ made
+          → made ≡ option_map libraries_of
+          (option_map (λ both. numbered both.0 both.1)
+          (with_slots (kept_slots import_slots
+          (λ r. (kept_library strict format offset_of r).value bytes) bytes o) made))
+      by None is = refl
+      by (Some xs) is =
+          let kept =
+          kept_slots import_slots (λ r. (kept_library strict format offset_of r).value bytes) bytes o in
+          let both = ap (with_slots kept) is in
+          ap (λ (ls : List ImportedLibrary). Some ls)
+          (numbered-off xs kept (counted-both strict format offset_of bytes o (xs, kept) both))
 
-    pub libraries-end : (slot : Option ImportDirectoryEntry)
-        → reads import_slots bytes place ≡ slot → ends_table import_slots.is_last slot ≡ true
-        → (strict && not (is_some slot)) ≡ false
-        → (libraries_at strict format offset_of o).value bytes ≡ Some libraries
-    unfolding libraries_at kept_slots
-    libraries-end slot r z there =
-        let whole =
-        read-end _ _ _ _ place h.base h.at strict import_record_at slot r z there in
-        let same = reach-stop import_slots bytes o place _ h.at.at slot r (lit≤ tt) z in
-        ap
-        (λ (made : Option (List ImportedLibrary)).
-        option_map (λ both. numbered both.0 both.1)
-        (with_slots (kept_slots import_slots piece bytes o) made))
-        whole
-        ∙ ap (λ (m : ℕ). Some (numbered h.base (kept_below kept_at few m))) same
-        ∙ ap (λ (ls : List ImportedLibrary). Some ls) (sym h.same)
+  if-off : (p : Option ℕ) → (read_if (libraries_at strict format offset_of) p).value bytes
+      ≡ option_map libraries_of
+      ((read_if (numbered_libraries_at strict format offset_of) p).value bytes)
+  if-off None = refl
+  if-off (Some o) = libraries-off o
 
-  abbrev records : Reading (List ImportedLibrary)
-  records =
-      table import_slots strict import_record_at (kept_library strict format offset_of) o
+  then-off : (o : Option ℕ)
+      → (o >>= λ p. (read_past_front strict (libraries_at strict format offset_of) p).value bytes)
+      ≡ option_map libraries_of
+      (o >>= λ p.
+      (read_past_front strict (numbered_libraries_at strict format offset_of) p).value bytes)
+  then-off None = refl
+  then-off (Some p) = if-off (first_record_offset strict (Some p))
 
-  -- a directory that is refused
-  pub libraries-none : (e : ErrorOf) → (records.value bytes ≡ None) × records.IsCause bytes e
-      → ((libraries_at strict format offset_of o).value bytes ≡ None)
-      × (libraries_at strict format offset_of o).IsCause bytes e
-  unfolding libraries_at
-  libraries-none e refused = (
-    ap
-        (λ (made : Option (List ImportedLibrary)).
-        option_map (λ both. numbered both.0 both.1)
-        (with_slots (kept_slots import_slots piece bytes o) made))
-        refused.0,
-    refused.1,
-  )
+  -- import data is what is numbered, without the numbers
+  pub unnumbered : (rva : ℕ) → (import_data strict format offset_of rva).value bytes
+      ≡ option_map libraries_of ((numbered_data strict format offset_of rva).value bytes)
+  unfolding import_data numbered_data
+  unnumbered rva = then-off (in_its_place strict 0 (offset_of rva))
+
+  if-cause : (p : Option ℕ) (e : ErrorOf)
+      → (read_if (numbered_libraries_at strict format offset_of) p).IsCause bytes e
+      → (read_if (libraries_at strict format offset_of) p).IsCause bytes e
+  unfolding numbered_libraries_at
+  if-cause None e h = h
+  if-cause (Some o) e h = h
+
+  -- it is refused as that is
+  pub unnumbered-cause : (rva : ℕ) (e : ErrorOf)
+      → (numbered_data strict format offset_of rva).IsCause bytes e
+      → (import_data strict format offset_of rva).IsCause bytes e
+  unfolding import_data numbered_data
+  unnumbered-cause rva e h = by (in_its_place strict 0 (offset_of rva)) h
+    where
+      by : (o : Option ℕ)
+          → FirstFault o ((offset_at offset_of rva).IsCause bytes)
+          (λ p. (read_past_front strict (numbered_libraries_at strict format offset_of) p).IsCause bytes) e
+          → FirstFault o ((offset_at offset_of rva).IsCause bytes)
+          (λ p. (read_past_front strict (libraries_at strict format offset_of) p).IsCause bytes) e
+      by None h = h
+      by (Some p) h = if-cause (first_record_offset strict (Some p)) e h
+
+  if-reach : (p : Option ℕ)
+      → (read_if (libraries_at strict format offset_of) p).reaches bytes
+      ≡ (read_if (numbered_libraries_at strict format offset_of) p).reaches bytes
+  unfolding numbered_libraries_at
+  if-reach None = refl
+  if-reach (Some o) = refl
+
+  -- and reaches the same
+  pub unnumbered-reach : (rva : ℕ) → (import_data strict format offset_of rva).reaches bytes
+      ≡ (numbered_data strict format offset_of rva).reaches bytes
+  unfolding import_data numbered_data
+  unnumbered-reach rva = by (in_its_place strict 0 (offset_of rva))
+    where
+      by : (o : Option ℕ)
+          → [] ++ led_to o
+          (λ p. (read_past_front strict (libraries_at strict format offset_of) p).reaches bytes)
+          ≡ [] ++ led_to o
+          (λ p.
+          (read_past_front strict (numbered_libraries_at strict format offset_of) p).reaches bytes)
+      by None = refl
+      by (Some p) = if-reach (first_record_offset strict (Some p))

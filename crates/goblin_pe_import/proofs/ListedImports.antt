@@ -23,8 +23,8 @@ use Rattle.goblin_pe_import.specs.ImportLookup.{lookup_slots}
 use Rattle.goblin_pe_import.specs.ImportReadings as directory
 use Rattle.goblin_pe_import.specs.ImportRecords.{ImportedLibrary, import_record, import_slots, lookup_offset}
 use Rattle.goblin_pe_import.specs.LookupReadings as reading
-use Rattle.goblin_pe_import.proofs.ImportBound.{in_directory, kept_entry-few, left_out-or, pair_of-left, pair_of-right, slots_fit, unnumbered, with_slots-kept, with_slots-value}
-use Rattle.goblin_pe_import.specs.Imports.{Origin, has_slots, import_at, import_of, origin, import_offset, imports_by, imports_of, kept_entries, library_imports}
+use Rattle.goblin_pe_import.proofs.ImportBound.{in_directory, kept_entry-few, left_out-or, pair_of-left, pair_of-right, slots_fit, with_slots-kept, with_slots-value}
+use Rattle.goblin_pe_import.specs.Imports.{has_slots, import_at, import_of, import_offset, imports_by, imports_of, kept_entries, library_imports}
 
 -- ---- what holds of each of a list
 
@@ -142,15 +142,9 @@ module _ (strict : Bool) (format : Format EntryValue) (offset_of : ℕ → Optio
     pub address-low : (p : ℕ) → (import_record Little (slice_range file p (p + 20))).import_address_table_rva < 2 ^ 32
     address-low p = number-lt Little 4 (slice_range file p (p + 20)) 16 (IsBytes-slice file p 20 bytes)
 
-    numbered-listed : (xs : List ImportedLibrary) (indexes : List ℕ) → Each IsListed xs → Each IsListed (directory.numbered xs indexes)
-    unfolding directory.numbered
-    numbered-listed [] indexes h = tt
-    numbered-listed (x ∷ xs) [] h = tt
-    numbered-listed (x ∷ xs) (i ∷ indexes) h = (h.0, numbered-listed xs indexes h.1)
-
-    table-listed : (o : ℕ) (xs : List ImportedLibrary) → slot_table import_slots strict (λ r. (directory.kept_library strict format offset_of r).value file) file o ≡ Some xs → Each IsListed xs
+    libraries_at-listed : (o : ℕ) (xs : List ImportedLibrary) → (directory.libraries_at strict format offset_of o).value file ≡ Some xs → Each IsListed xs
     unfolding slot_table
-    table-listed o xs e =
+    libraries_at-listed o xs e =
         let piece : ImportDirectoryEntry → Option (List ImportedLibrary) = λ r. or_left_out strict ((directory.library_of strict format offset_of r).value file) in
         let n = stop import_slots file o in
         let made = without_test (strict && not (is_some (slot_at import_slots file o n))) (each_below (λ i. slot_at import_slots file o i >>= piece) n) xs e in
@@ -161,11 +155,6 @@ module _ (strict : Bool) (format : Format EntryValue) (offset_of : ℕ → Optio
         let low : s.value.import_address_table_rva < 2 ^ 32 = subst (λ (r : ImportDirectoryEntry). r.import_address_table_rva < 2 ^ 32) (sym record_there.is) (address-low (slot_place import_slots o j)) in
         left_out-or strict ((directory.library_of strict format offset_of s.value).value file) ys (Each IsListed) tt (λ l here. (library-listed s.value l low here, tt)) s.then)
         xs made
-
-    libraries_at-listed : (o : ℕ) (all : List ImportedLibrary) → (directory.libraries_at strict format offset_of o).value file ≡ Some all → Each IsListed all
-    libraries_at-listed o all e =
-        let u = unnumbered strict format offset_of file o all e in
-        subst (Each IsListed) u.same (numbered-listed u.libraries u.indexes (table-listed o u.libraries u.are))
 
     imported : (rva : ℕ) (xs : List ImportedLibrary) → (directory.import_data strict format offset_of rva).value file ≡ Some xs → Each IsListed xs
     imported rva xs e = in_directory strict format offset_of file rva xs e (Each IsListed) tt (λ o is here. libraries_at-listed o xs here)
@@ -178,29 +167,29 @@ module _ (strict : Bool) (format : Format EntryValue) (offset_of : ℕ → Optio
         let below : rva + format.width * slot < 2 ^ 64 = omega (arith, low, fits, short) in
         rw (lt-ltb (rva + format.width * slot) (2 ^ 64) below) refl
 
-    made-there : (from : Origin) (rva slot : ℕ) (entry : LookupEntry) → IsSome (import_offset rva format.width slot) → IsSome (import_offset rva format.width slot >>= λ o. Some (import_of from slot o format.width entry))
-    made-there from rva slot entry there = by_offset (import_offset rva format.width slot) there
+    made-there : (dll : List ℕ) (rva slot : ℕ) (entry : LookupEntry) → IsSome (import_offset rva format.width slot) → IsSome (import_offset rva format.width slot >>= λ o. Some (import_of dll slot o format.width entry))
+    made-there dll rva slot entry there = by_offset (import_offset rva format.width slot) there
       where
-        by_offset : (offset : Option ℕ) → IsSome offset → IsSome (offset >>= λ o. Some (import_of from slot o format.width entry))
+        by_offset : (offset : Option ℕ) → IsSome offset → IsSome (offset >>= λ o. Some (import_of dll slot o format.width entry))
         by_offset None h = absurd cc
         by_offset (Some o) h = refl
 
-    import-there : (from : Origin) (rva : ℕ) (entries : List LookupEntry) (slots : List ℕ) (d : LookupEntry) → rva < 2 ^ 32 → length entries ≡ length slots → AreSlots slots → (i : ℕ) → i < length entries → IsSome (import_at format.width from rva entries slots i)
-    import-there from rva entries slots d low same fit i within =
+    import-there : (dll : List ℕ) (rva : ℕ) (entries : List LookupEntry) (slots : List ℕ) (d : LookupEntry) → rva < 2 ^ 32 → length entries ≡ length slots → AreSlots slots → (i : ℕ) → i < length entries → IsSome (import_at format.width dll rva entries slots i)
+    import-there dll rva entries slots d low same fit i within =
         let below : i < length slots = omega (arith, same, within) in
-        let there = made-there from rva (get_or slots i 0) (get_or entries i d) (offset-there rva (get_or slots i 0) low (fit i 0 below)) in
+        let there = made-there dll rva (get_or slots i 0) (get_or entries i d) (offset-there rva (get_or slots i 0) low (fit i 0 below)) in
         rw (slice_get-get_or entries i d within, slice_get-get_or slots i 0 below) there
 
-    imports_by-there : (from : Origin) (rva : ℕ) (entries : List LookupEntry) (slots : List ℕ) → rva < 2 ^ 32 → length entries ≡ length slots → AreSlots slots → IsSome (imports_by format.width from rva entries slots)
+    imports_by-there : (dll : List ℕ) (rva : ℕ) (entries : List LookupEntry) (slots : List ℕ) → rva < 2 ^ 32 → length entries ≡ length slots → AreSlots slots → IsSome (imports_by format.width dll rva entries slots)
     unfolding imports_by
-    imports_by-there from rva entries slots low same fit =
-        all_of-there (import_at format.width from rva entries slots) (length entries) 0
-        (λ i low_i high. import-there from rva entries slots (ByOrdinal 0) low same fit i (omega (arith, high)))
+    imports_by-there dll rva entries slots low same fit =
+        all_of-there (import_at format.width dll rva entries slots) (length entries) 0
+        (λ i low_i high. import-there dll rva entries slots (ByOrdinal 0) low same fit i (omega (arith, high)))
 
     library-there : (library : ImportedLibrary) → IsListed library → IsSome (library_imports format.width library)
     library-there library listed =
         let counted : has_slots library ≡ true = eq-eqb (length (kept_entries library)) (length library.import_lookup_slots) listed.0.0 in
-        rw counted (imports_by-there (origin library.index library.name) library.import_directory_entry.import_address_table_rva (kept_entries library) library.import_lookup_slots listed.1 listed.0.0 listed.0.1)
+        rw counted (imports_by-there library.name library.import_directory_entry.import_address_table_rva (kept_entries library) library.import_lookup_slots listed.1 listed.0.0 listed.0.1)
 
     step-there : (libraries : List ImportedLibrary) (i : ℕ) → Each IsListed libraries → i < length libraries → IsSome (slice_get libraries i >>= library_imports format.width)
     step-there [] i listed below = absurd (omega (arith, below))

@@ -71,12 +71,10 @@ module _ (offset_of : ℕ → Option ℕ) where
 
     pub libraries_at-repeats : (o : ℕ)
         → Repeats (libraries_at true format offset_of o) (libraries_at false format offset_of o)
-    unfolding libraries_at
     libraries_at-repeats o =
-        repeats-mapped _ _ _
-        (repeats-table_with_slots import_slots import_record_at import_record_at
-        (kept_library true format offset_of) (kept_library false format offset_of) o
-        (λ r. repeats-or_left_out _ _ (library_repeats r)))
+        repeats-table import_slots import_record_at import_record_at (kept_library true format offset_of)
+        (kept_library false format offset_of) o
+        (λ r. repeats-or_left_out _ _ (library_repeats r))
 
 -- ---- permissive mode refuses no entry and no name
 

@@ -1,12 +1,12 @@
 -- A library that is listed is one that memory is taken for.
-use Rattle.std.proofs.Common.{◌≡◌, ◌<◌, ◌∷◌, ◌&&◌, ℕ, zero, suc, Bool, not, List, [], length, Option, Some, None, ap, arith, inl, inr, subst, sym, IsSomeAnd, length-append, is_some}
+use Rattle.std.proofs.Common.{◌≡◌, ◌<◌, ◌&&◌, ℕ, zero, suc, Bool, not, List, [], length, Option, Some, None, ap, arith, inl, inr, subst, sym, IsSomeAnd, length-append, is_some}
 use Rattle.std.proofs.lemmas.Bool.{cases_lt}
 use Rattle.goblin_base.specs.Answers.{◌>>=◌}
 use Rattle.goblin_base.specs.Tables.{Format, each_below, slot_at, slot_table, stop}
 use Rattle.goblin_base.proofs.Below.{join-parts}
 use Rattle.goblin_base.proofs.Kept.{without_test}
 use Rattle.goblin_base.proofs.Steps.{same_value}
-use Rattle.goblin_pe_import.proofs.ImportBound.{in_directory, unnumbered}
+use Rattle.goblin_pe_import.proofs.ImportBound.{in_directory}
 use Rattle.goblin_pe_import.specs.ImportDirectory.{TakesLibraries, TakesLibrary}
 use Rattle.goblin_pe_import.specs.ImportEntries.{EntryValue}
 use Rattle.goblin_pe_import.specs.ImportReadings as directory
@@ -44,33 +44,17 @@ module _ (format : Format EntryValue) (offset_of : ℕ → Option ℕ) (bytes : 
   in-record strict None h = absurd h
   in-record strict (Some r) h = inr h
 
-  some-numbered : (xs : List ImportedLibrary) (indexes : List ℕ)
-      → 0 < length (directory.numbered xs indexes) → 0 < length xs
-  unfolding directory.numbered
-  some-numbered [] indexes some = some
-  some-numbered (x ∷ xs) indexes some = omega arith
-
-  table-taken : (strict : Bool) (o : ℕ) (libraries : List ImportedLibrary)
-      → slot_table import_slots strict
-      (λ r. (directory.kept_library strict format offset_of r).value bytes) bytes o ≡ Some libraries
+  directory-taken : (strict : Bool) (o : ℕ) (libraries : List ImportedLibrary)
+      → (directory.libraries_at strict format offset_of o).value bytes ≡ Some libraries
       → 0 < length libraries → TakesLibraries strict format offset_of bytes o
   unfolding slot_table
-  table-taken strict o libraries e some =
+  directory-taken strict o libraries e some =
       let n = stop import_slots bytes o in
       let piece : ImportDirectoryEntry → Option (List ImportedLibrary) = λ r. (directory.kept_library strict format offset_of r).value bytes in
       let made = without_test (strict && not (is_some (slot_at import_slots bytes o n)))
       (each_below (λ i. slot_at import_slots bytes o i >>= piece) n) libraries e in
       let found = some-below (λ i. slot_at import_slots bytes o i >>= piece) n libraries made some in
       (found.0, found.1, in-record strict (slot_at import_slots bytes o found.0) (some-of (slot_at import_slots bytes o found.0) piece found.2))
-
-  directory-taken : (strict : Bool) (o : ℕ) (all : List ImportedLibrary)
-      → (directory.libraries_at strict format offset_of o).value bytes ≡ Some all
-      → 0 < length all → TakesLibraries strict format offset_of bytes o
-  directory-taken strict o all e some =
-      let u = unnumbered strict format offset_of bytes o all e in
-      table-taken strict o u.libraries u.are
-      (some-numbered u.libraries u.indexes
-      (subst (λ (ls : List ImportedLibrary). 0 < length ls) (sym u.same) some))
 
   -- import data that has a library takes memory
   pub libraries-taken : (strict : Bool) (rva : ℕ) (libraries : List ImportedLibrary)

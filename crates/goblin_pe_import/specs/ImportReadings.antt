@@ -6,10 +6,10 @@ use Rattle.goblin_base.specs.declared.error.CauseOf.TheVariants.{ImportRecordEnd
 use Rattle.goblin_base.specs.Reading.{Reading}
 use Rattle.goblin_base.specs.Tables.{Format}
 use Rattle.readings.specs.Reads.{◌>>=◌, ◌beside◌, because, given, mapped, or_else, or_left_out}
-use Rattle.readings.specs.Reads.{record_at, table_with_slots}
+use Rattle.readings.specs.Reads.{record_at, table, table_with_slots}
 use Rattle.goblin_pe_sect.specs.AddressReadings.{at_address, name_at, offset_at}
 use Rattle.goblin_pe_import.specs.ImportEntries.{EntryValue, LookupEntry}
-use Rattle.goblin_pe_import.specs.ImportRecords.{ImportedLibrary, address_table_rva}
+use Rattle.goblin_pe_import.specs.ImportRecords.{ImportedLibrary, NumberedLibrary, address_table_rva}
 use Rattle.goblin_pe_import.specs.ImportRecords.{import_record, import_slots, lookup_offset}
 use Rattle.goblin_pe_import.specs.LookupReadings.{address_table, lookup_with_slots}
 use Rattle.goblin_pe_import.specs.declared.import.directory_entry.ImportDirectoryEntry.{ImportDirectoryEntry}
@@ -26,12 +26,11 @@ lookup_if strict format offset_of (Some o) =
     mapped (λ both. (Some both.0, both.1)) (lookup_with_slots strict format offset_of o)
 
 -- What a record leads to: its name, its lookup table and its address table. Permissive mode takes
--- the empty name if there is none. Read by itself it counts as the first record.
+-- the empty name if there is none.
 unfoldable pub library_of : Bool → Format EntryValue → (ℕ → Option ℕ) → ImportDirectoryEntry
     → Reading ImportedLibrary
 library_of strict format offset_of r =
     mapped (λ parts. record {
-      index = 0;
       import_directory_entry = r;
       name = parts.0.0;
       import_lookup_table = parts.0.1.0;
@@ -47,28 +46,34 @@ abbrev pub kept_library : Bool → Format EntryValue → (ℕ → Option ℕ) �
     → Reading (List ImportedLibrary)
 kept_library strict format offset_of r = or_left_out strict (library_of strict format offset_of r)
 
--- libraries with the indexes of their records
-abbrev pub at_index : ℕ → ImportedLibrary → ImportedLibrary
-at_index index library = record library { index = index }
+-- The libraries of the directory at an offset: those of the records before the first that is not in
+-- the file or ends the directory. Strict mode needs that record, and a library for each. Permissive
+-- mode leaves out records that lead to none.
+abbrev pub libraries_at : Bool → Format EntryValue → (ℕ → Option ℕ) → ℕ
+    → Reading (List ImportedLibrary)
+libraries_at strict format offset_of o =
+    table import_slots strict import_record_at (kept_library strict format offset_of) o
 
-unfoldable pub numbered : List ImportedLibrary → List ℕ → List ImportedLibrary
+-- libraries with the indexes of their records, of which there are as many
+abbrev pub at_index : ℕ → ImportedLibrary → NumberedLibrary
+at_index index library = record { index = index; library = library }
+
+unfoldable pub numbered : List ImportedLibrary → List ℕ → List NumberedLibrary
 numbered [] indexes = []
 numbered (library ∷ libraries) [] = []
 numbered (library ∷ libraries) (index ∷ indexes) =
     at_index index library ∷ numbered libraries indexes
 
--- what the records of the directory at an offset lead to, and the indexes of those that are kept
+-- the libraries of the directory at an offset, and the indexes of the records that are kept
 abbrev pub indexed_at : Bool → Format EntryValue → (ℕ → Option ℕ) → ℕ
     → Reading (List ImportedLibrary × List ℕ)
 indexed_at strict format offset_of o =
     table_with_slots import_slots strict import_record_at (kept_library strict format offset_of) o
 
--- The libraries of the directory at an offset: those of the records before the first that is not in
--- the file or ends the directory. Strict mode needs that record, and a library for each. Permissive
--- mode leaves out records that lead to none.
-unfoldable pub libraries_at : Bool → Format EntryValue → (ℕ → Option ℕ) → ℕ
-    → Reading (List ImportedLibrary)
-libraries_at strict format offset_of o =
+-- the same libraries, each with the index of its record
+unfoldable pub numbered_libraries_at : Bool → Format EntryValue → (ℕ → Option ℕ) → ℕ
+    → Reading (List NumberedLibrary)
+numbered_libraries_at strict format offset_of o =
     mapped (λ both. numbered both.0 both.1) (indexed_at strict format offset_of o)
 
 -- The offset of the first record of a directory that has this offset, where it has one. Permissive
@@ -77,22 +82,30 @@ abbrev pub first_record_offset : Bool → Option ℕ → Option ℕ
 first_record_offset strict None = None
 first_record_offset strict (Some o) = cond (not strict && o == 0) None (Some o)
 
--- the libraries of a directory whose first record is at this offset, if it has one
-abbrev pub libraries_if : Bool → Format EntryValue → (ℕ → Option ℕ) → Option ℕ
-    → Reading (List ImportedLibrary)
-libraries_if strict format offset_of None = given []
-libraries_if strict format offset_of (Some o) = libraries_at strict format offset_of o
+-- what is read of a directory whose first record is at this offset, if it has one
+abbrev pub read_if : {A : Type 0} → (ℕ → Reading (List A)) → Option ℕ → Reading (List A)
+read_if read None = given []
+read_if read (Some o) = read o
 
--- the libraries of the directory at an offset
-abbrev pub libraries_past_front : Bool → Format EntryValue → (ℕ → Option ℕ) → ℕ
-    → Reading (List ImportedLibrary)
-libraries_past_front strict format offset_of o =
-    libraries_if strict format offset_of (first_record_offset strict (Some o))
+-- what is read of the directory at an offset
+abbrev pub read_past_front : {A : Type 0} → Bool → (ℕ → Reading (List A)) → ℕ → Reading (List A)
+read_past_front strict read o = read_if read (first_record_offset strict (Some o))
 
--- The libraries of the directory at an address. Permissive mode treats an address without an offset
+-- What is read of the directory at an address. Permissive mode treats an address without an offset
 -- as one that leads to the front of the file.
+abbrev pub read_directory : {A : Type 0} → Bool → (ℕ → Option ℕ) → (ℕ → Reading (List A)) → ℕ
+    → Reading (List A)
+read_directory strict offset_of read rva =
+    or_else strict 0 (offset_at offset_of rva) >>= read_past_front strict read
+
+-- the libraries of the directory at an address
 unfoldable pub import_data : Bool → Format EntryValue → (ℕ → Option ℕ) → ℕ
     → Reading (List ImportedLibrary)
 import_data strict format offset_of rva =
-    or_else strict 0 (offset_at offset_of rva)
-    >>= libraries_past_front strict format offset_of
+    read_directory strict offset_of (libraries_at strict format offset_of) rva
+
+-- the same libraries, each with the index of its record
+unfoldable pub numbered_data : Bool → Format EntryValue → (ℕ → Option ℕ) → ℕ
+    → Reading (List NumberedLibrary)
+numbered_data strict format offset_of rva =
+    read_directory strict offset_of (numbered_libraries_at strict format offset_of) rva

@@ -39,14 +39,18 @@ import_slots =
       is_last = is_last_record;
     }
 
--- what a record leads to, and the record's index in the directory
+-- what a record leads to
 pub record ImportedLibrary : Type 0 where
-  pub index : ℕ
   pub import_directory_entry : ImportDirectoryEntry
   pub name : List ℕ
   pub import_lookup_table : Option (List LookupEntry)
   pub import_lookup_slots : List ℕ
   pub import_address_table : List ℕ
+
+-- the same, with the index of the record in its directory
+pub record NumberedLibrary : Type 0 where
+  pub index : ℕ
+  pub library : ImportedLibrary
 
 -- the offset of a record's lookup table: that of its own address or, if it has none, of the address
 -- table's

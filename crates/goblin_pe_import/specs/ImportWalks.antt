@@ -18,7 +18,7 @@ use Rattle.goblin_pe_import.specs.ImportLookup.{entry_view}
 use Rattle.goblin_pe_import.specs.ImportReadings.{import_record_at, libraries_at}
 use Rattle.goblin_pe_import.specs.ImportRecords.{address_table_rva, import_slots, is_last_record}
 use Rattle.goblin_pe_import.specs.ImportRecords.{lookup_offset}
-use Rattle.goblin_pe_import.specs.Imports.{ImportValue, Origin, import_of, origin}
+use Rattle.goblin_pe_import.specs.Imports.{NumberedImport, at_library, import_of}
 use Rattle.goblin_pe_import.specs.LookupReadings.{address_table, kept_entry, lookup_table}
 use Rattle.goblin_pe_import.specs.declared.import.directory_entry.ImportDirectoryEntry.{ImportDirectoryEntry}
 use Rattle.goblin_pe_import.specs.declared.import.kept.KeptEntry.{KeptEntry}
@@ -76,20 +76,29 @@ place_after width (Some (Err e)) = None
 
 -- ---- the imports of a library
 
+-- what an import is from: the index of the library's record in the directory, and its name
+pub record Origin : Type 0 where
+  pub index : ℕ
+  pub dll : List ℕ
+
+abbrev pub origin : ℕ → List ℕ → Origin
+origin index dll = record { index = index; dll = dll }
+
 -- an import that a walk yields
-abbrev pub walked_value : WalkedImport → ImportValue
+abbrev pub walked_value : WalkedImport → NumberedImport
 walked_value x =
-    import_of (origin x.library x.dll.now) x.slot x.slot_rva x.size (entry_view x.entry)
+    at_library x.library (import_of x.dll.now x.slot x.slot_rva x.size (entry_view x.entry))
 
 -- the import of an entry that the lookup table at o keeps, of a library whose address table is at
 -- `rva` and has entries of `width` bytes
-abbrev pub kept_import : ℕ → Origin → ℕ → ℕ → KeptValue → ImportValue
+abbrev pub kept_import : ℕ → Origin → ℕ → ℕ → KeptValue → NumberedImport
 kept_import width from rva o kept =
-    import_of from kept.slot (rva + (kept.place - o)) width kept.entry
+    at_library from.index
+    (import_of from.dll kept.slot (rva + (kept.place - o)) width kept.entry)
 
 -- the imports of the entries from a place on
 abbrev pub imports_of_entries : Bool → Format EntryValue → (ℕ → Option ℕ) → List ℕ → Origin → ℕ → ℕ
-    → Option ℕ → List (Option ImportValue)
+    → Option ℕ → List (Option NumberedImport)
 imports_of_entries strict format offset_of bytes from rva o place =
     map (option_map (kept_import format.width from rva o))
     (entries_from strict format offset_of bytes o place)
@@ -113,7 +122,7 @@ untested_table strict format offset_of (Some rva) =
 
 -- the imports of a library of this name, and a refusal where it has no address table
 abbrev pub named_items : Bool → Format EntryValue → (ℕ → Option ℕ) → List ℕ → ℕ
-    → ImportDirectoryEntry → Option (List ℕ) → List (Option ImportValue)
+    → ImportDirectoryEntry → Option (List ℕ) → List (Option NumberedImport)
 named_items strict format offset_of bytes index r None = None ∷ []
 named_items strict format offset_of bytes index r (Some dll) =
     let table = lookup_offset offset_of r in
@@ -131,7 +140,7 @@ is_left_out strict format offset_of bytes r =
 -- What comes of the library of the record with an index: its name is needed, then its imports come,
 -- then strict mode needs its address table.
 unfoldable pub library_items : Bool → Format EntryValue → (ℕ → Option ℕ) → List ℕ → ℕ
-    → ImportDirectoryEntry → List (Option ImportValue)
+    → ImportDirectoryEntry → List (Option NumberedImport)
 library_items strict format offset_of bytes index r =
     if is_left_out strict format offset_of bytes r then []
     else named_items strict format offset_of bytes index r
@@ -145,14 +154,14 @@ record_index first p = (p - first) / 20
 
 -- the imports of the libraries whose records are in this directory from a place on
 unfoldable pub imports_from_record : Bool → Format EntryValue → (ℕ → Option ℕ) → List ℕ → ℕ → ℕ
-    → List (Option ImportValue)
+    → List (Option NumberedImport)
 imports_from_record strict format offset_of bytes first p =
     table_walk import_slots strict
     (λ p r. library_items strict format offset_of bytes (record_index first p) r) bytes p
 
 -- those from the next record on, if there is one
 unfoldable pub imports_next : Bool → Format EntryValue → (ℕ → Option ℕ) → List ℕ → ℕ → Option ℕ
-    → List (Option ImportValue)
+    → List (Option NumberedImport)
 imports_next strict format offset_of bytes first None = []
 imports_next strict format offset_of bytes first (Some p) =
     imports_from_record strict format offset_of bytes first p
@@ -214,7 +223,7 @@ bound_next bytes (Some p) = records_bound bytes p
 -- what comes once the entries of a library have come: its address table is needed where it is still
 -- to be tested, and then the imports from the next record on come
 abbrev pub later_items : Bool → Format EntryValue → (ℕ → Option ℕ) → List ℕ → Option ℕ → ℕ
-    → Option ℕ → List (Option ImportValue)
+    → Option ℕ → List (Option NumberedImport)
 later_items strict format offset_of bytes untested first next =
     refusal_of ((untested_table strict format offset_of untested).value bytes)
     ++ imports_next strict format offset_of bytes first next
@@ -241,7 +250,7 @@ no_imports = record {
 
 -- what is still to come at a cursor, whose library has this name
 abbrev pub items_left : Bool → Format EntryValue → (ℕ → Option ℕ) → List ℕ → List ℕ → ImportCursor
-    → List (Option ImportValue)
+    → List (Option NumberedImport)
 items_left strict format offset_of bytes dll c =
     until_refused
     (imports_of_entries strict format offset_of bytes (origin c.library dll) c.rva c.table_offset
@@ -254,7 +263,7 @@ name_said offset_of bytes c = unwrap_or ((name_at offset_of c.name_rva).value by
 
 -- what is still to come at a cursor
 abbrev pub cursor_left : MapOfAddresses → Format EntryValue → List ℕ → ImportCursor
-    → List (Option ImportValue)
+    → List (Option NumberedImport)
 cursor_left m format bytes c =
     items_left (reads_strictly m) format (offset_of m) bytes (name_said (offset_of m) bytes c) c
 
@@ -269,7 +278,7 @@ IsCursorCause m format bytes c e =
     (λ _. IsLaterCause strict format (offset_of m) bytes c.untested c.next_record) e
 
 -- what is still to come of a walk
-abbrev pub walk_left : Format EntryValue → Walk → List (Option ImportValue)
+abbrev pub walk_left : Format EntryValue → Walk → List (Option NumberedImport)
 walk_left format w =
     let m = map_of w.finder in
     items_left (reads_strictly m) format (offset_of m) w.bytes.now w.dll.now w.at
@@ -319,7 +328,7 @@ walk_answer t (Err e) = Err e
 -- ---- the walk as callers see it
 
 -- what is still to come
-abbrev pub imports_left : {T : Type 0} → Format EntryValue → Imports T → List (Option ImportValue)
+abbrev pub imports_left : {T : Type 0} → Format EntryValue → Imports T → List (Option NumberedImport)
 imports_left format it = walk_left format it.walk
 
 -- which cause is true if there is a refusal among it, which only strict mode has
@@ -385,6 +394,10 @@ GivesImport format s result t =
 abbrev pub walk_at : Walk → ℕ → Walk
 walk_at w place = record w { at = record w.at { place = Some place } }
 
+-- the walk that plain imports come of, as it was before them
+abbrev pub plain_walk : {T : Type 0} → PlainImports T → Imports T
+plain_walk plain = plain.imports
+
 -- the walk after the plain imports that have come of it
 abbrev pub plain_at : {T : Type 0} → PlainImports T → Imports T
 plain_at plain = record plain.imports { walk = walk_at plain.imports.walk plain.place }
@@ -394,4 +407,5 @@ abbrev pub GivesPlain : {T : Type 0} → Format EntryValue → PlainImports T �
     → PlainImports T → Type 0
 GivesPlain format s None t = t ≡ s
 GivesPlain format s (Some x) t =
-    GivesImport format (plain_at s) (Some (Ok x)) (plain_at t) × (t.imports ≡ s.imports)
+    GivesImport format (plain_at s) (Some (Ok x)) (plain_at t)
+    × (plain_walk t ≡ plain_walk s)

@@ -11,28 +11,25 @@ use Rattle.goblin_base.specs.Answers.{◌>>=◌, all_at}
 use Rattle.goblin_pe_import.specs.ImportLookup.{LookupEntry}
 use Rattle.goblin_pe_import.specs.ImportEntries.LookupEntry.{ByName, ByOrdinal}
 use Rattle.goblin_pe_import.specs.ImportDirectory.{ImportedLibrary}
+use Rattle.goblin_pe_import.specs.ImportRecords.{NumberedLibrary}
 
 -- Source: PE Format, "The .idata Section".
-
--- what an import is from: the index of the library's record in the directory, and its name
-pub record Origin : Type 0 where
-  pub index : ℕ
-  pub dll : List ℕ
-
-abbrev pub origin : ℕ → List ℕ → Origin
-origin index dll = record { index = index; dll = dll }
 
 -- an import, its texts as their bytes; and whether its name is a text in the file, not a copy
 pub record ImportValue : Type 0 where
   pub name : List ℕ
   pub is_borrowed : Bool
   pub dll : List ℕ
-  pub library : ℕ
   pub ordinal : ℕ
   pub offset : ℕ
   pub rva : ℕ
   pub size : ℕ
   pub slot : ℕ
+
+-- the same, with the index of the library's record in its directory
+pub record NumberedImport : Type 0 where
+  pub library : ℕ
+  pub import : ImportValue
 
 -- the name of an import by ordinal
 abbrev pub ordinal_name : ℕ → List ℕ
@@ -56,13 +53,13 @@ abbrev pub entry_name_rva : LookupEntry → ℕ
 entry_name_rva (ByOrdinal ordinal) = 0
 entry_name_rva (ByName rva named) = rva
 
--- the import of an entry, from this library, with its slot's index and offset, and with this size
-abbrev pub import_of : Origin → ℕ → ℕ → ℕ → LookupEntry → ImportValue
-import_of from slot offset size entry = record {
+-- the import of an entry, from the library of this name, with its slot's index and offset, and with
+-- this size
+abbrev pub import_of : List ℕ → ℕ → ℕ → ℕ → LookupEntry → ImportValue
+import_of dll slot offset size entry = record {
   name = entry_name entry;
   is_borrowed = entry_has_name entry;
-  dll = from.dll;
-  library = from.index;
+  dll = dll;
   ordinal = entry_ordinal entry;
   offset = offset;
   rva = entry_name_rva entry;
@@ -77,18 +74,18 @@ import_offset rva size slot =
     if nat_lt (rva + size * slot) (2 ^ 64) then Some (rva + size * slot) else None
 
 -- the import of the entry at a position, by its slot
-abbrev pub import_at : ℕ → Origin → ℕ → List LookupEntry → List ℕ → ℕ → Option ImportValue
-import_at size from rva entries slots position = do
+abbrev pub import_at : ℕ → List ℕ → ℕ → List LookupEntry → List ℕ → ℕ → Option ImportValue
+import_at size dll rva entries slots position = do
   entry ← slice_get entries position
   slot ← slice_get slots position
   offset ← import_offset rva size slot
-  Some (import_of from slot offset size entry)
+  Some (import_of dll slot offset size entry)
 
 -- the imports of the entries that a lookup table keeps, if none has an offset that overflows 64
 -- bits
-unfoldable pub imports_by : ℕ → Origin → ℕ → List LookupEntry → List ℕ → Option (List ImportValue)
-imports_by size from rva entries slots =
-    all_at (import_at size from rva entries slots) (length entries)
+unfoldable pub imports_by : ℕ → List ℕ → ℕ → List LookupEntry → List ℕ → Option (List ImportValue)
+imports_by size dll rva entries slots =
+    all_at (import_at size dll rva entries slots) (length entries)
 
 -- the entries that a library's lookup table keeps
 abbrev pub kept_entries : ImportedLibrary → List LookupEntry
@@ -106,8 +103,7 @@ has_slots library = length (kept_entries library) == length library.import_looku
 abbrev pub library_imports : ℕ → ImportedLibrary → Option (List ImportValue)
 library_imports size library =
     if has_slots library
-    then imports_by size (origin library.index library.name)
-    library.import_directory_entry.import_address_table_rva
+    then imports_by size library.name library.import_directory_entry.import_address_table_rva
     (kept_entries library) library.import_lookup_slots
     else None
 
@@ -115,6 +111,13 @@ library_imports size library =
 -- for each of its entries, and no offset that overflows 64 bits.
 abbrev pub kept_imports : {X : Type 0} → (ImportValue → X) → ℕ → ImportedLibrary → List X
 kept_imports item_of size library = map item_of (unwrap_or (library_imports size library) [])
+
+-- the imports from a library, each with the index of its record
+abbrev pub at_library : ℕ → ImportValue → NumberedImport
+at_library index import = record { library = index; import = import }
+
+abbrev pub numbered_imports : ℕ → NumberedLibrary → List NumberedImport
+numbered_imports size x = kept_imports (at_library x.index) size x.library
 
 -- the imports from all libraries, of entries of `size` bytes
 unfoldable pub imports_of : ℕ → List ImportedLibrary → Option (List ImportValue)

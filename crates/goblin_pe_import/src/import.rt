@@ -67,26 +67,16 @@ impl<'a> Model for ImportData<'a> {
     ghost view = { λ imports. imports.import_data.items };
 }
 
-// A library with the index of its record.
-fn at_index(index: usize, library: SyntheticImportDirectoryEntry) -> SyntheticImportDirectoryEntry
-    ensures { result ≡ reading.at_index index library.entry }
-{
-    let mut library = library;
-    library.index = index;
-    library
-}
-
-// Reads the library of the record with an index, and appends it if it is kept.
+// Reads the library of a record, and appends it if it is kept.
 fn add_library<'a, 'e, T: Bitfield<'a>>(
     libraries: &mut Vec<SyntheticImportDirectoryEntry<'a>>,
     bytes: &'a [u8],
-    index: usize,
     entry: ImportDirectoryEntry,
     address_map: &AddressMap,
 ) -> ResultOf<'e, ()>
     ensures value { let m = map_of address_map.now in
         ReadsOrMemory (λ _. libraries.new.items) result
-        (mapped (λ more. libraries.old.items ++ map (reading.at_index index) more)
+        (mapped (λ more. libraries.old.items ++ more)
         (reading.kept_library (reads_strictly m) T.format (offset_of m) entry)) bytes.now }
     ensures grown { let m = map_of address_map.now in
         IfErr result (λ e. IsMemory e
@@ -95,7 +85,7 @@ fn add_library<'a, 'e, T: Bitfield<'a>>(
 {
     let alloc = *libraries.allocator();
     match SyntheticImportDirectoryEntry::parse_by::<T>(alloc, bytes, entry, address_map) {
-        Ok(library) => libraries.push(at_index(index, library))?,
+        Ok(library) => libraries.push(library)?,
         Err(error) if is_passed_over(&error, !address_map.reads_strictly()) => (),
         Err(error) => return Err(error),
     }
@@ -121,8 +111,7 @@ fn libraries<'a, 'e, T: Bitfield<'a>>(
     let mut libraries = Vec::new(alloc);
     let mut place = offset;
     'records: while let Some(record) = next_record(bytes, place) {
-        let index = place.saturating_sub(offset) / size;
-        add_library::<T>(&mut libraries, bytes, index, record, address_map)?;
+        add_library::<T>(&mut libraries, bytes, record, address_map)?;
         place += size;
     }
     if may_end(bytes, place, size, address_map.reads_strictly()) {

@@ -7,7 +7,7 @@ ghost use Rattle.std.specs.Iterator.SizeHint.{IsWithinCount};
 ghost use Rattle.goblin_base.specs.Answers.{Answers, all_of};
 ghost use Rattle.readings.specs.Tests.{IsTest, counted, has_any};
 ghost use Rattle.goblin_pe_import.specs.ImportWalks.{walked_value};
-ghost use Rattle.goblin_pe_import.specs.Imports.{ImportValue};
+ghost use Rattle.goblin_pe_import.specs.Imports.{NumberedImport};
 ghost use Rattle.goblin_pe_sect.specs.Addresses.{MapOfAddresses, map_of};
 ghost use Rattle.goblin_pe.specs.LayoutCursors.{GivesFileImport, IsImportWalk, file_cursor};
 ghost use Rattle.goblin_pe.specs.LayoutCursors.{file_cursor_left, file_map};
@@ -54,7 +54,7 @@ impl<'a, 'm, 'e> FileImports<'a, 'm, 'e> {
     /// In strict mode as the walk, at its end.
     pub fn any_import<F: Fn(&WalkedImport<'a>) -> bool>(self, test: F) -> ResultOf<'e, bool>
         requires { F.IsAlwaysCallable test }
-        ensures { (p : ImportValue → Bool) → IsTest walked_value (FnReturnsAt F.Fn test) p
+        ensures { (p : NumberedImport → Bool) → IsTest walked_value (FnReturnsAt F.Fn test) p
             → Answers (λ b. b) result
             (option_map (has_any p) (all_of (file_imports_left self.entry)))
             (IsFileImportsCause self.entry) }
@@ -70,7 +70,7 @@ impl<'a, 'm, 'e> FileImports<'a, 'm, 'e> {
     /// In strict mode as the walk, at its end.
     pub fn count_imports<F: Fn(&WalkedImport<'a>) -> bool>(self, test: F) -> ResultOf<'e, usize>
         requires { F.IsAlwaysCallable test }
-        ensures { (p : ImportValue → Bool) → IsTest walked_value (FnReturnsAt F.Fn test) p
+        ensures { (p : NumberedImport → Bool) → IsTest walked_value (FnReturnsAt F.Fn test) p
             → Answers (λ n. n) result
             (option_map (counted p) (all_of (file_imports_left self.entry)))
             (IsFileImportsCause self.entry) }
@@ -95,7 +95,7 @@ impl<'a, 'm, 'e> FileImports<'a, 'm, 'e> {
         test: F,
     ) -> ResultOf<'e, Option<WalkedImport<'a>>>
         requires { F.IsAlwaysCallable test }
-        ensures { (p : ImportValue → Bool) → IsTest walked_value (FnReturnsAt F.Fn test) p
+        ensures { (p : NumberedImport → Bool) → IsTest walked_value (FnReturnsAt F.Fn test) p
             → Answers (option_map walked_value) result
             (option_map (find p) (all_of (file_imports_left self.entry)))
             (IsFileImportsCause self.entry) }
@@ -142,6 +142,8 @@ impl<'a, 'm, 'e> Iterator for FileImports<'a, 'm, 'e> {
         ensures lower { IsWithinCount result.0 (at_most (file_imports_bound self.now)) }
         ensures upper { IfSome result.1 (UpTo (at_most (file_imports_bound self.now))) }
         ensures fits { file_imports_bound self.now < 2 ^ 64 → IsSome result.1 }
+        ensures least { result.0 ≡ 0 }
+        ensures most { IfSome result.1 (λ n. n ≡ file_imports_bound self.now) }
     {
         match self {
             FileImports::Narrow(imports) => imports.size_hint(),

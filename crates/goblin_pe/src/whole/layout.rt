@@ -18,8 +18,8 @@ ghost use Rattle.goblin_pe_sect.specs.WindowIndex.{HasPieces};
 ghost use Rattle.goblin_pe_head.specs.CoffHeader.{IsTooManySections};
 ghost use Rattle.goblin_pe_head.specs.PeHeader.{header_value};
 ghost use Rattle.goblin_pe_import.specs.ImportCursors.{first_import};
-ghost use Rattle.goblin_pe_import.specs.ImportReadings.{import_data};
-ghost use Rattle.goblin_pe_import.specs.Imports.{kept_imports};
+ghost use Rattle.goblin_pe_import.specs.ImportReadings.{numbered_data};
+ghost use Rattle.goblin_pe_import.specs.Imports.{numbered_imports};
 ghost use Rattle.goblin_pe.specs.Damages.{exports_left_out, imports_left_out_at, left_out_of};
 ghost use Rattle.goblin_pe.specs.LayoutCursors.{GivesFirst, IsFileCursorCause, IsImportWalkAt, StartsAt};
 ghost use Rattle.goblin_pe.specs.LayoutCursors.{file_cursor_left, file_map, import_begin};
@@ -408,8 +408,8 @@ impl<'a> Layout<'a> {
             let format = entry_format (layout_places self.now).magic in
             let rva = directory.virtual_address in
             Walks file_imports_left IsFileImportsCause (λ xs. xs) result
-            (mapped (flat_map (kept_imports (λ x. x) format.width))
-            (import_data (reads_strictly m) format (offset_of m) rva))
+            (mapped (flat_map (numbered_imports format.width))
+            (numbered_data (reads_strictly m) format (offset_of m) rva))
             bytes.now }
         ensures first { let m = layout_map self.now in
             let rva = directory.virtual_address in

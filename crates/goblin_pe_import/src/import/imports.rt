@@ -15,9 +15,9 @@ ghost use Rattle.readings.specs.Reads.{mapped};
 ghost use Rattle.readings.specs.Walks.{GivesNext, IsWalkOf, Walks, until_refused};
 ghost use Rattle.goblin_pe_sect.specs.Addresses.{map_of, offset_of, reads_strictly};
 ghost use Rattle.goblin_pe_import.specs.ImportCursors.{BeginsAt, before_record, first_import};
-ghost use Rattle.goblin_pe_import.specs.ImportReadings.{import_data, libraries_at};
+ghost use Rattle.goblin_pe_import.specs.ImportReadings.{indexed_at, numbered_data, numbered_libraries_at};
 ghost use Rattle.goblin_pe_import.specs.ImportRecords.{is_last_record};
-ghost use Rattle.goblin_pe_import.specs.Imports.{kept_imports, origin};
+ghost use Rattle.goblin_pe_import.specs.Imports.{numbered_imports};
 ghost use Rattle.goblin_pe_import.specs.ImportWalks.{GivesImport, GivesLibrary, GivesPlain};
 ghost use Rattle.goblin_pe_import.specs.ImportWalks.{HasName, IsCursorCause, IsNamed, IsWalkAt};
 ghost use Rattle.goblin_pe_import.specs.ImportWalks.{IsImportsCause, cursor_left, cursor_of};
@@ -27,8 +27,8 @@ ghost use Rattle.goblin_pe_import.specs.ImportWalks.{bound_next, imports_bound, 
 ghost use Rattle.goblin_pe_import.specs.ImportWalks.{imports_bytes, imports_from_record};
 ghost use Rattle.goblin_pe_import.specs.ImportWalks.{imports_left, kept_import, no_imports};
 ghost use Rattle.goblin_pe_import.specs.ImportWalks.{kept_value, later_items, library_items};
-ghost use Rattle.goblin_pe_import.specs.ImportWalks.{library_name, one_if, records_bound};
-ghost use Rattle.goblin_pe_import.specs.ImportWalks.{plain_at, walk_answer, walk_at};
+ghost use Rattle.goblin_pe_import.specs.ImportWalks.{library_name, one_if, origin, records_bound};
+ghost use Rattle.goblin_pe_import.specs.ImportWalks.{finder_of, plain_at, plain_walk, walk_answer, walk_at};
 ghost use Rattle.goblin_pe_import.specs.ImportWalks.{record_index, records_left, slots_bound};
 ghost use Rattle.goblin_pe_import.specs.ImportWalks.{untested_table, walk_bound, walk_left};
 ghost use Rattle.goblin_pe_import.specs.ImportWalks.{walked_value};
@@ -473,7 +473,7 @@ impl<'a, 'm, 'e, T: Bitfield<'a>> Imports<'a, 'm, 'e, T> {
     /// In strict mode [`Error::Malformed`] with [`Cause::Unmapped`] if the directory's address has
     /// no file offset.
     #[inline(always)]
-    #[tactic(auto, unfolding(crate::specs::ImportReadings::import_data, crate::specs::ImportWalks::imports_next))]
+    #[tactic(auto, unfolding(crate::specs::ImportReadings::numbered_data, crate::specs::ImportWalks::imports_next))]
     pub fn of(
         bytes: &'a [u8],
         directory: DataDirectory,
@@ -482,8 +482,8 @@ impl<'a, 'm, 'e, T: Bitfield<'a>> Imports<'a, 'm, 'e, T> {
         ensures walks { let m = map_of address_map.now in
             let rva = directory.virtual_address in
             Walks (imports_left T.format) (IsImportsCause T.format) (λ xs. xs) result
-            (mapped (flat_map (kept_imports (λ x. x) T.format.width))
-            (import_data (reads_strictly m) T.format (offset_of m) rva))
+            (mapped (flat_map (numbered_imports T.format.width))
+            (numbered_data (reads_strictly m) T.format (offset_of m) rva))
             bytes.now }
         ensures begins { let m = map_of address_map.now in
             let rva = directory.virtual_address in
@@ -505,11 +505,15 @@ impl<'a, 'm, 'e, T: Bitfield<'a>> Imports<'a, 'm, 'e, T> {
     /// The imports of the libraries of the directory at the file offset `offset`.
     pub fn at(bytes: &'a [u8], offset: usize, finder: Finder<'m>) -> Imports<'a, 'm, 'e, T>
         ensures walks { let m = map_of finder.entry in
-            let libraries = libraries_at (reads_strictly m) T.format (offset_of m) offset in
+            let libraries =
+            numbered_libraries_at (reads_strictly m) T.format (offset_of m) offset in
             IsWalkOf (λ xs. xs)
-            (mapped (flat_map (kept_imports (λ x. x) T.format.width)) libraries) bytes.now
+            (mapped (flat_map (numbered_imports T.format.width)) libraries) bytes.now
             (imports_left T.format result) (IsImportsCause T.format result) }
         ensures begins { IsWalkAt (map_of finder.entry) bytes.now (before_record offset) result }
+        ensures counted { let m = map_of finder.entry in
+            let both = indexed_at (reads_strictly m) T.format (offset_of m) offset in
+            IfSome (both.value bytes.now) (λ x. length x.1 ≡ length x.0) }
     {
         Imports::between(bytes, ImportCursor::before_record(offset), finder)
     }
@@ -576,8 +580,8 @@ impl<'a, 'm, 'e, T: Bitfield<'a>> Imports<'a, 'm, 'e, T> {
     #[inline(always)]
     pub fn plain(&self) -> Option<PlainImports<'a, 'm, 'e, T>>
         ensures begins { IfSome result (λ plain. plain_at plain ≡ self.now) }
-        ensures same { IfSome result (λ plain. plain.imports ≡ self.now) }
-        ensures none { result ≡ None → self.now.walk.at.place ≡ None }
+        ensures same { IfSome result (λ plain. plain_walk plain ≡ self.now) }
+        ensures none { result ≡ None → (cursor_of self.now).place ≡ None }
     {
         let Some(place) = self.walk.at.place else {
             return None;
@@ -592,7 +596,7 @@ impl<'a, 'm, 'e, T: Bitfield<'a>> Imports<'a, 'm, 'e, T> {
     /// A finder by the map that the walk goes by, with what the walk has at hand.
     #[inline(always)]
     pub fn finder(&self) -> Finder<'m>
-        ensures { result ≡ self.now.walk.finder }
+        ensures { result ≡ finder_of self.now }
     {
         self.walk.finder.again()
     }
@@ -600,7 +604,7 @@ impl<'a, 'm, 'e, T: Bitfield<'a>> Imports<'a, 'm, 'e, T> {
     /// Goes on after the plain imports that have come; `plain` must be of this walk, as it is now.
     #[inline(always)]
     pub fn go_on(&mut self, plain: &PlainImports<'a, 'm, 'e, T>)
-        requires { plain.now.imports ≡ self.old }
+        requires { plain_walk plain.now ≡ self.old }
         ensures { self.new ≡ plain_at plain.now }
     {
         self.walk.at.place = Some(plain.place);

@@ -31,9 +31,6 @@ use std::marker::Model;
 /// Source: PE Format, "Import Directory Table", "Import Lookup Table" and "Import Address Table".
 #[derive(Debug, Drop)]
 pub struct SyntheticImportDirectoryEntry<'a> {
-    /// The index of the record in the import directory, where records that are left out count; 0
-    /// of a record that is read by itself.
-    pub index: usize,
     /// The record, as it stands in the file.
     pub import_directory_entry: ImportDirectoryEntry,
     /// The name of the library, as it stands in the file. In permissive mode it is empty if none
@@ -58,7 +55,6 @@ impl<'a> Model for SyntheticImportDirectoryEntry<'a> {
     ghost Value = { ImportedLibrary };
 
     ghost view = { λ entry. record {
-      index = entry.index;
       import_directory_entry = entry.import_directory_entry;
       name = entry.name.now;
       import_lookup_table = option_map (map entry_view) entry.import_lookup_table;
@@ -281,7 +277,6 @@ impl<'a> SyntheticImportDirectoryEntry<'a> {
         };
         let import_address_table = address_table::<T>(alloc, bytes, offset)?;
         Ok(SyntheticImportDirectoryEntry {
-            index: 0,
             import_directory_entry,
             name,
             import_lookup_table,

@@ -6,7 +6,7 @@ ghost use Rattle.std.specs.Prelude.{vec_capacity, vec_len, option_copied};
 ghost use Rattle.goblin_base.specs.Answers.{AnswersOrMemory, GivesOrMemory, IsMemory};
 ghost use Rattle.goblin_pe_import.specs.ImportBound.{AreFew};
 ghost use Rattle.goblin_pe_import.specs.ImportLookup.{entry_view};
-ghost use Rattle.goblin_pe_import.specs.Imports.{IsImportListFault, IsOverflow, has_slots, origin};
+ghost use Rattle.goblin_pe_import.specs.Imports.{IsImportListFault, IsOverflow, has_slots};
 ghost use Rattle.goblin_pe_import.specs.Imports.{first_without_slots, import_of, import_offset};
 ghost use Rattle.goblin_pe_import.specs.Imports.{imports_by, imports_of, kept_count, kept_entries};
 ghost use Rattle.goblin_pe_import.specs.Imports.{library_imports, ordinal_name};
@@ -36,8 +36,6 @@ pub struct Import<'a> {
     /// The name of the library, as it stands in the file; empty if permissive mode could not read
     /// it.
     pub dll: &'a str,
-    /// The index of the library's record in the import directory. Records that are left out count.
-    pub library: usize,
     /// The ordinal; of an import by name, the hint: at which index of the library's name pointers
     /// the loader looks for the name first. A wrong hint does no harm.
     pub ordinal: u16,
@@ -64,7 +62,6 @@ impl<'a> Model for Import<'a> {
       name = cow_str_bytes import.name;
       is_borrowed = is_borrowed_str import.name;
       dll = import.dll.now;
-      library = import.library;
       ordinal = import.ordinal;
       offset = import.offset;
       rva = import.rva;
@@ -176,20 +173,17 @@ fn push_entry<'a, 'e>(
     imports: &mut Vec<Import<'a>>,
     entry: &SyntheticImportLookupTableEntry<'a>,
     dll: &'a str,
-    library: usize,
     slot: usize,
     offset: usize,
     size: usize,
 ) -> ResultOf<'e, ()>
     requires { vec_len imports.old < vec_capacity imports.old }
-    ensures added { let from = origin library dll.now in
-        OnOk result
+    ensures added { OnOk result
         (imports.new.items
-        ≡ imports.old.items ++ import_of from slot offset size (entry_view entry.now) ∷ []) }
+        ≡ imports.old.items ++ import_of dll.now slot offset size (entry_view entry.now) ∷ []) }
     ensures refused { IfErr result IsMemory }
-    ensures grown { let from = origin library dll.now in
-        OnErr result
-        ((import_of from slot offset size (entry_view entry.now)).is_borrowed ≡ false) }
+    ensures grown { OnErr result
+        ((import_of dll.now slot offset size (entry_view entry.now)).is_borrowed ≡ false) }
     ensures counted { OnOk result (vec_len imports.new ≡ vec_len imports.old + 1) }
     ensures same { vec_capacity imports.new ≡ vec_capacity imports.old }
 {
@@ -199,7 +193,6 @@ fn push_entry<'a, 'e>(
             imports.push_reserved(Import {
                 name: CowStr::Owned(name),
                 dll,
-                library,
                 ordinal: *ordinal,
                 offset,
                 rva: 0,
@@ -211,7 +204,6 @@ fn push_entry<'a, 'e>(
             imports.push_reserved(Import {
                 name: CowStr::Borrowed(named.name),
                 dll,
-                library,
                 ordinal: named.hint,
                 offset,
                 rva: *rva as usize,
@@ -231,14 +223,13 @@ fn push_entries<'a, 'e>(
     entries: &[SyntheticImportLookupTableEntry<'a>],
     slots: &[usize],
     dll: &'a str,
-    library: usize,
     rva: u32,
     size: usize,
 ) -> ResultOf<'e, ()>
     requires slots { length slots.now ≡ length entries.now }
     requires room { vec_len imports.old + length entries.now ≤ vec_capacity imports.old }
     ensures value { let entries = map entry_view entries.now in
-        let made = imports_by size (origin library dll.now) rva entries slots.now in
+        let made = imports_by size dll.now rva entries slots.now in
         AnswersOrMemory (λ _. imports.new.items) result
         (option_map (λ more. imports.old.items ++ more) made) IsOverflow }
     ensures grown { IfErr result (λ e. IsMemory e → 0 < length entries.now) }
@@ -250,7 +241,7 @@ fn push_entries<'a, 'e>(
         let Some(offset) = import_offset(rva, size, slot) else {
             return Err(Error::Malformed(Cause::Overflow));
         };
-        push_entry(alloc, imports, entry, dll, library, slot, offset, size)?;
+        push_entry(alloc, imports, entry, dll, slot, offset, size)?;
     }
     Ok(())
 }
@@ -280,7 +271,6 @@ fn push_imports<'a, 'e>(
         kept_entries(library),
         &library.import_lookup_slots,
         library.name,
-        library.index,
         library.import_directory_entry.import_address_table_rva,
         size,
     )

@@ -12,7 +12,7 @@ use Rattle.goblin_pe.specs.Whole.{whole_file}
 use Rattle.goblin_pe_calls.specs.Growth.{FileBegins, HasRecords}
 use Rattle.goblin_pe_calls.specs.Opened.{records_view}
 use Rattle.goblin_pe_calls.proofs.Growth.{as-read, either-way, layout-begins, layout-kept, made-kept, sections-kept, takes-records}
-use Rattle.goblin_pe_calls.proofs.Opened.{file-of-records, records-read, records-refused, unopened}
+use Rattle.goblin_pe_calls.proofs.Opened.{file-of-records, imports-counted, records-read, records-refused, unopened}
 use Rattle.goblin_pe_calls.proofs.Refusals.{room-there}
 use Rattle.goblin_pe_calls.proofs.open.open_by.Goals as goal
 
@@ -85,4 +85,5 @@ returns c =
     let read = records-read opts bytes c.args.header.now c.requires c.in_ok-layout.layout from.value from.is c.in_ok-layout.ensures.over from.made c.in_ok-records.records c.in_ok-records.ensures.value in
     let of = file-of-records opts bytes v read in
     let counted = sym (length-map of.whole.sections unnamed) ∙ ap length of.sections in
-    rw (of.read, of.exports, of.header, counted, of.relocations, of.imports, of.imports_table, of.exports_table) (search rules)
+    let imports = imports-counted opts bytes c.args.header.now c.requires c.in_ok-layout.layout from.value from.is c.in_ok-layout.ensures.over c.in_ok-records.ensures.listed of.whole of.read in
+    rw (of.read, imports, of.exports, of.header, counted, of.relocations, of.imports, of.exports_table) (search rules)

@@ -6,7 +6,7 @@ use Rattle.goblin_pe.specs.Whole.{collected_imports, export_part}
 use Rattle.goblin_pe.specs.Whole.{both_import_parts, relocation_part, table_parts}
 use Rattle.goblin_pe.proofs.Collected.{all-read, first-refused, second-refused, third-refused}
 use Rattle.goblin_pe_calls.specs.Exports.{exports_said}
-use Rattle.goblin_pe_calls.specs.Imports.{import_said}
+use Rattle.goblin_pe_calls.specs.Imports.{imports_said}
 use Rattle.goblin_pe_calls.specs.Growth.{HasEntries, HasExports, HasTables}
 use Rattle.goblin_pe_calls.proofs.Growth.{first-told, mapped-some, second-told, third-none}
 use Rattle.goblin_pe_records.proofs.Making.{whichever}
@@ -18,7 +18,7 @@ returns-in_err-imports-clause-value c =
     let m = layout_map l in
     let error = err_from_is_err_and c.from_residual.result c.from_residual.ensures.1 in
     rw (error.1, error.2)
-    (λ other. first-refused import_said (exports_said (offset_of m) l.bytes.now) m.opts (offset_of m) (layout_places l) l.bytes.now _ (c.in_err-imports.ensures.value other))
+    (λ other. first-refused (λ _. imports_said m.opts (offset_of m) (layout_places l) l.bytes.now) (exports_said (offset_of m) l.bytes.now) m.opts (offset_of m) (layout_places l) l.bytes.now _ (c.in_err-imports.ensures.value other))
 
 pub returns-in_err-exports-clause-value : goal.returns-in_err-exports-clause-value
 returns-in_err-exports-clause-value c =
@@ -26,7 +26,7 @@ returns-in_err-exports-clause-value c =
     let m = layout_map l in
     let error = err_from_is_err_and c.from_residual-in_err-exports.result c.from_residual-in_err-exports.ensures.1 in
     rw (error.1, error.2)
-    (λ other. second-refused import_said (exports_said (offset_of m) l.bytes.now) m.opts (offset_of m) (layout_places l) l.bytes.now _ _ c.in_ok-imports.ensures.value (c.in_err-exports.ensures.value other))
+    (λ other. second-refused (λ _. imports_said m.opts (offset_of m) (layout_places l) l.bytes.now) (exports_said (offset_of m) l.bytes.now) m.opts (offset_of m) (layout_places l) l.bytes.now _ _ c.in_ok-imports.ensures.value (c.in_err-exports.ensures.value other))
 
 pub returns-in_err-relocations-clause-value : goal.returns-in_err-relocations-clause-value
 returns-in_err-relocations-clause-value c =
@@ -34,13 +34,13 @@ returns-in_err-relocations-clause-value c =
     let m = layout_map l in
     let error = err_from_is_err_and c.from_residual-in_err-relocations.result c.from_residual-in_err-relocations.ensures.1 in
     rw (error.1, error.2)
-    (λ other. third-refused import_said (exports_said (offset_of m) l.bytes.now) m.opts (offset_of m) (layout_places l) l.bytes.now _ _ _ c.in_ok-imports.ensures.value c.in_ok-exports.ensures.value c.in_err-relocations.ensures)
+    (λ other. third-refused (λ _. imports_said m.opts (offset_of m) (layout_places l) l.bytes.now) (exports_said (offset_of m) l.bytes.now) m.opts (offset_of m) (layout_places l) l.bytes.now _ _ _ c.in_ok-imports.ensures.value c.in_ok-exports.ensures.value c.in_err-relocations.ensures)
 
 pub returns-clause-value : goal.returns-clause-value
 returns-clause-value c =
     let l = c.args.layout.now in
     let m = layout_map l in
-    all-read import_said (exports_said (offset_of m) l.bytes.now) m.opts (offset_of m) (layout_places l) l.bytes.now _ _ _ c.in_ok-imports.ensures.value c.in_ok-exports.ensures.value c.in_ok-relocations.ensures
+    all-read (λ _. imports_said m.opts (offset_of m) (layout_places l) l.bytes.now) (exports_said (offset_of m) l.bytes.now) m.opts (offset_of m) (layout_places l) l.bytes.now _ _ _ c.in_ok-imports.ensures.value c.in_ok-exports.ensures.value c.in_ok-relocations.ensures
 
 pub returns-in_err-imports-clause-grown : goal.returns-in_err-imports-clause-grown
 unfolding table_parts
@@ -80,7 +80,7 @@ returns-in_err-exports-clause-begun c =
     let m = layout_map l in
     let e = err_from_is_err_and c.from_residual-in_err-exports.result c.from_residual-in_err-exports.ensures.1 in
     rw (e.1, e.2)
-    (λ memory. inr (mapped-some (collected_imports import_said) ((both_import_parts m.opts (offset_of m) (layout_places l)).value l.bytes.now) _ c.in_ok-imports.ensures.value, c.in_err-exports.ensures.begun memory))
+    (λ memory. inr (mapped-some (collected_imports (λ _. imports_said m.opts (offset_of m) (layout_places l) l.bytes.now)) ((both_import_parts m.opts (offset_of m) (layout_places l)).value l.bytes.now) _ c.in_ok-imports.ensures.value, c.in_err-exports.ensures.begun memory))
 
 pub returns-in_err-relocations-clause-begun : goal.returns-in_err-relocations-clause-begun
 returns-in_err-relocations-clause-begun c =

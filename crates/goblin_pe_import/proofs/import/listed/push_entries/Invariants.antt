@@ -1,12 +1,11 @@
 use Rattle.std.proofs.Common.{◌≡◌, ◌+◌, map, vec_capacity, vec_len}
 use Rattle.goblin_pe_import.specs.ImportLookup.{entry_view}
-use Rattle.goblin_pe_import.specs.Imports.{origin}
 use Rattle.goblin_pe_import.proofs.Imports.{AtEntry}
 use Rattle.goblin_pe_import.proofs.import.listed.push_entries.Given as goal
 
 abbrev pub invariant-entries : goal.invariant-entries
 invariant-entries l =
-    AtEntry l.fn.size (origin l.fn.library l.fn.dll) l.fn.rva (map entry_view l.fn.entries) l.fn.slots l.position
+    AtEntry l.fn.size l.fn.dll l.fn.rva (map entry_view l.fn.entries) l.fn.slots l.position
     l.initial.imports.items l.imports.items
     × (vec_len l.imports ≡ vec_len l.initial.imports + l.position)
     × (vec_capacity l.imports ≡ vec_capacity l.initial.imports)

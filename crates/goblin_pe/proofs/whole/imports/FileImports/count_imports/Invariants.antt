@@ -1,6 +1,6 @@
 use Rattle.std.proofs.Common.{Bool}
 use Rattle.std.specs.Fn.{FnReturnsAt}
-use Rattle.goblin_pe_import.specs.Imports.{ImportValue}
+use Rattle.goblin_pe_import.specs.Imports.{NumberedImport}
 use Rattle.goblin_pe_import.specs.ImportWalks.{walked_value}
 use Rattle.readings.specs.Tests.{IsTest, counted}
 use Rattle.goblin_pe.proofs.Folds.{Gathers}
@@ -8,5 +8,5 @@ use Rattle.goblin_pe.proofs.whole.imports.FileImports.count_imports.Given as goa
 
 abbrev pub invariant-imports : goal.invariant-imports
 invariant-imports g l =
-    (p : ImportValue → Bool) → IsTest walked_value (FnReturnsAt g.F.Fn l.fn.test) p
+    (p : NumberedImport → Bool) → IsTest walked_value (FnReturnsAt g.F.Fn l.fn.test) p
     → Gathers (counted p) l.fn.self l.import-iterator l.count

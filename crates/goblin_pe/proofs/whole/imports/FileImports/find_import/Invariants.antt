@@ -1,6 +1,6 @@
 use Rattle.std.proofs.Common.{Bool, find, option_map}
 use Rattle.std.specs.Fn.{FnReturnsAt}
-use Rattle.goblin_pe_import.specs.Imports.{ImportValue}
+use Rattle.goblin_pe_import.specs.Imports.{NumberedImport}
 use Rattle.goblin_pe_import.specs.ImportWalks.{walked_value}
 use Rattle.readings.specs.Tests.{IsTest}
 use Rattle.goblin_pe.proofs.Folds.{Gathers}
@@ -8,5 +8,5 @@ use Rattle.goblin_pe.proofs.whole.imports.FileImports.find_import.Given as goal
 
 abbrev pub invariant-imports : goal.invariant-imports
 invariant-imports g l =
-    (p : ImportValue → Bool) → IsTest walked_value (FnReturnsAt g.F.Fn l.fn.test) p
+    (p : NumberedImport → Bool) → IsTest walked_value (FnReturnsAt g.F.Fn l.fn.test) p
     → Gathers (find p) l.fn.self l.import-iterator (option_map walked_value l.found)

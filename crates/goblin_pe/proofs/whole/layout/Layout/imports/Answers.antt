@@ -2,10 +2,10 @@ use Rattle.std.proofs.Common.{◌≡◌, ◌∙◌, ap, sym, true, false, inl, i
 use Rattle.std.proofs.lemmas.Result.{err_from_is_err_and}
 use Rattle.goblin_pe_sect.specs.declared.options.ParseOptions.{ParseOptions}
 use Rattle.goblin_pe_sect.specs.Addresses.{offset_of, reads_strictly}
-use Rattle.goblin_pe_import.specs.ImportReadings.{import_data}
-use Rattle.goblin_pe_import.specs.Imports.{kept_imports}
+use Rattle.goblin_pe_import.specs.ImportReadings.{numbered_data}
+use Rattle.goblin_pe_import.specs.Imports.{numbered_imports}
 use Rattle.goblin_pe.specs.Layouts.{layout_bytes, layout_map, layout_places}
-use Rattle.goblin_pe.specs.Whole.{entry_format, import_data_part, import_list}
+use Rattle.goblin_pe.specs.Whole.{entry_format, import_list, numbered_data_part}
 use Rattle.goblin_pe.proofs.Collected.{unasked_mapped}
 use Rattle.goblin_pe.proofs.ImportParts.{list-refused, list-walked}
 use Rattle.goblin_pe.proofs.ImportStarts.{start-read, start-refused}
@@ -26,7 +26,7 @@ returns-in_ok-imports-in-Some-clause-walks c =
     list-walked m.opts (offset_of m) (layout_places c.args.self.now) c.in-Some.directory asked c.in-Some.is (layout_bytes c.args.self.now) _ _ (rw c.walked-bytes.ensures.same at c.imports_in.ensures.walks) c.in_ok-imports-in-Some.was
 
 pub returns-in_default-clause-walks : goal.returns-in_default-clause-walks
-unfolding import_list import_data_part
+unfolding import_list numbered_data_part
 returns-in_default-clause-walks c =
     let m = layout_map c.args.self.now in
     let format = entry_format (layout_places c.args.self.now).magic in
@@ -36,8 +36,8 @@ returns-in_default-clause-walks c =
           inl (sym (ap (λ (o : ParseOptions). o.parse_imports) c.opts-opts.ensures) ∙ w.if-opts.false)
       | in_default-via-in_default w ↦ inr w.in_default.is
     ] in
-    unasked_mapped (λ x. x) (flat_map (kept_imports (λ x. x) format.width)) (reads_strictly m) m.opts.parse_imports
-    (λ d. import_data (reads_strictly m) format (offset_of m) d.virtual_address)
+    unasked_mapped (λ x. x) (flat_map (numbered_imports format.width)) (reads_strictly m) m.opts.parse_imports
+    (λ d. numbered_data (reads_strictly m) format (offset_of m) d.virtual_address)
     (layout_places c.args.self.now).imports (layout_bytes c.args.self.now) none
 
 pub returns-in_err-imports-in-Some-clause-starts : goal.returns-in_err-imports-in-Some-clause-starts
