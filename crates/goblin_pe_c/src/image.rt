@@ -10,7 +10,7 @@ ghost use Rattle.goblin_pe_sect.specs.SectionReadings.{section_data};
 ghost use Rattle.goblin_pe_records.specs.Calls.{ReadsWithout, Reported};
 ghost use Rattle.goblin_pe_records.specs.Found.{Puts};
 ghost use Rattle.goblin_pe_records.specs.Images.{bytes_at_address, image_map, text_view};
-ghost use Rattle.goblin_pe_records.specs.Options.{options_of};
+ghost use Rattle.goblin_pe_records.specs.Options.{options_at};
 ghost use Rattle.goblin_pe_records.specs.SectionData.{SaysData, placed};
 ghost use Rattle.goblin_pe_records.specs.Sections.{section_view};
 
@@ -83,8 +83,8 @@ pub extern "C" fn goblin_pe_raw_read_section_data<'a>(
     section: &PeSection,
     contents: &mut PeSectionData<'a>,
 ) -> PeFault
-    ensures { let opts = options_of image.now.options in
-        let s = placed opts image.now.file_alignment (section_view section.now) in
+    ensures { let opts = options_at image.now.options image.now.file_alignment in
+        let s = placed opts (section_view section.now) in
         Reported result
         (ReadsWithout (section_data s) image.now.bytes.now
         (λ whole. SaysData s whole contents.new) (contents.new ≡ contents.old)) }

@@ -5,7 +5,7 @@ ghost use Rattle.goblin_pe_sect.specs.Options.{is_strict};
 ghost use Rattle.goblin_pe_records.specs.Calls.{ReadsWithout, Reported};
 ghost use Rattle.goblin_pe_records.specs.Found.{Puts};
 ghost use Rattle.goblin_pe_records.specs.Objects.{ObjectRecords, SaysObject, object_file};
-ghost use Rattle.goblin_pe_records.specs.Options.{options_of};
+ghost use Rattle.goblin_pe_records.specs.Options.{header_options};
 ghost use Rattle.goblin_pe_records.specs.Relocations.{RelocationRecords, SaysRelocations};
 ghost use Rattle.goblin_pe_records.specs.Relocations.{relocations_of};
 ghost use Rattle.goblin_pe_records.specs.Sections.{section_view};
@@ -18,7 +18,7 @@ use goblin_pe::relocation::Relocation;
 use goblin_pe_records::fault::{PeFault, status_of};
 use goblin_pe_records::found::put_found;
 use goblin_pe_records::object::{self, PeObject};
-use goblin_pe_records::options::{PeOptions, options_of};
+use goblin_pe_records::options::{PeOptions, header_options};
 use goblin_pe_records::relocation::read_relocations;
 use goblin_pe_records::section::PeSection;
 use goblin_pe_records::symbol::{
@@ -41,11 +41,11 @@ pub extern "C" fn goblin_pe_raw_read_object<'a>(
         record { object = object.old; sections = sections.old } in
         let new : ObjectRecords =
         record { object = object.new; sections = sections.new } in
-        let strict = is_strict (options_of options.now).parse_mode in
+        let strict = is_strict (header_options options.now).parse_mode in
         Reported result
         (ReadsWithout (object_file strict) bytes.now (λ x. SaysObject x old new) (new ≡ old)) }
 {
-    let opts = options_of(options);
+    let opts = header_options(options);
     status_of(object::read(bytes, &opts, object, sections))
 }
 

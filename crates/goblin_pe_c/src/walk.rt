@@ -11,7 +11,7 @@ ghost use Rattle.goblin_pe_calls.specs.Batches.{IsExportsFault, IsImportsFault, 
 ghost use Rattle.goblin_pe_calls.specs.ExportDirectories.{directory_view};
 ghost use Rattle.goblin_pe_records.specs.Calls.{ReadsWithout, Reported};
 ghost use Rattle.goblin_pe_records.specs.Onward.{GivesOnward};
-ghost use Rattle.goblin_pe_records.specs.Options.{options_of};
+ghost use Rattle.goblin_pe_records.specs.Options.{options_at};
 ghost use Rattle.goblin_pe_records.specs.Relocations.{all_relocations};
 ghost use Rattle.goblin_pe_records.specs.Sections.{section_view};
 ghost use Rattle.goblin_pe_records.specs.Words.{block_words};
@@ -23,7 +23,7 @@ use goblin_pe_calls::import::PeImport;
 use goblin_pe_calls::next::PeImportPosition;
 use goblin_pe_records::block::PeBlock;
 use goblin_pe_records::fault::{PeFault, status_of};
-use goblin_pe_records::options::{PeOptions, options_of};
+use goblin_pe_records::options::{PeOptions, options_at};
 use goblin_pe_records::places::PePlaces;
 use goblin_pe_records::relocation::next_relocations;
 use goblin_pe_records::section::PeSection;
@@ -65,10 +65,10 @@ pub extern "C" fn goblin_pe_raw_next_imports<'a>(
 ) -> PeFault
     ensures { let old : ImportBatch = record { position = position.old; records = records.old } in
         let new : ImportBatch = record { position = position.new; records = records.new } in
-        Reported result (GivesRecords (options_of options.now) places.now bytes.now GivesImports
+        Reported result (GivesRecords (options_at options.now places.now.file_alignment) places.now bytes.now GivesImports
         IsImportsFault old new count.old count.new) }
 {
-    let opts = options_of(options);
+    let opts = options_at(options, places.file_alignment);
     status_of(give::<PeImport>(alloc, bytes, &opts, places, position, records, count))
 }
 
@@ -93,10 +93,10 @@ pub extern "C" fn goblin_pe_raw_next_exports<'a>(
 ) -> PeFault
     ensures { let old : ExportBatch = record { position = position.old; records = records.old } in
         let new : ExportBatch = record { position = position.new; records = records.new } in
-        Reported result (GivesRecords (options_of options.now) places.now bytes.now GivesExports
+        Reported result (GivesRecords (options_at options.now places.now.file_alignment) places.now bytes.now GivesExports
         IsExportBatchFault old new count.old count.new) }
 {
-    let opts = options_of(options);
+    let opts = options_at(options, places.file_alignment);
     status_of(give::<PeExport>(alloc, bytes, &opts, places, position, records, count))
 }
 
@@ -116,14 +116,14 @@ pub extern "C" fn goblin_pe_raw_read_export_directory<'a>(
     places: &PePlaces,
     directory: &mut PeExportDirectory<'a>,
 ) -> PeFault
-    ensures { let opts = options_of options.now in
+    ensures { let opts = options_at options.now places.now.file_alignment in
         Reported result
         (GivesBatch opts places.now bytes.now
         (λ m places. SaysDirectory m places bytes.now (directory_view directory.new))
         (λ m places. IsExportsFault m places bytes.now)
         (directory.new ≡ directory.old)) }
 {
-    let opts = options_of(options);
+    let opts = options_at(options, places.file_alignment);
     status_of(give_directory(alloc, bytes, &opts, places, directory))
 }
 
@@ -148,10 +148,10 @@ pub extern "C" fn goblin_pe_raw_next_export_addresses(
 ) -> PeFault
     ensures { let old : AddressBatch = record { position = position.old; records = records.old } in
         let new : AddressBatch = record { position = position.new; records = records.new } in
-        Reported result (GivesRecords (options_of options.now) places.now bytes.now GivesAddresses
+        Reported result (GivesRecords (options_at options.now places.now.file_alignment) places.now bytes.now GivesAddresses
         IsExportBatchFault old new count.old count.new) }
 {
-    let opts = options_of(options);
+    let opts = options_at(options, places.file_alignment);
     status_of(give::<PeExportAddress>(alloc, bytes, &opts, places, position, records, count))
 }
 
@@ -178,10 +178,10 @@ pub extern "C" fn goblin_pe_raw_next_blocks<'a>(
 ) -> PeFault
     ensures { let old : BlockBatch = record { position = position.old; records = records.old } in
         let new : BlockBatch = record { position = position.new; records = records.new } in
-        Reported result (GivesRecords (options_of options.now) places.now bytes.now GivesBlocks
+        Reported result (GivesRecords (options_at options.now places.now.file_alignment) places.now bytes.now GivesBlocks
         IsBlocksFault old new count.old count.new) }
 {
-    let opts = options_of(options);
+    let opts = options_at(options, places.file_alignment);
     status_of(give::<PeBlock>(alloc, bytes, &opts, places, position, records, count))
 }
 

@@ -12,7 +12,7 @@ ghost use Rattle.goblin_pe_calls.specs.Footprints.{Lists};
 ghost use Rattle.goblin_pe_calls.specs.Growth.{TakesRecords};
 ghost use Rattle.goblin_pe_records.specs.Kinds.{kind_number, kind_of};
 ghost use Rattle.goblin_pe_calls.specs.Opened.{Opened, Opens, opened_file};
-ghost use Rattle.goblin_pe_records.specs.Options.{options_of};
+ghost use Rattle.goblin_pe_records.specs.Options.{header_options, options_in};
 
 use goblin_pe_calls::damage::{self, PeDamage};
 use goblin_pe_calls::layout::{self, PeLayout};
@@ -22,7 +22,7 @@ use goblin_pe_records::directory::PeDirectory;
 use goblin_pe_records::fault::{PeFault, status_of};
 use goblin_pe_records::file::PeFile;
 use goblin_pe_records::kind;
-use goblin_pe_records::options::{PeOptions, options_of};
+use goblin_pe_records::options::{PeOptions, header_options, options_in};
 use goblin_pe_records::section::PeSection;
 use std::alloc::Global;
 
@@ -65,12 +65,12 @@ pub extern "C" fn goblin_pe_raw_open<'a>(
         record { file = file.old; directories = directories.old; tables = tables.old } in
         let new : Opened =
         record { file = file.new; directories = directories.new; tables = tables.new } in
-        let opts = options_of options.now in
+        let opts = options_in options.now bytes.now in
         Reported result
         (ReadsInto (pe_header (is_strict opts.parse_mode)) (TakesRecords opts bytes.now)
         (opened_file opts) bytes.now (λ read. Opens read old new) (new ≡ old)) }
 {
-    let opts = options_of(options);
+    let opts = options_in(bytes, options);
     status_of(open::open(alloc, bytes, &opts, file, directories, tables))
 }
 
@@ -97,11 +97,11 @@ pub extern "C" fn goblin_pe_raw_read_layout<'a>(
           directories = directories.new;
           sections = sections.new;
         } in
-        let opts = options_of options.now in
+        let opts = header_options options.now in
         Reported result
         (ReadsWithout (file_layout opts) bytes.now (λ l. SaysLayout l old new) (new ≡ old)) }
 {
-    let opts = options_of(options);
+    let opts = header_options(options);
     status_of(layout::read(bytes, &opts, layout, directories, sections))
 }
 
@@ -121,13 +121,13 @@ pub extern "C" fn goblin_pe_raw_read_damage(
     options: &PeOptions,
     damage: &mut PeDamage,
 ) -> PeFault
-    ensures { let opts = options_of options.now in
+    ensures { let opts = options_in options.now bytes.now in
         Reported result
         (ReadsInto (pe_header (is_strict opts.parse_mode)) (TakesIndex opts bytes.now)
         (file_layout opts) bytes.now
         (λ l. RecordsDamage opts l.0 l.1 bytes.now damage.new) (damage.new ≡ damage.old)) }
 {
-    status_of(damage::tell(alloc, bytes, &options_of(options), damage))
+    status_of(damage::tell(alloc, bytes, &options_in(bytes, options), damage))
 }
 
 /// Puts into `ranges` the positions of a file on which all that
@@ -146,8 +146,8 @@ pub extern "C" fn goblin_pe_raw_footprint<'a>(
     options: &PeOptions,
     ranges: &mut PeRanges<'a>,
 ) -> PeFault
-    ensures { let footprint = (opened_file (options_of options.now)).reaches bytes.now in
+    ensures { let footprint = (opened_file (options_in options.now bytes.now)).reaches bytes.now in
         Reported result (Lists (length bytes.now) footprint ranges.old ranges.new) }
 {
-    status_of(list_ranges(alloc, bytes, &options_of(options), ranges))
+    status_of(list_ranges(alloc, bytes, &options_in(bytes, options), ranges))
 }

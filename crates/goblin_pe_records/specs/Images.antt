@@ -7,7 +7,7 @@ use Rattle.goblin_pe_sect.specs.Mapping.{file_address, file_offset, section_inde
 use Rattle.goblin_pe_sect.specs.SectionTable.{Section}
 use Rattle.goblin_pe_records.specs.declared.image.PeImage.{PeImage}
 use Rattle.goblin_pe_records.specs.declared.image.PeText.{PeText}
-use Rattle.goblin_pe_records.specs.Options.{options_of}
+use Rattle.goblin_pe_records.specs.Options.{options_at}
 use Rattle.goblin_pe_records.specs.Sections.{section_view}
 
 -- the sections of an image
@@ -17,12 +17,12 @@ image_sections image = map section_view image.sections.now
 -- the file offset of each address, if it has one
 abbrev pub image_map : PeImage → ℕ → Option ℕ
 image_map image =
-    file_offset (options_of image.options) (image_sections image) image.file_alignment
+    file_offset (options_at image.options image.file_alignment) (image_sections image) image.file_alignment
 
 -- the address of each file offset, if it has one
 abbrev pub image_address : PeImage → ℕ → Option ℕ
 image_address image =
-    file_address (options_of image.options) (image_sections image) image.file_alignment
+    file_address (options_at image.options image.file_alignment) (image_sections image) image.file_alignment
 
 -- the index of the section that an address lies in, if it lies in one
 abbrev pub image_section : PeImage → ℕ → Option ℕ

@@ -9,7 +9,7 @@ use Rattle.goblin_pe_sect.specs.SectionTable.{Section}
 use Rattle.goblin_pe_records.specs.declared.image.PeImage.{PeImage}
 use Rattle.goblin_pe_records.specs.declared.section_data.PeSectionData.{PeSectionData}
 use Rattle.goblin_pe_records.specs.Images.{image_sections}
-use Rattle.goblin_pe_records.specs.Options.{options_of}
+use Rattle.goblin_pe_records.specs.Options.{options_at}
 
 -- Source: PE Format, "Section Table (Section Headers)", on the virtual size and the raw size.
 
@@ -50,7 +50,7 @@ roomy_section rva size s = if nat_le size (memory_end s - rva) then Some s else 
 abbrev pub seen_of_section : PeImage → ℕ → ℕ → Section → Reading (List ℕ × ℕ)
 seen_of_section image rva size s =
     needs (roomy_section rva size s) (Unmapped (memory_end s))
-    >>= λ t. seen_in (raw_begin (options_of image.options) image.file_alignment t) t
+    >>= λ t. seen_in (raw_begin (options_at image.options image.file_alignment) t) t
     (rva - t.virtual_address) size
 
 -- the same of an image, by the first section whose memory holds the address

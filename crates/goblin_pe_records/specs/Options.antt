@@ -1,25 +1,50 @@
 -- The options that a caller passes.
-use Rattle.std.specs.Prelude.{ℕ, ◌==◌, if◌then◌else◌}
+use Rattle.std.specs.Prelude.{ℕ, ◌==◌, if◌then◌else◌, List, Option, Some, None}
 use Rattle.goblin_base.specs.declared.permissive.ParseMode.TheVariants.{Strict, Permissive}
 use Rattle.goblin_pe_sect.specs.declared.options.ParseOptions.{ParseOptions}
 use Rattle.goblin_pe_sect.specs.declared.options.RawPointerRule.{RawPointerRule}
 use Rattle.goblin_pe_sect.specs.declared.options.RawPointerRule.TheVariants.{AsStored, RoundedTo512}
-use Rattle.goblin_pe_sect.specs.declared.options.RawPointerRule.TheVariants.{ByFileAlignment}
-use Rattle.goblin_pe_sect.specs.Options.{default_options}
+use Rattle.goblin_pe_sect.specs.Options.{default_options, is_strict, rule_by_alignment}
+use Rattle.goblin_pe_head.specs.declared.optional_header.OptionalHeader.{OptionalHeader}
+use Rattle.goblin_pe_head.specs.HeaderReadings.{pe_header}
+use Rattle.goblin_pe_head.specs.PeHeader.{PeHeader}
 use Rattle.goblin_pe_records.specs.declared.options.PeOptions.{PeOptions}
 
--- the rule for raw pointers with this number
-abbrev pub rule_of : ℕ → RawPointerRule
-rule_of number =
+-- the rule for raw pointers with this number, at this file alignment
+abbrev pub rule_at : ℕ → ℕ → RawPointerRule
+rule_at number alignment =
     if number == 1 then RoundedTo512
-    else if number == 2 then ByFileAlignment
+    else if number == 2 then rule_by_alignment alignment
     else AsStored
 
--- options that a caller can't pass have their defaults
-abbrev pub options_of : PeOptions → ParseOptions
-options_of o = record default_options {
+-- the options by which a header is read: the mode
+abbrev pub header_options : PeOptions → ParseOptions
+header_options o =
+    record default_options { parse_mode = if o.is_permissive then Permissive else Strict }
+
+-- The options that a caller says, of a file with this file alignment. Those that a caller can't say
+-- have their defaults.
+abbrev pub options_at : PeOptions → ℕ → ParseOptions
+options_at o alignment = record (header_options o) {
   resolve_rva = o.resolve_rva;
-  parse_mode = if o.is_permissive then Permissive else Strict;
   parse_imports = o.parse_imports;
-  raw_pointer_rule = rule_of o.raw_pointer_rule;
+  raw_pointer_rule = rule_at o.raw_pointer_rule alignment;
 }
+
+-- the file alignment that an optional header says; 0 without one
+abbrev pub alignment_by : Option OptionalHeader → ℕ
+alignment_by None = 0
+alignment_by (Some h) = h.windows_fields.file_alignment
+
+-- that which the header of a file says; 0 without a header
+abbrev pub alignment_of : Option PeHeader → ℕ
+alignment_of None = 0
+alignment_of (Some h) = alignment_by h.optional_header
+
+unfoldable pub alignment_in : PeOptions → List ℕ → ℕ
+alignment_in o bytes =
+    alignment_of ((pe_header (is_strict (header_options o).parse_mode)).value bytes)
+
+-- the options that a caller says of a file
+abbrev pub options_in : PeOptions → List ℕ → ParseOptions
+options_in o bytes = options_at o (alignment_in o bytes)

@@ -5,9 +5,9 @@ use Rattle.goblin_pe_sect.specs.Mapping.{raw_begin}
 use Rattle.goblin_pe_sect.specs.SectionTable.{Section}
 use Rattle.goblin_pe_records.specs.declared.section_data.PeSectionData.{PeSectionData}
 
--- a section whose data begins at its raw pointer by the rule of the options at this file alignment
-abbrev pub placed : ParseOptions → ℕ → Section → Section
-placed opts alignment s = record s { pointer_to_raw_data = raw_begin opts s }
+-- a section whose data begins at its raw pointer by the rule of the options
+abbrev pub placed : ParseOptions → Section → Section
+placed opts s = record s { pointer_to_raw_data = raw_begin opts s }
 
 -- the data that a record stands for: its bytes, then its zeros
 abbrev pub whole_data : PeSectionData → List ℕ

@@ -4,7 +4,7 @@ ghost use Rattle.std.specs.Prelude.{◌≡◌};
 ghost use Rattle.goblin_pe_records.specs.Images.{image_address, image_map, image_section};
 
 use crate::image::PeImage;
-use crate::options::options_of;
+use crate::options::options_at;
 use crate::section::{PeSection, section_of};
 use goblin_pe_sect::SectionTable;
 use goblin_pe_sect::mapping::{ToSection, file_address, file_offset, section_index};
@@ -24,7 +24,7 @@ impl PeImage<'_> {
     pub fn offset_of(&self, rva: usize) -> Option<usize>
         ensures { result ≡ image_map self.now rva }
     {
-        let opts = options_of(&self.options);
+        let opts = options_at(&self.options, self.file_alignment);
         file_offset(rva, self.sections, self.file_alignment, &opts)
     }
 
@@ -42,7 +42,7 @@ impl PeImage<'_> {
     pub fn rva_of(&self, offset: usize) -> Option<usize>
         ensures { result ≡ image_address self.now offset }
     {
-        let opts = options_of(&self.options);
+        let opts = options_at(&self.options, self.file_alignment);
         file_address(offset, self.sections, self.file_alignment, &opts)
     }
 }

@@ -9,7 +9,7 @@ ghost use Rattle.goblin_pe_records.specs.Memory.{seen_of_section};
 ghost use Rattle.goblin_pe_records.specs.Sections.{section_view};
 
 use crate::image::PeImage;
-use crate::options::options_of;
+use crate::options::options_at;
 use crate::section::{PeSection, section_of};
 use crate::section_data::PeSectionData;
 use goblin_base::read::pread_slice;
@@ -93,8 +93,8 @@ fn seen_of_section<'a>(
     if end - rva < size {
         return Err(Error::Malformed(Cause::Unmapped(end)));
     }
-    let opts = options_of(&image.options);
-    let begin = raw_begin(&section_of(section), image.file_alignment, &opts);
+    let opts = options_at(&image.options, image.file_alignment);
+    let begin = raw_begin(&section_of(section), &opts);
     let distance = rva - section.virtual_address as usize;
     seen_in(image.bytes, begin, section, distance, size)
 }

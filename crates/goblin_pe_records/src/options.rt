@@ -1,10 +1,36 @@
 //! How a file is read, as a caller says it.
 
 ghost use Rattle.std.specs.Prelude.{◌≡◌};
-ghost use Rattle.goblin_pe_records.specs.Options.{options_of, rule_of};
+ghost use Rattle.goblin_pe_records.specs.Options.{alignment_in, header_options, options_at};
+ghost use Rattle.goblin_pe_records.specs.Options.{options_in, rule_at};
 ghost use Rattle.goblin_pe_sect.specs.Options.{default_options};
 
+use goblin_pe_head::header::Header;
 use goblin_pe_sect::options::{ParseMode, ParseOptions, RawPointerRule};
+
+/// Where the raw data of a section begins, for addresses and for what
+/// `goblin_pe_read_section_data` and `goblin_pe_read_memory` give.
+///
+/// Where the raw pointer is a multiple of 512, as the PE/COFF specification asks for the usual file
+/// alignments, all rules say the same. Else rounding is right where `section_alignment` is 4,096
+/// or more, and pointers as stored where it is less, since the Windows loader maps such an image as
+/// one flat view of the file.
+pub enum PeRawPointerRule {
+    /// At the raw pointer, as goblin maps.
+    AsStored = 0,
+    /// At the greatest multiple of 512 that is at most the raw pointer.
+    RoundedTo512 = 1,
+    /// By the file alignment, as pefile maps: rounded where that is 512 or more, else as stored. In
+    /// a lawful image it is below 512 only where it equals a `section_alignment` below 4,096, so
+    /// this is right for each such image, without a look at its header before.
+    ByFileAlignment = 2,
+}
+
+const _: () = prove!(
+    PeRawPointerRule::AsStored as u8 == 0
+        && PeRawPointerRule::RoundedTo512 as u8 == 1
+        && PeRawPointerRule::ByFileAlignment as u8 == 2
+);
 
 /// What a call does and leaves out.
 #[repr(C)]
@@ -15,8 +41,9 @@ pub struct PeOptions {
     pub is_permissive: bool,
     /// Whether an address is mapped to a file offset by the sections; where not, it is the offset.
     pub resolve_rva: bool,
-    /// Where the raw data of a section begins, for addresses and for its data: the number of a
-    /// `RawPointerRule`; any other number is taken as 0.
+    /// Where the raw data of a section begins, for addresses and for what
+    /// `goblin_pe_read_section_data` and `goblin_pe_read_memory` give: the number of a
+    /// `PeRawPointerRule`; any other number is taken as 0.
     pub raw_pointer_rule: u8,
     /// Whether the imports are read; where not, their table is absent.
     pub parse_imports: bool,
@@ -25,7 +52,7 @@ pub struct PeOptions {
 /// The options where a caller says none: strictly, with addresses mapped by the sections from their
 /// raw pointers as stored, and imports. Callers of all languages take them from here.
 pub fn default_options() -> PeOptions
-    ensures { options_of result ≡ default_options }
+    ensures { options_at result 0 ≡ default_options }
 {
     PeOptions {
         is_permissive: false,
@@ -35,31 +62,64 @@ pub fn default_options() -> PeOptions
     }
 }
 
-// The rule for raw pointers with this number.
-fn rule_of(number: u8) -> RawPointerRule
-    ensures { result ≡ rule_of number }
+// The rule for raw pointers with this number, at this file alignment.
+fn rule_at(number: u8, file_alignment: u32) -> RawPointerRule
+    ensures { result ≡ rule_at number file_alignment }
 {
     match number {
         1 => RawPointerRule::RoundedTo512,
-        2 => RawPointerRule::ByFileAlignment,
+        2 => RawPointerRule::by_file_alignment(file_alignment),
         _ => RawPointerRule::AsStored,
     }
 }
 
-/// The options that a caller says.
-pub fn options_of(options: &PeOptions) -> ParseOptions
-    ensures { result ≡ options_of options.now }
+/// The options by which the header and the sections of a file are read: of all that a caller says
+/// only the mode has a say there.
+pub fn header_options(options: &PeOptions) -> ParseOptions
+    ensures { result ≡ header_options options.now }
 {
     let parse_mode = if options.is_permissive {
         ParseMode::Permissive
     } else {
         ParseMode::Strict
     };
+    ParseOptions::default().with_parse_mode(parse_mode)
+}
+
+/// The options that a caller says, of a file with this file alignment.
+pub fn options_at(options: &PeOptions, file_alignment: u32) -> ParseOptions
+    ensures { result ≡ options_at options.now file_alignment }
+{
     ParseOptions {
         resolve_rva: options.resolve_rva,
         parse_imports: options.parse_imports,
-        parse_mode,
-        raw_pointer_rule: rule_of(options.raw_pointer_rule),
-        ..ParseOptions::default()
+        raw_pointer_rule: rule_at(options.raw_pointer_rule, file_alignment),
+        ..header_options(options)
+    }
+}
+
+// The file alignment that the header of a file says; 0 where it says none, or can't be read.
+#[tactic(auto, unfolding(crate::specs::Options::alignment_in))]
+fn alignment_in(bytes: &[u8], options: &PeOptions) -> u32
+    ensures { result ≡ alignment_in options.now bytes.now }
+{
+    match Header::parse_with_opts(bytes, &header_options(options)) {
+        Ok(header) => match &header.optional_header {
+            Some(optional) => optional.windows_fields.file_alignment,
+            None => 0,
+        },
+        Err(_) => 0,
+    }
+}
+
+/// The options that a caller says, of a file whose header says its file alignment. The header is
+/// read only for the rule that asks for it.
+pub fn options_in(bytes: &[u8], options: &PeOptions) -> ParseOptions
+    ensures { result ≡ options_in options.now bytes.now }
+{
+    if options.raw_pointer_rule == 2 {
+        options_at(options, alignment_in(bytes, options))
+    } else {
+        options_at(options, 0)
     }
 }

@@ -3,12 +3,12 @@
 ghost use Rattle.std.specs.Prelude.{◌≡◌};
 ghost use Rattle.goblin_pe_sect.specs.SectionReadings.{section_data};
 ghost use Rattle.goblin_pe_records.specs.Calls.{ReadsWithout};
-ghost use Rattle.goblin_pe_records.specs.Options.{options_of};
+ghost use Rattle.goblin_pe_records.specs.Options.{options_at};
 ghost use Rattle.goblin_pe_records.specs.SectionData.{SaysData, placed};
 ghost use Rattle.goblin_pe_records.specs.Sections.{section_view};
 
 use crate::image::PeImage;
-use crate::options::options_of;
+use crate::options::options_at;
 use crate::section::{PeSection, section_of};
 use goblin_base::Result;
 use goblin_pe_sect::utils::raw_begin;
@@ -34,14 +34,14 @@ pub fn read_data<'a>(
     section: &PeSection,
     contents: &mut PeSectionData<'a>,
 ) -> Result<()>
-    ensures { let opts = options_of image.now.options in
-        let s = placed opts image.now.file_alignment (section_view section.now) in
+    ensures { let opts = options_at image.now.options image.now.file_alignment in
+        let s = placed opts (section_view section.now) in
         ReadsWithout (section_data s) image.now.bytes.now
         (λ whole. SaysData s whole contents.new) (contents.new ≡ contents.old) result }
 {
-    let opts = options_of(&image.options);
+    let opts = options_at(&image.options, image.file_alignment);
     let mut placed = section_of(section);
-    placed.pointer_to_raw_data = raw_begin(&placed, image.file_alignment, &opts);
+    placed.pointer_to_raw_data = raw_begin(&placed, &opts);
     let raw_data = placed.raw_data(image.bytes)?;
     let zeros = section
         .virtual_size

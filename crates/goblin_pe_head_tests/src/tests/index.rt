@@ -50,8 +50,7 @@ fn is_prepared(alloc: Global, sections: &[SectionTable], rule: RawPointerRule) -
 fn order_agrees(alloc: Global, order: (u8, bool)) -> bool {
     matches!(&table(alloc, order), Ok(sections)
         if is_prepared(alloc, sections, RawPointerRule::AsStored)
-            && is_prepared(alloc, sections, RawPointerRule::RoundedTo512)
-            && is_prepared(alloc, sections, RawPointerRule::ByFileAlignment))
+            && is_prepared(alloc, sections, RawPointerRule::RoundedTo512))
 }
 
 #[test]
