@@ -3,6 +3,7 @@ such users, whose code is that of goblin_pe_caller."""
 import itertools
 import re
 
+from tests.images import sample
 from tests.programs import CRATES, IMAGES, PE_AUDIT, TOP, Case, build_pe_audit, need, run, succeed
 
 EXECUTE, WRITE = 0x20000000, 0x80000000
@@ -45,6 +46,20 @@ class Audits(Case):
                 with self.subTest(image=image.name, library=library):
                     imports = f"imports from {library}: {'yes' if library in libraries else 'no'}"
                     self.assertEqual(run([PE_AUDIT, library], image), (0, "\n".join([imports, *others, ""]).encode(), b""))
+
+    def assert_audited(self, file, *others):
+        self.assertEqual(run([PE_AUDIT, "a.dll"], file), (0, "\n".join([*others, "known by its key: yes", ""]).encode(), b""))
+
+    def test_a_header_that_is_written_longer_than_the_file(self):
+        """The file ends with its header, which has none of the sixteen data directories that are written."""
+        self.assert_audited(sample((0x46, b"\0"), (0xB4, b"\0"))[:0xB8],
+                            "imports from a.dll: no", "forwarders: 0", "entered in code: no", "header: 312 bytes")
+
+    def test_names_are_escaped(self):
+        """The name of a section, in the string table, would end its line, begin another one, and give orders to a terminal."""
+        file = sample((0x138, b"/768\0\0"), (0x15F, b"\xA0"), (0x300, b"x\nknown by its key: no\x1b[2J\\"))
+        self.assert_audited(file, "imports from a.dll: yes", "forwarders: 1", "entered in code: no",
+                            r"writable code: x\x0aknown by its key: no\x1b[2J\x5c", "header: 312 bytes")
 
     def test_refusals_are_told(self):
         for name, file, cause in (

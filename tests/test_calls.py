@@ -33,6 +33,8 @@ TAKE_MEMORY = [
     (MODES, "footprint_imports", "5"),
     (MODES, "footprint_exports", "4"),
     (MODES, "footprint_whole", "9"),
+    (MODES, "key", "1"),
+    (MODES, "layout_of_many", "97"),
     (MODES, "whole", "22"),
     (MODES, "twin_lookup", "2 1"),
     (("strict",), "twin_imports", "1 refused"),

@@ -199,6 +199,15 @@ def terse(stripped_size):
                       (0x3D, b"\x02"))
 
 
+# What reads a file, the file, and the sentence by which it is refused, as goblin says it, so that logs can be searched for it.
+SENTENCES = [
+    ("Pe", with_parts(bytes(64), (0, b"MZ"), (0x3C, b"\x3C\xFF")), "cannot parse PE header signature (offset 0xff3c)"),
+    ("Te", terse(0x17), "Stripped size (0x17) is smaller than TE header size (0x28)"),
+    ("ObjectFile", struct.pack("<HHIIIHHI", 0x8664, 0, 0, 20, 0, 0, 0, 1),
+     "COFF length field size (0x4) is larger than the parsed length value"),
+]
+
+
 def setUpModule():
     need(CC)  # (for the shared library)
     package()
@@ -293,6 +302,12 @@ class Headers(unittest.TestCase):
             for mode in modes:
                 with self.subTest(name, mode=mode):
                     self.assertEqual(refusal(read, file, mode), wanted)
+
+    def test_some_refusals_are_told_by_sentences_of_goblin(self):
+        for reader, file, sentence in SENTENCES:
+            with self.subTest(reader), self.assertRaises(package().Refused) as caught:
+                getattr(package(), reader)(file)
+            self.assertEqual(str(caught.exception), sentence)
 
     def test_the_fields_of_an_optional_header_stand_in_their_order(self):
         for name, standard_widths, windows_widths, standard, windows in FIELDS:

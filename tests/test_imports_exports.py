@@ -91,6 +91,20 @@ FORWARDERS = [
 ]
 NO_FORWARDERS = [b"a.", b"a", b"", b"a.#4294967296", b"a.#"]
 
+# Files, and where the texts of their section, their imports and their exports lie, by their offsets and lengths: the real name;
+# the library and the name; the name, and the library and the name that it forwards to. One that is absent lies at the front.
+ABSENT = (0, 0)
+PLACES = [
+    ("a forwarder by ordinal", sample(), [ABSENT], [(0x280, 5), (0x292, 2), (0x280, 5), ABSENT],
+     [(0x2F0, 1), ABSENT, ABSENT, (0x280, 5), (0x2E0, 1), ABSENT]),
+    ("a forwarder by name", sample((0x2E0, b"b.gh\0")), [ABSENT], [(0x280, 5), (0x292, 2), (0x280, 5), ABSENT],
+     [(0x2F0, 1), ABSENT, ABSENT, (0x280, 5), (0x2E0, 1), (0x2E2, 2)]),
+    ("texts that are there, and empty",
+     sample((0x138, b"/50\0\0\0"), (0x280, b"\0"), (0x292, b"\0"), (0x2E0, b".x\0\0\0"), (0x2F0, b"\0")), [(50, 0)],
+     [(0x280, 0), (0x292, 0), (0x280, 0), ABSENT], [(0x2F0, 0), ABSENT, ABSENT, (0x280, 0), (0x2E0, 0), (0x2E1, 1)]),
+]
+TEXTS = {"sections": ["real_name"], "imports": ["dll", "name"], "exports": ["name", "forward_lib", "forward_name"]}
+
 # A hint that the end of the file cuts; three records of one library, of which no section maps the second's address table.
 CUT_HINT = (0x240, b"\xFF\x10")
 RECORD = struct.pack("<5I", 0x1040, 0, 0, 0x1080, 0x1060)
@@ -263,6 +277,13 @@ class Damage(Read):
 
 
 class WholeFiles(Read):
+    def test_where_texts_lie(self):
+        for name, data, *wanted in PLACES:
+            with self.subTest(name):
+                pe = read(data)
+                texts = [[getattr(it, field) for it in pe._tables.records(table) for field in fields] for table, fields in TEXTS.items()]
+                self.assertEqual([[(text.bytes - pe._address, text.length) for text in group] for group in texts], wanted)
+
     def test_the_directories_and_sections_of_a_file_are_read_in_both_modes(self):
         for how in modes():
             with self.subTest(how=how):

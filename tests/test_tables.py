@@ -68,6 +68,7 @@ UNTESTED = [
     ("a text before bytes that are none", b"abc\0\xFF", 0, b"abc"),
     ("bytes that are no text", b"abc\0\xFF", 4, None),
     ("the middle of a character", b"\xC3\xA9\0", 1, None),
+    ("a NUL", b"ab\0\0", 3, b""),
     ("the end, after a text without a NUL", b"ab", 2, b""),
     ("the end, after a NUL", b"ab\0", 3, None),
 ]
@@ -255,6 +256,7 @@ class Tables(unittest.TestCase):
                 self.assertEqual([it.name for it in symbols_of(symbol_record(stored), strings)], [wanted])
 
     def test_a_name_is_tested_where_it_lies(self):
+        """One that is not there lies at the front of the file; an empty one that is there has its own place."""
         calls, records = package()._library.LIB, package().records
         for name, strings, offset, wanted in UNTESTED:
             with self.subTest(name):
@@ -263,6 +265,8 @@ class Tables(unittest.TestCase):
                 self.assertTrue(calls.goblin_pe_raw_symbol_at(file, len(file), ctypes.byref(table), 0, ctypes.byref(symbol)))
                 found = ctypes.string_at(symbol.name.bytes, symbol.name.length) if symbol.has_name else None
                 self.assertEqual(found, wanted)
+                place = symbol.name.bytes - ctypes.cast(file, ctypes.c_void_p).value
+                self.assertEqual((place, symbol.name.length), (0, 0) if wanted is None else (19 + offset, len(wanted)))
 
     def test_a_table_that_is_not_in_the_file_has_no_symbols(self):
         calls, records = package()._library.LIB, package().records

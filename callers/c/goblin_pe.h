@@ -42,7 +42,7 @@
      import_record_at, write_*,
      set_*                           none                                  what the records say
    read_layout                       none                                  n, and a name for each section with room
-   read_object, read_te              none                                  a name for each section with room
+   read_object, read_te              none                                  the sections, and a name for each with room
    read_symbol_table, checksum       none                                  n
    next_symbols, symbol_at           none                                  a name for each record
    read_relocations, next_words,
@@ -56,16 +56,24 @@
                                      an index of some 300 bytes for each
    read_export_directory             the same                              the sections, and one text
    next_export_addresses             the same                              the sections, one text, and the records
-   next_imports, next_exports        the same                              the sections, a name for each record and for
-                                                                           what is passed over before it, and the
-                                                                           address table of each library it comes to
-   read_damage                       the same                              a name for each import and each export, and
+   next_imports                      the same                              the sections, the name of the library it goes on
+                                                                           in, a name for each record and for what is
+                                                                           passed over before it, and the address table
+                                                                           of each library it comes to
+   next_exports                      the same                              the sections, the library's own name, and a name
+                                                                           for each record and for what is passed over
+                                                                           before it
+   read_damage                       the same                              n, a name for each import and each export, and
                                                                            for what is left out of them, and the
                                                                            address table of each library
-   open                              its tables, which no n bounds: see    the same, and a name for each section
-                                     below
+   open                              its tables, which no n bounds (see    the same, and a name for each section
+                                     below), half as much room again for
+                                     imports, exports and blocks, and such
+                                     an index
    footprint                         n / 8 and 8 * n bytes, and such an    the same
                                      index
+
+   What is read beside the records is read again at each call, also where there is no room.
 
    How much memory a file may take is for the caller to limit, as a small file may list much: its
    libraries may share one table of imports, and that may be their own records. So 32 KiB can list nearly 13
@@ -235,9 +243,8 @@ static inline struct goblin_pe_fault goblin_pe_next_imports(
 /* Reads the 20 bytes at this file offset as the record of a library in the import directory, puts it into `record`,
    and answers whether the file has them; if not, nothing is changed. Whether they stand in the directory is not
    tested. It has the library's time stamp, its forwarder chain, and the address of its name, at which
-   goblin_pe_bytes_at reads a name that is not UTF-8. In a walk's position, `first_record` and 20 for each of `library`
-   are the offset of the record of the last import's library after each batch that is full; after one that is not,
-   it may be the end, which has none. */
+   goblin_pe_bytes_at reads a name that is not UTF-8. The record of an import's library stands 20 times its `library`
+   after the file offset of the import directory. */
 static inline bool goblin_pe_import_record_at(
     const uint8_t *bytes, size_t length, size_t offset, struct goblin_pe_import_directory_entry *record)
 {

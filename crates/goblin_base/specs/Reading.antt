@@ -51,12 +51,12 @@ pub record TwinsOrMemory {X Y : Type 0} (view : X → Y) (reading : Reading Y) (
   pub alike : Agree (reading.reaches a) a b → AlikeOrMemory view both.0 both.1
 
 -- Where the first reading has a value, the second has what `becomes` makes of it: for example the
--- same read in strict mode and in permissive mode.
+-- same read in strict mode and in permissive mode. Proofs alone cite it; contracts say `InModes`.
 pub record RepeatsAs {A : Type 0} (becomes : A → A) (first second : Reading A) : Type 0 where
   pub kept : (bytes : List ℕ) (x : A) → first.value bytes ≡ Some x
       → second.value bytes ≡ Some (becomes x)
 
--- Where the first reading has a value, the second has that value.
+-- Where the first reading has a value, the second has that value (in proofs alone).
 abbrev pub Repeats : {A : Type 0} → Reading A → Reading A → Type 0
 Repeats first second = RepeatsAs (λ x. x) first second
 

@@ -9,7 +9,7 @@ use Rattle.readings.specs.Reads.{given, pick}
 use Rattle.goblin_pe_sect.specs.declared.data_directories.DataDirectory.{DataDirectory}
 use Rattle.goblin_pe_sect.specs.Addresses.{MapOfAddresses, offset_of, reads_strictly}
 use Rattle.goblin_pe_import.specs.ImportDirectory.{TakesLibraries}
-use Rattle.goblin_pe_import.specs.ImportReadings.{import_data}
+use Rattle.goblin_pe_import.specs.ImportReadings.{first_record_offset, import_data}
 use Rattle.goblin_pe_import.specs.ImportRecords.{ImportedLibrary}
 use Rattle.goblin_pe_import.specs.Imports.{kept_count}
 use Rattle.goblin_pe_import.proofs.TakenLibraries.{libraries-taken}
@@ -57,7 +57,7 @@ module _ (m : MapOfAddresses) (places : TablePlaces) (bytes : List ℕ) where
   at-place : (o : Option (List ImportedLibrary)) (d : DataDirectory)
       → (import_data strict (entry_format places.magic) (offset_of m) d.virtual_address).value bytes ≡ o
       → IsSomeAnd o (λ libraries. 0 < kept_count libraries)
-      → IsSomeAnd (offset_of m d.virtual_address)
+      → IsSomeAnd (first_record_offset strict (offset_of m d.virtual_address))
       (TakesLibraries strict (entry_format places.magic) (offset_of m) bytes)
   at-place None d is kept = absurd kept
   at-place (Some libraries) d is kept =
@@ -72,7 +72,7 @@ module _ (m : MapOfAddresses) (places : TablePlaces) (bytes : List ℕ) where
       (given Absent)).value bytes
       ≡ Some p
       → HasKept p
-      → IsTrue test × IsSomeAnd directory (λ d. IsSomeAnd (offset_of m d.virtual_address)
+      → IsTrue test × IsSomeAnd directory (λ d. IsSomeAnd (first_record_offset strict (offset_of m d.virtual_address))
       (TakesLibraries strict (entry_format places.magic) (offset_of m) bytes))
   by-test true (Some d) p is kept =
       (refl, at-place _ d refl (of-part strict _ p is kept))

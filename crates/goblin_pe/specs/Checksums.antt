@@ -1,5 +1,6 @@
 -- The checksum of an image, as it stands in the optional header. PE Format names the field, and
--- leaves the algorithm to the Windows library IMAGEHLP, which adds so.
+-- leaves the algorithm to the Windows library IMAGEHLP. That adds the field, too, and takes it off
+-- again, which differs where the other words add up to 0xFFFF.
 use Rattle.std.specs.Prelude.{ℕ, zero, suc, ◌+◌, ◌*◌, ◌/◌, ◌%◌, ◌^◌, ◌&&◌, nat_le, nat_lt}
 use Rattle.std.specs.Prelude.{if◌then◌else◌, List, length, slice_index_or}
 

@@ -19,7 +19,7 @@ use Rattle.goblin_pe_export.specs.ExportReadings.{export_read}
 use Rattle.goblin_pe_export.specs.Exports.{HasExportEntries, export_data, export_read_view}
 use Rattle.goblin_pe_import.specs.ImportDirectory.{TakesLibraries}
 use Rattle.goblin_pe_import.specs.ImportLookup.{EntryValue, KeepsEntries, entry_view}
-use Rattle.goblin_pe_import.specs.ImportReadings.{import_data}
+use Rattle.goblin_pe_import.specs.ImportReadings.{first_record_offset, import_data}
 use Rattle.goblin_pe_import.specs.LookupReadings.{lookup_table}
 use Rattle.goblin_pe.specs.Modes.{ReadsInModes, unless_front}
 
@@ -55,7 +55,7 @@ pub record AreGrown {D : Type 0} (format : Format EntryValue) (strict : Bool) (o
   pub imports : IfErr tables.imports
       (λ e.
       IsMemory e
-      → IsSomeAnd (offset_of request.imports.virtual_address)
+      → IsSomeAnd (first_record_offset strict (offset_of request.imports.virtual_address))
       (TakesLibraries strict format offset_of bytes)
       ⊎ TakesMap opts sections alignment)
   pub exports : IfErr tables.exports

@@ -4,6 +4,7 @@ use Rattle.goblin_pe_export.specs.Exports.{HasExportEntries, export_data}
 use Rattle.goblin_pe_head.specs.PeHeader.{PeHeader}
 use Rattle.goblin_pe_head.specs.SectionRoom.{HasRoom, TakesSections}
 use Rattle.goblin_pe_import.specs.ImportDirectory.{TakesLibraries}
+use Rattle.goblin_pe_import.specs.ImportReadings.{first_record_offset}
 use Rattle.goblin_pe_sect.specs.declared.options.ParseOptions.{ParseOptions}
 use Rattle.goblin_pe_sect.specs.Addresses.{AreMany, MapOfAddresses, map_by, offset_of}
 use Rattle.goblin_pe_sect.specs.Addresses.{reads_strictly}
@@ -24,7 +25,8 @@ TakesIndex opts bytes h =
 abbrev pub TakesImports : MapOfAddresses → TablePlaces → List ℕ → Type 0
 TakesImports m places bytes =
     IsTrue m.opts.parse_imports
-    × IsSomeAnd places.imports (λ d. IsSomeAnd (offset_of m d.virtual_address)
+    × IsSomeAnd places.imports (λ d.
+    IsSomeAnd (first_record_offset (reads_strictly m) (offset_of m d.virtual_address))
     (TakesLibraries (reads_strictly m) (entry_format places.magic) (offset_of m) bytes))
 
 -- for the exports

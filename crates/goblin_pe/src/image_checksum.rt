@@ -57,7 +57,9 @@ fn sum_of_words(bytes: &[u8], field: usize) -> u32
 /// critical processes.
 ///
 /// Source: PE Format, "Optional Header Windows-Specific Fields (Image Only)", `CheckSum`, which
-/// leaves the algorithm to the Windows library IMAGEHLP.
+/// leaves the algorithm to the Windows library IMAGEHLP. That is known to add the field, too, and to
+/// take it off again with borrows: it then has 0 where the other words add up to 0xFFFF, unless the
+/// field is 0.
 pub fn checksum(bytes: &[u8], field: usize) -> u32
     ensures { result ≡ image_checksum bytes.now field }
 {

@@ -107,7 +107,7 @@ impl<'a> Whole<'a> {
     /// [`CoffHeader::sections_with_opts`](goblin_pe_head::CoffHeader::sections_with_opts); in
     /// strict mode as the readers of the tables; [`Error::Memory`] if memory is refused, in both
     /// modes, and only of a file that has sections, or a table of which something is kept. All
-    /// causes that are true of a file have one text.
+    /// causes that are true of the first missing part have one text.
     #[tactic(auto, unfolding(crate::specs::Whole::whole_file, crate::specs::Whole::whole_with), using(goblin_pe_head::proofs::HeaderFaults::header_there, crate::proofs::OneCauseOfParts::only_cause))]
     pub fn read(alloc: Global, bytes: &'a [u8], opts: &ParseOptions) -> Result<Whole<'a>>
         ensures value { ReadsOrMemory (λ x. x) result (whole_file opts.now) bytes.now }

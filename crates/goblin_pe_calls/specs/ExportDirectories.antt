@@ -1,7 +1,7 @@
 -- The records of what an export directory says, and of the export address table, as definitions.
 use Rattle.std.specs.Prelude.{ℕ, Bool, true, false, List, [], unwrap_or, is_some}
 use Rattle.goblin_pe_export.specs.declared.export.tables.ExportAddressTableEntry.{ExportAddressTableEntry}
-use Rattle.goblin_pe_export.specs.declared.export.tables.ExportAddressTableEntry.TheVariants as slot
+use Rattle.goblin_pe_export.specs.declared.export.tables.ExportAddressTableEntry.TheVariants as variant
 use Rattle.goblin_pe_export.specs.declared.export.tables.ExportDirectoryTable.{ExportDirectoryTable}
 use Rattle.goblin_pe.specs.ExportRecords.{ExportTables}
 use Rattle.goblin_pe_calls.specs.declared.export_directory.PeExportAddress.{PeExportAddress}
@@ -9,8 +9,8 @@ use Rattle.goblin_pe_calls.specs.declared.export_directory.PeExportDirectory.{Pe
 
 -- the record of an entry of the export address table
 abbrev pub address_said : ExportAddressTableEntry → PeExportAddress
-address_said (slot.ExportRVA rva) = record { rva = rva; forwards = false }
-address_said (slot.ForwarderRVA rva) = record { rva = rva; forwards = true }
+address_said (variant.ExportRVA rva) = record { rva = rva; forwards = false }
+address_said (variant.ForwarderRVA rva) = record { rva = rva; forwards = true }
 
 -- a record of what an export directory says, its slice as a list
 pub record DirectorySaid : Type 0 where

@@ -14,7 +14,7 @@ use Rattle.goblin_pe_export.specs.ExportRecords.{export_directory_record, ordina
 use Rattle.goblin_pe_export.specs.Forwarders.{Forwarder, forwarder_at}
 use Rattle.goblin_pe_sect.specs.AddressReadings.{at_address, name_at}
 use Rattle.goblin_pe_export.specs.declared.export.tables.ExportAddressTableEntry.{ExportAddressTableEntry}
-use Rattle.goblin_pe_export.specs.declared.export.tables.ExportAddressTableEntry.TheVariants as slot
+use Rattle.goblin_pe_export.specs.declared.export.tables.ExportAddressTableEntry.TheVariants as variant
 use Rattle.goblin_pe_export.specs.declared.export.tables.ExportDirectoryTable.{ExportDirectoryTable}
 
 -- ---- export data
@@ -63,8 +63,8 @@ export_data offset_of d =
 -- What an entry stands for in another library: nothing, or what its forwarder says, if there is
 -- one.
 abbrev pub reexport_of : (ℕ → Option ℕ) → ExportAddressTableEntry → Reading (Option Forwarder)
-reexport_of offset_of (slot.ExportRVA rva) = given None
-reexport_of offset_of (slot.ForwarderRVA rva) =
+reexport_of offset_of (variant.ExportRVA rva) = given None
+reexport_of offset_of (variant.ForwarderRVA rva) =
     mapped (λ f. Some f) (at_address offset_of rva forwarder_at)
 
 -- the row of a name pointer and an address: it stays without a name that can't be read

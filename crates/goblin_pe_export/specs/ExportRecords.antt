@@ -16,7 +16,7 @@ use Rattle.goblin_base.proofs.Picks.{by_cases-not_memory}
 use Rattle.goblin_pe_sect.specs.declared.data_directories.DataDirectory.{DataDirectory}
 use Rattle.goblin_pe_export.specs.declared.export.entries.TablesInFile.{TablesInFile}
 use Rattle.goblin_pe_export.specs.declared.export.tables.ExportAddressTableEntry.{ExportAddressTableEntry}
-use Rattle.goblin_pe_export.specs.declared.export.tables.ExportAddressTableEntry.TheVariants as slot
+use Rattle.goblin_pe_export.specs.declared.export.tables.ExportAddressTableEntry.TheVariants as variant
 use Rattle.goblin_pe_export.specs.declared.export.tables.ExportDirectoryTable.{ExportDirectoryTable}
 use Rattle.goblin_pe_export.specs.Forwarders.{Forwarder}
 
@@ -89,7 +89,7 @@ is_in_directory d rva = nat_le d.virtual_address rva && nat_lt rva (d.virtual_ad
 -- What an address stands for: a forwarder's text where it lies in the export directory, else an
 -- export.
 unfoldable pub address_entry : DataDirectory → ℕ → ExportAddressTableEntry
-address_entry d rva = if is_in_directory d rva then slot.ForwarderRVA rva else slot.ExportRVA rva
+address_entry d rva = if is_in_directory d rva then variant.ForwarderRVA rva else variant.ExportRVA rva
 
 -- addresses: four bytes each
 abbrev pub addresses : DataDirectory → Format ExportAddressTableEntry
@@ -97,8 +97,8 @@ addresses d = record { width = 4; value_of = λ bytes. address_entry d (number L
 
 -- the address that an entry holds
 abbrev pub rva_of : ExportAddressTableEntry → ℕ
-rva_of (slot.ExportRVA rva) = rva
-rva_of (slot.ForwarderRVA rva) = rva
+rva_of (variant.ExportRVA rva) = rva
+rva_of (variant.ForwarderRVA rva) = rva
 
 -- what an export directory leads to: the library's name, the record itself, and the three tables
 pub record ExportTables : Type 0 where

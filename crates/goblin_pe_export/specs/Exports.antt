@@ -5,7 +5,7 @@ use Rattle.std.specs.Prelude.{zero, suc, Bool, true, false, if◌then◌else◌,
 use Rattle.std.specs.Prelude.{Option, Some, None, option_and_then, slice_get, unwrap_or}
 use Rattle.std.specs.Global.{Global}
 use Rattle.goblin_pe_export.specs.declared.export.tables.ExportAddressTableEntry.{ExportAddressTableEntry}
-use Rattle.goblin_pe_export.specs.declared.export.tables.ExportAddressTableEntry.TheVariants as slot
+use Rattle.goblin_pe_export.specs.declared.export.tables.ExportAddressTableEntry.TheVariants as variant
 use Rattle.goblin_pe_sect.specs.declared.data_directories.DataDirectory.{DataDirectory}
 pub use Rattle.goblin_pe_export.specs.ExportRecords.{ExportRow, ExportTables, address_entry}
 pub use Rattle.goblin_pe_export.specs.ExportRecords.{addresses, export_directory_fields}
@@ -41,8 +41,8 @@ exports offset_of bytes tables = unwrap_or ((reading.exports offset_of tables).v
 -- whether the name pointer at index x leads to an address that is not a forwarder's
 abbrev pub is_own : Option ExportAddressTableEntry → Bool
 is_own None = false
-is_own (Some (slot.ExportRVA rva)) = true
-is_own (Some (slot.ForwarderRVA rva)) = false
+is_own (Some (variant.ExportRVA rva)) = true
+is_own (Some (variant.ForwarderRVA rva)) = false
 
 abbrev pub leads_to_own : ExportTables → ℕ → Bool
 leads_to_own tables x =

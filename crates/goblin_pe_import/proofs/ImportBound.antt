@@ -131,27 +131,28 @@ module _ (strict : Bool) (format : Format EntryValue) (offset_of : ℕ → Optio
     (rva : ℕ) (xs : List ImportedLibrary) where
   pub in_directory : (directory.import_data strict format offset_of rva).value bytes ≡ Some xs
       → (Holds : List ImportedLibrary → Type 0) → Holds []
-      → ((o : ℕ) → offset_of rva ≡ Some o
+      → ((o : ℕ) → directory.first_record_offset strict (offset_of rva) ≡ Some o
       → (directory.libraries_at strict format offset_of o).value bytes ≡ Some xs → Holds xs)
       → Holds xs
   unfolding directory.import_data
   in_directory e Holds none at = by_place strict (offset_of rva) at e
     where
       by_test : (mode test : Bool) (o : ℕ)
-          → ((directory.libraries_at mode format offset_of o).value bytes ≡ Some xs → Holds xs)
+          → (cond test None (Some o) ≡ Some o
+          → (directory.libraries_at mode format offset_of o).value bytes ≡ Some xs → Holds xs)
           → (directory.read_if (directory.libraries_at mode format offset_of) (cond test None (Some o))).value bytes
           ≡ Some xs
           → Holds xs
       by_test mode true o here e = subst Holds (same_value [] xs e) none
-      by_test mode false o here e = here e
+      by_test mode false o here e = here refl e
 
       by_place : (mode : Bool) (place : Option ℕ)
-          → ((o : ℕ) → place ≡ Some o
+          → ((o : ℕ) → directory.first_record_offset mode place ≡ Some o
           → (directory.libraries_at mode format offset_of o).value bytes ≡ Some xs → Holds xs)
           → (in_its_place mode 0 place
           >>= λ o. (directory.read_past_front mode (directory.libraries_at mode format offset_of) o).value bytes) ≡ Some xs
           → Holds xs
-      by_place mode (Some o) at e = by_test mode (not mode && nat_eq o 0) o (at o refl) e
+      by_place mode (Some o) at e = by_test mode (not mode && nat_eq o 0) o (at o) e
       by_place true None at e = absurd cc
       by_place false None at e = subst Holds (same_value [] xs e) none
 

@@ -60,10 +60,10 @@ module _ (format : Format EntryValue) (offset_of : ℕ → Option ℕ) (bytes : 
   pub libraries-taken : (strict : Bool) (rva : ℕ) (libraries : List ImportedLibrary)
       → (directory.import_data strict format offset_of rva).value bytes ≡ Some libraries
       → 0 < length libraries
-      → IsSomeAnd (offset_of rva) (TakesLibraries strict format offset_of bytes)
+      → IsSomeAnd (directory.first_record_offset strict (offset_of rva)) (TakesLibraries strict format offset_of bytes)
   libraries-taken strict rva libraries e =
       in_directory strict format offset_of bytes rva libraries e
-      (λ ls. 0 < length ls → IsSomeAnd (offset_of rva) (TakesLibraries strict format offset_of bytes))
+      (λ ls. 0 < length ls → IsSomeAnd (directory.first_record_offset strict (offset_of rva)) (TakesLibraries strict format offset_of bytes))
       (λ some. absurd (omega (arith, some)))
       (λ o is here some.
       subst (λ (place : Option ℕ). IsSomeAnd place (TakesLibraries strict format offset_of bytes)) (sym is)

@@ -196,9 +196,9 @@ pub struct PeFault {
     /// By the status a [`Cause`](CauseNumber), a [`Counted`] or a [`ReadFault`](ReadRefusal); else
     /// 0.
     pub cause: u32,
-    /// The first number of the cause, else 0.
+    /// The number that the cause, or else the status, calls `first`; else 0.
     pub first: u64,
-    /// The second number of the cause, else 0.
+    /// The number that the cause calls `second`; else 0.
     pub second: u64,
 }
 

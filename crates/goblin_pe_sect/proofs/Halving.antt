@@ -186,15 +186,6 @@ searched_all begins rva low high probes h done =
     let stops : low < length begins → nat_le (get_or begins low 0) rva ≡ false = λ lt. let above : rva < get_or begins low 0 = h.above low done lt in search (rules, tests) in
     sym (prefix_len_is (λ b. nat_le b rva) begins low 0 (omega (arith, h.ordered, h.within)) passes stops)
 
--- a number that begins at or before the address, and after which the next does not, is the last that is reached
-module _ (begins : List ℕ) (rva i : ℕ) (up : IsStrictlyIncreasing begins) (from : slice_index begins i ≤ rva) where
-  pub reached_before : i + 1 < length begins → rva < slice_index begins (i + 1) → i + 1 ≡ reached begins rva
-  reached_before within next =
-      let passes : (k : ℕ) → k < i + 1 → nat_le (get_or begins k 0) rva ≡ true = λ k lt. let below : get_or begins k 0 ≤ rva = omega (arith, from, rising_to begins up k i (omega arith) (omega (arith, within))) in search (rules, tests) in
-      let above : rva < get_or begins (i + 1) 0 = next in
-      let stops : i + 1 < length begins → nat_le (get_or begins (i + 1) 0) rva ≡ false = λ lt. search (rules, tests) in
-      sym (prefix_len_is (λ b. nat_le b rva) begins (i + 1) 0 (omega (arith, within)) passes stops)
-
 -- and it made no fewer probes than halving needs
 pub searched_fewest : (begins : List ℕ) (rva low high probes : ℕ) → IsSearched begins rva low high probes → high ≤ low → (d : ℕ) → 2 ^ d ≤ length begins + 1 → d ≤ probes
 searched_fewest begins rva low high probes h done d size = no_power d probes (omega (arith, h.fewest d size))

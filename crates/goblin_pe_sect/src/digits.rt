@@ -1,6 +1,6 @@
 //! The numbers in section names, in decimal and in base 64 digits.
 
-ghost use Rattle.std.specs.Prelude.{◌≡◌, ◌^◌, ◌+◌, ◌-◌, ◌<◌, ◌≤◌, ◌++◌, ◌∷◌, IfNone, IfSome, None};
+ghost use Rattle.std.specs.Prelude.{◌≡◌, ◌^◌, ◌+◌, ◌-◌, ◌<◌, ◌≤◌, ◌++◌, IfNone, IfSome, None};
 ghost use Rattle.std.specs.Prelude.{Some, drop, length, map, position, take, ◌==◌};
 ghost use Rattle.goblin_pe_sect.specs.Digits.{alphabet, digit, digit_byte, last_digits, numeral};
 ghost use Rattle.goblin_pe_sect.specs.Digits.{radix};

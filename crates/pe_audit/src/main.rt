@@ -4,15 +4,25 @@
 //! pe_audit LIBRARY < FILE
 //! ```
 //!
-//! It says whether the file imports from the library, how many of its exports are forwarders,
-//! whether it is entered in code, which sections may be written and executed, and how many bytes
-//! its header takes with another time stamp. Of a file that is refused it says why, on standard
-//! error.
+//! It says, a line each:
+//!
+//! | Line | What it tells |
+//! |---|---|
+//! | `imports from LIBRARY: yes` or `no` | whether the file imports from the library |
+//! | `forwarders: D` | how many of its exports are forwarders |
+//! | `entered in code: yes` or `no` | whether its entry point lies in a section that may be executed |
+//! | `writable code: N` | each section that may be written and executed, by its name, as `pe_list` shows names |
+//! | `header: D bytes` | how many bytes its header takes with another time stamp |
+//! | `known by its key: yes` or `no` | whether a verdict on it, kept with its key, is found again to be on it |
+//!
+//! Of a file that is refused it says why, on standard error. The status is 0 after an audit, 1
+//! where the file is refused, memory is, or input or output fails, and 2 after a wrong use.
 #![tactic(auto)]
 
-use goblin_pe::Result as Answer;
+use goblin_pe::header::Header;
 use goblin_pe::options::ParseOptions;
 use goblin_pe::section_table::SectionTable;
+use goblin_pe::{Endian, Error, Result as Answer};
 use goblin_pe_caller::entry::enters_code;
 use goblin_pe_caller::forwarders::forwarders;
 use goblin_pe_caller::imports::imports_from;
@@ -20,6 +30,7 @@ use goblin_pe_caller::report::report;
 use goblin_pe_caller::stamp::stamp;
 use goblin_pe_caller::verdict::Verdict;
 use goblin_pe_caller::write_execute::writable_code;
+use pe_listing::push_name;
 use std::alloc::Global;
 use std::io::{ErrorKind, Read};
 use std::process::ExitCode;
@@ -39,6 +50,8 @@ fn main(rt: HostRuntime) -> ExitCode {
         Ok(Outcome::WrongUse) => complain(&rt, "usage: pe_audit LIBRARY", 2),
         Err(error) => match error.kind() {
             ErrorKind::OutOfMemory => complain(&rt, "out of memory", 1),
+            // (the cause was told)
+            ErrorKind::InvalidData => ExitCode::from(1),
             _ => complain(&rt, "input or output failed", 1),
         },
     }
@@ -57,7 +70,7 @@ fn audit(rt: &HostRuntime) -> io::Result<Outcome> {
     };
     let mut bytes: Vec<u8> = Vec::new(rt.alloc());
     rt.stdin().read_to_end(&mut bytes)?;
-    let Some(line) = kept(report(rt.alloc(), &bytes))? else {
+    let Some(line) = kept(rt, report(rt.alloc(), &bytes))? else {
         show(rt, &bytes, library.as_str())?;
         return Ok(Outcome::Audited);
     };
@@ -65,29 +78,34 @@ fn audit(rt: &HostRuntime) -> io::Result<Outcome> {
     Ok(Outcome::Refused)
 }
 
-// The answer for a file that is read, which only refused memory can withhold.
-fn kept<T>(answer: Answer<T>) -> io::Result<T> {
+// What a call answers. Why it refuses, where not for memory, is told on standard error.
+fn kept<T>(rt: &impl Eprint, answer: Answer<T>) -> io::Result<T> {
     match answer {
         Ok(value) => Ok(value),
-        Err(_) => Err(io::Error::from(ErrorKind::OutOfMemory)),
+        Err(Error::Memory(memory)) => Err(memory.into()),
+        Err(error) => {
+            let _ = eprintln!(rt; "refused: {error}");
+            Err(ErrorKind::InvalidData.into())
+        }
     }
 }
 
 fn show(rt: &HostRuntime, bytes: &[u8], library: &str) -> io::Result<()> {
     let alloc = rt.alloc();
-    let imports = word(kept(imports_from(alloc, bytes, library))?);
-    let forwarders = kept(forwarders(alloc, bytes, &ParseOptions::default()))?;
-    let code = word(kept(enters_code(alloc, bytes))?);
+    let imports = word(kept(rt, imports_from(alloc, bytes, library))?);
+    let forwarders = kept(rt, forwarders(alloc, bytes, &ParseOptions::default()))?;
+    let code = word(kept(rt, enters_code(alloc, bytes))?);
     println!(rt; "imports from {library}: {imports}")?;
     println!(rt; "forwarders: {forwarders}")?;
     println!(rt; "entered in code: {code}")?;
-    let sections = kept(writable_code(alloc, bytes))?;
+    let sections = kept(rt, writable_code(alloc, bytes))?;
     for section in &sections {
-        println!(rt; "writable code: {}", name(section))?;
+        let line = section_line(alloc, section)?;
+        rt.println(line.as_str())?;
     }
-    let size = kept(stamped_size(alloc, bytes))?;
+    let size = kept(rt, stamped_size(alloc, bytes))?;
     println!(rt; "header: {size} bytes")?;
-    let same = word(kept(is_known(alloc, bytes))?);
+    let same = word(kept(rt, is_known(alloc, bytes))?);
     println!(rt; "known by its key: {same}")
 }
 
@@ -95,13 +113,19 @@ fn word(yes: bool) -> &'static str {
     if yes { "yes" } else { "no" }
 }
 
-fn name(section: &SectionTable) -> &str {
-    section.name().unwrap_or("")
+// The line of a section that may be written and executed. What its name has could be a line of its
+// own, or a command to a terminal, so it is escaped.
+fn section_line(alloc: Global, section: &SectionTable) -> io::Result<String> {
+    let mut line = String::new(alloc);
+    push_name(&mut line, "writable code: ", section.name().unwrap_or(""))?;
+    Ok(line)
 }
 
-// How many bytes the header takes that is written with another time stamp.
+// How many bytes the header takes that is written with another time stamp: with sixteen data
+// directories, so it can be longer than the file.
 fn stamped_size(alloc: Global, bytes: &[u8]) -> Answer<usize> {
-    let mut out = Vec::from_slice(alloc, bytes)?;
+    let size = Header::parse(bytes)?.size_with(Endian::Little)?;
+    let mut out = vec![in alloc; 0; size]?;
     stamp(bytes, 0x1122_3344, &mut out)
 }
 

@@ -22,3 +22,5 @@
 mod lines;
 pub mod listing;
 mod text;
+
+pub use text::push_name;

@@ -8,12 +8,19 @@ use goblin_pe::export::{Export, ExportData};
 use goblin_pe::import::{
     ImportData, SyntheticImportDirectoryEntry as Library, SyntheticImportLookupTableEntry as Lookup,
 };
-use goblin_pe::laws::{footprint_exports, footprint_header, footprint_imports, footprint_whole};
-use goblin_pe::{Layout, Whole};
+use goblin_pe::laws::{
+    FileKey, footprint_exports, footprint_header, footprint_imports, footprint_whole,
+};
+use goblin_pe::{Layout, Places, Whole};
 use goblin_pe_export::laws::read_exports;
 use goblin_pe_head::Header;
+use goblin_pe_sect::section_table::{SIZEOF_SECTION_TABLE, SectionRecords};
 use goblin_pe_sect::{ParseOptions, SectionTable, WindowIndex};
+use std::alloc::Global;
 use std::io;
+
+// So many sections that their windows have an index.
+const MANY: usize = 97;
 
 /// Makes the call of this name by options, and shows its answer.
 pub fn show_call(
@@ -47,7 +54,9 @@ pub fn show_call(
         "whole" => show_answer(rt, Whole::read(alloc, file, opts)),
         "footprint_header" => show_answer(rt, footprint_header(alloc, file)),
         "footprint_whole" => show_answer(rt, footprint_whole(alloc, file, opts)),
+        "key" => show_answer(rt, key_of(alloc, file, opts)),
         "layout" => show_layout(rt, file, opts),
+        "layout_of_many" => show_layout_of_many(rt, opts),
         "damage" => show_answer(rt, Whole::damage(alloc, file, opts)),
         _ => show_imports(rt, call, file, sections, opts),
     }
@@ -57,6 +66,32 @@ pub fn show_call(
 fn show_layout(rt: &HostRuntime, file: &[u8], opts: &ParseOptions) -> io::Result<()> {
     let header = Header::parse_with_opts(file, opts).map_err(refused)?;
     show_answer(rt, Layout::of(rt.alloc(), file, &header, opts))
+}
+
+// The same of a file with many sections.
+fn show_layout_of_many(rt: &HostRuntime, opts: &ParseOptions) -> io::Result<()> {
+    let records = [0; SIZEOF_SECTION_TABLE * MANY];
+    let places = Places {
+        magic: 0,
+        file_alignment: ALIGNMENT,
+        exports: None,
+        imports: None,
+        relocations: None,
+    };
+    show_answer(
+        rt,
+        Layout::by(rt.alloc(), &[], places, SectionRecords::of(&records), opts),
+    )
+}
+
+// What is kept of the file: something that the file itself fits.
+fn key_of(alloc: Global, file: &[u8], opts: &ParseOptions) -> goblin_base::Result<Option<usize>> {
+    let key = FileKey::of(alloc, file, opts)?;
+    if key.fits(file) {
+        Ok(Some(file.len()))
+    } else {
+        Ok(None)
+    }
 }
 
 // The index of two sections, of which the second lies around the first.

@@ -8,7 +8,7 @@ ghost use Rattle.goblin_pe_export.specs.ExportReadings.{export_read};
 ghost use Rattle.goblin_pe_export.specs.ExportRecords.{export_read_view};
 ghost use Rattle.goblin_pe_export.specs.Exports.{HasExportEntries, TakesRoomFor, export_data};
 ghost use Rattle.goblin_pe_import.specs.ImportDirectory.{TakesLibraries};
-ghost use Rattle.goblin_pe_import.specs.ImportReadings.{import_data};
+ghost use Rattle.goblin_pe_import.specs.ImportReadings.{first_record_offset, import_data};
 ghost use Rattle.goblin_pe_import.specs.Imports.{IsImportListFault, imports_of, kept_count};
 ghost use Rattle.goblin_pe.specs.TakenMemory.{TakesExports, TakesImports, TakesTables};
 ghost use Rattle.goblin_pe.specs.Whole.{IsReadAnd, IsListedImportsFault, entry_format, export_part};
@@ -43,7 +43,9 @@ impl Places {
             (import_data (reads_strictly m) format (offset_of m) rva) bytes.now }
         ensures grown { let m = map_of address_map.now in
             let format = entry_format self.now.magic in
-            IfErr result (λ e. IsMemory e → IsSomeAnd (offset_of m directory.virtual_address)
+            let place = offset_of m directory.virtual_address in
+            IfErr result
+            (λ e. IsMemory e → IsSomeAnd (first_record_offset (reads_strictly m) place)
             (TakesLibraries (reads_strictly m) format (offset_of m) bytes.now)) }
     {
         if self.has_narrow_entries() {

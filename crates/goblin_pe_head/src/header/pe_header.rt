@@ -268,7 +268,8 @@ impl<'a> Header<'a> {
         Ok(size)
     }
 
-    /// How many bytes [`Header::try_into_ctx`] writes.
+    /// How many bytes [`Header::try_into_ctx`] writes. Unlike the `size_with` of a record, whose
+    /// size is fixed, it asks the header, and can be refused.
     ///
     /// # Errors
     /// As `try_into_ctx` of an optional header that can't be written.

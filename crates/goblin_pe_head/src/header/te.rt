@@ -209,8 +209,8 @@ impl TeHeader {
 
     /// Tests the section table, whose records follow one another from the file offset `offset` on,
     /// moves `offset` past it, as [`TeHeader::sections`] does, and returns the records. They take
-    /// no memory. Their sections are as stored, without names from the string table:
-    /// [`adjust_section`] makes of each the one in the stripped file.
+    /// no memory. [`adjust_section`] makes of each of their sections the one in the stripped file,
+    /// without a name from the string table.
     ///
     /// # Errors
     /// As [`TeHeader::sections`], but for [`Error::Memory`].

@@ -1,4 +1,4 @@
-//! Lists which positions of a file its section table depends on.
+//! Marks which positions of a file its section table depends on.
 
 ghost use Rattle.std.specs.Prelude.{◌≡◌, ◌+◌};
 ghost use Rattle.goblin_base.specs.Marks.{marked};

@@ -1,7 +1,9 @@
 //! Imports by entries of two bytes, and what only a caller in Rattle can ask for or make.
 
-use super::rows::{ImportRow, RECORD, Short, are_imports, is_sample_library, is_sample_table};
-use fixture::sample::{ALIGNMENT, IMPORTS, LOOKUP, in_mode, is_err, sample, sample_section};
+use super::rows::{
+    ImportRow, RECORD, Short, are_imports, is_sample_library, is_sample_table, is_seven_alone,
+};
+use fixture::sample::{ALIGNMENT, IMPORTS, LOOKUP, cut, in_mode, is_err, sample, sample_section};
 use goblin_base::{Cause, Error, ParseMode, ResultOf};
 use goblin_pe::import::{
     Bitfield, Import, ImportData, ImportDirectoryEntry, ImportLookupTable,
@@ -100,6 +102,37 @@ fn a_lookup_table_is_read_with_its_slots(rt: HostRuntime) {
     let file = sample();
     assert!(rt; has_both_slots(rt.alloc(), &file, ParseMode::Strict));
     assert!(rt; has_both_slots(rt.alloc(), &file, ParseMode::Permissive));
+}
+
+/// Whether strict mode refuses the lookup table of a file that lacks the hint of its first entry.
+fn lacks_its_hint(alloc: Global, file: &[u8]) -> bool {
+    let read = lookup_of(alloc, file, ParseMode::Strict);
+    is_err(read, &Error::Malformed(Cause::HintEntry(0x290)))
+}
+
+/// Whether permissive mode keeps of it the entry by ordinal, which has the slot 1.
+fn keeps_seven(alloc: Global, file: &[u8]) -> bool {
+    matches!(
+        &lookup_of(alloc, file, ParseMode::Permissive),
+        Ok((table, slots)) if is_seven_alone(table) && slots.as_slice() == [1usize].as_slice()
+    )
+}
+
+/// Whether it keeps nothing of it.
+fn keeps_nothing(alloc: Global, file: &[u8]) -> bool {
+    matches!(
+        &lookup_of(alloc, file, ParseMode::Permissive),
+        Ok((table, slots)) if table.is_empty() && slots.is_empty()
+    )
+}
+
+#[test]
+fn a_lookup_table_at_the_end_of_a_file_keeps_what_is_there(rt: HostRuntime) {
+    let file = sample();
+    assert!(rt; lacks_its_hint(rt.alloc(), cut(&file, 0x248)));
+    assert!(rt; keeps_seven(rt.alloc(), cut(&file, 0x248)));
+    assert!(rt; lacks_its_hint(rt.alloc(), cut(&file, 0x247)));
+    assert!(rt; keeps_nothing(rt.alloc(), cut(&file, 0x247)));
 }
 
 /// The sample's import data, with one slot for its library.

@@ -118,12 +118,18 @@ pub fn is_sample_table(table: &ImportLookupTable) -> bool {
     }
 }
 
+/// Whether this lookup table has the entry by the ordinal 7 alone.
+pub fn is_seven_alone(table: &ImportLookupTable) -> bool {
+    matches!(table.as_slice(), [entry] if is_seven(entry))
+}
+
 /// Whether a library is the sample file's, but for the record that it comes from.
 pub fn is_sample_library(
     library: &SyntheticImportDirectoryEntry,
     from: &ImportDirectoryEntry,
 ) -> bool {
     matches!(&library.import_lookup_table, Some(table) if is_sample_table(table))
+        && library.import_lookup_slots.as_slice() == [0usize, 1].as_slice()
         && library.import_address_table.as_slice() == [0x1090, 0x8000_0007].as_slice()
         && library.import_directory_entry == *from
         && library.name == "a.dll"
