@@ -51,8 +51,9 @@ pub struct ParseOptions {
     /// reads them.
     pub parse_resources: bool,
     /// What to do with damaged parts; by default strict: the first one refuses the whole.
-    /// Permissive mode passes over them; an import directory at file offset 0 is an empty list
-    /// there, without damage.
+    /// Permissive mode passes over them. An import directory at file offset 0 is an empty list
+    /// there, whatever it holds; the damage of a file tells what strict mode would refuse of it, and
+    /// how much is left out.
     pub parse_mode: ParseMode,
     /// Whether the reader of a whole file reads the imports; true by default.
     pub parse_imports: bool,
