@@ -156,9 +156,9 @@ same-part Absent = refl
 same-part {A} (part.Read xs) = ap (λ (ys : List A). part.Read ys) (map-id xs)
 same-part Refused = refl
 
-part-mapped : {A B : Type 0} (f : A → B) (strict : Bool) (o : Option A)
-    → part_of strict (option_map f o) ≡ option_map (part_map f) (part_of strict o)
-part-mapped f strict (Some x) = refl
+part-mapped : {A B : Type 0} (f : A → B) (mode : Bool) (o : Option A)
+    → part_of mode (option_map f o) ≡ option_map (part_map f) (part_of mode o)
+part-mapped f mode (Some x) = refl
 part-mapped f true None = refl
 part-mapped f false None = refl
 
@@ -242,7 +242,7 @@ module _ (opts : ParseOptions) (offset_of : ℕ → Option ℕ) (places : TableP
 pub list_collected : {R X : Type 0} (opts : ParseOptions) (offset_of : ℕ → Option ℕ) (places : TablePlaces) (bytes : List ℕ) → AreListed opts offset_of places bytes → (view : R → X) (made : Part (List NumberedImport) → X) (read : Result R ErrorOf) → ReadsOrMemory view read (mapped made (import_list opts offset_of places)) bytes → ReadsOrMemory view read (mapped (collected_imports (λ _. made (listed_in opts offset_of places bytes))) (both_import_parts opts offset_of places)) bytes
 list_collected {R} {X} opts offset_of places bytes listed view made (Ok r) h =
     let list = mapped_of _ _ _ h in
-    let both = mapped_of _ ((both_import_parts opts offset_of places).value bytes) (without_numbers list.value)
+    let both = mapped_of ((both_import_parts opts offset_of places).value bytes) _ (without_numbers list.value)
     (sym listed.value ∙ ap (option_map without_numbers) list.is) in
     rw (both.is, list.is) (ap (λ (x : X). Some x) list.made)
 list_collected opts offset_of places bytes listed view made (Err e) h = λ other.

@@ -138,7 +138,6 @@ pub fn sections_of(
 // The bytes over which imports are walked. By their type, the list of imports has what a walk
 // gives.
 #[inline(always)]
-#[tactic(auto, using(crate::proofs::ImportParts::are_listed))]
 fn walked(bytes: &[u8]) -> &[u8]
     ensures same { result.now ≡ bytes.now }
     ensures listed { (opts : ParseOptions) (offset_of : ℕ → Option ℕ) (places : TablePlaces)

@@ -121,7 +121,6 @@ fn names_and_ordinals_are_read_as_of_a_vec(rt: HostRuntime) {
 /// Import data of one library that has a slot and no entry.
 fn with_a_slot_alone(alloc: Global) -> Result<ImportData<'static>, AllocError> {
     let library = SyntheticImportDirectoryEntry {
-        index: 0,
         import_directory_entry: ImportDirectoryEntry::default(),
         name: "",
         import_lookup_table: None,
