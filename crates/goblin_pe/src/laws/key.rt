@@ -13,9 +13,10 @@ use crate::laws::footprint_whole;
 use goblin_base::Result;
 use goblin_pe_sect::ParseOptions;
 use std::alloc::Global;
+use std::fmt;
 use std::marker::Model;
 
-/// The bytes of a file at the offsets from `begin` on and before `end`.
+// The bytes of a file at the offsets from `begin` on and before `end`.
 #[derive(Drop)]
 pub struct KeptRange {
     begin: usize,
@@ -69,6 +70,15 @@ impl FileKey {
             → IsTrue result → (whole_file opts).value was ≡ (whole_file opts).value file.now }
     {
         file.len() == self.length && are_there(&self.kept, file)
+    }
+}
+
+// (The bytes may be as many as the file has.)
+impl fmt::Debug for FileKey {
+    fn fmt<W: fmt::Write>(&self, f: &mut fmt::Formatter<W>) -> fmt::Result {
+        f.debug_struct("FileKey")
+            .field("length", &self.length)
+            .finish_non_exhaustive()
     }
 }
 
