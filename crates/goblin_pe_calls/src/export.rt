@@ -39,9 +39,7 @@ pub(crate) enum Forwards {
 }
 
 const _: () = prove!(
-    Forwards::None as u32 == 0
-        && Forwards::Name as u32 == 1
-        && Forwards::Ordinal as u32 == 2
+    Forwards::None as u32 == 0 && Forwards::Name as u32 == 1 && Forwards::Ordinal as u32 == 2
 );
 
 /// An export.

@@ -62,13 +62,21 @@ fn cursor_said(position: &PeImportPosition) -> ImportCursor
     let at = *position;
     ImportCursor {
         first_record: at.first_record,
-        next_record: if at.has_next { Some(at.next_record) } else { None },
+        next_record: if at.has_next {
+            Some(at.next_record)
+        } else {
+            None
+        },
         library: at.library,
         name_rva: at.name_rva,
         rva: at.rva,
         table_offset: at.table_offset,
         place: if at.has_place { Some(at.place) } else { None },
-        untested: if at.is_untested { Some(at.untested) } else { None },
+        untested: if at.is_untested {
+            Some(at.untested)
+        } else {
+            None
+        },
     }
 }
 

@@ -24,9 +24,7 @@ pub enum State {
 }
 
 const _: () = prove!(
-    State::Absent as u32 == 0
-        && State::Read as u32 == 1
-        && State::Refused as u32 == 2
+    State::Absent as u32 == 0 && State::Read as u32 == 1 && State::Refused as u32 == 2
 );
 
 /// A table of the file.
