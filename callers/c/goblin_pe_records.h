@@ -36,7 +36,8 @@ enum goblin_pe_kind {
     GOBLIN_PE_KIND_BIG_OBJECT = 6
 };
 
-/* Where the raw data of a section begins, for addresses and for its data.
+/* Where the raw data of a section begins: for addresses, for the data of a section of an image, and
+   for what a loader sees at an address.
 
    Where the raw pointer is a multiple of 512, as the PE/COFF specification asks for the usual file
    alignments, all rules say the same. Else rounding is right where `section_alignment` is 4,096 or
@@ -318,9 +319,9 @@ struct goblin_pe_fault {
     uint32_t status;
     /* By the status a `goblin_pe_cause`, a `goblin_pe_counted` or a `goblin_pe_read_fault`; else 0. */
     uint32_t cause;
-    /* The first number of the cause, else 0. */
+    /* The number that the cause, or else the status, calls `first`; else 0. */
     uint64_t first;
-    /* The second number of the cause, else 0. */
+    /* The number that the cause calls `second`; else 0. */
     uint64_t second;
 };
 
@@ -364,8 +365,9 @@ struct goblin_pe_options {
     bool is_permissive;
     /* Whether an address is mapped to a file offset by the sections; where not, it is the offset. */
     bool resolve_rva;
-    /* Where the raw data of a section begins, for addresses and for its data: the number of a
-       `goblin_pe_raw_pointer_rule`; any other number is taken as 0. */
+    /* Where the raw data of a section begins, for addresses, for the data of a section of an image
+       and for what a loader sees at an address: the number of a `goblin_pe_raw_pointer_rule`; any
+       other number is taken as 0. */
     uint8_t raw_pointer_rule;
     /* Whether the imports are read; where not, their table is absent. */
     bool parse_imports;

@@ -196,9 +196,10 @@ class Options:
     is_permissive: whether damaged parts are passed over, in permissive mode; an import directory at file offset 0 is an
         empty list there, without damage.
     resolve_rva: whether an address is mapped to a file offset by the sections; where not, it is the offset.
-    raw_pointer_rule: where the raw data of a section begins for the mapping of addresses, and for section_data of an image:
-        a RawPointerRule. Rounding is right where `section_alignment` is 4,096 or more, and pointers as stored where it is
-        less, since the Windows loader maps such an image as one flat view of the file; by the file alignment pefile maps.
+    raw_pointer_rule: where the raw data of a section begins for the mapping of addresses, and for section_data and memory_at
+        of an image: a RawPointerRule. Rounding is right where `section_alignment` is 4,096 or more, and pointers as stored
+        where it is less, since the Windows loader maps such an image as one flat view of the file; by the file alignment
+        pefile maps.
     parse_imports: whether the imports are read; where not, their table is absent.
     """
 

@@ -119,8 +119,8 @@ class Fault(Record):
 
     status: What kind of refusal it is, by the numbers of `Status`; 0 where nothing is refused.
     cause: By the status a `Cause`, a `Counted` or a `ReadFault`; else 0.
-    first: The first number of the cause, else 0.
-    second: The second number of the cause, else 0.
+    first: The number that the cause, or else the status, calls `first`; else 0.
+    second: The number that the cause calls `second`; else 0.
     """
 
     status: Annotated[int, c.c_uint32]
@@ -174,8 +174,9 @@ class Options(Record):
         file offset 0 is an empty list there, without damage.
     resolve_rva: Whether an address is mapped to a file offset by the sections; where not, it is the
         offset.
-    raw_pointer_rule: Where the raw data of a section begins, for addresses and for its data: the
-        number of a `RawPointerRule`; any other number is taken as 0.
+    raw_pointer_rule: Where the raw data of a section begins, for addresses, for the data of a
+        section of an image and for what a loader sees at an address: the number of a
+        `RawPointerRule`; any other number is taken as 0.
     parse_imports: Whether the imports are read; where not, their table is absent.
     """
 

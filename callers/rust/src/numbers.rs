@@ -55,7 +55,8 @@ impl From<Kind> for u32 {
     }
 }
 
-/// Where the raw data of a section begins, for addresses and for its data.
+/// Where the raw data of a section begins: for addresses, for the data of a section of an image,
+/// and for what a loader sees at an address.
 ///
 /// Where the raw pointer is a multiple of 512, as the PE/COFF specification asks for the usual file
 /// alignments, all rules say the same. Else rounding is right where `section_alignment` is 4,096 or

@@ -95,9 +95,9 @@ pub struct Fault {
     pub status: u32,
     /// By the status a `Cause`, a `Counted` or a `ReadFault`; else 0.
     pub cause: u32,
-    /// The first number of the cause, else 0.
+    /// The number that the cause, or else the status, calls `first`; else 0.
     pub first: u64,
-    /// The second number of the cause, else 0.
+    /// The number that the cause calls `second`; else 0.
     pub second: u64,
 }
 
@@ -146,8 +146,9 @@ pub struct Options {
     pub is_permissive: bool,
     /// Whether an address is mapped to a file offset by the sections; where not, it is the offset.
     pub resolve_rva: bool,
-    /// Where the raw data of a section begins, for addresses and for its data: the number of a
-    /// `RawPointerRule`; any other number is taken as 0.
+    /// Where the raw data of a section begins, for addresses, for the data of a section of an image
+    /// and for what a loader sees at an address: the number of a `RawPointerRule`; any other number
+    /// is taken as 0.
     pub raw_pointer_rule: u8,
     /// Whether the imports are read; where not, their table is absent.
     pub parse_imports: bool,

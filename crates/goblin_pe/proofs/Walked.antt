@@ -14,9 +14,6 @@ module _ {S A B : Type 0} (left : S → List (Option A)) (IsCause : S → ErrorO
     pub at : AtWalk left IsCause start now items
     pub said : made ≡ map item items
 
-  pub made-start : AtMade start []
-  made-start = record { items = []; at = walk-start left IsCause start; said = refl }
-
   module _ (now : S) (made : List B) (h : AtMade now made) {X : Type 0} (view : X → A) (next : S) where
     -- one item more
     pub made-more : (r : Result X ErrorOf) → GivesNext view left IsCause now (Some r) next → (x : X) → r ≡ Ok x → (more : List B) → more ≡ made ++ item (view x) ∷ [] → AtMade next more

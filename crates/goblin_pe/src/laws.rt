@@ -33,7 +33,7 @@ pub use goblin_pe_export::laws::{ExportRead, footprint_exports, twin_exports};
 pub use goblin_pe_head::laws::footprint_header;
 pub use goblin_pe_import::laws::{footprint_imports, twin_imports, twin_lookup};
 pub use header::twin_header;
-pub use key::{FileKey, KeptRange};
+pub use key::FileKey;
 pub use modes::{mode_header, mode_tables, mode_whole};
 pub use order::{Request, Tables, TablesOf, reorder_whole_tables};
 pub use parts::{Parts, PartsOf, twin_parts};

@@ -1,6 +1,5 @@
 //! The call that reads the record of a library in the import directory.
 
-ghost use Rattle.std.specs.Prelude.{◌≡◌};
 ghost use Rattle.goblin_base.specs.Record.{record_at};
 ghost use Rattle.goblin_base.specs.declared.endian.Endian.{Endian};
 ghost use Rattle.goblin_pe_import.specs.ImportRecords.{import_record};

@@ -1,9 +1,10 @@
 //! Whether a program is entered in code.
 
-ghost use Rattle.std.specs.Prelude.{◌≡◌, IfErr, IsSome, true};
+ghost use Rattle.std.specs.Prelude.{◌≡◌, IfErr, IsSomeAnd, true};
 ghost use Rattle.goblin_pe.specs.Answers.{IsMemory};
 ghost use Rattle.goblin_pe.specs.HeaderReadings.{pe_header};
 ghost use Rattle.goblin_pe.specs.Reading.{ReadsOrMemory};
+ghost use Rattle.goblin_pe.specs.SectionRoom.{TakesSections};
 ghost use Rattle.goblin_pe_caller.specs.Audits.{enters_code, is_entered_in_code};
 
 use goblin_pe::header::Header;
@@ -21,7 +22,8 @@ use std::alloc::Global;
 #[tactic(auto, unfolding(goblin_pe::specs::Whole::layout))]
 pub fn enters_code(alloc: Global, bytes: &[u8]) -> Result<bool>
     ensures value { ReadsOrMemory (λ b. b) result enters_code bytes.now }
-    ensures grown { IfErr result (λ e. IsMemory e → IsSome ((pe_header true).value bytes.now)) }
+    ensures grown { IfErr result (λ e. IsMemory e → IsSomeAnd ((pe_header true).value bytes.now)
+        (λ h. TakesSections h.coff_header.number_of_sections bytes.now)) }
 {
     let opts = ParseOptions::default();
     let header = Header::parse(bytes)?;

@@ -1,6 +1,6 @@
 //! From which libraries a file imports.
 
-ghost use Rattle.std.specs.Prelude.{◌≡◌, IfErr, IsSomeAnd, false, option_map, true};
+ghost use Rattle.std.specs.Prelude.{IfErr, IsSomeAnd, false, option_map, true};
 ghost use Rattle.goblin_pe.specs.Answers.{Answers, IsMemory, all_of};
 ghost use Rattle.goblin_pe.specs.Callers.{layout_table, read_or};
 ghost use Rattle.goblin_pe.specs.HeaderReadings.{pe_header};

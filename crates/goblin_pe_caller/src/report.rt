@@ -1,12 +1,13 @@
 //! Why a file is refused.
 
-ghost use Rattle.std.specs.Prelude.{◌≡◌, ◌++◌, IfErr, IfOk, IsSome, MatchOption, codes, option_map};
-ghost use Rattle.std.specs.Prelude.{string_bytes, true};
+ghost use Rattle.std.specs.Prelude.{◌≡◌, ◌++◌, ◌⊎◌, IfErr, IfOk, IsSome, IsSomeAnd, MatchOption};
+ghost use Rattle.std.specs.Prelude.{None, OnErr, codes, option_map, string_bytes, true};
 ghost use Rattle.goblin_pe.specs.Answers.{IsMemory};
 ghost use Rattle.goblin_pe.specs.Callers.{IsRefused};
 ghost use Rattle.goblin_pe.specs.ErrorText.{error_text};
 ghost use Rattle.goblin_pe.specs.HeaderReadings.{pe_header};
 ghost use Rattle.goblin_pe.specs.Options.{default_options};
+ghost use Rattle.goblin_pe.specs.TakenMemory.{TakesLists};
 ghost use Rattle.goblin_pe.specs.Whole.{whole_file};
 ghost use Rattle.goblin_pe_caller.specs.Audits.{Tells};
 
@@ -23,7 +24,8 @@ pub fn refusal(alloc: Global, bytes: &[u8]) -> Result<Option<Error>>
         (IsSome ((whole_file default_options).value bytes.now))
         (IsRefused (whole_file default_options) bytes.now)) }
     ensures refused { IfErr result IsMemory }
-    ensures grown { IfErr result (λ _. IsSome ((pe_header true).value bytes.now)) }
+    ensures grown { OnErr result (IsSomeAnd ((pe_header true).value bytes.now)
+        (TakesLists default_options bytes.now)) }
 {
     match Whole::read(alloc, bytes, &ParseOptions::default()) {
         Ok(_) => Ok(None),
@@ -40,6 +42,8 @@ pub fn report(alloc: Global, bytes: &[u8]) -> Result<Option<String>>
     ensures value { IfOk result
         (λ r. Tells (whole_file default_options) bytes.now (option_map string_bytes r)) }
     ensures refused { IfErr result IsMemory }
+    ensures grown { OnErr result (((whole_file default_options).value bytes.now ≡ None)
+        ⊎ IsSomeAnd ((pe_header true).value bytes.now) (TakesLists default_options bytes.now)) }
 {
     match refusal(alloc, bytes)? {
         None => Ok(None),

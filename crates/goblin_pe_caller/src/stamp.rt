@@ -2,10 +2,11 @@
 
 ghost use Rattle.std.specs.Prelude.{◌≡◌, ◌⊎◌, IfErr, IfOk, IsSomeAnd, None, OnErr, Some};
 ghost use Rattle.std.specs.Prelude.{length, option_and_then, true};
+ghost use Rattle.goblin_pe.specs.Answers.{FirstFault, IsSliceFault};
 ghost use Rattle.goblin_pe.specs.Bytes.{overwritten};
 ghost use Rattle.goblin_pe.specs.Callers.{IsRefused};
 ghost use Rattle.goblin_pe.specs.HeaderReadings.{pe_header};
-ghost use Rattle.goblin_pe.specs.PeHeader.{header_bytes};
+ghost use Rattle.goblin_pe.specs.PeHeader.{IsUnwrittenPart, header_bytes};
 ghost use Rattle.goblin_pe_caller.specs.Audits.{stamped};
 
 use goblin_pe::header::Header;
@@ -27,8 +28,11 @@ pub fn stamp(file: &[u8], time: u32, out: &mut [u8]) -> Result<usize>
         (header_bytes Endian.Little (stamped time h)) ≡ Some out.new)) }
     ensures refused { IfErr result (λ e. IsRefused (pe_header true) file.now e
         ⊎ IsSomeAnd ((pe_header true).value file.now)
-        (λ h. option_and_then (overwritten out.old 0)
-        (header_bytes Endian.Little (stamped time h)) ≡ None)) }
+        (λ h. (option_and_then (overwritten out.old 0)
+        (header_bytes Endian.Little (stamped time h)) ≡ None)
+        × FirstFault (header_bytes Endian.Little (stamped time h))
+        (IsUnwrittenPart h.optional_header)
+        (λ written. IsSliceFault out.old 0 (length written)) e)) }
     ensures kept { OnErr result (out.new ≡ out.old) }
 {
     let mut header = Header::parse(file)?;

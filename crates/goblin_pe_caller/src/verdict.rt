@@ -1,12 +1,14 @@
 //! A verdict on a file, kept for others that have the same.
 
-ghost use Rattle.std.specs.Prelude.{◌≡◌, ◌<◌, ◌⊎◌, IfErr, IfOk, IsSome, List, MatchOption, OnErr};
+ghost use Rattle.std.specs.Prelude.{◌≡◌, ◌<◌, ◌⊎◌, IfErr, IfOk, IsSomeAnd, List, MatchOption};
+ghost use Rattle.std.specs.Prelude.{OnErr};
 ghost use Rattle.std.specs.Prelude.{length, true, ℕ};
 ghost use Rattle.std.specs.Option.{is_some};
 ghost use Rattle.goblin_pe.specs.Answers.{IsMemory};
 ghost use Rattle.goblin_pe.specs.Footprints.{Agree};
 ghost use Rattle.goblin_pe.specs.HeaderReadings.{pe_header};
 ghost use Rattle.goblin_pe.specs.Options.{default_options};
+ghost use Rattle.goblin_pe.specs.TakenMemory.{TakesLists};
 ghost use Rattle.goblin_pe.specs.Whole.{whole_file};
 ghost use Rattle.goblin_pe_caller.specs.Verdicts.{IsVerdictOn};
 
@@ -31,8 +33,8 @@ impl Verdict {
     pub fn of(alloc: Global, file: &[u8]) -> Result<Verdict>
         ensures value { IfOk result (IsVerdictOn file.now) }
         ensures refused { IfErr result IsMemory }
-        ensures grown { OnErr result
-            (IsSome ((pe_header true).value file.now) ⊎ (0 < length file.now)) }
+        ensures grown { OnErr result (IsSomeAnd ((pe_header true).value file.now)
+            (TakesLists default_options file.now) ⊎ (0 < length file.now)) }
     {
         let refused = refusal(alloc, file)?;
         let key = FileKey::of(alloc, file, &ParseOptions::default())?;

@@ -1,9 +1,10 @@
 //! Which sections may be written and executed.
 
-ghost use Rattle.std.specs.Prelude.{◌≡◌, IfErr, IsSome, filter, true};
+ghost use Rattle.std.specs.Prelude.{◌≡◌, IfErr, IsSomeAnd, filter, true};
 ghost use Rattle.goblin_pe.specs.Answers.{IsMemory};
 ghost use Rattle.goblin_pe.specs.HeaderReadings.{pe_header};
 ghost use Rattle.goblin_pe.specs.Reading.{ReadsOrMemory};
+ghost use Rattle.goblin_pe.specs.SectionRoom.{TakesSections};
 ghost use Rattle.goblin_pe_caller.specs.Audits.{is_writable_code, writable_code};
 
 use goblin_pe::header::Header;
@@ -19,7 +20,8 @@ use std::alloc::Global;
 #[tactic(auto, unfolding(goblin_pe::specs::Whole::layout))]
 pub fn writable_code(alloc: Global, bytes: &[u8]) -> Result<Vec<SectionTable>>
     ensures value { ReadsOrMemory (λ v. v.items) result writable_code bytes.now }
-    ensures grown { IfErr result (λ e. IsMemory e → IsSome ((pe_header true).value bytes.now)) }
+    ensures grown { IfErr result (λ e. IsMemory e → IsSomeAnd ((pe_header true).value bytes.now)
+        (λ h. TakesSections h.coff_header.number_of_sections bytes.now)) }
 {
     let opts = ParseOptions::default();
     let header = Header::parse(bytes)?;

@@ -48,12 +48,6 @@ module _ {R A B : Type 0} (view : R → B) (said : A → B) (old : List R) where
         fits = omega (arith, here);
       }
 
-  -- the records are unchanged as long as there is no value
-  pub batch-none : (values : List A) (records : List R) → AtBatch view said old values records 0
-      → records ≡ old
-  batch-none [] records h = h.filled.1
-  batch-none (a ∷ values) records h = let counted = h.counted in absurd (omega (arith, counted))
-
   -- there is no more room, or nothing more to come
   pub batch-end : (values more next : List A) (records : List R) (count : ℕ)
       → AtBatch view said old values records count → next ≡ values ++ more

@@ -51,10 +51,6 @@ none-left : {A : Type 0} (items : List (Result A ErrorOf)) (e : ErrorOf) → ite
     → IsNextRefusal items e → ⊥
 none-left {A} items e is h = subst (λ (items : List (Result A ErrorOf)). IsNextRefusal items e) is h
 
-some-next : {A : Type 0} (items : List (Result A ErrorOf)) (e : ErrorOf) → items ≡ Err e ∷ []
-    → IsNextRefusal items e
-some-next {A} items e is = subst (λ (items : List (Result A ErrorOf)). IsNextRefusal items e) (sym is) refl
-
 -- ---- a refusal is never Memory
 
 abbrev IsOther : Result Block ErrorOf → Type 0
@@ -105,10 +101,6 @@ item-other directory p e is =
 -- how many bytes blocks take
 abbrev size_of : List Block → ℕ
 size_of blocks = sum_by (λ (b : Block). b.size) blocks
-
-none-size : (blocks : List Block) → length blocks ≡ 0 → size_of blocks ≡ 0
-none-size [] none = refl
-none-size (b ∷ blocks) none = absurd (omega (arith, none))
 
 module _ (directory : List ℕ) (from : ℕ) (old : List PeBlock) where
   abbrev start : BlockBatch
@@ -192,14 +184,6 @@ module _ (directory : List ℕ) (from : ℕ) (old : List PeBlock) where
           empty : (n : ℕ) → count ≡ n → (e : ErrorOf) → IsNextRefusal (block_items directory from) e → length old ≡ 0
           empty zero is e refused = let same = h.at.same in omega (arith, full, same, is)
           empty (suc n) is e refused = let counted = h.at.counted in absurd (none-next h.values (block_items directory position) (block_items directory from) e h.left (omega (arith, is, counted)) refused)
-
-  -- the very first is refused
-  pub blocks-first : (position : ℕ) (records : List PeBlock) (h : AtBlocks position records 0) (e : ErrorOf)
-      → FindsItem directory position (Some (Err e)) → IsNextRefusal (block_items directory from) e
-  blocks-first position records h e is =
-      let moved = h.moved in
-      let none = none-size h.values h.at.counted in
-      subst (λ (p : ℕ). FindsItem directory p (Some (Err e)) → IsNextRefusal (block_items directory from) e) (omega (arith, moved, none)) (some-next (block_items directory from) e) is
 
 -- ---- in a file
 

@@ -1,5 +1,5 @@
 -- A loop that fills records with the exports of a file from a position on.
-use Rattle.std.proofs.Common.{◌≡◌, ◌⊎◌, ℕ, zero, suc, ◌+◌, ◌<◌, ◌≤◌, List, [], ◌∷◌, ◌++◌, length, drop, set, ap, refl, subst, sym, arith, ◌∙◌, inl, inr, IsSomeAnd, Option, None, Some}
+use Rattle.std.proofs.Common.{◌≡◌, ◌⊎◌, ℕ, zero, suc, ◌+◌, ◌<◌, List, [], ◌∷◌, ◌++◌, length, drop, set, ap, refl, subst, sym, arith, ◌∙◌, inl, inr, IsSomeAnd, Option, Some}
 use Rattle.std.specs.Iterator.{YieldsFirstBy}
 use Rattle.goblin_pe_export.specs.declared.export.exports.Exports.{Exports}
 use Rattle.goblin_pe_export.specs.declared.export.exports.WalkedExport.{WalkedExport}
@@ -14,7 +14,7 @@ use Rattle.goblin_pe.specs.declared.whole.Part.TheVariants as part
 use Rattle.goblin_pe_calls.specs.declared.export.PeExport.{PeExport}
 use Rattle.goblin_pe_calls.specs.Batches.{AtBatch, GivesExports, IsBatch, exports_in}
 use Rattle.goblin_pe_calls.specs.Exports.{export_said, export_view}
-use Rattle.goblin_pe_calls.proofs.Batches.{batch-end, batch-more, batch-start, left-after, one-after}
+use Rattle.goblin_pe_calls.proofs.Batches.{batch-end, batch-more, batch-start, one-after}
 
 module _ (start : Exports) (old : List PeExport) where
   -- the records hold what has come so far, and the walk goes on
@@ -22,20 +22,6 @@ module _ (start : Exports) (old : List PeExport) where
     pub values : List NumberedExport
     pub at : AtBatch export_view export_said old values records count
     pub left : exports_left start ≡ values ++ exports_left now
-    pub over : KeepsOver start now
-
-  pub exports-start : AtExports start old 0
-  exports-start = record {
-    values = [];
-    at = batch-start export_view export_said old;
-    left = refl;
-    over = ((refl, refl), refl);
-  }
-
-  -- what has been given, and where the walk is now
-  pub record AreGiven (now : Exports) (records : List PeExport) (count : ℕ) : Type 0 where
-    pub batch : IsBatch export_view export_said (exports_left start) old records count
-    pub later : exports_left now ≡ drop count (exports_left start)
     pub over : KeepsOver start now
 
   over-next : (now next : Exports) → KeepsOver start now → KeepsOver now next → KeepsOver start next
@@ -50,27 +36,6 @@ module _ (start : Exports) (old : List PeExport) where
       values = h.values ++ walked_export x ∷ [];
       at = batch-more export_view export_said old h.values records count (walked_export x) r h.at within says;
       left = one-after h.values (exports_left now) (exports_left next) (exports_left start) (walked_export x) h.left given;
-      over = over-next now next h.over over;
-    }
-
-    -- there is no more room
-    pub exports-full : length records ≤ count → AreGiven now records count
-    exports-full full =
-        let same = h.at.same in
-        record {
-          batch = batch-end export_view export_said old h.values (exports_left now) (exports_left start) records count h.at h.left
-              (inl (omega (arith, full, same)));
-          later = left-after h.values (exports_left now) (exports_left start) count h.at.counted h.left;
-          over = h.over;
-        }
-
-    -- nothing more comes
-    pub exports-end : (next : Exports) → YieldsFirstBy walked_export exports_left now None next
-        → KeepsOver now next → AreGiven next records count
-    exports-end next given over = record {
-      batch = batch-end export_view export_said old h.values (exports_left now) (exports_left start) records count h.at h.left
-          (inr given.0);
-      later = given.1 ∙ sym given.0 ∙ left-after h.values (exports_left now) (exports_left start) count h.at.counted h.left;
       over = over-next now next h.over over;
     }
 

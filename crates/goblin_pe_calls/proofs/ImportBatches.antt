@@ -18,7 +18,7 @@ use Rattle.goblin_pe_calls.specs.declared.next.PeImportPosition.{PeImportPositio
 use Rattle.goblin_pe_calls.specs.Batches.{AtBatch, Fills, GivesImports, GivesInFile, GoesOn, ImportBatch, IsBatch, IsEnd, IsImportsFault, IsRefusedNext, cursor_numbers, cursor_said}
 use Rattle.goblin_pe_calls.specs.Batches.{import_cursor, imports_from_position, option_said, values_before}
 use Rattle.goblin_pe_calls.specs.Imports.{import_said, import_view}
-use Rattle.goblin_pe_calls.proofs.Batches.{batch-end, batch-more, batch-none, batch-start, before-all, before-end}
+use Rattle.goblin_pe_calls.proofs.Batches.{batch-end, batch-more, batch-start, before-all, before-end}
 use Rattle.goblin_pe_calls.proofs.Batches.{before-refused, left-after}
 use Rattle.goblin_pe_calls.proofs.Pushed.{walk-then}
 
@@ -239,30 +239,3 @@ module _ (m : MapOfAddresses) (places : TablePlaces) (bytes : List ℕ) (start :
         all-given p (None ∷ []) one.0 (h.goes.left ∙ ap (λ (items : List (Option NumberedImport)). Some items) one.0)
         (inr (before-refused (None ∷ []) refl)) (λ none refused. absurd (some none)) (λ none within. absurd (cc none))
         (λ none. stay none)
-
-    -- a refusal comes first
-    pub record IsRefused (e : ErrorOf) : Type 0 where
-      pub next : IsRefusedNext (file_imports_left start)
-      pub cause : IsFileImportsCause start e
-      pub same : records ≡ old
-      pub position : p ≡ from
-
-    pub imports-fault : (e : ErrorOf) (next : FileImports) → GivesFileImport now (Some (Err e)) next → count ≡ 0 → IsRefused e
-    imports-fault e next given none =
-        let one = given.0 in
-        let at : AtBatch import_view import_said old h.values records 0 = subst (AtBatch import_view import_said old h.values records) none h.at in
-        record {
-          next = refused h.values refl one.0;
-          cause = h.walk.cause e one.2;
-          same = batch-none import_view import_said old h.values records at;
-          position = h.first none;
-        }
-      where
-        refused : (values : List NumberedImport) → h.values ≡ values → file_imports_left now ≡ None ∷ [] → IsRefusedNext (file_imports_left start)
-        refused [] empty is =
-            let here : file_imports_left start ≡ None ∷ [] =
-            h.walk.yielded ∙ ap (λ (xs : List NumberedImport). map (λ x. Some x) xs ++ file_imports_left now) empty ∙ is in
-            rw here tt
-        refused (x ∷ xs) some is =
-            let counted = sym (ap (λ (xs : List NumberedImport). length xs) some) ∙ h.at.counted ∙ none in
-            absurd (omega (arith, counted))

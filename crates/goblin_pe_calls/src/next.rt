@@ -5,6 +5,7 @@ ghost use Rattle.goblin_base.specs.Answers.{IsMemory};
 ghost use Rattle.goblin_base.specs.Reading.{Reads};
 ghost use Rattle.goblin_pe.specs.ImportWalks.{no_imports};
 ghost use Rattle.goblin_pe_export.specs.ExportWalks.{KeepsOver, exports_at, exports_left};
+ghost use Rattle.goblin_pe_export.specs.ExportWalks.{exports_position};
 ghost use Rattle.goblin_pe.specs.Layouts.{IsFileImportsCause, file_imports_left, layout_map};
 ghost use Rattle.goblin_pe.specs.Layouts.{layout_bytes, layout_places};
 ghost use Rattle.goblin_pe_calls.specs.Batches.{Fills, GivesExports, GivesImports, GivesInFile};
@@ -61,13 +62,21 @@ fn cursor_said(position: &PeImportPosition) -> ImportCursor
     let at = *position;
     ImportCursor {
         first_record: at.first_record,
-        next_record: if at.has_next { Some(at.next_record) } else { None },
+        next_record: if at.has_next {
+            Some(at.next_record)
+        } else {
+            None
+        },
         library: at.library,
         name_rva: at.name_rva,
         rva: at.rva,
         table_offset: at.table_offset,
         place: if at.has_place { Some(at.place) } else { None },
-        untested: if at.is_untested { Some(at.untested) } else { None },
+        untested: if at.is_untested {
+            Some(at.untested)
+        } else {
+            None
+        },
     }
 }
 
@@ -264,6 +273,7 @@ fn fill_exports<'a, 'm>(
 // A position from which the others come after so many exports; it stays where none came.
 fn position_after(position: usize, exports: &Exports, count: usize) -> usize
     ensures stays { count ≡ 0 → result ≡ position }
+    ensures at { 0 < count → result ≡ exports_position exports.now }
     ensures later { 0 < count → exports_left exports.now ≡ exports_at exports.now result }
 {
     if count == 0 {

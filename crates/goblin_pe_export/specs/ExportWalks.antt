@@ -45,6 +45,13 @@ abbrev pub walked_export : WalkedExport → NumberedExport
 walked_export x =
     record { hint = x.hint; ordinal = x.ordinal; name_rva = x.name_rva; row = x.export }
 
+-- the bytes that a walk is over, and how it maps addresses
+abbrev pub exports_bytes : Exports → List ℕ
+exports_bytes walk = walk.bytes.now
+
+abbrev pub exports_map : Exports → MapOfAddresses
+exports_map walk = map_of walk.finder
+
 -- the tables that a walk reads
 abbrev pub walked_tables : Exports → ExportTables
 walked_tables walk = tables_in walk.tables
@@ -52,7 +59,7 @@ walked_tables walk = tables_in walk.tables
 -- what comes of a walk from a name pointer on
 abbrev pub exports_at : Exports → ℕ → List NumberedExport
 exports_at walk x =
-    numbered_from (offset_of (map_of walk.finder)) walk.bytes.now (walked_tables walk) x
+    numbered_from (offset_of (exports_map walk)) (exports_bytes walk) (walked_tables walk) x
 
 -- where a walk is: the index of the name pointer that is read next
 abbrev pub exports_position : Exports → ℕ
@@ -64,12 +71,12 @@ exports_left walk = exports_at walk (exports_position walk)
 
 -- the walk is over these bytes, whose addresses are mapped so
 abbrev pub AreExportsOver : List ℕ → MapOfAddresses → Exports → Type 0
-AreExportsOver bytes m walk = (walk.bytes.now ≡ bytes) × (map_of walk.finder ≡ m)
+AreExportsOver bytes m walk = (exports_bytes walk ≡ bytes) × (exports_map walk ≡ m)
 
 -- the second walk is over what the first is over
 abbrev pub KeepsOver : Exports → Exports → Type 0
 KeepsOver s t =
-    AreExportsOver s.bytes.now (map_of s.finder) t × (walked_tables t ≡ walked_tables s)
+    AreExportsOver (exports_bytes s) (exports_map s) t × (walked_tables t ≡ walked_tables s)
 
 -- A call of `next` gives the next export; it keeps what is walked over, and goes on behind the name
 -- pointer of that export.
@@ -78,6 +85,10 @@ GivesExport s result t =
     YieldsFirstBy walked_export exports_left s result t × KeepsOver s t
     × IfSome result (λ x. exports_position t ≡ x.hint + 1)
 
+-- how many name pointers the file has
+abbrev pub pointer_count : Exports → ℕ
+pointer_count walk = length walk.tables.name_pointers.now / 4
+
 -- no more than this comes
 abbrev pub exports_bound : Exports → ℕ
-exports_bound walk = length walk.tables.name_pointers.now / 4 - walk.next
+exports_bound walk = pointer_count walk - exports_position walk

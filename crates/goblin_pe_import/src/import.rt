@@ -4,7 +4,7 @@
 //! library. Each leads to a lookup table and an address table, whose entries with one index are one
 //! import: the lookup table says which, and the loader puts its address into the other.
 
-ghost use Rattle.std.specs.Prelude.{◌≡◌, ◌++◌, ◌⊎◌, IfErr, IsSomeAnd, false, map, option_to_list};
+ghost use Rattle.std.specs.Prelude.{◌≡◌, ◌++◌, ◌⊎◌, IfErr, IsSomeAnd, false};
 ghost use Rattle.std.specs.Prelude.{true};
 ghost use Rattle.goblin_base.specs.Answers.{IsMemory};
 ghost use Rattle.goblin_base.specs.Reading.{ReadsOrMemory};
@@ -12,7 +12,7 @@ ghost use Rattle.readings.specs.Reads.{mapped};
 ghost use Rattle.goblin_pe_sect.specs.Options.{default_options, is_strict};
 ghost use Rattle.goblin_pe_sect.specs.Addresses.{TakesMap, map_by, map_of, offset_of};
 ghost use Rattle.goblin_pe_sect.specs.Addresses.{reads_strictly};
-ghost use Rattle.goblin_pe_import.specs.ImportDirectory.{KeepsImports, TakesLibraries};
+ghost use Rattle.goblin_pe_import.specs.ImportDirectory.{TakesLibraries};
 ghost use Rattle.goblin_pe_import.specs.ImportDirectory.{TakesLibrary};
 ghost use Rattle.goblin_pe_import.specs.ImportReadings as reading;
 

@@ -1,6 +1,6 @@
 //! An object.
 
-ghost use Rattle.std.specs.Prelude.{◌+◌, ◌≡◌, IsSomeAnd, Some, map, option_map};
+ghost use Rattle.std.specs.Prelude.{◌+◌, ◌≡◌, map};
 ghost use Rattle.goblin_base.specs.Reading.{Reads};
 ghost use Rattle.readings.specs.Reads.{mapped};
 ghost use Rattle.goblin_pe_sect.specs.Options.{is_strict};

@@ -8,8 +8,8 @@ ghost use Rattle.goblin_pe_sect.specs.Options.{default_options};
 use goblin_pe_head::header::Header;
 use goblin_pe_sect::options::{ParseMode, ParseOptions, RawPointerRule};
 
-/// Where the raw data of a section begins, for addresses and for what
-/// `goblin_pe_read_section_data` and `goblin_pe_read_memory` give.
+/// Where the raw data of a section begins: for addresses, for the data of a section of an image, and
+/// for what a loader sees at an address.
 ///
 /// Where the raw pointer is a multiple of 512, as the PE/COFF specification asks for the usual file
 /// alignments, all rules say the same. Else rounding is right where `section_alignment` is 4,096
@@ -41,9 +41,9 @@ pub struct PeOptions {
     pub is_permissive: bool,
     /// Whether an address is mapped to a file offset by the sections; where not, it is the offset.
     pub resolve_rva: bool,
-    /// Where the raw data of a section begins, for addresses and for what
-    /// `goblin_pe_read_section_data` and `goblin_pe_read_memory` give: the number of a
-    /// `PeRawPointerRule`; any other number is taken as 0.
+    /// Where the raw data of a section begins, for addresses, for the data of a section of an image
+    /// and for what a loader sees at an address: the number of a `PeRawPointerRule`; any other
+    /// number is taken as 0.
     pub raw_pointer_rule: u8,
     /// Whether the imports are read; where not, their table is absent.
     pub parse_imports: bool,

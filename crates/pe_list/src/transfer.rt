@@ -1,6 +1,6 @@
 //! A whole input and a whole output, each moved by a loop. A call that fails isn't tried again.
 
-ghost use Rattle.std.specs.Prelude.{◌≡◌, ◌≢◌, ◌+◌, ◌<◌, ◌≤◌, Err, IfErr, IfOk, IfSome, IsTrue};
+ghost use Rattle.std.specs.Prelude.{◌≡◌, ◌≢◌, ◌<◌, ◌≤◌, Err, IfErr, IfOk, IfSome, IsTrue};
 ghost use Rattle.std.specs.Prelude.{OnErr, OnOk, length, take};
 ghost use Rattle.std.specs.Io.KnownBytes.{Appends, Keeps};
 ghost use Rattle.pe_list.specs.Run.{AppendsPart, IsOutOfMemory};

@@ -1,9 +1,13 @@
 //! Which bytes of a file a read of the whole file depends on.
 
-ghost use Rattle.std.specs.Prelude.{◌≡◌, ◌<◌, IfErr, IfOk, OnErr, OnOk, false, length, replicate};
+ghost use Rattle.std.specs.Prelude.{◌≡◌, ◌<◌, IfErr, IfOk, IsSomeAnd, OnErr, OnOk, false, length};
+ghost use Rattle.std.specs.Prelude.{replicate};
 ghost use Rattle.goblin_base.specs.Answers.{IsMemory};
 ghost use Rattle.goblin_base.specs.Marks.{IsFootprint, marked};
+ghost use Rattle.goblin_pe_head.specs.HeaderReadings.{pe_header};
 ghost use Rattle.goblin_pe_head.specs.PeHeader.{header_value};
+ghost use Rattle.goblin_pe_sect.specs.Options.{is_strict};
+ghost use Rattle.goblin_pe.specs.TakenMemory.{TakesIndex};
 ghost use Rattle.goblin_pe.specs.Whole.{whole_after, whole_file};
 
 use crate::whole::Layout;
@@ -26,6 +30,7 @@ fn add_after<'a, 'e>(
     ensures added { let read = whole_after opts.now (header_value header.now) in
         OnOk result (marks.new ≡ marked marks.old (read.reaches bytes.now)) }
     ensures refused { IfErr result IsMemory }
+    ensures grown { OnErr result (TakesIndex opts.now bytes.now (header_value header.now)) }
 {
     let pe_pointer = header.dos_header.pe_pointer;
     add_sections(marks, bytes, pe_pointer, header.coff_header, opts);
@@ -50,6 +55,9 @@ fn add_whole<'e>(
     ensures added { let reached = (whole_file opts.now).reaches bytes.now in
         OnOk result (marks.new ≡ marked marks.old reached) }
     ensures refused { IfErr result IsMemory }
+    ensures grown { OnErr result
+        (IsSomeAnd ((pe_header (is_strict opts.now.parse_mode)).value bytes.now)
+        (TakesIndex opts.now bytes.now)) }
 {
     add_header(marks, bytes);
     let Ok(header) = Header::parse_with_opts(bytes, opts) else {

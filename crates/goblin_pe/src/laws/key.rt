@@ -1,7 +1,7 @@
 //! What a file is known by to one who has its answer.
 
 ghost use Rattle.std.specs.Prelude.{◌≡◌, ◌↔◌, ◌<◌, ◌≤◌, IfErr, IfOk, IsTrue, List, OnErr, length};
-ghost use Rattle.std.specs.Prelude.{map, ℕ, All};
+ghost use Rattle.std.specs.Prelude.{map, ℕ, All, vec_capacity, vec_len};
 ghost use Rattle.goblin_base.specs.Answers.{IsMemory};
 ghost use Rattle.goblin_base.specs.Footprints.{Agree};
 ghost use Rattle.goblin_base.specs.Reading.{IsInFile};
@@ -13,9 +13,10 @@ use crate::laws::footprint_whole;
 use goblin_base::Result;
 use goblin_pe_sect::ParseOptions;
 use std::alloc::Global;
+use std::fmt;
 use std::marker::Model;
 
-/// The bytes of a file at the offsets from `begin` on and before `end`.
+// The bytes of a file at the offsets from `begin` on and before `end`.
 #[derive(Drop)]
 pub struct KeptRange {
     begin: usize,
@@ -24,12 +25,15 @@ pub struct KeptRange {
 }
 
 impl Model for KeptRange {
-    ghost use Rattle.std.specs.Prelude.{List, ℕ};
+    ghost use Rattle.std.specs.Prelude.{List, ◌≡◌, vec_capacity, vec_len, ℕ};
     ghost use Rattle.goblin_base.specs.Footprints.{Range};
 
     ghost Value = { Range × List ℕ };
 
     ghost view = { λ range. ((range.begin, range.end), range.bytes.items) };
+
+    // There is room for these bytes and no more.
+    ghost invariant = { λ range. vec_capacity range.bytes ≡ vec_len range.bytes };
 }
 
 /// What [`Whole::read`](crate::Whole::read) of a file depends on: its length, and the bytes of its
@@ -72,6 +76,15 @@ impl FileKey {
     }
 }
 
+// (The bytes may be as many as the file has.)
+impl fmt::Debug for FileKey {
+    fn fmt<W: fmt::Write>(&self, f: &mut fmt::Formatter<W>) -> fmt::Result {
+        f.debug_struct("FileKey")
+            .field("length", &self.length)
+            .finish_non_exhaustive()
+    }
+}
+
 // Whether a file has all these bytes.
 fn are_there(kept: &[KeptRange], file: &[u8]) -> bool
     ensures { IsTrue result ↔ All (HasKeptRange file.now) kept.now }
@@ -110,6 +123,19 @@ fn kept_range(alloc: Global, file: &[u8], begin: usize, end: usize) -> Result<Ke
     ensures value { IfOk result (λ range. range ≡ kept_range file.now (begin, end)) }
     ensures refused { IfErr result IsMemory }
 {
-    let bytes = Vec::from_slice(alloc, &file[begin..end])?;
+    let bytes = copy_of(alloc, &file[begin..end])?;
     Ok(KeptRange { begin, end, bytes })
+}
+
+// A copy of these bytes, with room for no more.
+fn copy_of(alloc: Global, bytes: &[u8]) -> Result<Vec<u8>>
+    ensures value { IfOk result (λ copy. copy.items ≡ bytes.now) }
+    ensures room { IfOk result (λ copy. vec_capacity copy ≡ vec_len copy) }
+    ensures refused { IfErr result IsMemory }
+{
+    let mut copy = Vec::with_capacity(alloc, bytes.len())?;
+    'bytes: for byte in bytes {
+        copy.push_reserved(*byte);
+    }
+    Ok(copy)
 }

@@ -1,6 +1,6 @@
 //! What all tables of a file are read by.
 
-ghost use Rattle.std.specs.Prelude.{◌+◌, ◌/◌, ◌<◌, ◌≡◌, IfErr, IfOk, IsErrAnd, None, Ok, Some};
+ghost use Rattle.std.specs.Prelude.{◌+◌, ◌/◌, ◌<◌, ◌≡◌, IfErr, IfOk, IsErrAnd, Ok, Some};
 ghost use Rattle.std.specs.Prelude.{Option, length, map, ℕ};
 ghost use Rattle.std.specs.List.{flat_map};
 ghost use Rattle.goblin_base.specs.declared.error.ErrorOf.{ErrorOf};
@@ -45,6 +45,7 @@ use goblin_pe_sect::relocation::RelocationData;
 use goblin_pe_sect::section_table::SectionRecords;
 use goblin_pe_sect::{DataDirectory, ParseOptions, SectionTable};
 use std::alloc::Global;
+use std::fmt;
 
 /// What all tables of a file are read by: where they lie, the records of the sections, and where
 /// addresses lie in the file. Each table is read when it is asked for: imports and exports one by
@@ -57,6 +58,14 @@ pub struct Layout<'a> {
     pub(super) places: Places,
     records: SectionRecords<'a>,
     pub(super) address_map: AddressMap<'a>,
+}
+
+impl<'a> fmt::Debug for Layout<'a> {
+    fn fmt<W: fmt::Write>(&self, f: &mut fmt::Formatter<W>) -> fmt::Result {
+        f.debug_struct("Layout")
+            .field("places", &self.places)
+            .finish_non_exhaustive()
+    }
 }
 
 // The file offset of the section table after an optional header of this size.

@@ -33,7 +33,7 @@ pub(super) fn part_of<'e, T: Drop>(
 /// Where the tables of a file lie, and how they are read.
 ///
 /// Source: PE Format, "Optional Header (Image Only)".
-#[derive(Copy, Clone)]
+#[derive(Debug, PartialEq, Copy, Clone)]
 pub struct Places {
     /// The magic: by 0x10B the entries of import tables have four bytes, else eight.
     pub magic: u16,

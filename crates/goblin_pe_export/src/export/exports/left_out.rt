@@ -3,7 +3,8 @@
 ghost use Rattle.std.specs.Prelude.{◌≡◌, ◌+◌, ◌<◌, length};
 ghost use Rattle.goblin_pe_sect.specs.Addresses.{map_of, offset_of};
 ghost use Rattle.goblin_pe_export.specs.ExportRecords.{tables_in};
-ghost use Rattle.goblin_pe_export.specs.ExportWalks.{exports_at, walked_tables};
+ghost use Rattle.goblin_pe_export.specs.ExportWalks.{exports_at, exports_bytes, exports_map};
+ghost use Rattle.goblin_pe_export.specs.ExportWalks.{walked_tables};
 ghost use Rattle.goblin_pe_export.specs.LeftOutExports.{gives_export, pointers_left_out};
 ghost use Rattle.goblin_pe_export.specs.LeftOutExports.{reads_forwarder};
 
@@ -50,8 +51,9 @@ impl<'a, 'm> Exports<'a, 'm> {
     /// cannot be read. A name that cannot be read leaves no export out.
     #[tactic(auto, unfolding(crate::specs::LeftOutExports::pointers_left_out))]
     pub fn left_out(&self) -> usize
-        ensures value { let m = map_of self.now.finder in
-            result ≡ pointers_left_out (offset_of m) self.now.bytes.now (walked_tables self.now) }
+        ensures value { let m = exports_map self.now in
+            result
+            ≡ pointers_left_out (offset_of m) (exports_bytes self.now) (walked_tables self.now) }
         ensures others { length (exports_at self.now 0) + result
             ≡ length (walked_tables self.now).export_name_pointer_table }
     {
