@@ -26,7 +26,8 @@ class Kind(Number):
 
 
 class RawPointerRule(Number):
-    """Where the raw data of a section begins, for addresses and for its data.
+    """Where the raw data of a section begins, for addresses and for what
+    `goblin_pe_read_section_data` and `goblin_pe_read_memory` give.
 
     Where the raw pointer is a multiple of 512, as the PE/COFF specification asks for the usual file
     alignments, all rules say the same. Else rounding is right where `section_alignment` is 4,096 or
@@ -52,8 +53,7 @@ class State(Number):
     READ = 1
     # It is refused, and permissive mode passed over that. Imports never are: in permissive mode
     # they count as read, with what could be read of them, perhaps nothing, and the damage of the
-    # file tells what that leaves out; but an import directory at file offset 0 is an empty list
-    # there, without damage.
+    # file tells what that leaves out.
     REFUSED = 2
 
 
