@@ -35,6 +35,19 @@ def sample(*changes):
     return with_parts(bytes(0x300), *HEADERS, *SECTION, *IMPORTS, *EXPORTS, *changes)
 
 
+def directory_in_front():
+    """The small image with its section from the raw pointer 0 on, so that its import directory lies at file offset 0, in the
+    DOS header: strict mode lists an import, and permissive mode none."""
+    directory, addresses = struct.pack("<2I", 0x1280, 0x1260), struct.pack("<2I", 0x1290, 0)
+    return sample((0xB8, bytes(8)), (0x0C, directory), (0x140, struct.pack("<4I", 0x300, 0x1000, 0x300, 0)),
+                  (0x260, addresses), (0x280, b"evil.dll\0"), (0x290, b"\0\0WinExec\0"))
+
+
+def import_from_nowhere(image):
+    """The sample that imports by name, with that name at an address that no section maps: both modes list nothing."""
+    return with_parts(image, (0x698, struct.pack("<Q", 0x7FFFFFF0)))
+
+
 def large_image(libraries=64, functions=1500, exports=60000, blocks=20000, size=16 << 20):
     """An image for 64 bits with many imports, exports and base relocations, and data after them."""
     base = 0x1000

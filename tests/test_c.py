@@ -137,6 +137,21 @@ class Programs(Case):
         succeed([built("calls"), *IMAGES, *OBJECTS, *TERSE])
 
 
+class Damage(Case):
+    """What permissive mode passes over, and what is left out."""
+
+    def test_what_is_refused_and_left_out_is_told(self):
+        for name, image, told in (
+                ("sound", BY_NAME.read_bytes(), b""),
+                ("front", images.directory_in_front(), b"libraries that permissive mode leaves out: 1\nimports that permissive mode leaves out of others: 1\n"),
+                ("nowhere", images.import_from_nowhere(BY_NAME.read_bytes()), b"imports that lead nowhere, in either mode: 1\n"),
+                ("unmapped", images.with_directory(BY_NAME.read_bytes(), 1, 0x9000, 40), b"imports: the address 0x9000 has no offset in the file\n"),
+                ("names", images.pointers_to_nowhere(1000), b"export names that lead nowhere, in either mode: 999\n"),
+                ("text", b"MZ", b"refused: the file is too short for the DOS header\n")):
+            with self.subTest(name):
+                self.assert_runs([built("damage"), self.written("some.dll", image)], (int(bool(told)), told, b""))
+
+
 class Walk(Case):
     def walked(self, most, image):
         """What the walk says, with memory for the program alone."""
@@ -295,6 +310,11 @@ class Loader(Case):
             with self.subTest(name):
                 told = succeed([built("loader"), SAMPLES / name, kernel]).splitlines()
                 self.assertRegex(told[-1], f"^KERNEL32.dll {wanted} in the slot at 0x20[0-9a-f]{{2}}$")
+
+    def test_an_import_that_is_not_read_is_told(self):
+        image = self.written("nowhere.dll", images.import_from_nowhere(BY_NAME.read_bytes()))
+        status, out, said = run([built("loader"), image])
+        self.assertEqual((status, out.splitlines()[-1], said), (1, b"1 imports whose names no section maps", b""))
 
     def test_what_is_not_there_is_told(self):
         self.assert_resolves([(b"fruit.dll", [9, 15, b"Banana"]), (b"nuts.dll", [1])], 1, [

@@ -3,7 +3,7 @@ over imports and exports, damage, and each call that takes memory with each of i
 import struct
 
 from tests import images
-from tests.programs import IMAGES, PE_REPLAY, Case, beside, build_pe_replay, with_memory
+from tests.programs import BY_NAME, IMAGES, PE_REPLAY, Case, beside, build_pe_replay, with_memory
 
 # The forms of a call: without options, or by those of a mode.
 MODES = ("strict", "permissive")
@@ -182,8 +182,9 @@ class Walks(Case):
 class Damage(Case):
     PARTS = ("stub", "section names", "imports", "exports", "relocations")
 
-    def assert_damaged(self, stdin, **causes):
+    def assert_damaged(self, stdin, libraries=0, entries=0, unmapped=0, **causes):
         wanted = "".join(f"{part}: {causes.get(part, 'sound')}\n" for part in self.PARTS)
+        wanted += f"left out: {libraries} libraries, {entries} entries\nby both modes: {unmapped} entries\n"
         self.assert_runs([PE_REPLAY, "damage"], (0, wanted.encode(), b""), stdin)
 
     def test_no_sample_is_damaged(self):
@@ -198,3 +199,10 @@ class Damage(Case):
         struct.pack_into("<II", image, 0xC8 + 8 * 5, 0xA000, 8)
         unmapped = "the address 0x%x has no offset in the file"
         self.assert_damaged(image, imports=unmapped % 0x9000, relocations=unmapped % 0xA000)
+
+    def test_imports_that_are_hidden(self):
+        """That of a directory at file offset 0 from permissive mode, and one that leads nowhere from both."""
+        front, nowhere = images.directory_in_front(), images.import_from_nowhere(BY_NAME.read_bytes())
+        for image, strictly, left_out in ((front, b"1\n", (1, 1, 0)), (nowhere, b"0\n", (0, 0, 1))):
+            self.assert_runs([PE_REPLAY, "imports"], (0, strictly, b""), image)
+            self.assert_damaged(image, *left_out)

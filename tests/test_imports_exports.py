@@ -7,7 +7,7 @@ from unittest import mock
 
 from tests import images
 from tests.images import sample, with_parts
-from tests.programs import CC, need, options, package, refusal, told
+from tests.programs import BY_NAME, CC, need, options, package, refusal, told
 
 
 def wide_sample():
@@ -109,13 +109,25 @@ TEXTS = {"sections": ["real_name"], "imports": ["dll", "name"], "exports": ["nam
 CUT_HINT = (0x240, b"\xFF\x10")
 RECORD = struct.pack("<5I", 0x1040, 0, 0, 0x1080, 0x1060)
 THREE_RECORDS = [(0x214, RECORD), (0x224, b"\0\x90"), (0x228, RECORD)]
-# Files, and how many libraries and entries permissive mode leaves out, as is told in both modes.
+# An import directory at file offset 0, also with an address table that no section maps, and with three hints: one that no
+# section maps, one that is not whole, and its own.
+FRONT = images.directory_in_front()
+UNMAPPED_IN_FRONT = images.with_parts(FRONT, (0x10, struct.pack("<I", 0x9260)))
+THREE_IN_FRONT = images.with_parts(FRONT, (0x260, struct.pack("<4I", 0x9000, 0x12FF, 0x1290, 0)))
+# Files, and how many libraries and entries permissive mode leaves out, and how many entries both modes do, as is told in both.
 LEFT_OUT = [
-    ("an address table that no section maps", sample((0x210, b"\0\x90")), (1, 0)),
-    ("a hint that is not whole", sample(CUT_HINT), (0, 1)),
-    ("a hint without a name, which is kept", sample((0x240, b"\xFE\x10")), (0, 0)),
-    ("a hint that no section maps, which strict mode leaves out, too", sample((0x240, b"\0\x90")), (0, 0)),
-    ("the entries of two libraries, and a third library", sample(CUT_HINT, *THREE_RECORDS), (1, 2)),
+    ("an address table that no section maps", sample((0x210, b"\0\x90")), (1, 0, 0)),
+    ("a hint that is not whole", sample(CUT_HINT), (0, 1, 0)),
+    ("a hint without a name, which is kept", sample((0x240, b"\xFE\x10")), (0, 0, 0)),
+    ("a hint that no section maps", sample((0x240, b"\0\x90")), (0, 0, 1)),
+    ("a hint that no section maps, of a library without an address table", sample((0x240, b"\0\x90"), (0x210, b"\0\x90")), (1, 0, 0)),
+    ("the entries of two libraries, and a third library", sample(CUT_HINT, *THREE_RECORDS), (1, 2, 0)),
+    ("a directory at file offset 0", FRONT, (1, 1, 0)),
+    ("an ordinal in a directory at file offset 0", images.with_parts(FRONT, (0x260, struct.pack("<I", 1 << 31 | 7))), (1, 1, 0)),
+    ("a directory at file offset 0, of a library without an address table", UNMAPPED_IN_FRONT, (1, 0, 0)),
+    ("three hints in a directory at file offset 0, of which no section maps the first", THREE_IN_FRONT, (1, 2, 1)),
+    ("a directory without a record at file offset 0", images.with_parts(FRONT, (0x0C, bytes(4))), (0, 0, 0)),
+    ("an address that no section maps", sample((0xC0, struct.pack("<I", 0x9000))), (0, 0, 0)),
 ]
 # Files of which one part is damaged, why strict mode refuses that, and how many libraries and entries are left out.
 DAMAGED = [
@@ -262,10 +274,23 @@ class Damage(Read):
                 with self.subTest(name, how=how):
                     self.assertEqual(self.damage(data, how)[5:], (*wanted, 0))
 
+    def test_a_directory_at_file_offset_0_is_listed_in_strict_mode_alone(self):
+        strict, permissive = (package().Pe(FRONT, how) for how in modes())
+        self.assert_imports(strict, [(b"evil.dll", b"WinExec", 0, 0x1260, 0x1290, 0, 0)])
+        self.assert_imports(permissive, [])
+        self.assertEqual((strict.damage, permissive.damage), ((None, None, None, None, None, 1, 1, 0, 0),) * 2)
+
+    def test_an_import_that_leads_nowhere_is_counted_in_both_modes(self):
+        for how in modes():
+            with self.subTest(how=how):
+                pe = package().Pe(images.import_from_nowhere(BY_NAME.read_bytes()), how)
+                self.assert_imports(pe, [])
+                self.assertEqual(pe.damage, (None, None, None, None, None, 0, 0, 1, 0))
+
     def test_a_sound_file_has_no_damage_in_either_mode(self):
         for how in modes():
             with self.subTest(how=how):
-                self.assertEqual(self.damage(sample(), how), (None, None, None, None, None, 0, 0, 0))
+                self.assertEqual(self.damage(sample(), how), (None, None, None, None, None, 0, 0, 0, 0))
 
     def test_damage_is_told_part_by_part(self):
         for name, data, part, refused, left_out in DAMAGED:
@@ -273,7 +298,7 @@ class Damage(Read):
                 self.assert_refused(data, refused)
                 damage = read(data, is_permissive=True).damage
                 self.assertEqual({it: told(why) for it, why in zip(damage._fields, damage[:5]) if why}, {part: refused})
-                self.assertEqual(damage[5:], (*left_out, 0))
+                self.assertEqual(damage[5:], (*left_out, 0, 0))
 
 
 class WholeFiles(Read):

@@ -24,6 +24,8 @@ LISTING = STORED.with_name("stdout").read_bytes()
 PARTS = dict(zip(("header", "section", "imports", "exports", "relocations"), re.split(rb"(?m)^(?=section|imports|exports|relocations)", LISTING)))
 NOTHING = {"imports": b"imports absent\n", "exports": b"exports absent\n"}
 BLOCK = b"relocations 1\nblock rva=0x1000 size=0xc words=2\n"
+AT_FRONT = {"section": b"section va=0x1000 vsize=0x300 raw=0x300 ptr=0x0 name=.rdata\n", "exports": b"exports absent\n"}
+HIDDEN = b"imports 1\nimport offset=0x1260 ordinal=0 rva=0x1290 size=4 slot=0 dll=evil.dll name=WinExec\n"
 WORDS = {0xE0: b"\x28\x10\0\0\x0C", 0x228: b"\0\x10\0\0\x0C\0\0\0\x03\x30\0\0"}
 
 
@@ -39,6 +41,7 @@ CHANGES = [
     ("a name that is no text", {0x138: b"/\xff\0\0\0\0"}, None, named(rb"/\xff")),
     ("a name without a number", {0x138: b"/\0\0\0\0\0"}, None, None),
     ("imports that no section maps", {0xC0: b"\0\x90"}, None, {"imports": b"imports 0\n"}),
+    ("imports at file offset 0", {0: images.directory_in_front()}, {**AT_FRONT, "imports": HIDDEN}, {**AT_FRONT, "imports": b"imports 0\n"}),
     ("exports that no section maps", {0xB8: b"\0\x90"}, None, {"exports": b"exports refused\n"}),
     ("a raw pointer of no multiple of 512", {0x14C: b"\x10"}, None, {
         "section": b"section va=0x1000 vsize=0x100 raw=0x100 ptr=0x210 name=.rdata\n", "imports": b"imports 0\n",

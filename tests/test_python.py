@@ -206,7 +206,7 @@ class Triage(Case):
                 told = {key: found[name][key] for key in values}
                 told["sections"] = [{key: it[key] for key in ("name", "entropy", "md5")} for it in told["sections"]]
                 self.assertEqual(told, values)
-                self.assertEqual((found[name]["kind"], found[name]["damage"]), ("image", {}))
+                self.assertEqual((found[name]["kind"], found[name]["damage"], found[name]["left_out"]), ("image", {}, {}))
 
     def test_the_table_is_what_pefile_tells(self):
         try:
@@ -232,7 +232,11 @@ class Triage(Case):
         self.written("object.obj", OBJECTS[0].read_bytes())
         self.written("hostile.dll", images.own_tables(1609))
         self.written("names.dll", images.pointers_to_one_name(150000))
+        self.written("front.dll", images.directory_in_front())
+        self.written("nowhere.dll", images.import_from_nowhere(BY_NAME.read_bytes()))
         found = self.triaged()
+        self.assertEqual([found[it]["left_out"] for it in ("front.dll", "nowhere.dll")],
+                         [{"left_out_libraries": 1, "left_out_entries": 1}, {"unmapped_entries": 1}])
         self.assertEqual((list(found["damaged.dll"]["damage"]), found["damaged.dll"]["exports"]), (["exports"], 0))
         self.assertIn("empty", found["empty.dll"]["refused"])
         self.assertEqual(found["refused.dll"], {"refused": "the DOS header leads to 0x5a4d in place of the PE signature"})

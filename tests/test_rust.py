@@ -54,7 +54,8 @@ class Crate(Case):
         hostile = [self.written(f"{name}.dll", image) for name, image in (
             ("own", images.own_tables(1609)), ("shared", images.shared_image(libraries=20000, functions=50000)),
             ("nowhere", images.pointers_to_nowhere(1000000)), ("sections", images.one_long_name(60000, 1 << 16)),
-            ("exports", images.pointers_to_one_name(150000)))]
+            ("exports", images.pointers_to_one_name(150000)), ("front", images.directory_in_front()),
+            ("unmapped", images.import_from_nowhere(data)))]
         files = [*IMAGES, *IMAGES, *hostile, damaged, CALLERS / "build", lost]
         lines = succeed(with_memory(200000, [example("scan"), *files])).splitlines()
         for sample, line in zip(IMAGES * 2, lines):
@@ -62,12 +63,13 @@ class Crate(Case):
             imports, exports = (sum(it.startswith(kind) for it in listed) for kind in (b"import ", b"export "))
             self.assertEqual(line, f"{sample}: {imports} imports, {exports} exports")
         self.assertEqual(len(lines), len(files))
-        told = ("more than 100000 imports$", "more than 100000 imports$", "0 imports, 1 exports$", "0 imports, 0 exports$",
-                "more than 100000 exports$")
+        told = ("more than 100000 imports$", "more than 100000 imports$", "0 imports, 1 exports, 999999 names of no export$",
+                "0 imports, 0 exports$", "more than 100000 exports$",
+                "0 imports, 0 exports, 1 libraries left out, 1 imports left out$", "0 imports, 2 exports, 1 imports that lead nowhere$")
         wanted = (*(f"{it}: {line}" for it, line in zip(hostile, told)),
                   f"{damaged}: 1 imports, 0 exports, exports: .",
                   f"{CALLERS}/build: refused: .", f"{lost}: read failed: .")
-        for line, it in zip(lines[-8:], wanted, strict=True):
+        for line, it in zip(lines[-10:], wanted, strict=True):
             self.assertRegex(line, f"^{it}")
 
     def test_its_texts_have_the_hashes_that_others_tell(self):

@@ -5,8 +5,8 @@
 
        cc -I callers/lib -o program program.c callers/lib/libgoblin_pe.a
 
-   list.c, loader.c, patch.c and walk.c are such programs: in callers/c, or where the library was installed in
-   share/doc/goblin-pe/examples. README.md beside them has the first steps.
+   list.c, walk.c, damage.c, loader.c and patch.c are such programs: in callers/c, or where the library was
+   installed in share/doc/goblin-pe/examples. README.md beside them has the first steps.
 
    A call reads a file that lies in memory. It borrows the caller's bytes; a text in a record is a pointer
    into those bytes and a length, so no text is copied, and the texts stay good as long as the bytes do.
@@ -145,7 +145,7 @@ static inline uint32_t goblin_pe_kind_of(const uint8_t *bytes, size_t length)
 /* Reads an image once: says in `file` what it is, fills the records of its data directories as far as
    there is room (a file has sixteen or none), and puts all other tables into `tables`, each whole. The
    tables that stood there before are not freed. After a refusal nothing is to be freed. Memory is taken
-   for the tables. */
+   for the tables. What these lack of the imports and the exports goblin_pe_read_damage counts. */
 static inline struct goblin_pe_fault goblin_pe_open(
     const uint8_t *bytes, size_t length, const struct goblin_pe_options *options, struct goblin_pe_file *file,
     struct goblin_pe_directory *directories, size_t directory_room, struct goblin_pe_tables *tables)
@@ -190,10 +190,9 @@ static inline struct goblin_pe_fault goblin_pe_read_layout(
 }
 
 /* Tells what strict mode would refuse of an image, part by part, each for itself, where its header and its
-   sections are read as the options say. A file without damage is one that strict mode reads, and permissive
-   mode alike; but an import directory at file offset 0 is an empty list there, without damage. Refused are a
-   header or sections that these options refuse, and memory, which is taken only for an index of more than 96
-   sections, and given back. */
+   sections are read as the options say. A file without damage, of which no library is left out, is one that both
+   modes read, and read alike. Refused are a header or sections that these options refuse, and memory, which is
+   taken only for an index of more than 96 sections, and given back. */
 static inline struct goblin_pe_fault goblin_pe_read_damage(
     const uint8_t *bytes, size_t length, const struct goblin_pe_options *options, struct goblin_pe_damage *damage)
 {
@@ -223,8 +222,9 @@ static inline void goblin_pe_free_ranges(struct goblin_pe_ranges *ranges)
 /* Goes on with the walk over the imports of an image from `position`: fills as many records as there is
    room for, says in `count` how many, and leaves in `position` where the next call goes on. The count 0
    without a refusal is the end, where there is room; so it is of a file without imports, where these are not
-   asked for, and in permissive mode where their directory has no file offset, or the offset 0. In strict mode the
-   walk ends with a refusal where goblin_pe_open has one for its imports; what comes before it is given first, and
+   asked for, and in permissive mode where their directory is an empty list there. What gives no import
+   goblin_pe_read_damage counts: `unmapped_entries` in either mode, `left_out_libraries` and `left_out_entries` in
+   permissive mode. In strict mode the walk ends with a refusal where goblin_pe_open has one for its imports; what comes before it is given first, and
    no law says on which bytes that depends. The sections and the tables lie at `places`, which goblin_pe_read_layout
    and goblin_pe_open say, so no call reads the header again; other numbers there lead to other tables, and harm
    nothing; flags are false or true.

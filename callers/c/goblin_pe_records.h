@@ -62,8 +62,7 @@ enum goblin_pe_state {
     GOBLIN_PE_STATE_READ = 1,
     /* It is refused, and permissive mode passed over that. Imports never are: in permissive mode
        they count as read, with what could be read of them, perhaps nothing, and the damage of the
-       file tells what that leaves out; but an import directory at file offset 0 is an empty list
-       there, without damage. */
+       file tells what that leaves out. */
     GOBLIN_PE_STATE_REFUSED = 2
 };
 
@@ -360,8 +359,9 @@ struct goblin_pe_section {
 
 /* What a call does and leaves out. */
 struct goblin_pe_options {
-    /* Whether damaged parts are passed over, in permissive mode; an import directory at file offset
-       0 is an empty list there, without damage. */
+    /* Whether damaged parts are passed over, in permissive mode. An import directory at file offset
+       0 is an empty list there, whatever it holds; the damage of a file tells what strict mode
+       would refuse of it, and how much is left out. */
     bool is_permissive;
     /* Whether an address is mapped to a file offset by the sections; where not, it is the offset. */
     bool resolve_rva;
@@ -1061,10 +1061,15 @@ struct goblin_pe_damage {
     struct goblin_pe_fault exports;
     /* The base relocations: their directory, not its blocks. */
     struct goblin_pe_fault relocations;
-    /* How many libraries permissive mode leaves out of the imports: those without an address table. */
+    /* How many libraries permissive mode leaves out of the imports: those without an address table;
+       of a directory at file offset 0 all. */
     size_t left_out_libraries;
-    /* How many entries of the other libraries it leaves out. */
+    /* How many entries it leaves out of libraries that have an address table: those whose hint is
+       not whole; of a directory at file offset 0 all but those that lead nowhere. */
     size_t left_out_entries;
+    /* How many entries of these libraries give no import, in either mode: they lead nowhere, since
+       the address of their hint and name has no file offset. */
+    size_t unmapped_entries;
     /* How many name pointers of the export directory give no export, in either mode: there is no
        ordinal, the ordinal lies past the address table, or it leads to a forwarder whose text
        cannot be read. 0 where there is no export directory, or it is refused. */
@@ -1550,7 +1555,7 @@ GOBLIN_PE_IS_AT(layout, dos_header, 208);
 GOBLIN_PE_IS_AT(layout, coff_header, 272);
 GOBLIN_PE_IS_AT(layout, dos_stub, 296);
 
-GOBLIN_PE_HAS_SIZE(damage, 144, 8);
+GOBLIN_PE_HAS_SIZE(damage, 152, 8);
 GOBLIN_PE_IS_AT(damage, dos_stub, 0);
 GOBLIN_PE_IS_AT(damage, section_names, 24);
 GOBLIN_PE_IS_AT(damage, imports, 48);
@@ -1558,7 +1563,8 @@ GOBLIN_PE_IS_AT(damage, exports, 72);
 GOBLIN_PE_IS_AT(damage, relocations, 96);
 GOBLIN_PE_IS_AT(damage, left_out_libraries, 120);
 GOBLIN_PE_IS_AT(damage, left_out_entries, 128);
-GOBLIN_PE_IS_AT(damage, left_out_exports, 136);
+GOBLIN_PE_IS_AT(damage, unmapped_entries, 136);
+GOBLIN_PE_IS_AT(damage, left_out_exports, 144);
 
 GOBLIN_PE_HAS_SIZE(range, 16, 8);
 GOBLIN_PE_IS_AT(range, offset, 0);

@@ -4,7 +4,8 @@
    relocations for an address 64 KiB above the preferred one, where an image whose relocations are stripped stays, and
    resolves each import against the libraries, which it opens the same way. It tells what it finds, and what stands in
    memory after each relocation. A library stands for the imports whose library has the name of its file, with or
-   without the ending .dll. Forwarders are followed through the libraries. The status is 0 where all is resolved. */
+   without the ending .dll. Forwarders are followed through the libraries. An import whose name no section maps is not
+   read, and told. The status is 0 where all imports are resolved. */
 #include "goblin_pe.h"
 
 #include <ctype.h>
@@ -150,12 +151,19 @@ static int map(struct module *m)
     return 0;
 }
 
-/* Opens an image by the rule for raw pointers that suits each lawful one. */
-static struct goblin_pe_fault open_image(struct module *m)
+/* The options by which images are read: the rule for raw pointers suits each lawful one. */
+static struct goblin_pe_options loading(void)
 {
     struct goblin_pe_options options = GOBLIN_PE_DEFAULT_OPTIONS;
-    struct goblin_pe_fault fault;
     options.raw_pointer_rule = GOBLIN_PE_RAW_POINTER_RULE_BY_FILE_ALIGNMENT;
+    return options;
+}
+
+/* Opens an image. */
+static struct goblin_pe_fault open_image(struct module *m)
+{
+    struct goblin_pe_options options = loading();
+    struct goblin_pe_fault fault;
     fault = goblin_pe_open(m->bytes, m->length, &options, &m->file, NULL, 0, &m->tables);
     if (fault.status == GOBLIN_PE_STATUS_OK)
         m->image = goblin_pe_image_of(m->bytes, m->length, &options, &m->file, &m->tables);
@@ -307,6 +315,19 @@ static bool resolve(const struct module *m, const struct goblin_pe_import *impor
     return true;
 }
 
+/* Tells how many imports were not read, since no section maps their names; whether there are none. */
+static bool has_all_imports(const struct module *m)
+{
+    struct goblin_pe_options options = loading();
+    struct goblin_pe_damage damage;
+    struct goblin_pe_fault fault = goblin_pe_read_damage(m->bytes, m->length, &options, &damage);
+    if (fault.status != GOBLIN_PE_STATUS_OK)
+        return refused(m, fault), false;
+    if (damage.unmapped_entries)
+        printf("%zu imports whose names no section maps\n", damage.unmapped_entries);
+    return !damage.unmapped_entries;
+}
+
 static void close_module(struct module *m)
 {
     goblin_pe_free(&m->tables);
@@ -323,7 +344,7 @@ int main(int argc, char **argv)
         status = open_module(&modules[i], argv[i + 1]);
     if (!status)
         status = relocate(&modules[0]);
-    bool is_resolved = true;
+    bool is_resolved = !status && has_all_imports(&modules[0]);
     for (size_t i = 0; !status && i < modules[0].tables.import_count; i++)
         is_resolved &= resolve(&modules[0], &modules[0].tables.imports[i], modules + 1, count - 1);
     for (size_t i = 0; i < count && modules; i++)

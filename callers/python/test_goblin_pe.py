@@ -532,7 +532,7 @@ class Files(unittest.TestCase):
             next(walk)
         self.assertEqual((caught.exception.cause, caught.exception.first), (Cause.UNMAPPED, 0x9000))
         damage = Pe(data, Options(is_permissive=True)).damage
-        self.assertEqual((str(damage.imports), damage[:2], damage[3:]), (str(caught.exception), (None, None), (None, None, 0, 0, 0)))
+        self.assertEqual((str(damage.imports), damage[:2], damage[3:]), (str(caught.exception), (None, None), (None, None, 0, 0, 0, 0)))
 
     def test_what_permissive_mode_counts_as_read(self):
         data = sample("imports_by_name_x64.dll")
@@ -640,7 +640,7 @@ class Files(unittest.TestCase):
         with self.assertRaises(Refused) as caught:
             Pe(data)
         pe = Pe(data, Options(is_permissive=True))
-        self.assertEqual((str(pe.damage.dos_stub), pe.damage[1:]), (str(caught.exception), (None, None, None, None, 0, 0, 0)))
+        self.assertEqual((str(pe.damage.dos_stub), pe.damage[1:]), (str(caught.exception), (None, None, None, None, 0, 0, 0, 0)))
         self.assertEqual(caught.exception.cause, Cause.STUB_BEFORE_START)
         self.assertRaises(ValueError, pe.write)
 

@@ -1,6 +1,6 @@
 """Tells of each file of a folder what analysts compare, a line of JSON each: triage.py FOLDER. Four threads look at them. Of no
-file are more imports or exports counted than a limit says; but what is left out counts for no limit, `damage` looks at all
-exports, and all sections are told. What can't be read has a line, too, that says why."""
+file are more imports or exports counted than a limit says, and of imports past it `damage` tells nothing; but what is left out
+counts for no limit, `damage` looks at all exports, and all sections are told. What can't be read has a line, too, that says why."""
 import concurrent.futures
 import hashlib
 import itertools
@@ -57,15 +57,17 @@ def image(data: Any) -> Dict[str, Any]:
     with Pe(data, Options(is_permissive=True, parse_imports=False)) as pe:
         walked = itertools.islice(pe.walk_imports(), MOST)
         libraries: Counter[bytes] = Counter(it.dll.lower() for it in walked)
-        damage = pe.damage
+        is_counted = sum(libraries.values()) < MOST
+        damage = (Layout(data, Options(is_permissive=True)) if is_counted else pe).damage
         return {
             "machine": names_of(pe.coff_header.machine, "machine")[0], "time_date_stamp": pe.coff_header.time_date_stamp,
             "is_64": pe.is_64, "is_lib": pe.is_lib, "entry": pe.entry, "image_base": pe.image_base,
             "subsystem": pe.optional_header and names_of(pe.optional_header.windows_fields.subsystem, "subsystem")[0],
             "libraries": {name.decode("utf-8", "backslashreplace"): count for name, count in sorted(libraries.items())},
-            "imphash": pe.imphash() if sum(libraries.values()) < MOST else None,
+            "imphash": pe.imphash() if is_counted else None,
             "exports": sum(1 for _ in itertools.islice(pe.walk_exports(), MOST)), "rich_hash": rich_hash(pe, data), "overlay": overlay(pe, data),
-            "sections": list(sections(pe)), "damage": {part: str(why) for part, why in zip(damage._fields[:5], damage) if why}}
+            "sections": list(sections(pe)), "damage": {part: str(why) for part, why in zip(damage._fields[:5], damage) if why},
+            "left_out": {what: count for what, count in zip(damage._fields[5:], damage[5:]) if count}}
 
 
 def triaged(path: str) -> Dict[str, Any]:

@@ -163,15 +163,18 @@ def checksum(data: Data, field: int) -> int:
 
 class Damage(_t.NamedTuple):
     """What strict mode would refuse of an image, part by part, each for itself, as a Refused; None is no damage. A file
-    without damage is one that strict mode reads, and permissive mode alike; but an import directory at file offset 0 is an
-    empty list there, without damage.
+    without damage, of which no library is left out, is one that both modes read, and read alike.
 
     dos_stub: of the DOS stub.
     section_names: of the names of the sections: one begins with a slash and goes on with bytes that are no text.
     imports, exports: of these; of the imports if they are asked for.
     relocations: of the base relocations: of their directory, not of its blocks.
-    left_out_libraries: how many libraries permissive mode leaves out of the imports: those without an address table.
-    left_out_entries: how many entries of the other libraries it leaves out.
+    left_out_libraries: how many libraries permissive mode leaves out of the imports: those without an address table; of a
+        directory at file offset 0 all.
+    left_out_entries: how many entries it leaves out of libraries that have an address table: those whose hint is not whole; of
+        a directory at file offset 0 all but those that lead nowhere.
+    unmapped_entries: how many entries of these libraries give no import, in either mode: they lead nowhere, since the address
+        of their hint and name has no file offset.
     left_out_exports: how many name pointers of the export directory give no export, in either mode: there is no ordinal, it lies
         past the address table, or it leads to a forwarder whose text can't be read. 0 where the exports are refused. Their
         indexes are the hints that no export has: such a pointer stands four times its index after the file offset of the
@@ -185,6 +188,7 @@ class Damage(_t.NamedTuple):
     relocations: _t.Optional[Refused]
     left_out_libraries: int
     left_out_entries: int
+    unmapped_entries: int
     left_out_exports: int
 
 
@@ -193,8 +197,8 @@ class Options:
     """How a file is read; by default strictly, with all its tables. Each but the rule is a bool; TypeError is raised
     where one is not.
 
-    is_permissive: whether damaged parts are passed over, in permissive mode; an import directory at file offset 0 is an
-        empty list there, without damage.
+    is_permissive: whether damaged parts are passed over, in permissive mode. An import directory at file offset 0 is an empty
+        list there, whatever it holds; `damage` tells what strict mode would refuse of it, and how much is left out.
     resolve_rva: whether an address is mapped to a file offset by the sections; where not, it is the offset.
     raw_pointer_rule: where the raw data of a section begins for the mapping of addresses, and for section_data and memory_at
         of an image: a RawPointerRule. Rounding is right where `section_alignment` is 4,096 or more, and pointers as stored
@@ -506,7 +510,8 @@ class Layout:
 
     def walk_imports(self) -> _t.Iterator[Import]:
         """The imports one by one, of which none is kept: also where the options left them out. In strict mode Refused is
-        raised where it would be of the list, after what comes before; no law says on which bytes that depends."""
+        raised where it would be of the list, after what comes before; no law says on which bytes that depends. What gives no
+        import is counted by `damage`: `unmapped_entries` in either mode, the other two in permissive mode."""
         return self._walked(DirectoryType.IMPORT_TABLE, "imported")
 
     def walk_libraries(self) -> _t.Iterator[Library]:
@@ -611,7 +616,7 @@ class Layout:
         with _held(self._bytes()) as (address, length):
             _test(_LIB.goblin_pe_raw_read_damage(address, length, _c.byref(self._options), _c.byref(d)))
         return Damage(_refusal(d.dos_stub), _refusal(d.section_names), _refusal(d.imports), _refusal(d.exports),
-                      _refusal(d.relocations), d.left_out_libraries, d.left_out_entries, d.left_out_exports)
+                      _refusal(d.relocations), d.left_out_libraries, d.left_out_entries, d.unmapped_entries, d.left_out_exports)
 
     def footprint(self) -> _t.List[Range]:
         """The bytes of the file on which what Pe lists depends, its attributes but for symbols and damage: a file of the same
@@ -638,7 +643,7 @@ class Layout:
 
 class Pe(Layout):
     """An image that was read, with its lists: Pe(data, options), where `data` are the file's bytes and `options` are Options. A
-    file that is refused raises Refused.
+    file that is refused raises Refused. What the lists lack of the imports and the exports `damage` counts.
 
     It keeps `data`, or the copy of a buffer that could be written, until close() or the end of a `with`. Tables, symbols and
     damage that were not asked for before, and the methods, raise ValueError then, but find_offset needs the bytes no longer. A

@@ -53,8 +53,7 @@ class State(Number):
     READ = 1
     # It is refused, and permissive mode passed over that. Imports never are: in permissive mode
     # they count as read, with what could be read of them, perhaps nothing, and the damage of the
-    # file tells what that leaves out; but an import directory at file offset 0 is an empty list
-    # there, without damage.
+    # file tells what that leaves out.
     REFUSED = 2
 
 

@@ -170,8 +170,9 @@ class Section(Record):
 class Options(Record):
     """What a call does and leaves out.
 
-    is_permissive: Whether damaged parts are passed over, in permissive mode; an import directory at
-        file offset 0 is an empty list there, without damage.
+    is_permissive: Whether damaged parts are passed over, in permissive mode. An import directory at
+        file offset 0 is an empty list there, whatever it holds; the damage of a file tells what
+        strict mode would refuse of it, and how much is left out.
     resolve_rva: Whether an address is mapped to a file offset by the sections; where not, it is the
         offset.
     raw_pointer_rule: Where the raw data of a section begins, for addresses, for the data of a
@@ -1014,8 +1015,11 @@ class Damage(Record):
     exports: The exports.
     relocations: The base relocations: their directory, not its blocks.
     left_out_libraries: How many libraries permissive mode leaves out of the imports: those without
-        an address table.
-    left_out_entries: How many entries of the other libraries it leaves out.
+        an address table; of a directory at file offset 0 all.
+    left_out_entries: How many entries it leaves out of libraries that have an address table: those
+        whose hint is not whole; of a directory at file offset 0 all but those that lead nowhere.
+    unmapped_entries: How many entries of these libraries give no import, in either mode: they lead
+        nowhere, since the address of their hint and name has no file offset.
     left_out_exports: How many name pointers of the export directory give no export, in either mode:
         there is no ordinal, the ordinal lies past the address table, or it leads to a forwarder
         whose text cannot be read. 0 where there is no export directory, or it is refused.
@@ -1028,6 +1032,7 @@ class Damage(Record):
     relocations: Fault
     left_out_libraries: Annotated[int, c.c_size_t]
     left_out_entries: Annotated[int, c.c_size_t]
+    unmapped_entries: Annotated[int, c.c_size_t]
     left_out_exports: Annotated[int, c.c_size_t]
 
 

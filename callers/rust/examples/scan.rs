@@ -1,7 +1,7 @@
 //! Scans files by four threads: scan FILE.. tells of each image, in the order of the words, how many imports and
-//! exports it has and what is damaged, or why it was refused. Of an image that lists more of them than a limit says,
-//! only so many are looked at. It takes no memory for them. What is left out of an image counts for no limit: a walk
-//! passes over as many such entries as there are, and `damage` over all.
+//! exports it has, what is damaged and what is left out, or why it was refused. Of an image that lists more of them
+//! than a limit says, only so many are looked at. It takes no memory for them. What is left out of an image counts
+//! for no limit: a walk passes over as many such entries as there are, and `damage` over all.
 use goblin_pe::{Error, Layout, Options};
 use std::thread;
 
@@ -25,8 +25,18 @@ fn found(bytes: &[u8]) -> Result<String, Error> {
         return Ok(format!("more than {MOST} exports"));
     }
     let mut text = format!("{imports} imports, {exports} exports");
-    for (part, error) in layout.damage()?.parts() {
+    let damage = layout.damage()?;
+    for (part, error) in damage.parts() {
         text += &format!(", {part}: {error}");
+    }
+    let left_out = [
+        (damage.left_out_libraries, "libraries left out"),
+        (damage.left_out_entries, "imports left out"),
+        (damage.unmapped_entries, "imports that lead nowhere"),
+        (damage.left_out_exports, "names of no export"),
+    ];
+    for (count, what) in left_out.into_iter().filter(|(count, _)| *count > 0) {
+        text += &format!(", {count} {what}");
     }
     Ok(text)
 }

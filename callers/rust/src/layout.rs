@@ -327,7 +327,8 @@ impl<'a> Layout<'a> {
     /// A walk over the imports, in constant memory, which reads the file as it goes on: also where the
     /// options of the read left them out. A file of 256 KiB can have more than 800 million imports, more
     /// than may be listed. In strict mode it ends with the error for which a read is refused; no law says
-    /// on which bytes what comes before it depends.
+    /// on which bytes what comes before it depends. What gives no import [`damage`](Self::damage) counts:
+    /// `unmapped_entries` in either mode, the others in permissive mode.
     ///
     /// ```no_run
     /// # let bytes = [];
@@ -494,7 +495,8 @@ impl<'a> Layout<'a> {
         imphash::write_text(self.walk_imports(), to)
     }
 
-    /// What strict mode would refuse of the file, part by part, by the options of the read.
+    /// What strict mode would refuse of the file, part by part, by the options of the read, and how much is left
+    /// out of the imports and the exports.
     ///
     /// # Errors
     /// [`ErrorKind::Memory`](crate::ErrorKind::Memory) alone.
@@ -516,8 +518,8 @@ impl<'a> Layout<'a> {
     /// The bytes of the file on which what [`Pe::read`] lists depends: a file of the same length that has
     /// the same bytes in these ranges is read alike, by the same options. It does not cover what is read
     /// later: [`walk_imports`](Self::walk_imports) where the options leave the imports out,
-    /// [`damage`](Self::damage) of an import directory at file offset 0, [`symbols`](Self::symbols), texts and
-    /// bytes at addresses, and the data of sections.
+    /// [`damage`](Self::damage) of imports that permissive mode does not read, [`symbols`](Self::symbols), texts
+    /// and bytes at addresses, and the data of sections.
     ///
     /// # Errors
     /// [`ErrorKind::Memory`](crate::ErrorKind::Memory) alone.

@@ -59,7 +59,8 @@ pub struct Pe<'a> {
 }
 
 impl<'a> Pe<'a> {
-    /// Reads an image that lies in memory.
+    /// Reads an image that lies in memory. What its lists lack of the imports and the exports
+    /// [`damage`](Layout::damage) counts.
     ///
     /// # Errors
     /// Why it was refused.

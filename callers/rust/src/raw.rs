@@ -52,8 +52,7 @@ impl<'a> Slice<'a> {
 }
 
 impl Options {
-    /// Damaged parts are passed over, in permissive mode; an import directory at file offset 0 is an
-    /// empty list there, without damage. Else as by default.
+    /// Damaged parts are passed over, in permissive mode. Else as by default.
     #[must_use]
     pub const fn permissive() -> Options {
         Options {

@@ -141,8 +141,9 @@ pub struct Section<'a> {
 #[derive(Clone, Copy, Debug, PartialEq, Eq, PartialOrd, Ord, Hash)]
 #[non_exhaustive]
 pub struct Options {
-    /// Whether damaged parts are passed over, in permissive mode; an import directory at file
-    /// offset 0 is an empty list there, without damage.
+    /// Whether damaged parts are passed over, in permissive mode. An import directory at file
+    /// offset 0 is an empty list there, whatever it holds; the damage of a file tells what strict
+    /// mode would refuse of it, and how much is left out.
     pub is_permissive: bool,
     /// Whether an address is mapped to a file offset by the sections; where not, it is the offset.
     pub resolve_rva: bool,
@@ -905,10 +906,14 @@ pub struct Damage {
     /// The base relocations: their directory, not its blocks.
     pub relocations: Fault,
     /// How many libraries permissive mode leaves out of the imports: those without an address
-    /// table.
+    /// table; of a directory at file offset 0 all.
     pub left_out_libraries: usize,
-    /// How many entries of the other libraries it leaves out.
+    /// How many entries it leaves out of libraries that have an address table: those whose hint is
+    /// not whole; of a directory at file offset 0 all but those that lead nowhere.
     pub left_out_entries: usize,
+    /// How many entries of these libraries give no import, in either mode: they lead nowhere, since
+    /// the address of their hint and name has no file offset.
+    pub unmapped_entries: usize,
     /// How many name pointers of the export directory give no export, in either mode: there is no
     /// ordinal, the ordinal lies past the address table, or it leads to a forwarder whose text
     /// cannot be read. 0 where there is no export directory, or it is refused.
@@ -1240,7 +1245,7 @@ const _: () = {
     assert!(offset_of!(Layout, dos_header) == 208);
     assert!(offset_of!(Layout, coff_header) == 272);
     assert!(offset_of!(Layout, dos_stub) == 296);
-    assert!(size_of::<Damage>() == 144 && align_of::<Damage>() == 8);
+    assert!(size_of::<Damage>() == 152 && align_of::<Damage>() == 8);
     assert!(offset_of!(Damage, dos_stub) == 0);
     assert!(offset_of!(Damage, section_names) == 24);
     assert!(offset_of!(Damage, imports) == 48);
@@ -1248,7 +1253,8 @@ const _: () = {
     assert!(offset_of!(Damage, relocations) == 96);
     assert!(offset_of!(Damage, left_out_libraries) == 120);
     assert!(offset_of!(Damage, left_out_entries) == 128);
-    assert!(offset_of!(Damage, left_out_exports) == 136);
+    assert!(offset_of!(Damage, unmapped_entries) == 136);
+    assert!(offset_of!(Damage, left_out_exports) == 144);
     assert!(size_of::<Range>() == 16 && align_of::<Range>() == 8);
     assert!(offset_of!(Range, offset) == 0);
     assert!(offset_of!(Range, length) == 8);

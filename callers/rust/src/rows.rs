@@ -107,8 +107,7 @@ pub(crate) fn section_table(dos_header: &DosHeader, coff_header: &CoffHeader) ->
 }
 
 /// What strict mode would refuse of an image, part by part, each for itself: `None` is no damage. A file
-/// without damage is one that strict mode reads, and permissive mode alike; but an import directory at
-/// file offset 0 is an empty list there, without damage.
+/// without damage, of which no library is left out, is one that both modes read, and read alike.
 #[derive(Clone, Copy, Debug, PartialEq, Eq, Hash)]
 #[non_exhaustive]
 pub struct Damage {
@@ -122,10 +121,15 @@ pub struct Damage {
     pub exports: Option<Error>,
     /// Of the base relocations: of their directory, not of its blocks.
     pub relocations: Option<Error>,
-    /// How many libraries permissive mode leaves out of the imports: those without an address table.
+    /// How many libraries permissive mode leaves out of the imports: those without an address table; of a
+    /// directory at file offset 0 all.
     pub left_out_libraries: usize,
-    /// How many entries of the other libraries it leaves out.
+    /// How many entries it leaves out of libraries that have an address table: those whose hint is not whole;
+    /// of a directory at file offset 0 all but those that lead nowhere.
     pub left_out_entries: usize,
+    /// How many entries of these libraries give no import, in either mode: they lead nowhere, since the
+    /// address of their hint and name has no file offset.
+    pub unmapped_entries: usize,
     /// How many name pointers of the export directory give no export, in either mode: there is no
     /// ordinal, the ordinal lies past the address table, or it leads to a forwarder whose text can't be
     /// read. 0 where the exports are refused. Their indexes are the hints that no export has: such a pointer
@@ -166,6 +170,7 @@ impl From<raw::Damage> for Damage {
             relocations: Error::of(damage.relocations),
             left_out_libraries: damage.left_out_libraries,
             left_out_entries: damage.left_out_entries,
+            unmapped_entries: damage.unmapped_entries,
             left_out_exports: damage.left_out_exports,
         }
     }

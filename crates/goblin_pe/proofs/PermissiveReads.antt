@@ -1,6 +1,6 @@
 -- What strict mode reads of tables and of whole files, permissive mode reads, too.
-use Rattle.std.proofs.Common.{◌≡◌, ℕ, Bool, true, false, cond, List, [], Option, Some, None, Result}
-use Rattle.std.proofs.Common.{ap, refl, sym, nat_eq}
+use Rattle.std.proofs.Common.{◌≡◌, ◌==◌, ◌⊎◌, ◌∙◌, ℕ, Bool, true, false, cond, List, [], Option, Some}
+use Rattle.std.proofs.Common.{None, Result, ap, refl, sym, subst, nat_eq, inl, inr}
 use Rattle.goblin_base.specs.declared.error.ErrorOf.{ErrorOf}
 use Rattle.goblin_base.specs.declared.permissive.ParseMode.{ParseMode}
 use Rattle.goblin_base.specs.declared.permissive.ParseMode.TheVariants.{Permissive, Strict}
@@ -8,7 +8,7 @@ use Rattle.goblin_base.specs.Answers.{◌>>=◌}
 use Rattle.goblin_base.specs.Reading.{InModes, Reading, Reads, ReadsOrMemory, Repeats, RepeatsAs}
 use Rattle.goblin_base.specs.Tables.{Format}
 use Rattle.goblin_base.proofs.Kept.{Keeps}
-use Rattle.goblin_base.proofs.Steps.{same_value, step}
+use Rattle.goblin_base.proofs.Steps.{mapped, same_value, step}
 use Rattle.readings.specs.Reads as reads
 use Rattle.readings.specs.Reads.{given, in_its_place, pair_of}
 use Rattle.readings.proofs.Modes.{as-beside, as-mapped, as-then, repeats-same}
@@ -31,10 +31,13 @@ use Rattle.goblin_pe_import.specs.ImportReadings.{import_data, libraries_at, rea
 use Rattle.goblin_pe_import.specs.ImportReadings.{read_past_front}
 use Rattle.goblin_pe_import.specs.ImportRecords.{ImportedLibrary}
 use Rattle.goblin_pe_import.specs.Imports.{ImportValue, imports_of}
+use Rattle.goblin_pe_import.specs.LeftOut.{amount_of, libraries_of_directory}
 use Rattle.goblin_pe_import.proofs.ImportBound.{pair_of-left, pair_of-right}
+use Rattle.goblin_pe_import.proofs.LeftOutLibraries.{front_has_none, none_made}
 use Rattle.goblin_pe_import.proofs.PermissiveReads.{libraries_at-repeats}
+use Rattle.goblin_pe.specs.Damages.{imports_left_out_at, left_out_of}
 use Rattle.goblin_pe.specs.Modes.{ReadsInModes, in_mode, in_permissive_mode, is_front, unless_front}
-use Rattle.goblin_pe.specs.Whole.{TableParts, TablePlaces, WholeFile, entry_format, export_part}
+use Rattle.goblin_pe.specs.Whole.{IfRead, TableParts, TablePlaces, WholeFile, entry_format, export_part}
 use Rattle.goblin_pe.specs.Whole.{import_data_part}
 use Rattle.goblin_pe.specs.Whole.{both_import_parts, listed_imports_part, offset_by, part_at, part_map, part_of}
 use Rattle.goblin_pe.specs.Whole.{part_then, places_in, relocation_part, section_table_offset}
@@ -91,6 +94,38 @@ unfolding import_data
 repeats-import_data format offset_of rva = record {
   kept = λ bytes xs is. front_or_not format offset_of bytes (offset_of rva) xs is;
 }
+
+-- ---- import data of which no library is left out
+
+-- a list is not of the front, or has nothing, so that permissive mode has it, too
+abbrev IsUnhidden : {A : Type 0} → Option ℕ → List A → Type 0
+IsUnhidden place xs = (is_front place ≡ false) ⊎ (xs ≡ [])
+
+none_left : {A : Type 0} (front : Bool) (xs : List A) → xs ≡ [] → cond front [] xs ≡ xs
+none_left true xs none = sym none
+none_left false xs none = refl
+
+unhidden : {A : Type 0} (place : Option ℕ) (xs : List A) → IsUnhidden place xs
+    → unless_front place xs ≡ xs
+unhidden place xs (inl past) = rw past refl
+unhidden place xs (inr none) = none_left (is_front place) xs none
+
+at_place : (format : Format EntryValue) (offset_of : ℕ → Option ℕ) (bytes : List ℕ) (o : ℕ)
+    (xs : List ImportedLibrary) → (libraries_at true format offset_of o).value bytes ≡ Some xs
+    → libraries_of_directory format offset_of bytes o ≡ 0
+    → (front : Bool) → (o == 0) ≡ front → IsUnhidden (Some o) xs
+at_place format offset_of bytes o xs is none false at = inl at
+at_place format offset_of bytes o xs is none true at =
+    inr (none_made _ true bytes o xs (front_has_none format offset_of bytes o at none) is)
+
+data_unhidden : (format : Format EntryValue) (offset_of : ℕ → Option ℕ) (bytes : List ℕ)
+    (place : Option ℕ) (xs : List ImportedLibrary)
+    → (in_its_place true 0 place
+    >>= λ o. (read_past_front true (libraries_at true format offset_of) o).value bytes) ≡ Some xs
+    → amount_of (libraries_of_directory format offset_of bytes) place ≡ 0 → IsUnhidden place xs
+data_unhidden format offset_of bytes None xs is none = inl refl
+data_unhidden format offset_of bytes (Some o) xs is none =
+    at_place format offset_of bytes o xs is none (o == 0) refl
 
 -- ---- parts
 
@@ -189,6 +224,54 @@ listed_imports_part-kept size place Refused p e =
 listed_imports_part-kept size place (part.Read libraries) p e =
     imports_made size place libraries p (part_of-some (imports_of size libraries) p e)
 
+-- ---- imports of which no library is left out
+
+part_unhidden : {A : Type 0} (place : Option ℕ) (p : Part (List A)) → IfRead (IsUnhidden place) p
+    → part_map (unless_front place) p ≡ p
+part_unhidden place Absent h = refl
+part_unhidden place (part.Read xs) h = ap part.Read (unhidden place xs h)
+part_unhidden place Refused h = refl
+
+module _ (format : Format EntryValue) (offset_of : ℕ → Option ℕ) (bytes : List ℕ) where
+  import_data_unhidden : (asked : Bool) (imports : Option DataDirectory)
+      (p : Part (List ImportedLibrary))
+      → cond asked ((part_at true (libraries_of format offset_of bytes true) imports).value bytes)
+      (Some Absent) ≡ Some p
+      → (imports_left_out_at format offset_of bytes (cond asked imports None)).libraries ≡ 0
+      → IfRead (IsUnhidden (place_by offset_of imports)) p
+  unfolding import_data
+  import_data_unhidden false imports p e none =
+      let is : Absent ≡ p = same_value Absent p e in
+      rw (← is) tt
+  import_data_unhidden true None p e none =
+      let is : Absent ≡ p = same_value Absent p e in
+      rw (← is) tt
+  import_data_unhidden true (Some d) p e none =
+      let own = part_of-some ((libraries_of format offset_of bytes true d).value bytes) p e in
+      rw own.read
+      (data_unhidden format offset_of bytes (offset_of d.virtual_address) own.table own.is none)
+
+list_unhidden : (size : ℕ) (place : Option ℕ) (libraries : List ImportedLibrary)
+    (imports : List ImportValue) → imports_of size libraries ≡ Some imports
+    → IsUnhidden place libraries → IsUnhidden place imports
+list_unhidden size place libraries imports is (inl past) = inl past
+list_unhidden size place libraries imports is (inr none) =
+    let made : Some [] ≡ Some imports = sym (no_imports size) ∙ ap (imports_of size) (sym none) ∙ is in
+    inr (sym (same_value [] imports made))
+
+imports_unhidden : (size : ℕ) (place : Option ℕ) (from : Part (List ImportedLibrary))
+    (p : Part (List ImportValue)) → part_then true (imports_of size) from ≡ Some p
+    → IfRead (IsUnhidden place) from → IfRead (IsUnhidden place) p
+imports_unhidden size place Absent p e h =
+    let is : Absent ≡ p = same_value Absent p e in
+    rw (← is) tt
+imports_unhidden size place Refused p e h =
+    let is : Refused ≡ p = same_value Refused p e in
+    rw (← is) tt
+imports_unhidden size place (part.Read libraries) p e h =
+    let own = part_of-some (imports_of size libraries) p e in
+    rw own.read (list_unhidden size place libraries own.table own.is h)
+
 -- ---- the tables
 
 module _ (opts : ParseOptions) (offset_of : ℕ → Option ℕ) (places : TablePlaces) where
@@ -201,7 +284,7 @@ module _ (opts : ParseOptions) (offset_of : ℕ → Option ℕ) (places : TableP
   abbrev place : Option ℕ
   place = place_by offset_of places.imports
 
-  abbrev permissive_imports : Part (List ImportedLibrary) × Part (List ImportValue)
+  abbrev pub permissive_imports : Part (List ImportedLibrary) × Part (List ImportValue)
       → Part (List ImportedLibrary) × Part (List ImportValue)
   permissive_imports p = (part_map (unless_front place) p.0, part_map (unless_front place) p.1)
 
@@ -226,7 +309,7 @@ module _ (opts : ParseOptions) (offset_of : ℕ → Option ℕ) (places : TableP
       (same_value s.value p.0 first))
 
   -- what permissive mode has of tables that strict mode has
-  abbrev permissive_tables : TableParts → TableParts
+  abbrev pub permissive_tables : TableParts → TableParts
   permissive_tables t = record t { imports = permissive_imports t.imports }
 
   repeats-table_parts : RepeatsAs permissive_tables (table_parts strictly offset_of places)
@@ -240,6 +323,41 @@ module _ (opts : ParseOptions) (offset_of : ℕ → Option ℕ) (places : TableP
       (repeats-part_at (export_read offset_of) places.exports))
       (repeats-part_at (relocation_data offset_of) places.relocations))
       (λ all. refl)
+
+  module _ (bytes : List ℕ) (none : (left_out_of opts offset_of places bytes).libraries ≡ 0) where
+    imports_same : (p : Part (List ImportedLibrary) × Part (List ImportValue))
+        → (both_import_parts strictly offset_of places).value bytes ≡ Some p
+        → permissive_imports p ≡ p
+    unfolding both_import_parts import_data_part listed_imports_part left_out_of
+    imports_same p is =
+        let format = entry_format places.magic in
+        let s = step ((import_data_part strictly offset_of places).value bytes) _ p is in
+        let made = listed_imports_part strictly places s.value in
+        let first = pair_of-left (Some s.value) made p s.then in
+        let second = pair_of-right (Some s.value) made p s.then in
+        let read : IfRead (IsUnhidden place) s.value =
+        import_data_unhidden format offset_of bytes opts.parse_imports places.imports s.value s.is none in
+        let listed : IfRead (IsUnhidden place) p.1 =
+        imports_unhidden format.width place s.value p.1 second read in
+        let same : s.value ≡ p.0 = same_value s.value p.0 first in
+        let here : IfRead (IsUnhidden place) p.0 =
+        subst (λ (q : Part (List ImportedLibrary)). IfRead (IsUnhidden place) q) same read in
+        rw (part_unhidden place p.0 here, part_unhidden place p.1 listed) refl
+
+    -- permissive mode has the same tables where strict mode has them, and no library is left out
+    pub tables_same : (t : TableParts)
+        → (table_parts strictly offset_of places).value bytes ≡ Some t → permissive_tables t ≡ t
+    unfolding table_parts
+    tables_same t is =
+        let m = mapped _ _ t is in
+        let both = pair_of-left _ _ m.value m.is in
+        let imports = pair_of-left _ _ m.value.0 both in
+        let with_imports
+        : Part (List ImportedLibrary) × Part (List ImportValue) → TableParts =
+        λ i. record { imports = i; exports = m.value.0.1; relocations = m.value.1 } in
+        ap permissive_tables (sym m.made)
+        ∙ ap with_imports (imports_same m.value.0.0 imports)
+        ∙ m.made
 
 -- ---- a whole file
 

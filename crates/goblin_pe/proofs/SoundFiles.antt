@@ -1,4 +1,5 @@
--- A file of which nothing is damaged is one that strict mode reads.
+-- A file of which nothing is damaged is one that strict mode reads, and where no library is left out,
+-- permissive mode reads the same.
 use Rattle.std.proofs.Common.{◌≡◌, ℕ, ◌<◌, ◌^◌, List, length, Bool, true, false, Option, Some, None, IsSome, refl, sym, ap, subst, ◌∙◌, IfOk, IsSomeAnd, Result, Ok, Err, option_map}
 use Rattle.goblin_base.specs.declared.error.ErrorOf.{ErrorOf}
 use Rattle.goblin_base.specs.declared.permissive.ParseMode.TheVariants.{Strict}
@@ -15,13 +16,13 @@ use Rattle.goblin_pe_head.specs.HeaderReadings.{dos_header, header_after, pe_hea
 use Rattle.goblin_pe_head.specs.PeHeader.{PeHeader}
 use Rattle.goblin_pe_import.specs.declared.import.left_out.LeftOut.{LeftOut}
 use Rattle.goblin_pe.specs.declared.whole.damage.Damage.{Damage}
-use Rattle.goblin_pe.specs.Damages.{AreDamaged, IsDamage, IsDamaged, IsReadByBoth, IsSound, TellsDamage}
-use Rattle.goblin_pe.specs.Modes.{in_mode}
-use Rattle.goblin_pe.specs.Whole.{TablePlaces, WholeFile, both_import_parts, export_part, import_list, layout, offset_by}
+use Rattle.goblin_pe.specs.Damages.{AreDamaged, IsDamage, IsDamaged, IsReadByBoth, IsSound, TellsDamage, left_out_of}
+use Rattle.goblin_pe.specs.Modes.{in_mode, in_permissive_mode}
+use Rattle.goblin_pe.specs.Whole.{TableParts, TablePlaces, WholeFile, both_import_parts, export_part, import_list, layout, offset_by}
 use Rattle.goblin_pe.specs.Whole.{places_in, relocation_part, sections_after, table_parts, whole_file}
-use Rattle.goblin_pe.specs.Whole.{whole_with}
+use Rattle.goblin_pe.specs.Whole.{whole_of, whole_with}
 use Rattle.goblin_pe.proofs.ImportParts.{list_value}
-use Rattle.goblin_pe.proofs.PermissiveReads.{repeats-whole_file, sections_repeat}
+use Rattle.goblin_pe.proofs.PermissiveReads.{permissive_tables, repeats-whole_file, sections_repeat, tables_same}
 
 there : {A : Type 0} (reading : Reading A) (bytes : List ℕ) (damage : Option ErrorOf) → damage ≡ None → IsDamage reading bytes damage → IsSome (reading.value bytes)
 there reading bytes None is h = h
@@ -85,13 +86,15 @@ module _ (opts : ParseOptions) (bytes : List ℕ) (short : length bytes < 2 ^ 63
       (there (export_part (in_mode Strict opts) offset_of places) bytes exports no_exports damage.exports)
       (there (relocation_part (in_mode Strict opts) offset_of places) bytes relocations no_relocations damage.relocations))
 
-  with-there : (h : PeHeader) (s : List Section) → IsSome ((table_parts (in_mode Strict opts) (offset_by opts s (places_in h.optional_header)) (places_in h.optional_header)).value bytes) → IsSome ((whole_with (in_mode Strict opts) h s).value bytes)
-  unfolding whole_with file_offset
-  with-there h s parts = mapped-there _ _ parts
-
-  kept-by-both : (o : Option WholeFile) → (whole_file (in_mode Strict opts)).value bytes ≡ o → IsSome o → IsReadByBoth opts bytes
-  kept-by-both None is some = absurd cc
-  kept-by-both (Some w) is some = rw is ((repeats-whole_file opts).kept bytes w is)
+  -- strict mode reads a file of these tables, and permissive mode the same
+  alike : (h : PeHeader) (s : List Section) (tables : Option TableParts) → (table_parts (in_mode Strict opts) (offset_by opts s (places_in h.optional_header)) (places_in h.optional_header)).value bytes ≡ tables → IsSome tables → (left_out_of opts (offset_by opts s (places_in h.optional_header)) (places_in h.optional_header) bytes).libraries ≡ 0 → (whole_file (in_mode Strict opts)).value bytes ≡ (whole_with (in_mode Strict opts) h s).value bytes → IsReadByBoth opts bytes
+  unfolding whole_with in_permissive_mode file_offset
+  alike h s None is some none whole = absurd cc
+  alike h s (Some t) is some none whole =
+      let places = places_in h.optional_header in
+      let made : (whole_file (in_mode Strict opts)).value bytes ≡ Some (whole_of h s t) = whole ∙ ap (option_map (whole_of h s)) is in
+      let same : permissive_tables opts (offset_by opts s places) places t ≡ t = tables_same opts (offset_by opts s places) places bytes none t is in
+      rw made ((repeats-whole_file opts).kept bytes (whole_of h s t) made ∙ ap (λ (tables : TableParts). Some (whole_of h s tables)) same)
 
   sound_read : (l : PeHeader × List Section) (d : Damage) → (layout opts).value bytes ≡ Some l → IsDamaged opts l.0 l.1 bytes d → IsSound d → IsReadByBoth opts bytes
   unfolding layout whole_file
@@ -106,7 +109,8 @@ module _ (opts : ParseOptions) (bytes : List ℕ) (short : length bytes < 2 ^ 63
       let sections = same-sections bytes opts strict l.0 l.1 own _ refl (there (sections_after true l.0) bytes d.section_names sound.section_names damaged.section_names) in
       let parts = tables-there (offset_by opts l.1 (places_in l.0.optional_header)) (places_in l.0.optional_header) d.imports d.exports d.relocations d.left_out sound.imports sound.exports sound.relocations damaged.tables in
       let whole : (whole_file (in_mode Strict opts)).value bytes ≡ (whole_with (in_mode Strict opts) l.0 l.1).value bytes = rw (header, sections) refl in
-      kept-by-both _ refl (subst IsSome (sym whole) (with-there l.0 l.1 parts))
+      let left_out = ap (λ (x : LeftOut). x.libraries) damaged.tables.left_out in
+      alike l.0 l.1 _ refl parts (sym left_out ∙ sound.libraries) whole
 
   told : (o : Option (PeHeader × List Section)) (d : Damage) → (layout opts).value bytes ≡ o → IsSomeAnd o (λ l. IsDamaged opts l.0 l.1 bytes d) → IsSound d → IsReadByBoth opts bytes
   told None d is damaged sound = absurd damaged

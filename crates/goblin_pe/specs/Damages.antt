@@ -13,12 +13,12 @@ use Rattle.goblin_pe_head.specs.HeaderReadings.{stub_at}
 use Rattle.goblin_pe_head.specs.PeHeader.{PeHeader}
 use Rattle.goblin_pe_import.specs.declared.import.left_out.LeftOut.{LeftOut}
 use Rattle.goblin_pe_import.specs.ImportEntries.{EntryValue}
-use Rattle.goblin_pe_import.specs.LeftOut.{entries_left_out, libraries_left_out}
+use Rattle.goblin_pe_import.specs.LeftOut.{entries_left_out, libraries_left_out, unmapped_entries}
 use Rattle.goblin_pe_export.specs.ExportReadings.{export_read}
 use Rattle.goblin_pe_export.specs.ExportRecords.{ExportRow, ExportTables}
 use Rattle.goblin_pe_export.specs.LeftOutExports.{pointers_left_out}
 use Rattle.goblin_pe.specs.declared.whole.damage.Damage.{Damage}
-use Rattle.goblin_pe.specs.Modes.{in_mode, in_permissive_mode}
+use Rattle.goblin_pe.specs.Modes.{in_mode}
 use Rattle.goblin_pe.specs.Whole.{TablePlaces, entry_format, export_part, import_list, layout}
 use Rattle.goblin_pe.specs.Whole.{offset_by, places_in, relocation_part, sections_after, whole_file}
 
@@ -31,13 +31,15 @@ IsDamageOf value IsCause (Some e) = (value ≡ None) × IsCause e
 abbrev pub IsDamage : {A : Type 0} → Reading A → List ℕ → Option ErrorOf → Type 0
 IsDamage reading bytes damage = IsDamageOf (reading.value bytes) (reading.IsCause bytes) damage
 
--- how much permissive mode leaves out of the imports that a directory leads to, if there is one
+-- how much is left out of the imports that a directory leads to, if there is one
 abbrev pub imports_left_out_at : Format EntryValue → (ℕ → Option ℕ) → List ℕ
     → Option DataDirectory → LeftOut
-imports_left_out_at format offset_of bytes None = record { libraries = 0; entries = 0 }
+imports_left_out_at format offset_of bytes None =
+    record { libraries = 0; entries = 0; unmapped_entries = 0 }
 imports_left_out_at format offset_of bytes (Some d) = record {
   libraries = libraries_left_out format offset_of bytes d.virtual_address;
   entries = min (entries_left_out format offset_of bytes d.virtual_address) (2 ^ 64 - 1);
+  unmapped_entries = min (unmapped_entries format offset_of bytes d.virtual_address) (2 ^ 64 - 1);
 }
 
 -- the same of a file's imports; nothing where they are not asked for
@@ -87,17 +89,17 @@ TellsDamage opts bytes (Ok d) =
 TellsDamage opts bytes (Err e) =
     ¬ IsMemory e → ((layout opts).value bytes ≡ None) × (layout opts).IsCause bytes e
 
--- nothing is damaged
+-- nothing is damaged, and no library is left out
 pub record IsSound (d : Damage) : Type 0 where
   pub dos_stub : d.dos_stub ≡ None
   pub section_names : d.section_names ≡ None
   pub imports : d.imports ≡ None
   pub exports : d.exports ≡ None
   pub relocations : d.relocations ≡ None
+  pub libraries : d.left_out.libraries ≡ 0
 
--- Strict mode reads the file, and permissive mode reads the same, but for imports from the front of
--- the file.
+-- Both modes read the file, and read the same.
 abbrev pub IsReadByBoth : ParseOptions → List ℕ → Type 0
 IsReadByBoth opts bytes =
     IsSomeAnd ((whole_file (in_mode Strict opts)).value bytes) (λ w.
-    (whole_file (in_mode Permissive opts)).value bytes ≡ Some (in_permissive_mode opts w))
+    (whole_file (in_mode Permissive opts)).value bytes ≡ Some w)

@@ -1,5 +1,5 @@
 -- One reader in both modes: where strict mode has a value, permissive mode has the same; but an
--- import directory at file offset 0 is an empty list there.
+-- import directory at file offset 0 is an empty list there, whatever it holds.
 use Rattle.std.specs.Prelude.{◌≡◌, ℕ, ◌==◌, Bool, false, if◌then◌else◌, List, [], Option, None}
 use Rattle.std.specs.Prelude.{Some, Result}
 use Rattle.goblin_base.specs.declared.error.ErrorOf.{ErrorOf}

@@ -74,7 +74,7 @@ pub record AreAlike {D Y : Type 0} (plain : D → Y) (first second : TablesOf D)
   pub value : Alike plain first.value second.value
 
 -- Each reader in strict mode and in permissive mode: where strict mode has a value, permissive mode
--- has the same; but an import directory at file offset 0 is an empty list there.
+-- has the same, but of imports the list that `unless_front` says.
 pub record AreInModes {D Y : Type 0} (format : Format EntryValue) (plain : D → Y)
     (value_of : Endian → List ℕ → Option (Y × ℕ))
     (refusal : Endian → List ℕ → ErrorOf → Type 0)

@@ -17,8 +17,9 @@
 //!
 //! The calls whose names begin with `mode` read one file in both modes, and
 //! [`reorder_whole_tables`] reads it under two tables of sections. Permissive mode repeats what
-//! strict mode reads; but an import directory at file offset 0 is an empty list there, without
-//! damage. The order of sections changes nothing where their windows are disjoint.
+//! strict mode reads, but for the imports of which
+//! [`ParseOptions::parse_mode`](crate::options::ParseOptions::parse_mode) tells. The order of
+//! sections changes nothing where their windows are disjoint.
 
 mod footprint;
 mod header;

@@ -99,8 +99,8 @@ impl<'a> Whole<'a> {
     ///
     /// A table is absent where there is no optional header or no directory for it; the imports also
     /// where they are not asked for. In permissive mode a table that is refused is
-    /// [`Part::Refused`], and so is the list that would be made from it; but an import directory at
-    /// file offset 0 is an empty list there, without damage.
+    /// [`Part::Refused`], and so is the list that would be made from it. What these lack of the
+    /// imports and the exports is counted by [`Whole::damage`].
     ///
     /// # Errors
     /// As [`Header::parse_with_opts`]; as

@@ -35,9 +35,8 @@ use std::alloc::Global;
 /// says in `count` how many, and leaves in `position` where the next call goes on. With room for
 /// any, a `count` of 0 is the end. Zeros are the position of the first import; a file without an
 /// import directory, or imports that are not asked for, have none, and in permissive mode neither
-/// has a directory without a file offset, or at the offset 0. Where nothing is left, and there
-/// is room for more, the position's `is_begun` is true, and its other fields are 0; without room the
-/// position stays.
+/// has a directory that is an empty list there. Where nothing is left, and there is room for more,
+/// the position's `is_begun` is true, and its other fields are 0; without room the position stays.
 ///
 /// The sections and the import directory lie where `places` says, as
 /// [`goblin_pe_raw_read_layout`](crate::whole_file::goblin_pe_raw_read_layout) and

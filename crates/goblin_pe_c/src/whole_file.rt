@@ -107,8 +107,8 @@ pub extern "C" fn goblin_pe_raw_read_layout<'a>(
 
 /// Tells in `damage` what strict mode would refuse of a file, part by part, where its header and
 /// its sections are read as the options say. Each part is read for itself: damage of one says
-/// nothing of the others. A file without damage is one that strict mode reads, and permissive mode
-/// alike; but an import directory at file offset 0 is an empty list there, without damage.
+/// nothing of the others. A file without damage, of which no library is left out, is one that both
+/// modes read, and read alike.
 ///
 /// No table is listed: memory is taken only for an index of more than 96 sections, and given back
 /// before the call returns. Refused are a header or sections that these options refuse, and memory

@@ -25,6 +25,7 @@ damage_record d = record {
   relocations = part_fault d.relocations;
   left_out_libraries = d.left_out.libraries;
   left_out_entries = d.left_out.entries;
+  unmapped_entries = d.left_out.unmapped_entries;
   left_out_exports = d.left_out_exports;
 }
 

@@ -30,10 +30,14 @@ pub struct PeDamage {
     /// The base relocations: their directory, not its blocks.
     pub relocations: PeFault,
     /// How many libraries permissive mode leaves out of the imports: those without an address
-    /// table.
+    /// table; of a directory at file offset 0 all.
     pub left_out_libraries: usize,
-    /// How many entries of the other libraries it leaves out.
+    /// How many entries it leaves out of libraries that have an address table: those whose hint is
+    /// not whole; of a directory at file offset 0 all but those that lead nowhere.
     pub left_out_entries: usize,
+    /// How many entries of these libraries give no import, in either mode: they lead nowhere, since
+    /// the address of their hint and name has no file offset.
+    pub unmapped_entries: usize,
     /// How many name pointers of the export directory give no export, in either mode: there is no
     /// ordinal, the ordinal lies past the address table, or it leads to a forwarder whose text
     /// cannot be read. 0 where there is no export directory, or it is refused.
@@ -62,6 +66,7 @@ fn damage_record(damage: &Damage) -> PeDamage
         relocations: part_fault(&damage.relocations),
         left_out_libraries: damage.left_out.libraries,
         left_out_entries: damage.left_out.entries,
+        unmapped_entries: damage.left_out.unmapped_entries,
         left_out_exports: damage.left_out_exports,
     }
 }

@@ -1,8 +1,9 @@
 -- Tables of slots: the loop that adds up what the entries before the stop amount to.
-use Rattle.std.proofs.Common.{◌≡◌, ◌≤◌, ◌+◌, ℕ, zero, suc, Bool, true, false, Option, Some, None}
-use Rattle.std.proofs.Common.{List, sym, ap, ◌∙◌, refl, arith, add-one, mul-le-mul_left}
+use Rattle.std.proofs.Common.{◌≡◌, ◌≤◌, ◌<◌, ◌+◌, ℕ, zero, suc, Bool, true, false, Option, Some}
+use Rattle.std.proofs.Common.{None, List, length, sym, ap, ◌∙◌, refl, arith, add-one, mul-le-mul_left}
 use Rattle.std.specs.Int.{from_bool}
-use Rattle.goblin_base.specs.Tables.{SlotFormat, ends_table, slot_at}
+use Rattle.goblin_base.specs.Tables.{SlotFormat, ends_table, slot_at, stop}
+use Rattle.goblin_base.proofs.Below.{least-before}
 use Rattle.goblin_base.proofs.SlotTables.{Reaches, reach-next, reach-start, reach-stop, reach-value, reads}
 use Rattle.goblin_pe_import.specs.LeftOut.{amount_of, sum_below, sum_of_slots}
 
@@ -19,6 +20,12 @@ sum_below-few : (f : ℕ → ℕ) (n : ℕ) → ((i : ℕ) → f i ≤ 1) → su
 unfolding sum_below
 sum_below-few f zero few = omega arith
 sum_below-few f (suc n) few = omega (arith, sum_below-few f n few, few n)
+
+-- a sum of numbers that are at least 1 is 0 only where there are none
+sum_below-none : (f : ℕ → ℕ) (n : ℕ) → ((i : ℕ) → i < n → 1 ≤ f i) → sum_below f n ≡ 0 → n ≡ 0
+unfolding sum_below
+sum_below-none f zero some none = refl
+sum_below-none f (suc n) some none = absurd (omega (arith, some n (omega arith), none))
 
 pub from_bool-few : (test : Bool) → from_bool test ≤ 1
 from_bool-few true = omega arith
@@ -84,3 +91,16 @@ sum-few {V} slots test bytes o place sum h =
 
     few_at : (i : ℕ) → amount_at i ≤ 1
     few_at i = few_of (slot_at slots bytes o i)
+
+-- a table whose entries amount to 1 and more has none where they amount to 0
+pub sum-none : {V : Type 0} (slots : SlotFormat V) (amount : V → ℕ) (bytes : List ℕ) (o : ℕ)
+    → ((v : V) → 1 ≤ amount v) → sum_of_slots slots amount bytes o ≡ 0 → stop slots bytes o ≡ 0
+unfolding sum_of_slots stop
+sum-none {V} slots amount bytes o some none =
+    let ends : ℕ → Bool = λ i. ends_table slots.is_last (slot_at slots bytes o i) in
+    sum_below-none (λ i. amount_of amount (slot_at slots bytes o i)) (stop slots bytes o)
+    (λ i below. some_of (slot_at slots bytes o i) (least-before ends (length bytes) i below)) none
+  where
+    some_of : (slot : Option V) → ends_table slots.is_last slot ≡ false → 1 ≤ amount_of amount slot
+    some_of None z = absurd cc
+    some_of (Some v) z = some v

@@ -155,7 +155,7 @@ impl<'a> ImportData<'a> {
     ///
     /// In permissive mode a record is left out if its library is refused for another cause than
     /// memory, the directory ends at the end of the file, and it is empty if its address has no
-    /// file offset; an import directory at file offset 0 is an empty list there, without damage.
+    /// file offset, or as [`ParseOptions::parse_mode`] says. [`LeftOut`] counts what is left out.
     ///
     /// # Errors
     /// In strict mode [`Error::Malformed`] with [`Cause::Unmapped`] if the directory's address has

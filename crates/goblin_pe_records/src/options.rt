@@ -36,8 +36,9 @@ const _: () = prove!(
 #[repr(C)]
 #[derive(Copy, Clone)]
 pub struct PeOptions {
-    /// Whether damaged parts are passed over, in permissive mode; an import directory at file
-    /// offset 0 is an empty list there, without damage.
+    /// Whether damaged parts are passed over, in permissive mode. An import directory at file
+    /// offset 0 is an empty list there, whatever it holds; the damage of a file tells what strict
+    /// mode would refuse of it, and how much is left out.
     pub is_permissive: bool,
     /// Whether an address is mapped to a file offset by the sections; where not, it is the offset.
     pub resolve_rva: bool,

@@ -5,7 +5,7 @@
 //! |---|---|
 //! | `header machine=H sections=D magic=H entry=H` | always; without an optional header up to `sections=D` |
 //! | `section va=H vsize=H raw=H ptr=H name=N` | each section; the name from the string table, else the eight bytes up to a NUL |
-//! | `imports absent` or `imports D` | always; permissive mode makes an empty list (`imports 0`) of a directory without a file offset, or at file offset 0 |
+//! | `imports absent` or `imports D` | always; `imports 0` also of a directory that permissive mode takes as empty |
 //! | `import offset=H ordinal=D rva=H size=D slot=D dll=N name=N` | each import |
 //! | `exports absent`, `exports refused` or `exports D` | always; `refused` in permissive mode alone, since strict mode refuses the file |
 //! | `export rva=H offset=H forward=N name=N` | each export; what there is none of is left out, and a forwarder is `library.name` or `library.#D` |

@@ -67,7 +67,8 @@ fn show_count(rt: &HostRuntime, count: usize, end: &Option<Error>) -> io::Result
     }
 }
 
-/// Shows what strict mode would refuse of a file that permissive mode reads: a line for each part.
+/// Shows what strict mode would refuse of a file that permissive mode reads, a line for each part,
+/// and how much is left out.
 pub fn show_damage(rt: &HostRuntime, file: &[u8]) -> io::Result<()> {
     let opts = in_mode(ParseMode::Permissive);
     let damage = Whole::damage(rt.alloc(), file, &opts).map_err(refused)?;
@@ -75,7 +76,10 @@ pub fn show_damage(rt: &HostRuntime, file: &[u8]) -> io::Result<()> {
     show_part(rt, "section names", &damage.section_names)?;
     show_part(rt, "imports", &damage.imports)?;
     show_part(rt, "exports", &damage.exports)?;
-    show_part(rt, "relocations", &damage.relocations)
+    show_part(rt, "relocations", &damage.relocations)?;
+    let left_out = damage.left_out;
+    println!(rt; "left out: {} libraries, {} entries", left_out.libraries, left_out.entries)?;
+    println!(rt; "by both modes: {} entries", left_out.unmapped_entries)
 }
 
 fn show_part(rt: &HostRuntime, part: &str, damage: &Option<Error>) -> io::Result<()> {

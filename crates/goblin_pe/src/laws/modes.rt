@@ -67,8 +67,8 @@ fn whole_in<'a>(
 /// A whole file in strict and in permissive mode, with all other options of `opts`. A refusal of
 /// one, even `Error::Memory`, is returned in its place, and the other still runs.
 ///
-/// Where strict mode has a value, permissive mode has the same, unless it returns `Error::Memory`;
-/// but an import directory at file offset 0 is an empty list there, without damage.
+/// Where strict mode has a value, permissive mode has the same, unless it returns `Error::Memory`,
+/// or the imports are those of which [`ParseOptions::parse_mode`] tells.
 #[tactic(auto, using(crate::proofs::PermissiveReads::whole_in_modes))]
 pub fn mode_whole<'a>(
     alloc: Global,
@@ -95,8 +95,7 @@ pub fn mode_whole<'a>(
 /// place, and the others still run.
 ///
 /// Where a reader has a value in strict mode, it has the same in permissive mode, unless it returns
-/// `Error::Memory`; but an import directory at file offset 0 is an empty list there, without
-/// damage.
+/// `Error::Memory`, or the imports are those of which [`ParseOptions::parse_mode`] tells.
 pub fn mode_tables<'a, 'e, T: Bitfield<'a>, D: TryFromCtx<'a>>(
     alloc: Global,
     bytes: &'a [u8],

@@ -39,7 +39,7 @@ pub struct Damage {
     pub exports: Option<Error>,
     /// The base relocations: their directory, not its blocks.
     pub relocations: Option<Error>,
-    /// How much permissive mode leaves out of the imports; nothing where they are not asked for.
+    /// How much is left out of the imports; nothing where they are not asked for.
     pub left_out: LeftOut,
     /// How many name pointers of the export directory give no export, in either mode: there is no
     /// ordinal, the ordinal lies past the address table, or it leads to a forwarder whose text
@@ -94,8 +94,8 @@ fn name_damage(bytes: &[u8], header: &Header) -> Option<Error>
     section_records_of(bytes, header, &ParseOptions::default()).err()
 }
 
-// What strict mode refuses of the imports, the exports and the base relocations, and how much
-// permissive mode leaves out of the imports.
+// What strict mode refuses of the imports, the exports and the base relocations, and how much is
+// left out of the imports.
 fn table_damage(layout: Layout) -> (Option<Error>, Option<Error>, Option<Error>, LeftOut)
     ensures { let m = layout_map layout.entry in
         AreDamaged m.opts (offset_of m) (layout_places layout.entry) (layout_bytes layout.entry)
@@ -140,8 +140,8 @@ impl Whole<'_> {
     /// only for what maps the addresses of a file of more than 96 sections. A file can list very
     /// many imports; each is looked at.
     ///
-    /// A file without damage is one that strict mode reads, and permissive mode alike; but an
-    /// import directory at file offset 0 is an empty list there, without damage.
+    /// A file without damage, of which no library is left out, is one that both modes read, and read
+    /// alike.
     ///
     /// # Errors
     /// As [`Header::parse_with_opts`]; as

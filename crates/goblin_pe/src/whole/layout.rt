@@ -247,7 +247,8 @@ impl<'a> Layout<'a> {
         self.records
     }
 
-    /// The imports that the import directory leads to, one by one, where they are asked for.
+    /// The imports that the import directory leads to, one by one, where they are asked for. What
+    /// gives none is counted by [`Layout::left_out`], by its `unmapped_entries` in either mode.
     ///
     /// # Errors
     /// In strict mode as [`Imports::of`](crate::import::Imports::of).
@@ -372,7 +373,7 @@ impl<'a> Layout<'a> {
         self.places.relocations(self.bytes, &self.address_map)
     }
 
-    /// How much permissive mode leaves out of the imports; nothing where they are not asked for.
+    /// How much is left out of the imports; nothing where they are not asked for.
     #[tactic(auto, unfolding(crate::specs::Damages::left_out_of))]
     pub fn left_out(&self) -> LeftOut
         ensures { let m = layout_map self.now in
@@ -434,7 +435,7 @@ impl<'a> Layout<'a> {
         }
     }
 
-    // How much permissive mode leaves out of the imports of a directory.
+    // How much is left out of the imports of a directory.
     #[tactic(auto, unfolding(crate::specs::Whole::entry_format))]
     fn imports_left_out_at(&self, directory: DataDirectory) -> LeftOut
         ensures { let format = entry_format (layout_places self.now).magic in

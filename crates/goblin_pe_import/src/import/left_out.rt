@@ -1,6 +1,6 @@
-//! How much permissive mode leaves out of the imports of an image.
+//! How much is left out of the imports of an image.
 
-ghost use Rattle.std.specs.Prelude.{◌≡◌, min};
+ghost use Rattle.std.specs.Prelude.{◌≡◌, ◌==◌, min};
 ghost use Rattle.std.specs.Int.{from_bool};
 ghost use Rattle.goblin_pe_sect.specs.Addresses.{map_of, offset_of};
 ghost use Rattle.goblin_pe_import.specs.LeftOut as left_out;
@@ -8,73 +8,90 @@ ghost use Rattle.goblin_pe_import.specs.LeftOut as left_out;
 use crate::import::address_table::test_address_table;
 use crate::import::bitfield::Bitfield;
 use crate::import::directory_entry::{ImportDirectoryEntry, SIZEOF_IMPORT_DIRECTORY_ENTRY};
-use crate::import::library::{first_record_offset, lookup_offset};
+use crate::import::library::lookup_offset;
 use crate::import::slots::{next_entry, next_record};
 use goblin_base::pread_slice;
 use goblin_pe_sect::address_map::{AddressMap, Finder};
 use goblin_pe_sect::data_directories::DataDirectory;
 
-/// How much permissive mode leaves out of the imports of a directory.
+/// How much is left out of the imports of a directory: what permissive mode leaves out, which
+/// strict mode reads or refuses, and what both modes do.
 ///
 /// Source: PE Format, "Import Directory Table" and "Import Lookup Table".
 #[derive(Debug, Copy, Clone, PartialEq, Eq, Default)]
 pub struct LeftOut {
-    /// How many libraries: those of records that lead to no library, since they have no address
-    /// table.
+    /// How many libraries permissive mode leaves out: those of records that lead to none, since
+    /// they have no address table; of a directory at file offset 0 all.
     pub libraries: usize,
-    /// How many entries of the lookup tables of the other libraries: those whose hint is not whole;
-    /// [`usize::MAX`] if there are more. Entries that lead nowhere, which both modes leave out, do
-    /// not count.
+    /// How many entries it leaves out of the lookup tables of libraries that have an address table:
+    /// those whose hint is not whole; of a directory at file offset 0 all but those that lead
+    /// nowhere. [`usize::MAX`] if there are more.
     pub entries: usize,
+    /// How many entries of these tables both modes leave out, since they lead nowhere: the address
+    /// of their hint and name has no file offset. [`usize::MAX`] if there are more.
+    pub unmapped_entries: usize,
 }
 
-// Whether an entry is left out: its address has an offset, but no whole hint is there.
+// Whether permissive mode leaves an entry out, and whether both modes do.
 #[tactic(auto, unfolding(crate::specs::LeftOut::is_entry_left_out, crate::specs::LookupReadings::kept_entry, crate::specs::LookupReadings::hint_name))]
 fn is_entry_left_out<'a, T: Bitfield<'a>>(
     entry: &T,
     bytes: &'a [u8],
+    is_front: bool,
     address_map: &AddressMap,
-) -> bool
-    ensures { let m = map_of address_map.now in
-        result ≡ left_out.is_entry_left_out (offset_of m) bytes.now (T.value entry.now) }
+) -> (bool, bool)
+    ensures left_out { let m = map_of address_map.now in
+        result.0 ≡ left_out.is_entry_left_out is_front (offset_of m) bytes.now (T.value entry.now) }
+    ensures unmapped { let m = map_of address_map.now in
+        result.1 ≡ left_out.is_unmapped (offset_of m) (T.value entry.now) }
 {
     if entry.is_ordinal() {
-        return false;
+        return (is_front, false);
     }
     match address_map.offset_of(entry.to_rva()) {
-        Some(offset) => pread_slice(bytes, offset, 2).is_err(),
-        None => false,
+        Some(offset) => (is_front || pread_slice(bytes, offset, 2).is_err(), false),
+        None => (false, true),
     }
 }
 
-// How many entries are left out of the lookup table at an offset.
+// How many entries of the lookup table at an offset permissive mode leaves out, and how many both
+// modes do.
 fn entries_of_table<'a, T: Bitfield<'a>>(
     bytes: &'a [u8],
     offset: usize,
+    is_front: bool,
     address_map: &AddressMap,
-) -> usize
-    ensures { let m = map_of address_map.now in
-        result ≡ left_out.entries_of_table T.format (offset_of m) bytes.now offset }
+) -> (usize, usize)
+    ensures left_out { let m = map_of address_map.now in
+        result.0
+        ≡ left_out.entries_of_table (left_out.is_entry_left_out is_front (offset_of m) bytes.now)
+        T.format bytes.now offset }
+    ensures unmapped { let m = map_of address_map.now in
+        result.1
+        ≡ left_out.entries_of_table (left_out.is_unmapped (offset_of m)) T.format bytes.now offset }
 {
     let size = T::size_of();
     let mut entries = 0;
+    let mut unmapped = 0;
     let mut place = offset;
     'slots: while let Some(entry) = next_entry::<T>(bytes, place) {
-        entries += usize::from(is_entry_left_out(&entry, bytes, address_map));
+        let more = is_entry_left_out(&entry, bytes, is_front, address_map);
+        entries += usize::from(more.0);
+        unmapped += usize::from(more.1);
         place += size;
     }
-    entries
+    (entries, unmapped)
 }
 
-// Whether the library of a record is left out: it has no address table.
+// Whether a record leads to no library: it has no address table.
 #[tactic(auto, using(crate::proofs::LeftOutLibraries::library_left_out))]
-fn is_library_left_out<'a, T: Bitfield<'a>>(
+fn leads_to_none<'a, T: Bitfield<'a>>(
     bytes: &'a [u8],
     entry: &ImportDirectoryEntry,
     address_map: &AddressMap,
 ) -> bool
     ensures { let m = map_of address_map.now in
-        result ≡ left_out.is_library_left_out T.format (offset_of m) bytes.now entry.now }
+        result ≡ left_out.leads_to_none T.format (offset_of m) bytes.now entry.now }
 {
     test_address_table::<T>(bytes, entry, address_map).is_err()
 }
@@ -84,27 +101,36 @@ fn is_library_left_out<'a, T: Bitfield<'a>>(
 fn of_record<'a, T: Bitfield<'a>>(
     bytes: &'a [u8],
     entry: &ImportDirectoryEntry,
+    is_front: bool,
     address_map: &AddressMap,
 ) -> LeftOut
     ensures libraries { let m = map_of address_map.now in
         result.libraries
-        ≡ from_bool (left_out.is_library_left_out T.format (offset_of m) bytes.now entry.now) }
+        ≡ from_bool
+        (left_out.is_library_left_out is_front T.format (offset_of m) bytes.now entry.now) }
     ensures entries { let m = map_of address_map.now in
-        result.entries ≡ left_out.entries_of_record T.format (offset_of m) bytes.now entry.now }
+        result.entries
+        ≡ left_out.entries_of_record (left_out.is_entry_left_out is_front (offset_of m) bytes.now)
+        T.format (offset_of m) bytes.now entry.now }
+    ensures unmapped { let m = map_of address_map.now in
+        result.unmapped_entries
+        ≡ left_out.entries_of_record (left_out.is_unmapped (offset_of m)) T.format (offset_of m)
+        bytes.now entry.now }
 {
-    if is_library_left_out::<T>(bytes, entry, address_map) {
+    if leads_to_none::<T>(bytes, entry, address_map) {
         return LeftOut {
             libraries: 1,
-            entries: 0,
+            ..LeftOut::default()
         };
     }
-    let entries = match lookup_offset(entry, &mut Finder::of(address_map)) {
-        Some(offset) => entries_of_table::<T>(bytes, offset, address_map),
-        None => 0,
+    let (entries, unmapped_entries) = match lookup_offset(entry, &mut Finder::of(address_map)) {
+        Some(offset) => entries_of_table::<T>(bytes, offset, is_front, address_map),
+        None => (0, 0),
     };
     LeftOut {
-        libraries: 0,
+        libraries: usize::from(is_front),
         entries,
+        unmapped_entries,
     }
 }
 
@@ -118,25 +144,34 @@ fn of_directory<'a, T: Bitfield<'a>>(
         result.libraries ≡ left_out.libraries_of_directory T.format (offset_of m) bytes.now offset }
     ensures entries { let m = map_of address_map.now in
         result.entries
-        ≡ min (left_out.entries_of_directory T.format (offset_of m) bytes.now offset) usize.MAX }
+        ≡ min (left_out.left_out_of_directory T.format (offset_of m) bytes.now offset) usize.MAX }
+    ensures unmapped { let m = map_of address_map.now in
+        result.unmapped_entries
+        ≡ min (left_out.unmapped_of_directory T.format (offset_of m) bytes.now offset) usize.MAX }
 {
+    let is_front = offset == 0;
     let mut libraries = 0;
     let mut entries = 0usize;
+    let mut unmapped_entries = 0usize;
     let mut place = offset;
     'records: while let Some(record) = next_record(bytes, place) {
-        let more = of_record::<T>(bytes, &record, address_map);
+        let more = of_record::<T>(bytes, &record, is_front, address_map);
         libraries += more.libraries;
         entries = entries.saturating_add(more.entries);
+        unmapped_entries = unmapped_entries.saturating_add(more.unmapped_entries);
         place += SIZEOF_IMPORT_DIRECTORY_ENTRY;
     }
-    LeftOut { libraries, entries }
+    LeftOut {
+        libraries,
+        entries,
+        unmapped_entries,
+    }
 }
 
 impl LeftOut {
-    /// How much permissive mode leaves out of the imports of the directory at the address of
-    /// `directory`, by entries of type `T` and whatever the mode of `address_map`. Nothing is left
-    /// out of a directory at file offset 0, or whose address has no file offset: permissive mode
-    /// takes it as empty. No memory is taken.
+    /// How much is left out of the imports of the directory at the address of `directory`, by
+    /// entries of type `T` and whatever the mode of `address_map`; nothing where that address has
+    /// no file offset, which strict mode refuses. No memory is taken.
     pub fn of<'a, T: Bitfield<'a>>(
         bytes: &'a [u8],
         directory: DataDirectory,
@@ -149,8 +184,12 @@ impl LeftOut {
             let rva = directory.virtual_address in
             result.entries
             ≡ min (left_out.entries_left_out T.format (offset_of m) bytes.now rva) usize.MAX }
+        ensures unmapped { let m = map_of address_map.now in
+            let rva = directory.virtual_address in
+            result.unmapped_entries
+            ≡ min (left_out.unmapped_entries T.format (offset_of m) bytes.now rva) usize.MAX }
     {
-        match first_record_offset(address_map.offset_of(directory.virtual_address), false) {
+        match address_map.offset_of(directory.virtual_address) {
             Some(offset) => of_directory::<T>(bytes, offset, address_map),
             None => LeftOut::default(),
         }

@@ -1,4 +1,4 @@
-use Rattle.std.proofs.Common.{◌^◌, ◌+◌, ◌-◌, ℕ, ap, refl, ◌∙◌, arith, lit≤, min}
+use Rattle.std.proofs.Common.{◌^◌, ◌+◌, ◌-◌, ◌==◌, ℕ, ap, refl, ◌∙◌, arith, lit≤, min}
 use Rattle.goblin_base.proofs.Records.{record_at-some}
 use Rattle.goblin_pe_sect.specs.Addresses.{map_of, offset_of}
 use Rattle.goblin_base.specs.declared.endian.Endian.TheVariants.{Little}
@@ -8,7 +8,11 @@ use Rattle.goblin_pe_import.proofs.SlotSums.{from_bool-few, sum-few, sum-next, s
 use Rattle.goblin_pe_import.proofs.import.left_out.of_directory.Goals as goal
 
 pub records-init : goal.records-init
-records-init g c = (sum-start _ _ _ _ (lit≤ tt), (0, sum-start _ _ _ _ (lit≤ tt), refl))
+records-init g c = (
+  sum-start _ _ _ _ (lit≤ tt),
+  (0, sum-start _ _ _ _ (lit≤ tt), refl),
+  (0, sum-start _ _ _ _ (lit≤ tt), refl),
+)
 
 pub overflow_add-libraries : goal.overflow_add-libraries
 overflow_add-libraries g c =
@@ -18,18 +22,25 @@ overflow_add-libraries g c =
     c.in-Some.ensures.0 in
     let one =
     from_bool-few
-    (is_library_left_out g.T.Bitfield.format (offset_of (map_of c.args.address_map.now))
-    c.args.bytes.now c.in-Some.«record») in
+    (is_library_left_out (c.args.offset == 0) g.T.Bitfield.format
+    (offset_of (map_of c.args.address_map.now)) c.args.bytes.now c.in-Some.«record») in
     omega (arith, few, there.start, c.of_record-more.ensures.libraries, one)
 
 pub records-preserved : goal.records-preserved
 records-preserved g c =
-    let more = c.of_record-more.ensures in (
+    let more = c.of_record-more.ensures in
+    let entries = c.records.invariant.1 in
+    let unmapped = c.records.invariant.2 in (
       sum-next _ _ _ _ _ _ c.records.invariant.0 _ _ c.in-Some.ensures.0 c.in-Some.ensures.1 more.libraries,
       (
-        c.records.invariant.1.0 + c.of_record-more.result.entries,
-        sum-next _ _ _ _ _ _ c.records.invariant.1.1 _ _ c.in-Some.ensures.0 c.in-Some.ensures.1 more.entries,
-        omega (arith, c.records.invariant.1.2, c.saturating_add-entries.ensures),
+        entries.0 + c.of_record-more.result.entries,
+        sum-next _ _ _ _ _ _ entries.1 _ _ c.in-Some.ensures.0 c.in-Some.ensures.1 more.entries,
+        omega (arith, entries.2, c.saturating_add-entries.ensures),
+      ),
+      (
+        unmapped.0 + c.of_record-more.result.unmapped_entries,
+        sum-next _ _ _ _ _ _ unmapped.1 _ _ c.in-Some.ensures.0 c.in-Some.ensures.1 more.unmapped,
+        omega (arith, unmapped.2, c.saturating_add-unmapped_entries.ensures),
       ),
     )
 
@@ -39,6 +50,12 @@ returns-clause-libraries g c =
 
 pub returns-clause-entries : goal.returns-clause-entries
 returns-clause-entries g c =
-    c.records.invariant.1.2
-    ∙ ap (λ (n : ℕ). min n (2 ^ 64 - 1))
-    (sum-stop _ _ _ _ _ _ c.records.invariant.1.1 c.in_default.ensures)
+    let entries = c.records.invariant.1 in
+    entries.2
+    ∙ ap (λ (n : ℕ). min n (2 ^ 64 - 1)) (sum-stop _ _ _ _ _ _ entries.1 c.in_default.ensures)
+
+pub returns-clause-unmapped : goal.returns-clause-unmapped
+returns-clause-unmapped g c =
+    let unmapped = c.records.invariant.2 in
+    unmapped.2
+    ∙ ap (λ (n : ℕ). min n (2 ^ 64 - 1)) (sum-stop _ _ _ _ _ _ unmapped.1 c.in_default.ensures)
