@@ -45,7 +45,7 @@ def metadata():
 def needed(library):
     """The version of the C library that a shared library needs, as its two numbers; manylinux knows none below 2.5."""
     found = re.findall(rb"GLIBC_(\d+)\.(\d+)", library)
-    return max((2, 5), *((int(major), int(minor)) for major, minor in found))
+    return max([(2, 5), *((int(major), int(minor)) for major, minor in found)])
 
 
 def tag(library):
