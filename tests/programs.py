@@ -143,6 +143,11 @@ def preloaded(name):
     return made
 
 
+def is_kept(crate):
+    """Whether the library of a crate is in its folder out/, built of what there is now."""
+    return not run([TOP / "tools/content_sum", "check", crate, CRATES / crate / f"out/rlib/{crate}.rlib"])[0]
+
+
 @functools.cache
 def built_library():
     """Builds the library for callers over what is proved: its folder, what came of it, and what was said."""

@@ -452,6 +452,7 @@ class Package(Case):
 
     def test_threads_run_while_bytes_are_read_and_what_they_write_is_not_read(self):
         declared = set(re.findall(r'"(goblin_pe_\w+)":', (CALLERS / "python/goblin_pe/records.py").read_text("utf-8")))
+        declared |= set(re.findall(r"goblin_pe_interface_\w+", (CALLERS / "c/goblin_pe_records.h").read_text("utf-8")))
         others = b"".join(b"void %s(void) {}\n" % name.encode() for name in declared - {"goblin_pe_interface", "goblin_pe_raw_read_te"})
         made = self.folder / "waits.so"
         succeed([CC, *FLAGS, "-shared", "-fPIC", "-I", CALLERS / "c", "-o", made, self.written("waits.c", WAITS),
