@@ -234,7 +234,7 @@ class Triage(Case):
         self.written("names.dll", images.pointers_to_one_name(150000))
         found = self.triaged()
         self.assertEqual((list(found["damaged.dll"]["damage"]), found["damaged.dll"]["exports"]), (["exports"], 0))
-        self.assertIn("empty", found["empty.dll"]["refused"])
+        self.assertEqual(found["empty.dll"], {"kind": "unknown"})
         self.assertEqual(found["refused.dll"], {"refused": "the DOS header leads to 0x5a4d in place of the PE signature"})
         self.assertEqual(found["object.obj"], {"kind": "object"})
         self.assertEqual((sum(found["hostile.dll"]["libraries"].values()), found["hostile.dll"]["imphash"]), (100000, None))
