@@ -506,7 +506,7 @@ def rust_files(it: Interface) -> Dict[str, str]:
         "rust/src/tables.rs": "//! The names of numbers and flags, and those of ordinals by which imports are hashed.\n//! %s\n\n"
         "%s" % (MADE, "\n".join([*(shown(*row) for row in SHOWN.items()), *map(ordinals, ("SOCKETS", "AUTOMATION"))])),
         "rust/src/records.rs": RUST_RECORDS % (
-            MADE, sum_of(it), "\n".join(map(record, records)), "".join("        %s: %s,\n" % row for row in it.defaults.items()),
+            MADE, sum_of(it)[:4], sum_of(it)[4:], "\n".join(map(record, records)), "".join("        %s: %s,\n" % row for row in it.defaults.items()),
             "".join(facts(r.name) for r in records), "\n".join(map(call, it.calls))),
         "rust/src/numbers.rs": "//! The numbers in the library's records, by name.\n//! %s\n\n%s" % (
             MADE, "\n".join(map(enum, it.enums.values()))),
@@ -521,7 +521,7 @@ use crate::raw::{List, Shared, Slice};
 use std::mem::offset_of;
 
 /// The sum of the interface that is declared here: of its records, the numbers in them, and its calls.
-pub const INTERFACE: u32 = 0x%s;
+pub const INTERFACE: u32 = 0x%s_%s;
 
 %s
 impl Options {

@@ -186,6 +186,22 @@ class Builds(Tree):
         self.archive.unlink()
         self.assertEqual(self.build(), ["lib goblin_base", "lib middle", "build goblin_pe_c"])
 
+    def test_a_source_that_changes_while_it_is_built(self):
+        """What comes of it is not told to be of either."""
+        rattle = self.kit / "bin/rattle"
+        rattle.write_text(RATTLE + 'echo changed > "$PWD/src/lib.rt"\n', "ascii")
+        status, _, said = run([self.top / "callers/build", self.lib], env=self.env())
+        self.assertNotEqual(status, 0)
+        self.assertIn(b"has changed since; build it again", said)
+        rattle.write_text(RATTLE, "ascii")
+        self.called()
+        self.assertEqual(self.build(), ["build goblin_pe_c"])
+
+    def test_words_for_the_linker(self):
+        need("readelf")
+        succeed([self.top / "callers/build", self.lib], env=self.env(LDFLAGS="-Wl,-z,now -Wl,-z,relro"))
+        self.assertIn("BIND_NOW", succeed(["readelf", "-d", self.lib / self.shared()]))
+
     def test_an_older_shared_library_in_the_folder(self):
         self.build()
         (self.lib / "libgoblin_pe.so.2").write_bytes(b"older")

@@ -70,7 +70,7 @@ class Changed(Case):
         number, soname = sum_in(CALLERS)
         self.assertTrue(soname.endswith("." + number), soname)
         for name in ("rust/src/records.rs", "python/goblin_pe/records.py"):
-            self.assertRegex((CALLERS / name).read_text("utf-8"), rf"(?m)^(pub const )?INTERFACE(: u32)? = 0x{number};?$")
+            self.assertRegex((CALLERS / name).read_text("utf-8"), rf"(?m)^(pub const )?INTERFACE(: u32)? = 0x{number[:4]}_?{number[4:]};?$")
         source = (CRATES / "goblin_pe_c/src/interface.rt").read_text("utf-8")
         self.assertEqual(set(re.findall(r"result ≡ (\d+) ", source)), {str(int(number, 16))})
 

@@ -5,7 +5,7 @@ use crate::raw::{List, Shared, Slice};
 use std::mem::offset_of;
 
 /// The sum of the interface that is declared here: of its records, the numbers in them, and its calls.
-pub const INTERFACE: u32 = 0xc188c6b2;
+pub const INTERFACE: u32 = 0xc188_c6b2;
 
 /// What follows a symbol that defines a function.
 ///
