@@ -4,7 +4,11 @@ calls, and the constants of the formats. A test compares the files with what thi
 
 All of it is declared by the crates of the library: its calls; each record with #[repr(C)] that one of them takes or answers,
 or that stands in one; the default options; and the enums and the files of constants that are named here. A doc comment
-stands in each language, with the names of types that it has there. What the reader does not know, it refuses."""
+stands in each language, with the names of types that it has there. What the reader does not know, it refuses.
+
+The version stands here, and is written into each package. The sum of what C declares is the number by which callers and
+library know each other; it is written into all of them, also into the library's own source."""
+import hashlib
 import pathlib
 import re
 import textwrap
@@ -13,6 +17,9 @@ from typing import Callable, Dict, Iterator, List, NamedTuple, Tuple
 HERE = pathlib.Path(__file__).resolve().parent
 CRATES = HERE.parent / "crates"
 LIBRARY = "goblin_pe_c"
+# The version of the packages, and that of the interface, which is raised where a call, a record or its meaning changes.
+VERSION = "0.4.0"
+INTERFACE = 4
 # The enums of numbers, and the types that callers name otherwise than Rattle; the Pe before a record is always left out.
 ENUMS = ("Kind", "PeRawPointerRule", "State", "Forwards", "Status", "CauseNumber", "Counted", "ReadRefusal", "DataDirectoryType")
 NAMES = {"CauseNumber": "Cause", "ReadRefusal": "ReadFault", "DataDirectoryType": "DirectoryType", "WindowsFields64": "WindowsFields"}
@@ -179,14 +186,14 @@ def constants_of(path: str) -> Declared:
 
 
 class Interface:
-    """What the crates declare: calls; records, each after those that stand in it; enums; constants; the version of the
-    interface; and the default options."""
+    """What the crates declare: calls; records, each after those that stand in it; enums; constants; and the default
+    options."""
 
     def __init__(self) -> None:
-        self.calls: List[Declared] = []
+        self.calls: List[Declared] = [Declared("goblin_pe_interface", "", [], Type("number", "u32"))]
         self.enums: Dict[str, Declared] = {}
         self.records: Dict[str, Declared] = {}
-        self.version, self.defaults = 0, {"": ""}
+        self.defaults = {"": ""}
         self._declared: Dict[str, Declared] = {}
         for path in [it for crate in crates_of(LIBRARY) for it in sorted((CRATES / crate).glob("src/**/*.rt"))]:
             for doc, marks, text in declarations(path.read_text("utf-8")):
@@ -217,10 +224,8 @@ class Interface:
             self.enums[named(enum[1])] = enum_of(doc, text)
         elif text.startswith("pub fn default_options() -> PeOptions\n"):
             self.defaults = dict(re.findall(r"^ {8}(\w+): (true|false|\d+),$", text, re.M))
-        elif 'extern "C" fn goblin_pe_' in text:
+        elif 'extern "C" fn goblin_pe_' in text and "fn goblin_pe_interface" not in text:
             self.calls.append(call_of(text))
-            if self.calls[-1].name == "goblin_pe_interface":
-                self.version = int(read(r".*ensures \{ result ≡ (\d+) \}", text)[0])
 
     def _reach(self, it: Type) -> None:
         # takes a record up, after those that stand in it
@@ -272,14 +277,21 @@ class Interface:
         return "\n".join(lines) + end
 
 
-def c_files(it: Interface) -> Dict[str, str]:
-    """The headers."""
+def c_name(name: str) -> str:
+    return "goblin_pe_" + snake(name)
 
-    def name_of(name: str) -> str:
-        return "goblin_pe_" + snake(name)
+
+def c_comment(it: Interface, doc: str, indent: str = "") -> str:
+    return it.comment(doc, c_name, indent + "/* ", indent + "   ", " */\n")
+
+
+def c_declared(it: Interface) -> Tuple[str, str, str]:
+    """What the header declares: types, calls, and how the records lie in memory."""
+
+    name_of = c_name
 
     def comment(doc: str, indent: str = "") -> str:
-        return it.comment(doc, name_of, indent + "/* ", indent + "   ", " */\n")
+        return c_comment(it, doc, indent)
 
     def kind(of: Type) -> str:
         return NUMBERS[of.name][1] if of.name in NUMBERS else "struct " + name_of(of.name)
@@ -318,16 +330,29 @@ def c_files(it: Interface) -> Dict[str, str]:
         return "GOBLIN_PE_HAS_SIZE(%s, %d, %d);\n" % (snake(name), size, alignment) + "".join(
             "GOBLIN_PE_IS_AT(%s, %s, %d);\n" % (snake(name), *at) for at in offsets.items())
 
+    types = "\n".join([*map(enum, it.enums.values()), *map(record, it.records.values())])
+    return types, "".join(map(call, it.calls)), "\n".join(map(facts, it.records))
+
+
+def sum_of(it: Interface) -> str:
+    """The sum of the interface: of what the header declares, without comments, and its version. No doc comment changes it."""
+    declared = re.sub(r"(?s)/\*.*?\*/", " ", " ".join(c_declared(it)))
+    return hashlib.sha256(" ".join([*declared.split(), str(INTERFACE)]).encode()).hexdigest()[:8]
+
+
+def c_files(it: Interface) -> Dict[str, str]:
+    """The headers."""
+    types, calls, layouts = c_declared(it)
+
     def constant(c: Item) -> str:
         number = c.number.replace("_", "") + "u" * (c.type.name == "u32")
-        return comment(c.doc) + "#define GOBLIN_PE_%s %s\n" % (c.name, "(%s)" % number if number[0] == "-" else number)
+        return c_comment(it, c.doc) + "#define GOBLIN_PE_%s %s\n" % (c.name, "(%s)" % number if number[0] == "-" else number)
 
     return {
-        "c/goblin_pe_records.h": C_RECORDS % (
-            MADE, it.version, "\n".join([*map(enum, it.enums.values()), *map(record, it.records.values())]),
-            "".join(map(call, it.calls)), ", ".join(it.defaults.values()), "\n".join(map(facts, it.records))),
+        "c/goblin_pe_records.h": C_RECORDS.replace("VERSION_OF", VERSION).replace("INTERFACE_OF", str(INTERFACE)).replace(
+            "SUM_OF", sum_of(it)) % (MADE, types, calls, ", ".join(it.defaults.values()), layouts),
         "c/goblin_pe_constants.h": C_CONSTANTS % (
-            MADE, "\n".join(comment(file.doc) + "".join(map(constant, file.items)) for file in it.constants))}
+            MADE, "\n".join(c_comment(it, file.doc) + "".join(map(constant, file.items)) for file in it.constants))}
 
 
 C_RECORDS = """/* The records of the library, the numbers in them, and its own calls; goblin_pe.h has the calls that programs make.
@@ -343,8 +368,21 @@ C_RECORDS = """/* The records of the library, the numbers in them, and its own c
 extern "C" {
 #endif
 
-/* The version of this interface, which goblin_pe_interface answers. */
-#define GOBLIN_PE_INTERFACE %d
+/* The version, and that of the interface: of its records, the numbers in them, and its calls. */
+#define GOBLIN_PE_VERSION "VERSION_OF"
+#define GOBLIN_PE_INTERFACE_VERSION INTERFACE_OF
+
+/* The sum of the interface that is declared here. goblin_pe_interface answers that of the library. */
+#define GOBLIN_PE_INTERFACE 0xSUM_OFu
+
+/* What follows .so. in the name by which programs ask for the shared library. */
+#define GOBLIN_PE_SONAME "INTERFACE_OF.SUM_OF"
+
+/* Only a library of this very interface has this call, so that a program is linked with no other. */
+uint32_t goblin_pe_interface_SUM_OF(void);
+#ifdef __GNUC__
+__attribute__((used)) static uint32_t (*const goblin_pe_needs_interface)(void) = goblin_pe_interface_SUM_OF;
+#endif
 
 %s
 /* The library's own calls, for those who declare them in another language. As the calls of goblin_pe.h, which are made
@@ -468,7 +506,7 @@ def rust_files(it: Interface) -> Dict[str, str]:
         "rust/src/tables.rs": "//! The names of numbers and flags, and those of ordinals by which imports are hashed.\n//! %s\n\n"
         "%s" % (MADE, "\n".join([*(shown(*row) for row in SHOWN.items()), *map(ordinals, ("SOCKETS", "AUTOMATION"))])),
         "rust/src/records.rs": RUST_RECORDS % (
-            MADE, it.version, "\n".join(map(record, records)), "".join("        %s: %s,\n" % row for row in it.defaults.items()),
+            MADE, sum_of(it)[:4], sum_of(it)[4:], "\n".join(map(record, records)), "".join("        %s: %s,\n" % row for row in it.defaults.items()),
             "".join(facts(r.name) for r in records), "\n".join(map(call, it.calls))),
         "rust/src/numbers.rs": "//! The numbers in the library's records, by name.\n//! %s\n\n%s" % (
             MADE, "\n".join(map(enum, it.enums.values()))),
@@ -482,8 +520,8 @@ RUST_RECORDS = """//! The library's records, and its calls.
 use crate::raw::{List, Shared, Slice};
 use std::mem::offset_of;
 
-/// The version of the interface that is declared here.
-pub const INTERFACE: u32 = %d;
+/// The sum of the interface that is declared here: of its records, the numbers in them, and its calls.
+pub const INTERFACE: u32 = 0x%s_%s;
 
 %s
 impl Options {
@@ -581,7 +619,7 @@ def python_files(it: Interface) -> Dict[str, str]:
 
     return {
         "python/goblin_pe/records.py": PYTHON_RECORDS % (
-            MADE, it.version, "\n\n".join(map(record, it.records.values())), "".join(map(call, it.calls))),
+            MADE, sum_of(it), "\n\n".join(map(record, it.records.values())), "".join(map(call, it.calls))),
         "python/goblin_pe/numbers.py": '"""The numbers in the library\'s records, by name. %s"""\nfrom ._number import Number\n\n\n%s' % (
             MADE, "\n\n".join(map(enum, it.enums.values()))),
         "python/goblin_pe/constants.py": '"""The numbers of the PE and COFF formats, by goblin\'s names, which are mostly the formats\' own."""\n# %s\n\n%s' % (
@@ -594,8 +632,8 @@ from typing import Annotated, Any, Dict, List, NamedTuple, Tuple
 
 from ._laid_out import Address, HandedOver, Record, header, record, tables, to
 
-# The version of the interface that is declared here.
-INTERFACE = %d
+# The sum of the interface that is declared here: of its records, the numbers in them, and its calls.
+INTERFACE = 0x%s
 
 
 %s
@@ -606,9 +644,45 @@ CALLS: Dict[str, Tuple[Any, List[Any]]] = {
 """
 
 
+def of_library(it: Interface) -> Dict[str, str]:
+    """The library's own answer."""
+    return {"../crates/%s/src/interface.rt" % LIBRARY: RATTLE_INTERFACE.format(number=int(sum_of(it), 16))}
+
+
+RATTLE_INTERFACE = """//! The number by which callers and this library know each other, which callers/generate.py makes of
+//! what the crates declare: the first four bytes of the SHA-256 of the records, the numbers in them,
+//! the calls, and the version of the interface, as C declares them.
+
+ghost use Rattle.std.specs.Prelude.{{◌≡◌}};
+
+/// The sum of this interface. A caller that declares another one has another number.
+#[unsafe(no_mangle)]
+pub extern "C" fn goblin_pe_interface() -> u32
+    ensures {{ result ≡ {number} }}
+{{
+    {number:_}
+}}
+
+/// The same, by a name that no other interface has, with which programs in C are linked.
+#[unsafe(no_mangle)]
+pub extern "C" fn goblin_pe_interface_{number:08x}() -> u32
+    ensures {{ result ≡ {number} }}
+{{
+    {number:_}
+}}
+"""
+
+
+def versions() -> Dict[str, str]:
+    """The files by hand that have the version, with this one."""
+    forms = {"rust/Cargo.toml": r'(?m)^(version = ").*?(")', "rust/Cargo.lock": r'(name = "goblin_pe"\nversion = ").*?(")',
+             "python/pyproject.toml": r'(?m)^(version = ").*?(")', "python/goblin_pe/__init__.py": r'(?m)^(__version__ = ").*?(")'}
+    return {place: re.sub(form, r"\g<1>%s\g<2>" % VERSION, (HERE / place).read_text("utf-8"), count=1) for place, form in forms.items()}
+
+
 def files(it: Interface) -> Dict[str, str]:
     """What is made, by its place below callers/."""
-    return {**c_files(it), **rust_files(it), **python_files(it)}
+    return {**c_files(it), **rust_files(it), **python_files(it), **of_library(it), **versions()}
 
 
 if __name__ == "__main__":

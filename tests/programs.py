@@ -83,7 +83,7 @@ def need(*tools):
 
 @functools.cache
 def built_pe_list():
-    """Has ./pe_list list an image: its status. Where the program is not built, or a source is newer, it is proved and built
+    """Has ./pe_list list an image: its status. Where the program is not built of what there is now, it is proved and built
     first."""
     with open(BY_NAME, "rb") as file:
         env = {**os.environ, "PE_LIST_PROVED": "only"}
@@ -97,11 +97,11 @@ def build_pe_list():
 
 @functools.cache
 def built(program):
-    """Proves and builds a program of the tests where it is not built: what came of it, and what was said."""
-    if program.exists():
-        return 0, b""
+    """Proves and builds a program of the tests where it is not built of what there is now: what came of it, and what was
+    said."""
     folder = program.parent.parent
-    status, _, said = run(["rt", "run", "--", *(folder / "args").read_text().split()], folder / "stdin", cwd=folder)
+    made = [TOP / "tools/content_sum", "made", folder.name, program]
+    status, _, said = run([*made, "rt", "run", "--", *(folder / "args").read_text().split()], folder / "stdin", cwd=folder)
     return status, said
 
 
@@ -141,6 +141,11 @@ def preloaded(name):
     made = folder() / f"{name}.so"
     succeed([kit / "clang", "-O2", "-shared", "-fPIC", "-nostdlib", f"--ld-path={kit / 'ld.lld'}", "-o", made, TOP / f"tests/{name}.c"])
     return made
+
+
+def is_kept(crate):
+    """Whether the library of a crate is in its folder out/, built of what there is now."""
+    return not run([TOP / "tools/content_sum", "check", crate, CRATES / crate / f"out/rlib/{crate}.rlib"])[0]
 
 
 @functools.cache

@@ -2,7 +2,7 @@
 proof, so it can't stand among the wrong bodies."""
 import shutil
 
-from tests.programs import CRATES, TOP, Case, need, run
+from tests.programs import CRATES, TOP, Case, is_kept, need, run
 
 BELOW = ("goblin_base", "readings")
 
@@ -13,7 +13,7 @@ class Bounds(Case):
     def setUp(self):
         super().setUp()
         need("rt")
-        if not all((CRATES / it / "out/rlib").is_dir() for it in BELOW):
+        if not all(is_kept(it) for it in BELOW):
             self.skipTest("the libraries below goblin_pe_sect are not kept in crates/*/out")
 
     def said_of(self, old, new):
@@ -22,10 +22,13 @@ class Bounds(Case):
         for part in ("src", "specs", "proofs"):
             shutil.copytree(CRATES / "goblin_pe_sect" / part, top / "crates/goblin_pe_sect" / part)
         for it in BELOW:
+            for part in filter(lambda part: (CRATES / it / part).exists(), ("src", "specs", "proofs")):
+                shutil.copytree(CRATES / it / part, top / "crates" / it / part)
             (top / "crates" / it / "out").mkdir(parents=True)
             (top / "crates" / it / "out/rlib").symlink_to(CRATES / it / "out/rlib")
         shutil.copytree(TOP / "tools", top / "tools")
-        shutil.copy2(TOP / "crates.txt", top)
+        for it in ("crates.txt", "HANDLES"):
+            shutil.copy2(TOP / it, top)
         index = top / "crates/goblin_pe_sect/src/windows.rt"
         source = index.read_text("utf-8")
         self.assertEqual(source.count(old), 1)

@@ -4,6 +4,7 @@ import itertools
 import os
 import re
 import shutil
+import signal
 import struct
 import unittest
 
@@ -65,7 +66,26 @@ class Programs(Case):
         self.assert_runs([built("list"), os.devnull], (1, b"", b"refused: the file is too short for the DOS signature\n"))
 
     def test_threads_with_stacks_of_16_kib(self):
+        """Also where the file has a thousand sections and imports: no call needs more of a stack for that."""
         succeed([built("threads", "-std=c11", "-pthread"), "16", *THREADED])
+        hostile = self.written("hostile.dll", images.hostile_image(1 << 16))
+        succeed([built("threads", "-std=c11", "-pthread"), "16", str((1 << 16) // 64 - 16), hostile, *THREADED[2:]])
+
+    def test_a_null_pointer_where_there_is_room_is_written_to(self):
+        """And nothing else is: it stands for no room alone."""
+        source = b"""#include "goblin_pe.h"
+int main(int argc, char **argv)
+{
+    struct goblin_pe_section section = { 0 };
+    size_t written;
+    (void)argv;
+    goblin_pe_write_section(&section, NULL, argc > 1 ? 40 : 0, &written);
+    return 0;
+}
+"""
+        program = self.folder / "null"
+        succeed([CC, "-std=c99", *FLAGS, "-I", CALLERS / "c", "-o", program, self.written("null.c", source), library() / "libgoblin_pe.a"])
+        self.assertEqual([run([program])[0], run([program, "room"])[0]], [0, -signal.SIGSEGV])
 
     def test_threads_under_the_sanitizer_of_races(self):
         """Of the program and of malloc and free; the library itself is built without it."""

@@ -6,6 +6,7 @@ import re
 import shutil
 import sys
 import unittest
+import zipfile
 
 from tests.programs import BY_NAME, CALLERS, CC, FLAGS, Case, beside, environment, library, need, run, succeed
 
@@ -45,10 +46,31 @@ class Library(Case):
         install("/usr", DESTDIR=str(self.folder))
         self.assertIn("prefix=/usr\n", (self.folder / "usr/lib/pkgconfig/goblin_pe.pc").read_text("ascii"))
 
+    def test_libraries_in_another_folder(self):
+        """Below the prefix, whose package is moved with it, or anywhere."""
+        for libdir, told in (("/usr/lib64", "${prefix}/lib64"), ("/else where/lib", "/else where/lib")):
+            with self.subTest(libdir):
+                install("/usr", DESTDIR=str(self.folder), LIBDIR=libdir)
+                libraries = self.folder / libdir[1:]
+                self.assertIn(f"\nlibdir={told}\n", (libraries / "pkgconfig/goblin_pe.pc").read_text("ascii"))
+                self.assertEqual((libraries / "libgoblin_pe.so").read_bytes(), (library() / "libgoblin_pe.so").read_bytes())
+        self.assertFalse((self.folder / "usr/lib").exists())
+
+    def test_everybody_can_read_what_is_installed(self):
+        """Whatever the umask is, and the owner alone writes it; the license is there."""
+        for umask in ("077", "000"):
+            command = ["sh", "-c", 'umask "$0" && exec "$@"', umask, CALLERS / "install", self.folder / umask]
+            succeed(command, env=environment(GOBLIN_PE_LIB=str(library())))
+            for it in (self.folder / umask).rglob("*"):
+                if not it.is_symlink():
+                    self.assertEqual(it.stat().st_mode & 0o777, 0o755 if it.is_dir() else 0o644, it)
+            license = self.folder / umask / "share/doc/goblin-pe/LICENSE"
+            self.assertEqual(license.read_bytes(), (CALLERS.parent / "LICENSE").read_bytes())
+
     def test_all_packages_have_one_version(self):
         install(self.folder)
-        found = {it: re.findall(r'(?m)^version = "(.*)"$', (CALLERS / it).read_text("utf-8"))[0] for it in
-                 ("rust/Cargo.toml", "rust/Cargo.lock", "python/pyproject.toml")}
+        found = {it: re.findall(r'(?m)^(?:version|__version__|VERSION) = "(.*)"$', (CALLERS / it).read_text("utf-8"))[0] for it in
+                 ("generate.py", "rust/Cargo.toml", "rust/Cargo.lock", "python/pyproject.toml", "python/goblin_pe/__init__.py")}
         found["pkg-config"] = succeed(["pkg-config", "--modversion", "goblin_pe"], env=environment(PKG_CONFIG_PATH=f"{self.folder}/lib/pkgconfig")).strip()
         self.assertEqual(len(set(found.values())), 1, found)
 
@@ -197,10 +219,14 @@ class Package(Case):
 
     def test_a_wheel(self):
         wheel = self.wheel("wheels")
-        self.assertRegex(wheel.name, f"^goblin_pe-.*-py3-none-linux_{platform.machine()}\\.whl$")
+        self.assertRegex(wheel.name, f"^goblin_pe-.*-cp39-abi3-manylinux_2_\\d+_{platform.machine()}\\.whl$")
         it = self.installed(wheel)
-        told = succeed([it, "-c", "import importlib.metadata as m; print(m.metadata('goblin_pe')['Requires-Python'])"], cwd="/", env={})
-        self.assertEqual(told, ">=3.9\n")
+        names = ("Requires-Python", "Author", "Summary", "License-Expression")
+        told = succeed([it, "-c", f"import importlib.metadata as m; [print(m.metadata('goblin_pe')[it]) for it in {names}]"], cwd="/", env={})
+        self.assertEqual(told, ">=3.9\nThe Gundiwootz developers\nReads PE files that can't be trusted, by a proved library\nMIT\n")
+        with zipfile.ZipFile(wheel) as file:
+            text, = (file.read(it) for it in file.namelist() if it.endswith(".dist-info/licenses/LICENSE"))
+        self.assertEqual(text, (CALLERS.parent / "LICENSE").read_bytes())
         self.assertEqual(succeed([it, "-m", "pip", "check"], cwd="/", env={}), "No broken requirements found.\n")
 
     def test_a_wheel_is_built_again_to_the_byte(self):

@@ -4,6 +4,7 @@ import hashlib
 import os
 import pathlib
 import platform
+import re
 import shutil
 import zipfile
 
@@ -91,15 +92,32 @@ class Packages(Case):
         text = (self.unpacked() / "PROVED").read_text("utf-8")
         self.assertIn(succeed(["git", "-C", CALLERS, "rev-parse", "HEAD"]).strip(), text)
         self.assertIn(hashlib.sha256((library() / "libgoblin_pe.a").read_bytes()).hexdigest() + "  libgoblin_pe.a\n", text)
-        self.assertEqual(zipfile.ZipFile(package(".whl")).read("goblin_pe/PROVED").decode(), text)
+        self.assertIn((library() / "libgoblin_pe.a.sum").read_text("utf-8"), text)
+        for word in ("kit", "compiler"):
+            self.assertRegex(text, rf"(?m)^{word}  .")
+        self.assertRegex(text, r"(?m)^ +\./test --anew +\d+ minutes")
         for crate in ("goblin_base", "goblin_pe_c"):  # as the text tells
-            listed = text[text.index("cd crates/CRATE"):].replace("CRATE", crate)
-            self.assertIn("%s  %s\n" % (succeed(["sh", "-c", listed], cwd=CRATES.parent).split()[0], crate), text)
+            listed, = re.findall(r"(?m)^ +(cd crates/CRATE .*)$", text)
+            self.assertIn("%s  crates/%s\n" % (succeed(["sh", "-c", listed.replace("CRATE", crate)], cwd=CRATES.parent).split()[0], crate), text)
+
+    def test_each_file_is_told(self):
+        """But for the text itself and what lists it, and as the text says."""
+        need("dpkg-deb")
+        unpacked, wheel, root = self.unpacked(), self.folder / "wheel", self.folder / "root"
+        shutil.unpack_archive(package(".whl"), wheel, "zip")
+        succeed(["dpkg-deb", "-x", package(".deb"), root])
+        for at, place in ((unpacked, "PROVED"), (wheel, "goblin_pe/PROVED"), (root, "usr/share/doc/goblin-pe/PROVED")):
+            with self.subTest(place):
+                text = (at / place).read_text("utf-8")
+                command, = re.findall("(?m)^sed -n .*$", text)
+                said = succeed(["sh", "-c", command], cwd=at).splitlines()
+                files = {str(it.relative_to(at)) for it in at.rglob("*") if it.is_file() and not it.is_symlink()}
+                self.assertEqual({it.removesuffix(": OK") for it in said}, {it for it in files if it != place and not it.endswith("/RECORD")})
 
     def test_each_has_a_text_and_examples(self):
         unpacked = self.unpacked()
         files = {str(it.relative_to(unpacked)) for it in unpacked.rglob("*")}
-        self.assertLessEqual({"LICENSE", "PROVED", "rust/README.md", "rust/LICENSE", "rust/examples/scan.rs", "share/doc/goblin-pe/README.md",
+        self.assertLessEqual({"LICENSE", "PROVED", "SECURITY.md", "CHANGELOG.md", "rust/README.md", "rust/LICENSE", "rust/examples/scan.rs", "share/doc/goblin-pe/README.md",
                               "share/doc/goblin-pe/examples/loader.c"}, files)
         wheel = zipfile.ZipFile(package(".whl"))
         metadata, = (it for it in wheel.namelist() if it.endswith("/METADATA"))
@@ -108,7 +126,8 @@ class Packages(Case):
         succeed(["dpkg-deb", "-x", package(".deb"), self.folder / "root"])
         doc = self.folder / "root/usr/share/doc/goblin-pe"
         self.assertEqual(sorted(it.name for it in doc.iterdir()),
-                         ["PROVED", "README.md", "README.python.md", "README.rust.md", "copyright", "examples"])
+                         ["CHANGELOG.md", "PROVED", "README.md", "README.python.md", "README.rust.md", "SECURITY.md", "changelog.gz", "copyright",
+                          "examples"])
         self.assertIn("triage.py", [it.name for it in (doc / "examples").iterdir()])
 
     def test_the_wheel(self):
@@ -144,10 +163,26 @@ class Packages(Case):
         succeed([*away(), "dpkg", "--root", root, "--log=/dev/null", "-i", made], env=env)
         self.assertEqual(succeed(["dpkg-query", "--admindir", root / "var/lib/dpkg", "-W", "-f", "${Status}", "goblin-pe"]), "install ok installed")
         self.assertEqual(succeed(["dpkg", "--root", root, "--verify", "goblin-pe"]), "")
-        text = (root / "usr/share/doc/goblin-pe/PROVED").read_text("utf-8")
-        self.assertIn(hashlib.sha256((root / "usr/lib/libgoblin_pe.a").read_bytes()).hexdigest(), text)
-        self.assert_links(PKG_CONFIG_LIBDIR=str(root / "usr/lib/pkgconfig"), PKG_CONFIG_SYSROOT_DIR=str(root))
+        text, libraries = (root / "usr/share/doc/goblin-pe/PROVED").read_text("utf-8"), root / f"usr/lib/{platform.machine()}-linux-gnu"
+        self.assertIn(hashlib.sha256((libraries / "libgoblin_pe.a").read_bytes()).hexdigest(), text)
+        self.assert_links(PKG_CONFIG_LIBDIR=str(libraries / "pkgconfig"), PKG_CONFIG_SYSROOT_DIR=str(root))
         modules = root / "usr/lib/python3/dist-packages"
+        told = succeed([python(), "-c", "import importlib.metadata as m; print(m.metadata('goblin_pe')['License-Expression'])"],
+                       env={"PYTHONPATH": str(modules)})
+        self.assertEqual(told, "MIT\n")
         self.assert_is_listed_by(python(), "-B", "-m", "goblin_pe", env={"PYTHONPATH": str(modules)})
         if platform.machine() == "x86_64":
             self.assertEqual(succeed(["dpkg-deb", "-f", made, "Architecture"]), "amd64\n")
+
+    def test_the_package_for_debian_keeps_its_rules(self):
+        """Those who link with the library depend on this package, and its name is known once it is installed."""
+        need("dpkg-deb")
+        succeed(["dpkg-deb", "-e", package(".deb"), self.folder / "control"])
+        shared, = (library().glob("libgoblin_pe.so.*.sum"))
+        version = succeed(["dpkg-deb", "-f", package(".deb"), "Version"]).strip()
+        self.assertEqual((self.folder / "control/shlibs").read_text("ascii"),
+                         f"libgoblin_pe {shared.stem.partition('.so.')[2]} goblin-pe (= {version})\n")
+        self.assertEqual((self.folder / "control/triggers").read_text("ascii"), "activate-noawait ldconfig\n")
+        need("lintian")
+        status, out, said = run(["lintian", "--allow-root", "--fail-on", "error,warning", package(".deb")], env=environment(LC_ALL="C"))
+        self.assertEqual((status, out), (0, b""), said)

@@ -238,7 +238,7 @@ class Triage(Case):
         self.assertEqual([found[it]["left_out"] for it in ("front.dll", "nowhere.dll")],
                          [{"left_out_libraries": 1, "left_out_entries": 1}, {"unmapped_entries": 1}])
         self.assertEqual((list(found["damaged.dll"]["damage"]), found["damaged.dll"]["exports"]), (["exports"], 0))
-        self.assertIn("empty", found["empty.dll"]["refused"])
+        self.assertEqual(found["empty.dll"], {"kind": "unknown"})
         self.assertEqual(found["refused.dll"], {"refused": "the DOS header leads to 0x5a4d in place of the PE signature"})
         self.assertEqual(found["object.obj"], {"kind": "object"})
         self.assertEqual((sum(found["hostile.dll"]["libraries"].values()), found["hostile.dll"]["imphash"]), (100000, None))
@@ -456,6 +456,7 @@ class Package(Case):
 
     def test_threads_run_while_bytes_are_read_and_what_they_write_is_not_read(self):
         declared = set(re.findall(r'"(goblin_pe_\w+)":', (CALLERS / "python/goblin_pe/records.py").read_text("utf-8")))
+        declared |= set(re.findall(r"goblin_pe_interface_\w+", (CALLERS / "c/goblin_pe_records.h").read_text("utf-8")))
         others = b"".join(b"void %s(void) {}\n" % name.encode() for name in declared - {"goblin_pe_interface", "goblin_pe_raw_read_te"})
         made = self.folder / "waits.so"
         succeed([CC, *FLAGS, "-shared", "-fPIC", "-I", CALLERS / "c", "-o", made, self.written("waits.c", WAITS),

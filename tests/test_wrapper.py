@@ -12,7 +12,7 @@ try)
     cat > /dev/null; cat "$HERE/tried"; echo try >> "$HERE/called"
     printf '%s' "$LINE" >&2; echo "run=ended status=${STATUS:-0} runners=1 proved=no" >&2 ;;
 lib) [ -z "$STOPPED" ] || kill -TERM 0; [ ! -e "$HERE/fails" ] ;;
-run) mkdir -p out && cp "$PROGRAM" out/pe_list ;;
+run) mkdir -p out && cp "$PROGRAM" out/pe_list && { [ -z "$EDITED" ] || echo > "$EDITED"; } ;;
 esac
 """
 
@@ -29,9 +29,10 @@ class Wrapper(Case):
         super().setUp()
         for it in ("samples", "bin", "temporary", *(f"crates/{crate.name}/src" for crate in CRATES.iterdir())):
             (self.folder / it).mkdir(parents=True)
-        for it in ("pe_list", "crates.txt", "tools", "samples/program_x64.exe"):
+        for it in ("pe_list", "crates.txt", "HANDLES", "tools", "samples/program_x64.exe"):
             (shutil.copytree if (TOP / it).is_dir() else shutil.copy)(TOP / it, self.folder / it)
         self.written("bin/rt", RT).chmod(0o755)
+        self.written("KIT-ID", b"a kit for this test\n")
         self.written("tried", LISTING)
         self.env = {**os.environ, "PATH": f"{self.folder}/bin:{os.environ['PATH']}", "TMPDIR": f"{self.folder}/temporary",
                     "HERE": str(self.folder), "PROGRAM": str(PE_LIST)}
@@ -57,10 +58,19 @@ class Wrapper(Case):
         self.assert_calls(0, LISTING, "^$")
         self.assert_tried(1)
 
-    def test_it_proves_again_where_a_source_is_newer(self):
+    def test_it_proves_again_where_a_source_has_changed(self):
+        """Whatever its date."""
         self.assert_calls(0, LISTING, "BEFORE ITS PROOF")
-        os.utime(self.written("crates/goblin_base/src/lib.rt", b""), (2 ** 32, 2 ** 32))
+        for seconds in (1, 2 ** 32):
+            with self.subTest(seconds):
+                os.utime(self.written("crates/goblin_base/src/lib.rt", b"%d" % seconds), (seconds, seconds))
+                self.assert_calls(0, LISTING, "BEFORE ITS PROOF")
+                self.assert_calls(0, LISTING, "^$")
+
+    def test_a_source_that_changes_during_the_proof(self):
+        self.assert_calls(0, LISTING, "a source has changed meanwhile", EDITED=str(self.folder / "crates/goblin_base/src/lib.rt"))
         self.assert_calls(0, LISTING, "BEFORE ITS PROOF")
+        self.assert_calls(0, LISTING, "^$")
 
     def test_a_proof_that_fails(self):
         self.written("fails", b"")

@@ -29,7 +29,9 @@
    - A record that a call takes is as a call filled it, or its fields are set; what is filled may hold
      anything, as nothing of it is read. Tables and ranges that are freed whatever a call answers are
      zeros before it.
-   - malloc, realloc and free are those of one allocator, and no call is made from a signal handler.
+   - malloc, realloc and free are those of one allocator, which aligns blocks for every type, as C asks for. No call is
+     made from a signal handler, or, before exec, in the forked child of a process with threads.
+   - The processor has what the level x86-64-v2 asks for. A thread has 16 KiB of stack: calls took less than 9 KiB.
    A call may be made from any thread, and from several at once. After a refusal nothing is changed.
 
    What a file of n bytes may take, beside the caller's records. A name is a text of the file, which nothing
@@ -107,39 +109,40 @@ static inline const struct goblin_pe_options *goblin_pe_options_or_default(const
     return options ? options : &by_default;
 }
 
-/* A place of no bytes and no records, in place of a null pointer. */
+/* A place of no bytes and no records, in place of a null pointer where the count is 0. */
 static inline void *goblin_pe_nowhere(void)
 {
     static uint64_t nowhere[1];
     return nowhere;
 }
 #ifdef __cplusplus
-#define GOBLIN_PE_SOME(kind, pointer) ((pointer) ? (pointer) : static_cast<kind *>(goblin_pe_nowhere()))
+#define GOBLIN_PE_SOME(kind, pointer, count) \
+    ((pointer) || (count) ? (pointer) : static_cast<kind *>(goblin_pe_nowhere()))
 #else
-#define GOBLIN_PE_SOME(kind, pointer) ((pointer) ? (pointer) : (kind *)goblin_pe_nowhere())
+#define GOBLIN_PE_SOME(kind, pointer, count) ((pointer) || (count) ? (pointer) : (kind *)goblin_pe_nowhere())
 #endif
-#define GOBLIN_PE_BYTES(pointer) GOBLIN_PE_SOME(const uint8_t, pointer)
+#define GOBLIN_PE_BYTES(pointer, length) GOBLIN_PE_SOME(const uint8_t, pointer, length)
 
 /* The record of a section, and an image, without null pointers. */
 static inline struct goblin_pe_section goblin_pe_sound_section(const struct goblin_pe_section *section)
 {
     struct goblin_pe_section sound = *section;
-    sound.real_name.bytes = GOBLIN_PE_BYTES(sound.real_name.bytes);
+    sound.real_name.bytes = GOBLIN_PE_BYTES(sound.real_name.bytes, sound.real_name.length);
     return sound;
 }
 
 static inline struct goblin_pe_image goblin_pe_sound_image(const struct goblin_pe_image *image)
 {
     struct goblin_pe_image sound = *image;
-    sound.bytes.bytes = GOBLIN_PE_BYTES(sound.bytes.bytes);
-    sound.sections = GOBLIN_PE_SOME(const struct goblin_pe_section, sound.sections);
+    sound.bytes.bytes = GOBLIN_PE_BYTES(sound.bytes.bytes, sound.bytes.length);
+    sound.sections = GOBLIN_PE_SOME(const struct goblin_pe_section, sound.sections, sound.section_count);
     return sound;
 }
 
 /* What a file is, by its first bytes: a goblin_pe_kind. */
 static inline uint32_t goblin_pe_kind_of(const uint8_t *bytes, size_t length)
 {
-    return goblin_pe_raw_kind_of(GOBLIN_PE_BYTES(bytes), length);
+    return goblin_pe_raw_kind_of(GOBLIN_PE_BYTES(bytes, length), length);
 }
 
 /* Reads an image once: says in `file` what it is, fills the records of its data directories as far as
@@ -151,8 +154,8 @@ static inline struct goblin_pe_fault goblin_pe_open(
     struct goblin_pe_directory *directories, size_t directory_room, struct goblin_pe_tables *tables)
 {
     return goblin_pe_raw_open(
-        GOBLIN_PE_BYTES(bytes), length, goblin_pe_options_or_default(options), file,
-        GOBLIN_PE_SOME(struct goblin_pe_directory, directories), directory_room, tables);
+        GOBLIN_PE_BYTES(bytes, length), length, goblin_pe_options_or_default(options), file,
+        GOBLIN_PE_SOME(struct goblin_pe_directory, directories, directory_room), directory_room, tables);
 }
 
 /* Frees a block of so many records. */
@@ -184,9 +187,9 @@ static inline struct goblin_pe_fault goblin_pe_read_layout(
     size_t section_room)
 {
     return goblin_pe_raw_read_layout(
-        GOBLIN_PE_BYTES(bytes), length, goblin_pe_options_or_default(options), layout,
-        GOBLIN_PE_SOME(struct goblin_pe_directory, directories), directory_room,
-        GOBLIN_PE_SOME(struct goblin_pe_section, sections), section_room);
+        GOBLIN_PE_BYTES(bytes, length), length, goblin_pe_options_or_default(options), layout,
+        GOBLIN_PE_SOME(struct goblin_pe_directory, directories, directory_room), directory_room,
+        GOBLIN_PE_SOME(struct goblin_pe_section, sections, section_room), section_room);
 }
 
 /* Tells what strict mode would refuse of an image, part by part, each for itself, where its header and its
@@ -196,7 +199,8 @@ static inline struct goblin_pe_fault goblin_pe_read_layout(
 static inline struct goblin_pe_fault goblin_pe_read_damage(
     const uint8_t *bytes, size_t length, const struct goblin_pe_options *options, struct goblin_pe_damage *damage)
 {
-    return goblin_pe_raw_read_damage(GOBLIN_PE_BYTES(bytes), length, goblin_pe_options_or_default(options), damage);
+    return goblin_pe_raw_read_damage(
+        GOBLIN_PE_BYTES(bytes, length), length, goblin_pe_options_or_default(options), damage);
 }
 
 /* Puts into `ranges` the bytes of a file on which goblin_pe_open by these options depends: of two files of
@@ -209,7 +213,8 @@ static inline struct goblin_pe_fault goblin_pe_read_damage(
 static inline struct goblin_pe_fault goblin_pe_footprint(
     const uint8_t *bytes, size_t length, const struct goblin_pe_options *options, struct goblin_pe_ranges *ranges)
 {
-    return goblin_pe_raw_footprint(GOBLIN_PE_BYTES(bytes), length, goblin_pe_options_or_default(options), ranges);
+    return goblin_pe_raw_footprint(
+        GOBLIN_PE_BYTES(bytes, length), length, goblin_pe_options_or_default(options), ranges);
 }
 
 /* Frees the ranges of a footprint, and leaves zeros. */
@@ -236,8 +241,8 @@ static inline struct goblin_pe_fault goblin_pe_next_imports(
     struct goblin_pe_import_position *position, struct goblin_pe_import *imports, size_t room, size_t *count)
 {
     return goblin_pe_raw_next_imports(
-        GOBLIN_PE_BYTES(bytes), length, goblin_pe_options_or_default(options), places, position,
-        GOBLIN_PE_SOME(struct goblin_pe_import, imports), room, count);
+        GOBLIN_PE_BYTES(bytes, length), length, goblin_pe_options_or_default(options), places, position,
+        GOBLIN_PE_SOME(struct goblin_pe_import, imports, room), room, count);
 }
 
 /* Reads the 20 bytes at this file offset as the record of a library in the import directory, puts it into `record`,
@@ -248,7 +253,7 @@ static inline struct goblin_pe_fault goblin_pe_next_imports(
 static inline bool goblin_pe_import_record_at(
     const uint8_t *bytes, size_t length, size_t offset, struct goblin_pe_import_directory_entry *record)
 {
-    return goblin_pe_raw_import_record_at(GOBLIN_PE_BYTES(bytes), length, offset, record);
+    return goblin_pe_raw_import_record_at(GOBLIN_PE_BYTES(bytes, length), length, offset, record);
 }
 
 /* Goes on with the walk over the exports of an image, as goblin_pe_next_imports does over imports. The
@@ -260,8 +265,8 @@ static inline struct goblin_pe_fault goblin_pe_next_exports(
     size_t *position, struct goblin_pe_export *exports, size_t room, size_t *count)
 {
     return goblin_pe_raw_next_exports(
-        GOBLIN_PE_BYTES(bytes), length, goblin_pe_options_or_default(options), places, position,
-        GOBLIN_PE_SOME(struct goblin_pe_export, exports), room, count);
+        GOBLIN_PE_BYTES(bytes, length), length, goblin_pe_options_or_default(options), places, position,
+        GOBLIN_PE_SOME(struct goblin_pe_export, exports, room), room, count);
 }
 
 /* Reads what the export directory of an image says, with its ordinal base: the record that goblin_pe_open puts beside its
@@ -272,7 +277,7 @@ static inline struct goblin_pe_fault goblin_pe_read_export_directory(
     struct goblin_pe_export_directory *directory)
 {
     return goblin_pe_raw_read_export_directory(
-        GOBLIN_PE_BYTES(bytes), length, goblin_pe_options_or_default(options), places, directory);
+        GOBLIN_PE_BYTES(bytes, length), length, goblin_pe_options_or_default(options), places, directory);
 }
 
 /* Goes on with the walk over the entries of the export address table of an image, as goblin_pe_next_exports does over
@@ -284,8 +289,8 @@ static inline struct goblin_pe_fault goblin_pe_next_export_addresses(
     size_t *position, struct goblin_pe_export_address *addresses, size_t room, size_t *count)
 {
     return goblin_pe_raw_next_export_addresses(
-        GOBLIN_PE_BYTES(bytes), length, goblin_pe_options_or_default(options), places, position,
-        GOBLIN_PE_SOME(struct goblin_pe_export_address, addresses), room, count);
+        GOBLIN_PE_BYTES(bytes, length), length, goblin_pe_options_or_default(options), places, position,
+        GOBLIN_PE_SOME(struct goblin_pe_export_address, addresses, room), room, count);
 }
 
 /* Goes on with the walk over the blocks of base relocations of an image, as goblin_pe_next_imports does over imports;
@@ -298,8 +303,8 @@ static inline struct goblin_pe_fault goblin_pe_next_blocks(
     size_t *position, struct goblin_pe_block *blocks, size_t room, size_t *count)
 {
     return goblin_pe_raw_next_blocks(
-        GOBLIN_PE_BYTES(bytes), length, goblin_pe_options_or_default(options), places, position,
-        GOBLIN_PE_SOME(struct goblin_pe_block, blocks), room, count);
+        GOBLIN_PE_BYTES(bytes, length), length, goblin_pe_options_or_default(options), places, position,
+        GOBLIN_PE_SOME(struct goblin_pe_block, blocks, room), room, count);
 }
 
 /* Reads an object, which begins with a COFF header: says in `object` how many sections there are, and fills
@@ -311,8 +316,8 @@ static inline struct goblin_pe_fault goblin_pe_read_object(
     struct goblin_pe_section *sections, size_t room)
 {
     return goblin_pe_raw_read_object(
-        GOBLIN_PE_BYTES(bytes), length, goblin_pe_options_or_default(options), object,
-        GOBLIN_PE_SOME(struct goblin_pe_section, sections), room);
+        GOBLIN_PE_BYTES(bytes, length), length, goblin_pe_options_or_default(options), object,
+        GOBLIN_PE_SOME(struct goblin_pe_section, sections, room), room);
 }
 
 /* Reads a Terse Executable: its header, which says how many sections there are, and those as far as
@@ -322,7 +327,8 @@ static inline struct goblin_pe_fault goblin_pe_read_te(
     size_t room)
 {
     return goblin_pe_raw_read_te(
-        GOBLIN_PE_BYTES(bytes), length, header, GOBLIN_PE_SOME(struct goblin_pe_section, sections), room);
+        GOBLIN_PE_BYTES(bytes, length), length, header,
+        GOBLIN_PE_SOME(struct goblin_pe_section, sections, room), room);
 }
 
 /* Tests the symbol table and the string table of an image or an object, by its COFF header, and says in `table`
@@ -333,7 +339,7 @@ static inline struct goblin_pe_fault goblin_pe_read_symbol_table(
     const uint8_t *bytes, size_t length, const struct goblin_pe_coff_header *header,
     struct goblin_pe_symbol_table *table)
 {
-    return goblin_pe_raw_read_symbol_table(GOBLIN_PE_BYTES(bytes), length, header, table);
+    return goblin_pe_raw_read_symbol_table(GOBLIN_PE_BYTES(bytes, length), length, header, table);
 }
 
 /* Goes on with the walk over the symbols of a table, from the record at the index `position` on, 0 at the
@@ -347,7 +353,8 @@ static inline struct goblin_pe_fault goblin_pe_next_symbols(
     struct goblin_pe_named_symbol *symbols, size_t room, size_t *count)
 {
     return goblin_pe_raw_next_symbols(
-        GOBLIN_PE_BYTES(bytes), length, table, position, GOBLIN_PE_SOME(struct goblin_pe_named_symbol, symbols), room,
+        GOBLIN_PE_BYTES(bytes, length), length, table, position,
+        GOBLIN_PE_SOME(struct goblin_pe_named_symbol, symbols, room), room,
         count);
 }
 
@@ -358,7 +365,7 @@ static inline bool goblin_pe_symbol_at(
     const uint8_t *bytes, size_t length, const struct goblin_pe_symbol_table *table, size_t index,
     struct goblin_pe_named_symbol *symbol)
 {
-    return goblin_pe_raw_symbol_at(GOBLIN_PE_BYTES(bytes), length, table, index, symbol);
+    return goblin_pe_raw_symbol_at(GOBLIN_PE_BYTES(bytes, length), length, table, index, symbol);
 }
 
 /* Reads the first auxiliary record of a symbol, by the kind that its class says; each answers false, and
@@ -366,25 +373,29 @@ static inline bool goblin_pe_symbol_at(
 static inline bool goblin_pe_read_aux_function_definition(
     struct goblin_pe_text auxiliary, struct goblin_pe_aux_function_definition *record)
 {
-    return goblin_pe_raw_read_aux_function_definition(GOBLIN_PE_BYTES(auxiliary.bytes), auxiliary.length, record);
+    return goblin_pe_raw_read_aux_function_definition(
+        GOBLIN_PE_BYTES(auxiliary.bytes, auxiliary.length), auxiliary.length, record);
 }
 
 static inline bool goblin_pe_read_aux_begin_and_end_function(
     struct goblin_pe_text auxiliary, struct goblin_pe_aux_begin_and_end_function *record)
 {
-    return goblin_pe_raw_read_aux_begin_and_end_function(GOBLIN_PE_BYTES(auxiliary.bytes), auxiliary.length, record);
+    return goblin_pe_raw_read_aux_begin_and_end_function(
+        GOBLIN_PE_BYTES(auxiliary.bytes, auxiliary.length), auxiliary.length, record);
 }
 
 static inline bool goblin_pe_read_aux_weak_external(
     struct goblin_pe_text auxiliary, struct goblin_pe_aux_weak_external *record)
 {
-    return goblin_pe_raw_read_aux_weak_external(GOBLIN_PE_BYTES(auxiliary.bytes), auxiliary.length, record);
+    return goblin_pe_raw_read_aux_weak_external(
+        GOBLIN_PE_BYTES(auxiliary.bytes, auxiliary.length), auxiliary.length, record);
 }
 
 static inline bool goblin_pe_read_aux_section_definition(
     struct goblin_pe_text auxiliary, struct goblin_pe_aux_section_definition *record)
 {
-    return goblin_pe_raw_read_aux_section_definition(GOBLIN_PE_BYTES(auxiliary.bytes), auxiliary.length, record);
+    return goblin_pe_raw_read_aux_section_definition(
+        GOBLIN_PE_BYTES(auxiliary.bytes, auxiliary.length), auxiliary.length, record);
 }
 
 /* The name of a source file, up to its padding, in the auxiliary records of a symbol of class
@@ -392,7 +403,8 @@ static inline bool goblin_pe_read_aux_section_definition(
    none, or it is not UTF-8. */
 static inline bool goblin_pe_read_aux_file(struct goblin_pe_text auxiliary, struct goblin_pe_text *name)
 {
-    return goblin_pe_raw_read_aux_file(GOBLIN_PE_BYTES(auxiliary.bytes), auxiliary.length, name);
+    return goblin_pe_raw_read_aux_file(
+        GOBLIN_PE_BYTES(auxiliary.bytes, auxiliary.length), auxiliary.length, name);
 }
 
 /* Reads the relocations of a section of an object: says in `count` how many there are, and fills as many
@@ -407,7 +419,8 @@ static inline struct goblin_pe_fault goblin_pe_read_relocations(
 {
     struct goblin_pe_section sound = goblin_pe_sound_section(section);
     return goblin_pe_raw_read_relocations(
-        GOBLIN_PE_BYTES(bytes), length, &sound, GOBLIN_PE_SOME(struct goblin_pe_relocation, relocations), room, count);
+        GOBLIN_PE_BYTES(bytes, length), length, &sound,
+        GOBLIN_PE_SOME(struct goblin_pe_relocation, relocations, room), room, count);
 }
 
 /* Goes on with the walk over all relocations of a section of an object from the index `position` on, 0 at the
@@ -422,8 +435,8 @@ static inline struct goblin_pe_fault goblin_pe_next_relocations(
 {
     struct goblin_pe_section sound = goblin_pe_sound_section(section);
     return goblin_pe_raw_next_relocations(
-        GOBLIN_PE_BYTES(bytes), length, &sound, position,
-        GOBLIN_PE_SOME(struct goblin_pe_relocation, relocations), room, count);
+        GOBLIN_PE_BYTES(bytes, length), length, &sound, position,
+        GOBLIN_PE_SOME(struct goblin_pe_relocation, relocations, room), room, count);
 }
 
 /* Goes on with the walk over the words of a block of base relocations from the index `position` on, 0 at the
@@ -433,8 +446,8 @@ static inline size_t goblin_pe_next_words(
     const struct goblin_pe_block *block, size_t *position, struct goblin_pe_word *words, size_t room)
 {
     struct goblin_pe_block sound = *block;
-    sound.words.bytes = GOBLIN_PE_BYTES(sound.words.bytes);
-    return goblin_pe_raw_next_words(&sound, position, GOBLIN_PE_SOME(struct goblin_pe_word, words), room);
+    sound.words.bytes = GOBLIN_PE_BYTES(sound.words.bytes, sound.words.length);
+    return goblin_pe_raw_next_words(&sound, position, GOBLIN_PE_SOME(struct goblin_pe_word, words, room), room);
 }
 
 /* What maps the addresses of an image with these sections and this file alignment. */
@@ -443,9 +456,9 @@ static inline struct goblin_pe_image goblin_pe_image_by(
     const struct goblin_pe_section *sections, size_t section_count, uint32_t file_alignment)
 {
     struct goblin_pe_image image;
-    image.bytes.bytes = GOBLIN_PE_BYTES(bytes);
+    image.bytes.bytes = GOBLIN_PE_BYTES(bytes, length);
     image.bytes.length = length;
-    image.sections = GOBLIN_PE_SOME(const struct goblin_pe_section, sections);
+    image.sections = GOBLIN_PE_SOME(const struct goblin_pe_section, sections, section_count);
     image.section_count = section_count;
     image.file_alignment = file_alignment;
     image.options = *goblin_pe_options_or_default(options);
@@ -563,7 +576,7 @@ static inline struct goblin_pe_fault goblin_pe_read_section_data(
    whose checksum Windows tests, such as a driver, write it anew. */
 static inline uint32_t goblin_pe_checksum(const uint8_t *bytes, size_t length, size_t field)
 {
-    return goblin_pe_raw_checksum(GOBLIN_PE_BYTES(bytes), length, field);
+    return goblin_pe_raw_checksum(GOBLIN_PE_BYTES(bytes, length), length, field);
 }
 
 /* The file offset of the section table of an image, which follows the optional header. */
@@ -589,8 +602,9 @@ static inline struct goblin_pe_fault goblin_pe_write_header(
     struct goblin_pe_text stub, uint8_t *out, size_t room, size_t *written)
 {
     return goblin_pe_raw_write_header(
-        file, GOBLIN_PE_SOME(const struct goblin_pe_directory, directories), directory_count,
-        GOBLIN_PE_BYTES(stub.bytes), stub.length, GOBLIN_PE_SOME(uint8_t, out), room, written);
+        file, GOBLIN_PE_SOME(const struct goblin_pe_directory, directories, directory_count), directory_count,
+        GOBLIN_PE_BYTES(stub.bytes, stub.length), stub.length,
+        GOBLIN_PE_SOME(uint8_t, out, room), room, written);
 }
 
 /* Writes the record of a section with its eight bytes of name to the front of `out`, and says in `written`
@@ -599,13 +613,13 @@ static inline struct goblin_pe_fault goblin_pe_write_section(
     const struct goblin_pe_section *section, uint8_t *out, size_t room, size_t *written)
 {
     struct goblin_pe_section sound = goblin_pe_sound_section(section);
-    return goblin_pe_raw_write_section(&sound, GOBLIN_PE_SOME(uint8_t, out), room, written);
+    return goblin_pe_raw_write_section(&sound, GOBLIN_PE_SOME(uint8_t, out, room), room, written);
 }
 
 /* Takes the name from the string table out of the record of a section. */
 static inline void goblin_pe_clear_real_name(struct goblin_pe_section *section)
 {
-    section->real_name.bytes = GOBLIN_PE_BYTES(section->real_name.bytes);
+    section->real_name.bytes = GOBLIN_PE_BYTES(section->real_name.bytes, section->real_name.length);
     section->real_name.length = 0;
     section->has_real_name = false;
 }
@@ -642,7 +656,7 @@ static inline struct goblin_pe_fault goblin_pe_set_name_offset(struct goblin_pe_
    text is; 0 where there is none. None is longer than 160 bytes. */
 static inline size_t goblin_pe_fault_text(const struct goblin_pe_fault *fault, uint8_t *text, size_t room)
 {
-    return goblin_pe_raw_fault_text(fault, GOBLIN_PE_SOME(uint8_t, text), room);
+    return goblin_pe_raw_fault_text(fault, GOBLIN_PE_SOME(uint8_t, text, room), room);
 }
 
 /* How much room the text of each refusal has enough of, with a NUL. */

@@ -11,8 +11,21 @@
 extern "C" {
 #endif
 
-/* The version of this interface, which goblin_pe_interface answers. */
-#define GOBLIN_PE_INTERFACE 3
+/* The version, and that of the interface: of its records, the numbers in them, and its calls. */
+#define GOBLIN_PE_VERSION "0.4.0"
+#define GOBLIN_PE_INTERFACE_VERSION 4
+
+/* The sum of the interface that is declared here. goblin_pe_interface answers that of the library. */
+#define GOBLIN_PE_INTERFACE 0x8db9ad01u
+
+/* What follows .so. in the name by which programs ask for the shared library. */
+#define GOBLIN_PE_SONAME "4.8db9ad01"
+
+/* Only a library of this very interface has this call, so that a program is linked with no other. */
+uint32_t goblin_pe_interface_8db9ad01(void);
+#ifdef __GNUC__
+__attribute__((used)) static uint32_t (*const goblin_pe_needs_interface)(void) = goblin_pe_interface_8db9ad01;
+#endif
 
 /* What a file is, by its first bytes. This does not tell whether it can be read, and no call reads
    archives, import objects and big objects. */
@@ -1093,6 +1106,7 @@ struct goblin_pe_ranges {
 
 /* The library's own calls, for those who declare them in another language. As the calls of goblin_pe.h, which are made
    of them, but none of their pointers may be null. */
+uint32_t goblin_pe_interface(void);
 bool goblin_pe_raw_read_aux_function_definition(
     const uint8_t *bytes, size_t byte_count, struct goblin_pe_aux_function_definition *definition);
 bool goblin_pe_raw_read_aux_begin_and_end_function(
@@ -1167,7 +1181,6 @@ struct goblin_pe_fault goblin_pe_raw_next_relocations(
 size_t goblin_pe_raw_next_words(
     const struct goblin_pe_block *block, size_t *position, struct goblin_pe_word *words,
     size_t word_room);
-uint32_t goblin_pe_interface(void);
 uint32_t goblin_pe_raw_kind_of(const uint8_t *bytes, size_t byte_count);
 struct goblin_pe_fault goblin_pe_raw_open(
     const uint8_t *bytes, size_t byte_count, const struct goblin_pe_options *options,

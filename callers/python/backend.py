@@ -1,11 +1,13 @@
 """Builds the wheel, as pip asks for it (PEP 517, PEP 660), and needs nothing but Python: the module, and beside it the
-shared library that callers/build made. The wheel is for this platform and for each Python 3. Its bytes depend on these
-files alone, and on SOURCE_DATE_EPOCH where that is set."""
+shared library that callers/build made. The wheel is for this processor, for a C library that is no older than the shared
+library needs, and for each CPython from 3.9 on, whose buffers it asks for by two calls. Its bytes depend on these files
+alone, and on SOURCE_DATE_EPOCH where that is set."""
 import base64
 import hashlib
 import os
+import platform
 import re
-import sysconfig
+import sys
 import time
 import zipfile
 
@@ -32,10 +34,33 @@ def project():
 def metadata():
     """The metadata, with the text of README.md."""
     values, classifiers = project()
-    lines = ["Metadata-Version: 2.1", "Name: " + values["name"], "Version: " + values["version"], "Summary: " + values["description"],
-             "License: " + values["license"], "Requires-Python: " + values["requires-python"],
-             *("Classifier: " + it for it in classifiers), "Description-Content-Type: text/markdown"]
+    author, = re.findall(r'authors = \[\{ name = "(.*)" \}\]', read("pyproject.toml").decode())
+    lines = ["Metadata-Version: 2.4", "Name: " + values["name"], "Version: " + values["version"], "Summary: " + values["description"],
+             "Author: " + author, "License-Expression: " + values["license"], "License-File: LICENSE",
+             "Requires-Python: " + values["requires-python"], *("Classifier: " + it for it in classifiers),
+             "Description-Content-Type: text/markdown"]
     return "\n".join(lines).encode() + b"\n\n" + read("README.md")
+
+
+def needed(library):
+    """The version of the C library that a shared library needs, as its two numbers; manylinux knows none below 2.5."""
+    found = re.findall(rb"GLIBC_(\d+)\.(\d+)", library)
+    return max([(2, 5), *((int(major), int(minor)) for major, minor in found)])
+
+
+def tag(library):
+    """For which machines a wheel with this shared library is; one that leads to a folder is for this one, and names no
+    C library."""
+    system = "manylinux_%d_%d" % needed(library) if library and sys.platform == "linux" else sys.platform
+    return "cp39-abi3-%s_%s" % (system, platform.machine())
+
+
+def information(library=b""):
+    """The folder that tells of the package, by the places of its files."""
+    values, _ = project()
+    wheel = "Wheel-Version: 1.0\nGenerator: goblin_pe\nRoot-Is-Purelib: false\nTag: %s\n" % tag(library)
+    files = {"METADATA": metadata(), "WHEEL": wheel.encode(), "licenses/LICENSE": read("LICENSE")}
+    return {"%s-%s.dist-info/%s" % (values["name"], values["version"], it): data for it, data in files.items()}
 
 
 def module():
@@ -49,15 +74,14 @@ def module():
 def written(folder, files):
     """Writes a wheel with these files, by their places, and answers its name."""
     values, _ = project()
-    tag = "py3-none-" + re.sub(r"\W", "_", sysconfig.get_platform())
+    library = files.get("goblin_pe/libgoblin_pe.so", b"")
     stem = "%s-%s" % (values["name"], values["version"])
-    wheel = "Wheel-Version: 1.0\nGenerator: goblin_pe\nRoot-Is-Purelib: false\nTag: %s\n" % tag
-    files = {**files, stem + ".dist-info/METADATA": metadata(), stem + ".dist-info/WHEEL": wheel.encode()}
+    files = {**files, **information(library)}
     record = stem + ".dist-info/RECORD"
     digest = lambda data: base64.urlsafe_b64encode(hashlib.sha256(data).digest()).rstrip(b"=").decode()
     rows = ["%s,sha256=%s,%d\n" % (place, digest(data), len(data)) for place, data in sorted(files.items())]
     date = time.gmtime(max(int(os.environ.get("SOURCE_DATE_EPOCH", 0)), 315532800))[:6]  # a zip begins with 1980
-    with zipfile.ZipFile(os.path.join(folder, "%s-%s.whl" % (stem, tag)), "w", zipfile.ZIP_DEFLATED) as file:
+    with zipfile.ZipFile(os.path.join(folder, "%s-%s.whl" % (stem, tag(library))), "w", zipfile.ZIP_DEFLATED) as file:
         for place, data in [*sorted(files.items()), (record, "".join([*rows, record + ",,\n"]).encode())]:
             entry = zipfile.ZipInfo(place, date)
             entry.compress_type, entry.external_attr = zipfile.ZIP_DEFLATED, 0o100644 << 16

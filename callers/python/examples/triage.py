@@ -1,12 +1,12 @@
 """Tells of each file of a folder what analysts compare, a line of JSON each: triage.py FOLDER. Four threads look at them. Of no
 file are more imports or exports counted than a limit says, and of imports past it `damage` tells nothing; but what is left out
-counts for no limit, `damage` looks at all exports, and all sections are told. What can't be read has a line, too, that says why."""
+counts for no limit, `damage` looks at all exports, and all sections are told. What can't be read has a line, too, that says why.
+Files are read whole, and not mapped: who can write or cut a mapped file changes the bytes during a call, or ends the program."""
 import concurrent.futures
 import hashlib
 import itertools
 import json
 import math
-import mmap
 import os
 import sys
 from collections import Counter
@@ -74,10 +74,11 @@ def triaged(path: str) -> Dict[str, Any]:
     """What is told of a file."""
     told = {"file": os.path.basename(path)}
     try:
-        with open(path, "rb") as file, mmap.mmap(file.fileno(), 0, access=mmap.ACCESS_READ) as data:
-            what = kind(data)
-            return {**told, "kind": what.name.lower(), **(image(data) if what == Kind.IMAGE else {})}
-    except (OSError, ValueError) as error:  # (a refusal is a ValueError, and so is that an empty file can't be mapped)
+        with open(path, "rb") as file:
+            data = file.read()
+        what = kind(data)
+        return {**told, "kind": what.name.lower(), **(image(data) if what == Kind.IMAGE else {})}
+    except (OSError, Refused) as error:
         return {**told, "refused": str(error)}
 
 

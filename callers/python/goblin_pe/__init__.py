@@ -72,7 +72,7 @@ from .rows import (
     Section as Section, SectionData as SectionData, Symbol as Symbol, batches as _batches, data_of as _data_of,
     growing_batches as _growing_batches, record_of as _section_record, room as _room)
 
-__version__ = "0.3.0"
+__version__ = "0.4.0"
 
 
 def __dir__() -> _t.List[str]:

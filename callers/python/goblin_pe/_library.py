@@ -30,6 +30,7 @@ def _path() -> str:
 
 def _load() -> c.CDLL:
     library = c.CDLL(_path())
+    library.goblin_pe_interface.restype = c.c_uint32
     if library.goblin_pe_interface() != INTERFACE:
         raise ImportError("%s has another interface than this module" % library._name)
     for name, (answer, arguments) in CALLS.items():

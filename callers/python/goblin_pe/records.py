@@ -6,8 +6,8 @@ from typing import Annotated, Any, Dict, List, NamedTuple, Tuple
 
 from ._laid_out import Address, HandedOver, Record, header, record, tables, to
 
-# The version of the interface that is declared here.
-INTERFACE = 3
+# The sum of the interface that is declared here: of its records, the numbers in them, and its calls.
+INTERFACE = 0x8db9ad01
 
 
 @record
@@ -1060,6 +1060,8 @@ class Ranges(HandedOver):
 
 # The calls: what each answers and takes.
 CALLS: Dict[str, Tuple[Any, List[Any]]] = {
+    "goblin_pe_interface":
+        (c.c_uint32, []),
     "goblin_pe_raw_read_aux_function_definition":
         (c.c_bool, [c.c_void_p, c.c_size_t, to(AuxFunctionDefinition)]),
     "goblin_pe_raw_read_aux_begin_and_end_function":
@@ -1118,8 +1120,6 @@ CALLS: Dict[str, Tuple[Any, List[Any]]] = {
         (Fault, [c.c_void_p, c.c_size_t, to(Section), to(c.c_size_t), to(Relocation), c.c_size_t, to(c.c_size_t)]),
     "goblin_pe_raw_next_words":
         (c.c_size_t, [to(Block), to(c.c_size_t), to(Word), c.c_size_t]),
-    "goblin_pe_interface":
-        (c.c_uint32, []),
     "goblin_pe_raw_kind_of":
         (c.c_uint32, [c.c_void_p, c.c_size_t]),
     "goblin_pe_raw_open":

@@ -4,8 +4,8 @@
 use crate::raw::{List, Shared, Slice};
 use std::mem::offset_of;
 
-/// The version of the interface that is declared here.
-pub const INTERFACE: u32 = 3;
+/// The sum of the interface that is declared here: of its records, the numbers in them, and its calls.
+pub const INTERFACE: u32 = 0x8db9_ad01;
 
 /// What follows a symbol that defines a function.
 ///
@@ -1265,6 +1265,8 @@ const _: () = {
 #[rustfmt::skip]
 #[allow(dead_code)] // (the words of a block are read here without the library)
 unsafe extern "C" {
+    pub safe fn goblin_pe_interface() -> u32;
+
     pub fn goblin_pe_raw_read_aux_function_definition(
         bytes: *const u8,
         byte_count: usize,
@@ -1467,8 +1469,6 @@ unsafe extern "C" {
         words: *mut Word,
         word_room: usize,
     ) -> usize;
-
-    pub safe fn goblin_pe_interface() -> u32;
 
     pub fn goblin_pe_raw_kind_of(bytes: *const u8, byte_count: usize) -> u32;
 

@@ -14,6 +14,7 @@ mod fault;
 mod forwarder;
 mod image;
 mod import;
+mod interface;
 mod look_up;
 mod object;
 mod te;

@@ -26,14 +26,6 @@ use goblin_pe_records::options::{PeOptions, header_options, options_in};
 use goblin_pe_records::section::PeSection;
 use std::alloc::Global;
 
-/// The version of this interface. It is raised where a call or a record's layout changes.
-#[unsafe(no_mangle)]
-pub extern "C" fn goblin_pe_interface() -> u32
-    ensures { result ≡ 3 }
-{
-    3
-}
-
 /// What a file is, by its first bytes alone, as a [`Kind`](goblin_pe_records::kind::Kind). It does
 /// not tell whether the file can be read.
 #[unsafe(no_mangle)]
