@@ -3,7 +3,10 @@
 use super::rows::{
     ImportRow, RECORD, Short, are_imports, is_sample_library, is_sample_table, is_seven_alone,
 };
-use fixture::sample::{ALIGNMENT, IMPORTS, LOOKUP, cut, in_mode, is_err, sample, sample_section};
+use fixture::sample::{
+    ALIGNMENT, IMPORTS, LOOKUP, SAMPLE_LEN, cut, in_mode, is_err, put, sample, sample_section,
+    sample_with,
+};
 use goblin_base::{Cause, Error, ParseMode, ResultOf};
 use goblin_pe::import::{
     Bitfield, Import, ImportData, ImportDirectoryEntry, ImportLookupTable,
@@ -55,6 +58,52 @@ const OF_TWO: &[ImportRow] = &[("Go", 5, 0x1060, 0x1090, 2, 0)];
 fn imports_are_listed_by_entries_of_two_bytes(rt: HostRuntime) {
     let file = sample();
     assert!(rt; are_alike::<Short>(rt.alloc(), &file, OF_TWO));
+}
+
+/// The sample file with its record twice.
+fn with_its_record_twice() -> [u8; SAMPLE_LEN] {
+    let mut file = sample_with(0x214, b"\x40\x10");
+    put(&mut file, 0x220, b"\x80\x10\x00\x00\x60\x10");
+    file
+}
+
+/// The library of the sample's record, read by itself.
+fn library_alone<'a, 'e>(
+    alloc: Global,
+    file: &'a [u8],
+) -> ResultOf<'e, SyntheticImportDirectoryEntry<'a>> {
+    SyntheticImportDirectoryEntry::parse::<u32>(alloc, file, RECORD, &[sample_section()], ALIGNMENT)
+}
+
+/// Import data that is put together from two libraries, each read by itself.
+fn put_together<'a, 'e>(alloc: Global, file: &'a [u8]) -> ResultOf<'e, ImportData<'a>> {
+    let mut import_data = Vec::with_capacity(alloc, 2)?;
+    import_data.push(library_alone(alloc, file)?)?;
+    import_data.push(library_alone(alloc, file)?)?;
+    Ok(ImportData { import_data })
+}
+
+/// Whether this is the sample's library twice.
+fn is_library_twice(data: &ImportData) -> bool {
+    match data.import_data.as_slice() {
+        [first, second] => is_sample_library(first, &RECORD) && is_sample_library(second, &RECORD),
+        _ => false,
+    }
+}
+
+fn is_read_twice(alloc: Global, file: &[u8]) -> bool {
+    matches!(&data_of::<u32>(alloc, file, ParseMode::Strict), Ok(data) if is_library_twice(data))
+}
+
+fn is_put_together(alloc: Global, file: &[u8]) -> bool {
+    matches!(&put_together(alloc, file), Ok(data) if is_library_twice(data))
+}
+
+#[test]
+fn import_data_of_libraries_read_one_by_one_is_that_of_their_directory(rt: HostRuntime) {
+    let file = with_its_record_twice();
+    assert!(rt; is_read_twice(rt.alloc(), &file));
+    assert!(rt; is_put_together(rt.alloc(), &file));
 }
 
 /// Whether a record leads to the sample's library.
