@@ -177,94 +177,94 @@ module _ (strict : Bool) (format : Format EntryValue) (offset_of : ℕ → Optio
 
 module _ (strict : Bool) (format : Format EntryValue) (offset_of : ℕ → Option ℕ)
     (bytes : List ℕ) (first index : ℕ) (r : ImportDirectoryEntry) (next : ℕ) where
-    abbrev name : Reading (List ℕ)
-    name = library_name strict offset_of r
+  abbrev name : Reading (List ℕ)
+  name = library_name strict offset_of r
 
-    abbrev addresses : Reading (List ℕ)
-    addresses = addresses_of format offset_of r
+  abbrev addresses : Reading (List ℕ)
+  addresses = addresses_of format offset_of r
 
-    -- what comes of the library, and then of those whose records are in the directory from `next` on
-    abbrev pub whole : List (Option NumberedImport)
-    whole =
-        until_refused
-        (library_items strict format offset_of bytes index r
-        ++ imports_from_record strict format offset_of bytes first next)
+  -- what comes of the library, and then of those whose records are in the directory from `next` on
+  abbrev pub whole : List (Option NumberedImport)
+  whole =
+      until_refused
+      (library_items strict format offset_of bytes index r
+      ++ imports_from_record strict format offset_of bytes first next)
 
-    abbrev pub IsWholeCause : ErrorOf → Type 0
-    IsWholeCause e =
-        FirstFault (name.value bytes) (name.IsCause bytes)
-        (λ _. IsNamedCause strict format offset_of bytes r
-        (IsRecordsCause strict format offset_of bytes next)) e
+  abbrev pub IsWholeCause : ErrorOf → Type 0
+  IsWholeCause e =
+      FirstFault (name.value bytes) (name.IsCause bytes)
+      (λ _. IsNamedCause strict format offset_of bytes r
+      (IsRecordsCause strict format offset_of bytes next)) e
 
-    -- what is left of a walk of these parts
-    abbrev pub parts_left : Origin → ℕ → ℕ → Option ℕ → Option ℕ → List (Option NumberedImport)
-    parts_left from rva o at untested =
-        until_refused
-        (imports_of_entries strict format offset_of bytes from rva o at
-        ++ later_items strict format offset_of bytes untested first (Some next))
+  -- what is left of a walk of these parts
+  abbrev pub parts_left : Origin → ℕ → ℕ → Option ℕ → Option ℕ → List (Option NumberedImport)
+  parts_left from rva o at untested =
+      until_refused
+      (imports_of_entries strict format offset_of bytes from rva o at
+      ++ later_items strict format offset_of bytes untested first (Some next))
 
-    abbrev pub IsPartsCause : ℕ → Option ℕ → Option ℕ → ErrorOf → Type 0
-    IsPartsCause o at untested e =
-        (strict ≡ true)
-        × FirstFault (all_of (entries_from strict format offset_of bytes o at))
-        (IsEntriesCause strict format offset_of bytes at)
-        (λ _. IsLaterCause strict format offset_of bytes untested (Some next)) e
+  abbrev pub IsPartsCause : ℕ → Option ℕ → Option ℕ → ErrorOf → Type 0
+  IsPartsCause o at untested e =
+      (strict ≡ true)
+      × FirstFault (all_of (entries_from strict format offset_of bytes o at))
+      (IsEntriesCause strict format offset_of bytes at)
+      (λ _. IsLaterCause strict format offset_of bytes untested (Some next)) e
 
-    pub walk-left_out : is_left_out strict format offset_of bytes r ≡ true
-        → (from : Origin) (rva o : ℕ)
-        → (parts_left from rva o None None ≡ whole)
-        × ((e : ErrorOf) → IsPartsCause o None None e → (strict ≡ true) × IsWholeCause e)
-    unfolding entries_from library_items imports_next
-    walk-left_out out from rva o = (
-      rw out refl,
-      λ e fault.
-          let is = permissive_by strict _ out in
-          absurd (cc (is, fault.0)),
-    )
+  pub walk-left_out : is_left_out strict format offset_of bytes r ≡ true
+      → (from : Origin) (rva o : ℕ)
+      → (parts_left from rva o None None ≡ whole)
+      × ((e : ErrorOf) → IsPartsCause o None None e → (strict ≡ true) × IsWholeCause e)
+  unfolding entries_from library_items imports_next
+  walk-left_out out from rva o = (
+    rw out refl,
+    λ e fault.
+        let is = permissive_by strict _ out in
+        absurd (cc (is, fault.0)),
+  )
 
-    pub walk-unnamed : (e : ErrorOf) → name.value bytes ≡ None → name.IsCause bytes e
-        → (library_items strict format offset_of bytes index r ≡ None ∷ []) × (strict ≡ true)
-        × (name.value bytes ≡ None) × name.IsCause bytes e
-    unfolding library_items
-    walk-unnamed e none fault =
-        let is = name_strict strict _ none in (
-          rw (none, is) refl,
-          is,
-          none,
-          fault,
-        )
+  pub walk-unnamed : (e : ErrorOf) → name.value bytes ≡ None → name.IsCause bytes e
+      → (library_items strict format offset_of bytes index r ≡ None ∷ []) × (strict ≡ true)
+      × (name.value bytes ≡ None) × name.IsCause bytes e
+  unfolding library_items
+  walk-unnamed e none fault =
+      let is = name_strict strict _ none in (
+        rw (none, is) refl,
+        is,
+        none,
+        fault,
+      )
 
-    abbrev at : Option ℕ
-    at = lookup_offset offset_of r
+  abbrev at : Option ℕ
+  at = lookup_offset offset_of r
 
-    module _ (dll : List ℕ) (named : name.value bytes ≡ Some dll)
-        (kept : is_left_out strict format offset_of bytes r ≡ false) where
-      -- a library that is walked over
-      pub walk-entered : parts_left (origin index dll) r.import_address_table_rva (unwrap_or at 0) at
-          (Some (address_table_rva r)) ≡ whole
-      unfolding library_items imports_next
-      walk-entered =
-          let imports =
-          imports_of_entries strict format offset_of bytes (origin index dll) r.import_address_table_rva (unwrap_or at 0)
-          at in
-          let table = untested_table strict format offset_of (Some (address_table_rva r)) in
-          rw (kept, named)
-          (ap until_refused
-          (sym (append_assoc imports (refusal_of (table.value bytes))
-          (imports_from_record strict format offset_of bytes first next))))
+  module _ (dll : List ℕ) (named : name.value bytes ≡ Some dll)
+      (kept : is_left_out strict format offset_of bytes r ≡ false) where
+    -- a library that is walked over
+    pub walk-entered : parts_left (origin index dll) r.import_address_table_rva (unwrap_or at 0) at
+        (Some (address_table_rva r)) ≡ whole
+    unfolding library_items imports_next
+    walk-entered =
+        let imports =
+        imports_of_entries strict format offset_of bytes (origin index dll) r.import_address_table_rva (unwrap_or at 0)
+        at in
+        let table = untested_table strict format offset_of (Some (address_table_rva r)) in
+        rw (kept, named)
+        (ap until_refused
+        (sym (append_assoc imports (refusal_of (table.value bytes))
+        (imports_from_record strict format offset_of bytes first next))))
 
-      -- a cause of the one is one of the other
-      pub cause-entered : (e : ErrorOf)
-          → IsPartsCause (unwrap_or at 0) at (Some (address_table_rva r)) e
-          → (strict ≡ true) × IsWholeCause e
-      cause-entered e fault = (fault.0, rw named fault.1)
+    -- a cause of the one is one of the other
+    pub cause-entered : (e : ErrorOf)
+        → IsPartsCause (unwrap_or at 0) at (Some (address_table_rva r)) e
+        → (strict ≡ true) × IsWholeCause e
+    cause-entered e fault = (fault.0, rw named fault.1)
 
-      pub entered : (parts_left (origin index dll) r.import_address_table_rva (unwrap_or at 0) at
-          (Some (address_table_rva r)) ≡ whole)
-          × ((e : ErrorOf)
-          → IsPartsCause (unwrap_or at 0) at (Some (address_table_rva r)) e
-          → (strict ≡ true) × IsWholeCause e)
-      entered = (walk-entered, cause-entered)
+    pub entered : (parts_left (origin index dll) r.import_address_table_rva (unwrap_or at 0) at
+        (Some (address_table_rva r)) ≡ whole)
+        × ((e : ErrorOf)
+        → IsPartsCause (unwrap_or at 0) at (Some (address_table_rva r)) e
+        → (strict ≡ true) × IsWholeCause e)
+    entered = (walk-entered, cause-entered)
 
 -- ---- once the entries of a library have come
 

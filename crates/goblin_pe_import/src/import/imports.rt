@@ -4,7 +4,7 @@ ghost use Rattle.std.specs.Prelude.{◌≡◌, ◌+◌, ◌-◌, ◌<◌, ◌≤
 ghost use Rattle.std.specs.Prelude.{IfSome};
 ghost use Rattle.std.specs.Prelude.{MatchOption, MatchResult, None, Some, false, length};
 ghost use Rattle.std.specs.Prelude.{List, option_map, true, ℕ};
-ghost use Rattle.std.specs.Prelude.{if◌then◌else◌, IsSome, IsSomeAnd, IsOk, Ok};
+ghost use Rattle.std.specs.Prelude.{IsSome, IsOk, Ok};
 ghost use Rattle.std.specs.Iterator.{UpTo, at_most};
 ghost use Rattle.std.specs.Iterator.SizeHint.{IsWithinCount};
 ghost use Rattle.std.specs.List.{flat_map};
@@ -16,7 +16,6 @@ ghost use Rattle.readings.specs.Walks.{GivesNext, IsWalkOf, Walks, until_refused
 ghost use Rattle.goblin_pe_sect.specs.Addresses.{map_of, offset_of, reads_strictly};
 ghost use Rattle.goblin_pe_import.specs.ImportCursors.{BeginsAt, before_record, first_import};
 ghost use Rattle.goblin_pe_import.specs.ImportReadings.{indexed_at, numbered_data, numbered_libraries_at};
-ghost use Rattle.goblin_pe_import.specs.ImportRecords.{is_last_record};
 ghost use Rattle.goblin_pe_import.specs.Imports.{numbered_imports};
 ghost use Rattle.goblin_pe_import.specs.ImportWalks.{GivesImport, GivesLibrary, GivesPlain};
 ghost use Rattle.goblin_pe_import.specs.ImportWalks.{HasName, IsCursorCause, IsNamed, IsWalkAt};
@@ -37,8 +36,9 @@ use crate::import::address_table::{test_address_table, test_numbers};
 use crate::import::bitfield::Bitfield;
 use crate::import::directory_entry::{ImportDirectoryEntry, SIZEOF_IMPORT_DIRECTORY_ENTRY};
 use crate::import::kept::{KeptEntry, next_kept, plain_kept};
-use crate::import::library::{address_table_rva, first_record_offset, library_name, lookup_offset};
-use crate::import::library::{said_name};
+use crate::import::library::{
+    address_table_rva, first_record_offset, library_name, lookup_offset, said_name,
+};
 use crate::import::lookup_table::SyntheticImportLookupTableEntry;
 use crate::import::slots::{may_end, next_record};
 use goblin_base::{Cause, Error, ResultOf};
@@ -528,7 +528,12 @@ impl<'a, 'm, 'e, T: Bitfield<'a>> Imports<'a, 'm, 'e, T> {
     {
         let dll = "";
         Imports {
-            walk: Walk { bytes, finder, dll, at },
+            walk: Walk {
+                bytes,
+                finder,
+                dll,
+                at,
+            },
             items: PhantomData,
         }
     }
@@ -539,7 +544,12 @@ impl<'a, 'm, 'e, T: Bitfield<'a>> Imports<'a, 'm, 'e, T> {
         ensures { IsWalkAt (map_of finder.entry) bytes.now at result }
     {
         let dll = "";
-        let mut walk = Walk { bytes, finder, dll, at };
+        let mut walk = Walk {
+            bytes,
+            finder,
+            dll,
+            at,
+        };
         if at.place.is_some() {
             walk.dll = said_name(bytes, at.name_rva, &mut walk.finder);
         }
@@ -668,6 +678,14 @@ impl<'a, 'm, 'e, T: Bitfield<'a>> fmt::Debug for Imports<'a, 'm, 'e, T> {
     fn fmt<W: fmt::Write>(&self, f: &mut fmt::Formatter<W>) -> fmt::Result {
         f.debug_struct("Imports")
             .field("cursor", &self.walk.at)
+            .finish_non_exhaustive()
+    }
+}
+
+impl<'a, 'm, 'e, T: Bitfield<'a>> fmt::Debug for PlainImports<'a, 'm, 'e, T> {
+    fn fmt<W: fmt::Write>(&self, f: &mut fmt::Formatter<W>) -> fmt::Result {
+        f.debug_struct("PlainImports")
+            .field("place", &self.place)
             .finish_non_exhaustive()
     }
 }
