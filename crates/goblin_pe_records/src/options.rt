@@ -1,6 +1,6 @@
 //! How a file is read, as a caller says it.
 
-ghost use Rattle.std.specs.Prelude.{◌≡◌};
+ghost use Rattle.std.specs.Prelude.{◌≡◌, ℕ};
 ghost use Rattle.goblin_pe_records.specs.Options.{alignment_in, header_options, options_at};
 ghost use Rattle.goblin_pe_records.specs.Options.{options_in, rule_at};
 ghost use Rattle.goblin_pe_sect.specs.Options.{default_options};
@@ -53,7 +53,7 @@ pub struct PeOptions {
 /// The options where a caller says none: strictly, with addresses mapped by the sections from their
 /// raw pointers as stored, and imports. Callers of all languages take them from here.
 pub fn default_options() -> PeOptions
-    ensures { options_at result 0 ≡ default_options }
+    ensures { (alignment : ℕ) → options_at result alignment ≡ default_options }
 {
     PeOptions {
         is_permissive: false,
