@@ -3,6 +3,7 @@ path has a space, with a toolchain that makes what it is told, and notes what it
 import functools
 import os
 import shutil
+import sys
 
 from tests.programs import CALLERS, CC, TOP, Case, environment, folder, need, run, succeed
 
@@ -78,7 +79,9 @@ class Tree(Case):
         return kit
 
     def env(self, **more):
-        return environment(PATH=f"{self.kit}/bin:{os.environ['PATH']}", CALLED=str(self.folder / "called"), **more)
+        """The toolchain stands first on the path, and then the Python of the tests, with nothing before it."""
+        path = [f"{self.kit}/bin", os.path.dirname(sys.executable), os.environ["PATH"]]
+        return environment(PATH=":".join(path), CALLED=str(self.folder / "called"), **more)
 
     def called(self):
         """What the toolchain was called for since this was asked last."""
