@@ -205,6 +205,16 @@ class Builds(Tree):
         succeed([self.top / "callers/build", self.lib], env=self.env(LDFLAGS="-Wl,-z,now -Wl,-z,relro"))
         self.assertIn("BIND_NOW", succeed(["readelf", "-d", self.lib / self.shared()]))
 
+    def test_libraries_that_are_linked_from_another_copy(self):
+        """They serve where their sources are the same, and stay."""
+        self.build()
+        other = self.folder / "other copy"
+        shutil.copytree(self.top, other, ignore=shutil.ignore_patterns("out"))
+        (other / "crates/goblin_base/out").mkdir()
+        (other / "crates/goblin_base/out/rlib").symlink_to(self.top / "crates/goblin_base/out/rlib")
+        self.top = other
+        self.assertEqual(self.build(), ["build goblin_pe_c"])
+
     def test_an_older_shared_library_in_the_folder(self):
         self.build()
         (self.lib / "libgoblin_pe.so.2").write_bytes(b"older")
