@@ -3,6 +3,7 @@ path has a space, with a toolchain that makes what it is told, and notes what it
 import functools
 import os
 import shutil
+import sys
 
 from tests.programs import CALLERS, CC, TOP, Case, environment, folder, need, run, succeed
 
@@ -78,7 +79,9 @@ class Tree(Case):
         return kit
 
     def env(self, **more):
-        return environment(PATH=f"{self.kit}/bin:{os.environ['PATH']}", CALLED=str(self.folder / "called"), **more)
+        """The toolchain stands first on the path, and then the Python of the tests, with nothing before it."""
+        path = [f"{self.kit}/bin", os.path.dirname(sys.executable), os.environ["PATH"]]
+        return environment(PATH=":".join(path), CALLED=str(self.folder / "called"), **more)
 
     def called(self):
         """What the toolchain was called for since this was asked last."""
@@ -201,6 +204,16 @@ class Builds(Tree):
         need("readelf")
         succeed([self.top / "callers/build", self.lib], env=self.env(LDFLAGS="-Wl,-z,now -Wl,-z,relro"))
         self.assertIn("BIND_NOW", succeed(["readelf", "-d", self.lib / self.shared()]))
+
+    def test_libraries_that_are_linked_from_another_copy(self):
+        """They serve where their sources are the same, and stay."""
+        self.build()
+        other = self.folder / "other copy"
+        shutil.copytree(self.top, other, ignore=shutil.ignore_patterns("out"))
+        (other / "crates/goblin_base/out").mkdir()
+        (other / "crates/goblin_base/out/rlib").symlink_to(self.top / "crates/goblin_base/out/rlib")
+        self.top = other
+        self.assertEqual(self.build(), ["build goblin_pe_c"])
 
     def test_an_older_shared_library_in_the_folder(self):
         self.build()
