@@ -9,7 +9,7 @@ use Rattle.goblin_pe.specs.declared.options.ParseOptions.{ParseOptions}
 use Rattle.goblin_pe.specs.Callers.{IsRefused, file_table, read_or}
 use Rattle.goblin_pe.specs.ErrorText.{error_text}
 use Rattle.goblin_pe.specs.ExportRecords.{ExportRow, ExportTables}
-use Rattle.goblin_pe.specs.Imports.{ImportValue}
+use Rattle.goblin_pe.specs.Imports.{NumberedImport}
 use Rattle.goblin_pe.specs.Mapping.{section_at}
 use Rattle.goblin_pe.specs.Options.{default_options}
 use Rattle.goblin_pe.specs.PeHeader.{PeHeader}
@@ -22,8 +22,8 @@ use Rattle.goblin_pe.specs.Whole.{export_part, import_list, layout}
 -- ---- imports
 
 -- the import is from the library of this name, byte for byte
-abbrev pub is_from : List ℕ → ImportValue → Bool
-is_from library import = bytes_eq import.dll library
+abbrev pub is_from : List ℕ → NumberedImport → Bool
+is_from library walked = bytes_eq walked.import.dll library
 
 -- a file, read strictly, imports something from this library
 abbrev pub imports_from : List ℕ → Reading Bool
