@@ -14,7 +14,7 @@ case $1 in
 doc) echo "$kit/START-HERE.md" ;;
 lib) name=$(basename "$PWD"); mkdir -p "out/rlib/$name.rlib" && cat src/* > "out/rlib/$name.rlib/format" ;;
 run) mkdir -p out && { echo '#!/bin/sh'; cat src/main.rt; } > out/pe_list && chmod +x out/pe_list ;;
-ci) for it in crates/*; do (cd "$it" && if [ -e src/main.rt ]; then "$0" run; else "$0" lib; fi); done; echo '1 passed, 0 failed' ;;
+ci) echo "$*" > "$CALLED.ci"; for it in crates/*; do (cd "$it" && if [ -e src/main.rt ]; then "$0" run; else "$0" lib; fi); done; echo '1 passed, 0 failed' ;;
 esac
 """
 RATTLE = r"""#!/bin/sh
@@ -57,7 +57,7 @@ class Tree(Case):
         (self.top / "crates.txt").write_text(CRATES_TXT, "ascii")
         shutil.copytree(CALLERS, self.top / "callers", ignore=shutil.ignore_patterns("lib", "target", "__pycache__", "*.pyc"))
         shutil.copytree(TOP / "tools", self.top / "tools")
-        for it in ("HANDLES", "LICENSE", "SECURITY.md", "CHANGELOG.md", "pe_list", "samples/program_x64.exe"):
+        for it in ("HANDLES", "LICENSE", "SECURITY.md", "CHANGELOG.md", "pe_list", "test", "samples/program_x64.exe"):
             (self.top / it).parent.mkdir(exist_ok=True)
             shutil.copy(TOP / it, self.top / it)
 
@@ -275,6 +275,18 @@ class Lists(Tree):
         self.assertEqual((status, out), (0, b"1 passed, 0 failed\n"), said)
         self.called()
         self.assertEqual([self.listed(), self.build()], [[], ["build goblin_pe_c"]])
+
+    def test_a_run_of_all_tests(self):
+        """Its gate takes nothing kept where that is asked for; the tests of this repository are none of the copy's."""
+        python = self.kit / "bin/python3"
+        python.write_text(f'#!/bin/sh\n[ "$1" = -m ] || exec "{sys.executable}" "$@"\necho "1 passed, 0 failed"\n', "ascii")
+        python.chmod(0o755)
+        for words, wanted in ([], "ci\n"), (["--anew"], "ci --anew\n"):
+            status, out, said = run([self.top / "test", *words], env=self.env())
+            self.assertEqual((status, out.decode().splitlines()[-1]), (0, "3 passed, 0 failed"), out + said)
+            self.assertEqual((self.folder / "called.ci").read_text("ascii"), wanted)
+        self.called()
+        self.assertEqual(self.listed(), [])
 
     def test_what_the_gate_did_not_build(self):
         """Nothing is said of what stood there before it failed."""
