@@ -159,7 +159,7 @@ def open_without_imports(file):
 def next_imports(file, options=STRICT, batches=1):
     layout, directories = records.Layout(), (records.Directory * 16)()
     LIB.goblin_pe_raw_read_layout(file, len(file), c.byref(options), c.byref(layout), directories, 16, (records.Section * 1)(), 0)
-    position, room, count, found = records.ImportPosition(), (records.Import * 256)(), c.c_size_t(), 0
+    position, room, count, found = records.ImportCursor(), (records.Import * 256)(), c.c_size_t(), 0
     for _ in range(batches):
         fault = LIB.goblin_pe_raw_next_imports(
             file, len(file), c.byref(options), c.byref(layout.places), c.byref(position), room, 256, c.byref(count))

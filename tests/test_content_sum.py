@@ -3,6 +3,7 @@ path has a space, with a toolchain that makes what it is told, and notes what it
 import functools
 import os
 import shutil
+import sys
 
 from tests.programs import CALLERS, CC, TOP, Case, environment, folder, need, run, succeed
 
@@ -13,7 +14,7 @@ case $1 in
 doc) echo "$kit/START-HERE.md" ;;
 lib) name=$(basename "$PWD"); mkdir -p "out/rlib/$name.rlib" && cat src/* > "out/rlib/$name.rlib/format" ;;
 run) mkdir -p out && { echo '#!/bin/sh'; cat src/main.rt; } > out/pe_list && chmod +x out/pe_list ;;
-ci) for it in crates/*; do (cd "$it" && if [ -e src/main.rt ]; then "$0" run; else "$0" lib; fi); done; echo '1 passed, 0 failed' ;;
+ci) echo "$*" > "$CALLED.ci"; for it in crates/*; do (cd "$it" && if [ -e src/main.rt ]; then "$0" run; else "$0" lib; fi); done; echo '1 passed, 0 failed' ;;
 esac
 """
 RATTLE = r"""#!/bin/sh
@@ -56,7 +57,7 @@ class Tree(Case):
         (self.top / "crates.txt").write_text(CRATES_TXT, "ascii")
         shutil.copytree(CALLERS, self.top / "callers", ignore=shutil.ignore_patterns("lib", "target", "__pycache__", "*.pyc"))
         shutil.copytree(TOP / "tools", self.top / "tools")
-        for it in ("HANDLES", "LICENSE", "SECURITY.md", "CHANGELOG.md", "pe_list", "samples/program_x64.exe"):
+        for it in ("HANDLES", "LICENSE", "SECURITY.md", "CHANGELOG.md", "pe_list", "test", "samples/program_x64.exe"):
             (self.top / it).parent.mkdir(exist_ok=True)
             shutil.copy(TOP / it, self.top / it)
 
@@ -78,7 +79,9 @@ class Tree(Case):
         return kit
 
     def env(self, **more):
-        return environment(PATH=f"{self.kit}/bin:{os.environ['PATH']}", CALLED=str(self.folder / "called"), **more)
+        """The toolchain stands first on the path, and then the Python of the tests, with nothing before it."""
+        path = [f"{self.kit}/bin", os.path.dirname(sys.executable), os.environ["PATH"]]
+        return environment(PATH=":".join(path), CALLED=str(self.folder / "called"), **more)
 
     def called(self):
         """What the toolchain was called for since this was asked last."""
@@ -202,6 +205,16 @@ class Builds(Tree):
         succeed([self.top / "callers/build", self.lib], env=self.env(LDFLAGS="-Wl,-z,now -Wl,-z,relro"))
         self.assertIn("BIND_NOW", succeed(["readelf", "-d", self.lib / self.shared()]))
 
+    def test_libraries_that_are_linked_from_another_copy(self):
+        """They serve where their sources are the same, and stay."""
+        self.build()
+        other = self.folder / "other copy"
+        shutil.copytree(self.top, other, ignore=shutil.ignore_patterns("out"))
+        (other / "crates/goblin_base/out").mkdir()
+        (other / "crates/goblin_base/out/rlib").symlink_to(self.top / "crates/goblin_base/out/rlib")
+        self.top = other
+        self.assertEqual(self.build(), ["build goblin_pe_c"])
+
     def test_an_older_shared_library_in_the_folder(self):
         self.build()
         (self.lib / "libgoblin_pe.so.2").write_bytes(b"older")
@@ -262,6 +275,18 @@ class Lists(Tree):
         self.assertEqual((status, out), (0, b"1 passed, 0 failed\n"), said)
         self.called()
         self.assertEqual([self.listed(), self.build()], [[], ["build goblin_pe_c"]])
+
+    def test_a_run_of_all_tests(self):
+        """Its gate takes nothing kept where that is asked for; the tests of this repository are none of the copy's."""
+        python = self.kit / "bin/python3"
+        python.write_text(f'#!/bin/sh\n[ "$1" = -m ] || exec "{sys.executable}" "$@"\necho "1 passed, 0 failed"\n', "ascii")
+        python.chmod(0o755)
+        for words, wanted in ([], "ci\n"), (["--anew"], "ci --anew\n"):
+            status, out, said = run([self.top / "test", *words], env=self.env())
+            self.assertEqual((status, out.decode().splitlines()[-1]), (0, "3 passed, 0 failed"), out + said)
+            self.assertEqual((self.folder / "called.ci").read_text("ascii"), wanted)
+        self.called()
+        self.assertEqual(self.listed(), [])
 
     def test_what_the_gate_did_not_build(self):
         """Nothing is said of what stood there before it failed."""

@@ -38,7 +38,7 @@ static bool is_opened(size_t *imports, size_t *exports)
 
 static bool are_imports_walked_over(size_t *imports, size_t room)
 {
-    struct goblin_pe_import_position position = { 0 };
+    struct goblin_pe_import_cursor position = { 0 };
     struct goblin_pe_import records[BATCH];
     struct goblin_pe_layout layout;
     size_t count = 1;

@@ -204,7 +204,7 @@ static bool is_laid_out(const struct goblin_pe_file *file, const struct goblin_p
 /* Whether calls by places that are not those of the image answer what these lead to. */
 static bool goes_by_places(const struct goblin_pe_places *own)
 {
-    struct goblin_pe_import_position first = { 0 };
+    struct goblin_pe_import_cursor first = { 0 };
     struct goblin_pe_import import;
     struct goblin_pe_export export;
     struct goblin_pe_export_directory directory;

@@ -224,24 +224,25 @@ static inline void goblin_pe_free_ranges(struct goblin_pe_ranges *ranges)
     memset(ranges, 0, sizeof *ranges);
 }
 
-/* Goes on with the walk over the imports of an image from `position`: fills as many records as there is
-   room for, says in `count` how many, and leaves in `position` where the next call goes on. The count 0
+/* Goes on with the walk over the imports of an image from `cursor`, zeros at the beginning: fills as many
+   records as there is room for, says in `count` how many, and leaves in `cursor` where the next call goes on. The count 0
    without a refusal is the end, where there is room; so it is of a file without imports, where these are not
    asked for, and in permissive mode where their directory is an empty list there. What gives no import
-   goblin_pe_read_damage counts: `unmapped_entries` in either mode, `left_out_libraries` and
-   `left_out_entries` in permissive mode. In strict mode the walk ends with a refusal where goblin_pe_open has
-   one for its imports; what comes before it is given first, and no law says on which bytes that depends. The
-   sections and the tables lie at `places`, which goblin_pe_read_layout and goblin_pe_open say, so no call
-   reads the header again; other numbers there lead to other tables, and harm nothing; flags are false or true.
+   goblin_pe_read_damage counts: `unmapped_entries` in either mode, `left_out_libraries` and `left_out_entries` in
+   permissive mode. In strict mode the walk ends with a refusal where goblin_pe_open has one for its imports; what
+   comes before it is given first, and no law says on which bytes that depends. The cursor is the walk in numbers: it
+   may be kept, copied and sent. The sections and the tables lie at `places`, which goblin_pe_read_layout and
+   goblin_pe_open say, so no call reads the header again; other numbers there or in the cursor lead to other tables,
+   and harm nothing; flags are false or true.
    Refused is also a file that is too short for the records of its sections. Memory is taken only for an index of
    more than 96 sections, which Windows does not load, and given back: each call makes it anew, of 65,535 sections
    in some 25 milliseconds, so give room for thousands then. */
 static inline struct goblin_pe_fault goblin_pe_next_imports(
     const uint8_t *bytes, size_t length, const struct goblin_pe_options *options, const struct goblin_pe_places *places,
-    struct goblin_pe_import_position *position, struct goblin_pe_import *imports, size_t room, size_t *count)
+    struct goblin_pe_import_cursor *cursor, struct goblin_pe_import *imports, size_t room, size_t *count)
 {
     return goblin_pe_raw_next_imports(
-        GOBLIN_PE_BYTES(bytes, length), length, goblin_pe_options_or_default(options), places, position,
+        GOBLIN_PE_BYTES(bytes, length), length, goblin_pe_options_or_default(options), places, cursor,
         GOBLIN_PE_SOME(struct goblin_pe_import, imports, room), room, count);
 }
 

@@ -16,15 +16,15 @@ extern "C" {
 #define GOBLIN_PE_INTERFACE_VERSION 4
 
 /* The sum of the interface that is declared here. goblin_pe_interface answers that of the library. */
-#define GOBLIN_PE_INTERFACE 0x8db9ad01u
+#define GOBLIN_PE_INTERFACE 0x36b9b8fcu
 
 /* What follows .so. in the name by which programs ask for the shared library. */
-#define GOBLIN_PE_SONAME "4.8db9ad01"
+#define GOBLIN_PE_SONAME "4.36b9b8fc"
 
 /* Only a library of this very interface has this call, so that a program is linked with no other. */
-uint32_t goblin_pe_interface_8db9ad01(void);
+uint32_t goblin_pe_interface_36b9b8fc(void);
 #ifdef __GNUC__
-__attribute__((used)) static uint32_t (*const goblin_pe_needs_interface)(void) = goblin_pe_interface_8db9ad01;
+__attribute__((used)) static uint32_t (*const goblin_pe_needs_interface)(void) = goblin_pe_interface_36b9b8fc;
 #endif
 
 /* What a file is, by its first bytes. This does not tell whether it can be read, and no call reads
@@ -623,7 +623,7 @@ struct goblin_pe_places {
 
 /* Where a walk over imports is, in numbers; zeros are the beginning. With the file's bytes and
    places it is the walk: so it may be kept, copied and sent. Any other numbers are a walk, too. */
-struct goblin_pe_import_position {
+struct goblin_pe_import_cursor {
     /* The file offset of the directory's first record, from which records are counted. */
     size_t first_record;
     /* The file offset of the record that comes after the library, if there is one. */
@@ -1158,7 +1158,7 @@ struct goblin_pe_fault goblin_pe_raw_read_te(
     struct goblin_pe_section *sections, size_t section_room);
 struct goblin_pe_fault goblin_pe_raw_next_imports(
     const uint8_t *bytes, size_t byte_count, const struct goblin_pe_options *options,
-    const struct goblin_pe_places *places, struct goblin_pe_import_position *position,
+    const struct goblin_pe_places *places, struct goblin_pe_import_cursor *cursor,
     struct goblin_pe_import *records, size_t record_room, size_t *count);
 struct goblin_pe_fault goblin_pe_raw_next_exports(
     const uint8_t *bytes, size_t byte_count, const struct goblin_pe_options *options,
@@ -1372,19 +1372,19 @@ GOBLIN_PE_IS_AT(places, has_exports, 40);
 GOBLIN_PE_IS_AT(places, has_imports, 41);
 GOBLIN_PE_IS_AT(places, has_relocations, 42);
 
-GOBLIN_PE_HAS_SIZE(import_position, 56, 8);
-GOBLIN_PE_IS_AT(import_position, first_record, 0);
-GOBLIN_PE_IS_AT(import_position, next_record, 8);
-GOBLIN_PE_IS_AT(import_position, library, 16);
-GOBLIN_PE_IS_AT(import_position, table_offset, 24);
-GOBLIN_PE_IS_AT(import_position, place, 32);
-GOBLIN_PE_IS_AT(import_position, name_rva, 40);
-GOBLIN_PE_IS_AT(import_position, rva, 44);
-GOBLIN_PE_IS_AT(import_position, untested, 48);
-GOBLIN_PE_IS_AT(import_position, is_begun, 52);
-GOBLIN_PE_IS_AT(import_position, has_next, 53);
-GOBLIN_PE_IS_AT(import_position, has_place, 54);
-GOBLIN_PE_IS_AT(import_position, is_untested, 55);
+GOBLIN_PE_HAS_SIZE(import_cursor, 56, 8);
+GOBLIN_PE_IS_AT(import_cursor, first_record, 0);
+GOBLIN_PE_IS_AT(import_cursor, next_record, 8);
+GOBLIN_PE_IS_AT(import_cursor, library, 16);
+GOBLIN_PE_IS_AT(import_cursor, table_offset, 24);
+GOBLIN_PE_IS_AT(import_cursor, place, 32);
+GOBLIN_PE_IS_AT(import_cursor, name_rva, 40);
+GOBLIN_PE_IS_AT(import_cursor, rva, 44);
+GOBLIN_PE_IS_AT(import_cursor, untested, 48);
+GOBLIN_PE_IS_AT(import_cursor, is_begun, 52);
+GOBLIN_PE_IS_AT(import_cursor, has_next, 53);
+GOBLIN_PE_IS_AT(import_cursor, has_place, 54);
+GOBLIN_PE_IS_AT(import_cursor, is_untested, 55);
 
 GOBLIN_PE_HAS_SIZE(import, 64, 8);
 GOBLIN_PE_IS_AT(import, name, 0);

@@ -58,7 +58,7 @@ struct records {
     struct goblin_pe_layout layout;
     struct goblin_pe_damage damage;
     struct goblin_pe_ranges ranges;
-    struct goblin_pe_import_position place;
+    struct goblin_pe_import_cursor place;
     struct goblin_pe_import imports[4];
     struct goblin_pe_export exports[4];
     struct goblin_pe_export_directory directory;

@@ -90,7 +90,7 @@ static bool is_import(const struct goblin_pe_import *x, const struct goblin_pe_i
 
 static bool walks_over_imports(const struct goblin_pe_places *places, const struct goblin_pe_tables *tables)
 {
-    struct goblin_pe_import_position position = { 0 };
+    struct goblin_pe_import_cursor position = { 0 };
     struct goblin_pe_import imports[2];
     size_t found = 0, count = 0;
     do {

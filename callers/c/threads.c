@@ -19,7 +19,7 @@ static bool makes_the_other_calls(void)
     struct goblin_pe_layout layout;
     struct goblin_pe_damage damage;
     struct goblin_pe_ranges ranges = { 0 };
-    struct goblin_pe_import_position position = { 0 };
+    struct goblin_pe_import_cursor position = { 0 };
     struct goblin_pe_import import;
     struct goblin_pe_export export;
     struct goblin_pe_object parts;

@@ -13,7 +13,7 @@ static uint8_t bytes[16 << 20];
 static bool count_imports(size_t length, const struct goblin_pe_places *places, size_t most)
 {
     static struct goblin_pe_import imports[BATCH];
-    struct goblin_pe_import_position position = { 0 };
+    struct goblin_pe_import_cursor position = { 0 };
     struct goblin_pe_fault fault;
     size_t found = 0, count = 0;
     do {

@@ -235,7 +235,7 @@ _L, _V = _t.TypeVar("_L", bound="Layout"), _t.TypeVar("_V")
 
 # Of each table that walks go over: the call, its records, and what says where it goes on.
 _WALKED: _t.Dict[DirectoryType, _t.Tuple[str, _t.Any, _t.Any]] = {
-    DirectoryType.IMPORT_TABLE: ("goblin_pe_raw_next_imports", records.Import, records.ImportPosition),
+    DirectoryType.IMPORT_TABLE: ("goblin_pe_raw_next_imports", records.Import, records.ImportCursor),
     DirectoryType.EXPORT_TABLE: ("goblin_pe_raw_next_exports", records.Export, _c.c_size_t),
     DirectoryType.BASE_RELOCATION_TABLE: ("goblin_pe_raw_next_blocks", records.Block, _c.c_size_t)}
 
@@ -524,7 +524,7 @@ class Layout:
     def _libraries(self, data: _Kept, call: _t.Callable[..., records.Fault]) -> _t.Iterator[Library]:
         # the libraries of the imports of each call, which then goes on with the record after the last one's
         begin = self.find_offset(self._places.imports.virtual_address) or 0  # (without an offset there are no libraries)
-        most, last, position = self._batch() if self._batch() > _BATCH else 1, -1, records.ImportPosition()
+        most, last, position = self._batch() if self._batch() > _BATCH else 1, -1, records.ImportCursor()
         batches = _growing_batches(data, _room(records.Import, most), call, position, _LARGEST_BATCH if most > 1 else 0)
         for address, count, found in batches:
             for it in _laid_out.first_of(found, count):

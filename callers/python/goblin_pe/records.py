@@ -7,7 +7,7 @@ from typing import Annotated, Any, Dict, List, NamedTuple, Tuple
 from ._laid_out import Address, HandedOver, Record, header, record, tables, to
 
 # The sum of the interface that is declared here: of its records, the numbers in them, and its calls.
-INTERFACE = 0x8db9ad01
+INTERFACE = 0x36b9b8fc
 
 
 @record
@@ -487,7 +487,7 @@ class Places(Record):
 
 
 @record
-class ImportPosition(Record):
+class ImportCursor(Record):
     """Where a walk over imports is, in numbers; zeros are the beginning. With the file's bytes and
     places it is the walk: so it may be kept, copied and sent. Any other numbers are a walk, too.
 
@@ -1107,7 +1107,7 @@ CALLS: Dict[str, Tuple[Any, List[Any]]] = {
     "goblin_pe_raw_read_te":
         (Fault, [c.c_void_p, c.c_size_t, to(TeHeader), to(Section), c.c_size_t]),
     "goblin_pe_raw_next_imports":
-        (Fault, [c.c_void_p, c.c_size_t, to(Options), to(Places), to(ImportPosition), to(Import), c.c_size_t, to(c.c_size_t)]),
+        (Fault, [c.c_void_p, c.c_size_t, to(Options), to(Places), to(ImportCursor), to(Import), c.c_size_t, to(c.c_size_t)]),
     "goblin_pe_raw_next_exports":
         (Fault, [c.c_void_p, c.c_size_t, to(Options), to(Places), to(c.c_size_t), to(Export), c.c_size_t, to(c.c_size_t)]),
     "goblin_pe_raw_read_export_directory":

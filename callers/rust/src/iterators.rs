@@ -205,7 +205,7 @@ trait Position {
     fn is_end(&self, is_full: bool) -> bool;
 }
 
-impl Position for raw::ImportPosition {
+impl Position for raw::ImportCursor {
     // (what follows a batch that is not full may be a refusal)
     fn is_end(&self, _is_full: bool) -> bool {
         self.is_begun && !self.has_next && !self.has_place
@@ -373,7 +373,7 @@ macro_rules! walks {
 walks! {
     /// A walk over the imports of an image, in constant memory. A copy has room of its own; where memory for it is
     /// refused, the process ends as it does for a [`Vec`].
-    WalkImports by raw::next_imports, Import from |_| raw::ImportPosition::default() => raw::ImportPosition,
+    WalkImports by raw::next_imports, Import from |_| raw::ImportCursor::default() => raw::ImportCursor,
         has_imports => Import<'a>;
 
     /// A walk over the exports of an image, in constant memory. A copy is as that of [`WalkImports`].
@@ -489,7 +489,7 @@ pub struct WalkLibraries<'a> {
     directory: usize,
     // The index of the record of the last library.
     last: Option<usize>,
-    batches: Batches<raw::Import<'a>, raw::ImportPosition>,
+    batches: Batches<raw::Import<'a>, raw::ImportCursor>,
 }
 
 impl<'a> WalkLibraries<'a> {
@@ -509,7 +509,7 @@ impl<'a> WalkLibraries<'a> {
             batches: Batches::of_table(
                 &places,
                 places.has_imports,
-                raw::ImportPosition::default(),
+                raw::ImportCursor::default(),
                 1,
             ),
         }

@@ -354,7 +354,7 @@ macro_rules! walks {
 
 walks! {
     /// Goes on with the walk over imports.
-    next_imports by goblin_pe_raw_next_imports from ImportPosition => Import<'a>;
+    next_imports by goblin_pe_raw_next_imports from ImportCursor => Import<'a>;
     /// Goes on with the walk over exports.
     next_exports by goblin_pe_raw_next_exports from usize => Export<'a>;
     /// Goes on with the walk over the entries of the export address table.

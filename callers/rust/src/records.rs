@@ -5,7 +5,7 @@ use crate::raw::{List, Shared, Slice};
 use std::mem::offset_of;
 
 /// The sum of the interface that is declared here: of its records, the numbers in them, and its calls.
-pub const INTERFACE: u32 = 0x8db9_ad01;
+pub const INTERFACE: u32 = 0x36b9_b8fc;
 
 /// What follows a symbol that defines a function.
 ///
@@ -420,7 +420,7 @@ pub struct Places {
 /// places it is the walk: so it may be kept, copied and sent. Any other numbers are a walk, too.
 #[repr(C)]
 #[derive(Clone, Copy, Default, Debug, PartialEq, Eq, PartialOrd, Ord, Hash)]
-pub struct ImportPosition {
+pub struct ImportCursor {
     /// The file offset of the directory's first record, from which records are counted.
     pub first_record: usize,
     /// The file offset of the record that comes after the library, if there is one.
@@ -1075,19 +1075,19 @@ const _: () = {
     assert!(offset_of!(Places, has_exports) == 40);
     assert!(offset_of!(Places, has_imports) == 41);
     assert!(offset_of!(Places, has_relocations) == 42);
-    assert!(size_of::<ImportPosition>() == 56 && align_of::<ImportPosition>() == 8);
-    assert!(offset_of!(ImportPosition, first_record) == 0);
-    assert!(offset_of!(ImportPosition, next_record) == 8);
-    assert!(offset_of!(ImportPosition, library) == 16);
-    assert!(offset_of!(ImportPosition, table_offset) == 24);
-    assert!(offset_of!(ImportPosition, place) == 32);
-    assert!(offset_of!(ImportPosition, name_rva) == 40);
-    assert!(offset_of!(ImportPosition, rva) == 44);
-    assert!(offset_of!(ImportPosition, untested) == 48);
-    assert!(offset_of!(ImportPosition, is_begun) == 52);
-    assert!(offset_of!(ImportPosition, has_next) == 53);
-    assert!(offset_of!(ImportPosition, has_place) == 54);
-    assert!(offset_of!(ImportPosition, is_untested) == 55);
+    assert!(size_of::<ImportCursor>() == 56 && align_of::<ImportCursor>() == 8);
+    assert!(offset_of!(ImportCursor, first_record) == 0);
+    assert!(offset_of!(ImportCursor, next_record) == 8);
+    assert!(offset_of!(ImportCursor, library) == 16);
+    assert!(offset_of!(ImportCursor, table_offset) == 24);
+    assert!(offset_of!(ImportCursor, place) == 32);
+    assert!(offset_of!(ImportCursor, name_rva) == 40);
+    assert!(offset_of!(ImportCursor, rva) == 44);
+    assert!(offset_of!(ImportCursor, untested) == 48);
+    assert!(offset_of!(ImportCursor, is_begun) == 52);
+    assert!(offset_of!(ImportCursor, has_next) == 53);
+    assert!(offset_of!(ImportCursor, has_place) == 54);
+    assert!(offset_of!(ImportCursor, is_untested) == 55);
     assert!(size_of::<Import>() == 64 && align_of::<Import>() == 8);
     assert!(offset_of!(Import, name) == 0);
     assert!(offset_of!(Import, dll) == 16);
@@ -1406,7 +1406,7 @@ unsafe extern "C" {
         byte_count: usize,
         options: &Options,
         places: &Places,
-        position: &mut ImportPosition,
+        cursor: &mut ImportCursor,
         records: *mut Import<'_>,
         record_room: usize,
         count: &mut usize,

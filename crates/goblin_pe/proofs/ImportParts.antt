@@ -24,7 +24,7 @@ use Rattle.goblin_pe_import.specs.ImportReadings.{library_of, numbered_data, rea
 use Rattle.goblin_pe_import.specs.ImportRecords.{ImportedLibrary, NumberedLibrary, import_slots}
 use Rattle.goblin_pe_import.specs.Imports.{ImportValue, NumberedImport, at_library, kept_imports}
 use Rattle.goblin_pe_import.specs.Imports.{library_imports, numbered_imports}
-use Rattle.goblin_pe_import.proofs.LibraryIndexes.{unnumbered, unnumbered-cause, unnumbered-reach}
+use Rattle.goblin_pe_import.proofs.LibraryIndexes.{unnumbered, unnumbered-cause}
 use Rattle.goblin_pe.specs.declared.whole.Part.{Part}
 use Rattle.goblin_pe.specs.declared.whole.Part.TheVariants.{Absent, Refused}
 use Rattle.goblin_pe.specs.declared.whole.Part.TheVariants as part
@@ -193,19 +193,6 @@ module _ (opts : ParseOptions) (offset_of : ℕ → Option ℕ) (places : TableP
       by false directory h = h
       by true None h = h
       by true (Some d) h = unnumbered-cause in_mode (entry_format places.magic) offset_of bytes d.virtual_address e h
-
-  -- a list reaches what the libraries do
-  pub list_reach : (both_import_parts opts offset_of places).reaches bytes
-      ≡ (import_list opts offset_of places).reaches bytes
-  unfolding both_import_parts import_list import_data_part numbered_data_part
-  list_reach = by opts.parse_imports places.imports
-    where
-      by : (asked : Bool) (directory : Option DataDirectory)
-          → (pick asked (part_at in_mode (λ d. import_data in_mode (entry_format places.magic) offset_of d.virtual_address) directory) (given Absent)).reaches bytes
-          ≡ (pick asked (part_at in_mode (λ d. numbered_data in_mode (entry_format places.magic) offset_of d.virtual_address) directory) (given Absent)).reaches bytes
-      by false directory = refl
-      by true None = refl
-      by true (Some d) = unnumbered-reach in_mode (entry_format places.magic) offset_of bytes d.virtual_address
 
 module _ (opts : ParseOptions) (offset_of : ℕ → Option ℕ) (places : TablePlaces) (bytes : List ℕ) (short : length bytes < 2 ^ 63) (fit : IsBytes bytes) where
   list-by : (o : Option (Part (List NumberedLibrary))) → (numbered_data_part opts offset_of places).value bytes ≡ o → option_map without_numbers ((import_list opts offset_of places).value bytes) ≡ option_map (λ read. read.1) ((both_import_parts opts offset_of places).value bytes)

@@ -22,6 +22,7 @@ pub mod Keys
 pub mod Layouts
 pub mod ListedImports
 pub mod NumberedExports
+pub mod ListedReach
 pub mod NumberedFootprints
 pub mod Parts
 pub mod PermissiveReads

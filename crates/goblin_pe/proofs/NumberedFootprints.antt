@@ -12,7 +12,7 @@ use Rattle.goblin_pe_sect.specs.SectionTable.{Section}
 use Rattle.goblin_pe_head.specs.HeaderReadings.{pe_header}
 use Rattle.goblin_pe_head.specs.PeHeader.{PeHeader}
 use Rattle.goblin_pe_import.specs.Imports.{NumberedImport}
-use Rattle.goblin_pe.proofs.ImportParts.{list_reach}
+use Rattle.goblin_pe.proofs.ListedReach.{list_reach}
 use Rattle.goblin_pe_export.specs.ExportReadings.{export_data, export_read, export_row, exports}
 use Rattle.goblin_pe_export.specs.ExportRecords.{ExportRow, ExportTables}
 use Rattle.goblin_pe_export.specs.ExportWalks.{NumberedExport, numbered_export, numbered_from}

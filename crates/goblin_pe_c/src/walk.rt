@@ -20,7 +20,7 @@ use goblin_pe_calls::batch::give;
 use goblin_pe_calls::export::PeExport;
 use goblin_pe_calls::export_directory::{PeExportAddress, PeExportDirectory, give_directory};
 use goblin_pe_calls::import::PeImport;
-use goblin_pe_calls::next::PeImportPosition;
+use goblin_pe_calls::next::PeImportCursor;
 use goblin_pe_records::block::PeBlock;
 use goblin_pe_records::fault::{PeFault, status_of};
 use goblin_pe_records::options::{PeOptions, options_at};
@@ -31,23 +31,23 @@ use goblin_pe_records::word::{PeWord, next_words};
 use goblin_pe_sect::relocation::Relocation;
 use std::alloc::Global;
 
-/// Fills `records` with the imports of a file from a position on, as many as there is room for,
-/// says in `count` how many, and leaves in `position` where the next call goes on. With room for
-/// any, a `count` of 0 is the end. Zeros are the position of the first import; a file without an
+/// Fills `records` with the imports of a file from a cursor on, as many as there is room for,
+/// says in `count` how many, and leaves in `cursor` where the next call goes on. With room for
+/// any, a `count` of 0 is the end. Zeros are the cursor before the first import; a file without an
 /// import directory, or imports that are not asked for, have none, and in permissive mode neither
 /// has a directory that is an empty list there. Where nothing is left, and there is room for more,
-/// the position's `is_begun` is true, and its other fields are 0; without room the position stays.
+/// the cursor's `is_begun` is true, and its other fields are 0; without room the cursor stays.
 ///
 /// The sections and the import directory lie where `places` says, as
 /// [`goblin_pe_raw_read_layout`](crate::whole_file::goblin_pe_raw_read_layout) and
 /// [`goblin_pe_raw_open`](crate::whole_file::goblin_pe_raw_open) say of the file; the header is not
 /// read again. Other numbers are followed as well: what lies there is taken for the section table
-/// and the directory. So are those of a position that no call has left: it is followed without a
-/// look at the directory.
+/// and the directory. So are those of a cursor that no call has left: it is followed without a look
+/// at the directory.
 ///
 /// Refused, with nothing changed, is a file that is too short for the records of its sections,
 /// where there are any (the status 4); in strict mode an import directory whose address has no
-/// offset, if the position is the first; and in strict mode the very next import, if there is room
+/// offset, if the cursor is the first; and in strict mode the very next import, if there is room
 /// for it. Imports that come before a refusal are given, and the next call is refused; no law says
 /// on which bytes those before a refusal depend. Memory (the status 5) is refused only of a file
 /// that has more than 96 sections, by whose windows addresses are mapped: it is taken for an index
@@ -58,17 +58,18 @@ pub extern "C" fn goblin_pe_raw_next_imports<'a>(
     bytes: &'a [u8],
     options: &PeOptions,
     places: &PePlaces,
-    position: &mut PeImportPosition,
+    cursor: &mut PeImportCursor,
     records: &mut [PeImport<'a>],
     count: &mut usize,
 ) -> PeFault
-    ensures { let old : ImportBatch = record { position = position.old; records = records.old } in
-        let new : ImportBatch = record { position = position.new; records = records.new } in
-        Reported result (GivesRecords (options_at options.now places.now.file_alignment) places.now bytes.now GivesImports
-        IsImportsFault old new count.old count.new) }
+    ensures { let old : ImportBatch = record { position = cursor.old; records = records.old } in
+        let new : ImportBatch = record { position = cursor.new; records = records.new } in
+        let opts = options_at options.now places.now.file_alignment in
+        Reported result (GivesRecords opts places.now bytes.now GivesImports IsImportsFault old new
+        count.old count.new) }
 {
     let opts = options_at(options, places.file_alignment);
-    status_of(give::<PeImport>(alloc, bytes, &opts, places, position, records, count))
+    status_of(give::<PeImport>(alloc, bytes, &opts, places, cursor, records, count))
 }
 
 /// Fills `records` with the exports of a file from a position on, as many as there is room for,
@@ -92,8 +93,9 @@ pub extern "C" fn goblin_pe_raw_next_exports<'a>(
 ) -> PeFault
     ensures { let old : ExportBatch = record { position = position.old; records = records.old } in
         let new : ExportBatch = record { position = position.new; records = records.new } in
-        Reported result (GivesRecords (options_at options.now places.now.file_alignment) places.now bytes.now GivesExports
-        IsExportBatchFault old new count.old count.new) }
+        let opts = options_at options.now places.now.file_alignment in
+        Reported result (GivesRecords opts places.now bytes.now GivesExports IsExportBatchFault old new
+        count.old count.new) }
 {
     let opts = options_at(options, places.file_alignment);
     status_of(give::<PeExport>(alloc, bytes, &opts, places, position, records, count))
@@ -147,8 +149,9 @@ pub extern "C" fn goblin_pe_raw_next_export_addresses(
 ) -> PeFault
     ensures { let old : AddressBatch = record { position = position.old; records = records.old } in
         let new : AddressBatch = record { position = position.new; records = records.new } in
-        Reported result (GivesRecords (options_at options.now places.now.file_alignment) places.now bytes.now GivesAddresses
-        IsExportBatchFault old new count.old count.new) }
+        let opts = options_at options.now places.now.file_alignment in
+        Reported result (GivesRecords opts places.now bytes.now GivesAddresses IsExportBatchFault old new
+        count.old count.new) }
 {
     let opts = options_at(options, places.file_alignment);
     status_of(give::<PeExportAddress>(alloc, bytes, &opts, places, position, records, count))
@@ -177,8 +180,9 @@ pub extern "C" fn goblin_pe_raw_next_blocks<'a>(
 ) -> PeFault
     ensures { let old : BlockBatch = record { position = position.old; records = records.old } in
         let new : BlockBatch = record { position = position.new; records = records.new } in
-        Reported result (GivesRecords (options_at options.now places.now.file_alignment) places.now bytes.now GivesBlocks
-        IsBlocksFault old new count.old count.new) }
+        let opts = options_at options.now places.now.file_alignment in
+        Reported result (GivesRecords opts places.now bytes.now GivesBlocks IsBlocksFault old new
+        count.old count.new) }
 {
     let opts = options_at(options, places.file_alignment);
     status_of(give::<PeBlock>(alloc, bytes, &opts, places, position, records, count))

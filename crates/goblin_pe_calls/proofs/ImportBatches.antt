@@ -14,7 +14,7 @@ use Rattle.goblin_pe.specs.Whole.{TablePlaces}
 use Rattle.goblin_pe.specs.declared.whole.imports.FileImports.{FileImports}
 use Rattle.goblin_pe.specs.declared.whole.imports.FileImports.TheVariants.{Narrow, Wide}
 use Rattle.goblin_pe_calls.specs.declared.import.PeImport.{PeImport}
-use Rattle.goblin_pe_calls.specs.declared.next.PeImportPosition.{PeImportPosition}
+use Rattle.goblin_pe_calls.specs.declared.next.PeImportCursor.{PeImportCursor}
 use Rattle.goblin_pe_calls.specs.Batches.{AtBatch, Fills, GivesImports, GivesInFile, GoesOn, ImportBatch, IsBatch, IsEnd, IsImportsFault, IsRefusedNext, cursor_numbers, cursor_said}
 use Rattle.goblin_pe_calls.specs.Batches.{import_cursor, imports_from_position, option_said, values_before}
 use Rattle.goblin_pe_calls.specs.Imports.{import_said, import_view}
@@ -35,7 +35,7 @@ said-again c = rw (number-said c.next_record, number-said c.place, number-said c
 
 module _ (m : MapOfAddresses) (places : TablePlaces) (bytes : List ℕ) where
   -- at the numbers of its cursor
-  pub goes-at : (p : PeImportPosition) (c : ImportCursor) (imports : FileImports) → IsImportWalk m places.magic bytes imports
+  pub goes-at : (p : PeImportCursor) (c : ImportCursor) (imports : FileImports) → IsImportWalk m places.magic bytes imports
       → file_imports_left imports ≡ file_cursor_left m places.magic bytes c → p ≡ cursor_numbers c → GoesOn m places bytes p imports
   goes-at p c imports walk left numbers = record {
     walk = walk;
@@ -50,7 +50,7 @@ module _ (m : MapOfAddresses) (places : TablePlaces) (bytes : List ℕ) where
   end-left = refl
 
   -- where a batch begins
-  pub goes-start : (p : PeImportPosition) (c : ImportCursor) (imports : FileImports) → (import_cursor m places p).value bytes ≡ Some c
+  pub goes-start : (p : PeImportCursor) (c : ImportCursor) (imports : FileImports) → (import_cursor m places p).value bytes ≡ Some c
       → IsImportWalk m places.magic bytes imports → file_imports_left imports ≡ file_cursor_left m places.magic bytes c
       → GoesOn m places bytes p imports
   goes-start p c imports at walk left = record {
@@ -131,9 +131,9 @@ filled-more old records first count x r within says values h base before at =
 
 -- ---- the loop
 
-module _ (m : MapOfAddresses) (places : TablePlaces) (bytes : List ℕ) (start : FileImports) (from : PeImportPosition) (old : List PeImport) where
+module _ (m : MapOfAddresses) (places : TablePlaces) (bytes : List ℕ) (start : FileImports) (from : PeImportCursor) (old : List PeImport) where
   -- the records hold what has come so far, and the walk goes on
-  pub record AtImports (now : FileImports) (p : PeImportPosition) (records : List PeImport) (count : ℕ) : Type 0 where
+  pub record AtImports (now : FileImports) (p : PeImportCursor) (records : List PeImport) (count : ℕ) : Type 0 where
     pub values : List NumberedImport
     pub at : AtBatch import_view import_said old values records count
     pub walk : AtWalk file_imports_left IsFileImportsCause start now values
@@ -150,16 +150,16 @@ module _ (m : MapOfAddresses) (places : TablePlaces) (bytes : List ℕ) (start :
   }
 
   -- what has been given
-  pub record AreGiven (p : PeImportPosition) (records : List PeImport) (count : ℕ) : Type 0 where
+  pub record AreGiven (p : PeImportCursor) (records : List PeImport) (count : ℕ) : Type 0 where
     pub batch : IsBatch import_view import_said (values_before (file_imports_left start)) old records count
     pub later : imports_from_position m places bytes p ≡ Some (drop count (file_imports_left start))
     pub next : IsRefusedNext (file_imports_left start) → length old ≡ 0
     pub ended : IsEnd (file_imports_left start) old count → p ≡ cursor_numbers no_imports
     pub stays : length old ≡ 0 → p ≡ from
 
-  module _ (now : FileImports) (p : PeImportPosition) (records : List PeImport) (count : ℕ) (h : AtImports now p records count) where
+  module _ (now : FileImports) (p : PeImportCursor) (records : List PeImport) (count : ℕ) (h : AtImports now p records count) where
     -- an import has come, and those of its library that there is room for
-    pub library-more : (x : WalkedImport) (next last : FileImports) (q : PeImportPosition) (r : PeImport) (new : List PeImport) (end : ℕ)
+    pub library-more : (x : WalkedImport) (next last : FileImports) (q : PeImportCursor) (r : PeImport) (new : List PeImport) (end : ℕ)
         → GivesFileImport now (Some (Ok x)) next → count < length records → import_view r ≡ import_said (walked_value x)
         → GivesInFile next last (Fills (set records count r) new (count + 1) end) → GoesOn m places bytes q last
         → AtImports last q new end
@@ -178,7 +178,7 @@ module _ (m : MapOfAddresses) (places : TablePlaces) (bytes : List ℕ) (start :
         }
 
     -- this is left, and is all that comes from the new numbers on
-    all-given : (q : PeImportPosition) (rest : List (Option NumberedImport)) → file_imports_left now ≡ rest
+    all-given : (q : PeImportCursor) (rest : List (Option NumberedImport)) → file_imports_left now ≡ rest
         → imports_from_position m places bytes q ≡ Some rest → (length old ≤ count) ⊎ (values_before rest ≡ [])
         → (count ≡ 0 → IsRefusedNext rest → length old ≡ 0) → (rest ≡ [] → count < length old → q ≡ cursor_numbers no_imports)
         → (length old ≡ 0 → q ≡ from) → AreGiven q records count
@@ -222,7 +222,7 @@ module _ (m : MapOfAddresses) (places : TablePlaces) (bytes : List ℕ) (start :
         (λ none. stay none)
 
     -- nothing more comes
-    pub imports-end : (next : FileImports) (q : PeImportPosition) → GivesFileImport now None next → GoesOn m places bytes q next
+    pub imports-end : (next : FileImports) (q : PeImportCursor) → GivesFileImport now None next → GoesOn m places bytes q next
         → q ≡ cursor_numbers no_imports → count < length records → AreGiven q records count
     imports-end next q given goes numbers within =
         let same = h.at.same in

@@ -27,7 +27,7 @@ use Rattle.goblin_pe.specs.declared.whole.imports.FileImports.TheVariants.{Narro
 use Rattle.goblin_pe_calls.specs.declared.export.PeExport.{PeExport}
 use Rattle.goblin_pe_calls.specs.declared.export_directory.PeExportAddress.{PeExportAddress}
 use Rattle.goblin_pe_calls.specs.declared.import.PeImport.{PeImport}
-use Rattle.goblin_pe_calls.specs.declared.next.PeImportPosition.{PeImportPosition}
+use Rattle.goblin_pe_calls.specs.declared.next.PeImportCursor.{PeImportCursor}
 use Rattle.goblin_pe_calls.specs.ExportDirectories.{DirectorySaid, address_said, directory_said}
 use Rattle.goblin_pe_calls.specs.ExportDirectories.{no_export_directory}
 use Rattle.goblin_pe_calls.specs.Exports.{export_said, export_view}
@@ -84,7 +84,7 @@ abbrev pub option_said : Bool → ℕ → Option ℕ
 option_said is n = if is then Some n else None
 
 -- the cursor that these numbers say
-abbrev pub cursor_said : PeImportPosition → ImportCursor
+abbrev pub cursor_said : PeImportCursor → ImportCursor
 cursor_said p = record {
   first_record = p.first_record;
   next_record = option_said p.has_next p.next_record;
@@ -97,7 +97,7 @@ cursor_said p = record {
 }
 
 -- the numbers of a cursor
-abbrev pub cursor_numbers : ImportCursor → PeImportPosition
+abbrev pub cursor_numbers : ImportCursor → PeImportCursor
 cursor_numbers c = record {
   first_record = c.first_record;
   next_record = unwrap_or c.next_record 0;
@@ -114,18 +114,18 @@ cursor_numbers c = record {
 }
 
 -- the cursor at a position: the one that it says, or else where the imports begin
-abbrev pub import_cursor : MapOfAddresses → TablePlaces → PeImportPosition → Reading ImportCursor
+abbrev pub import_cursor : MapOfAddresses → TablePlaces → PeImportCursor → Reading ImportCursor
 import_cursor m places p =
     pick p.is_begun (given (cursor_said p)) (import_begin m.opts (offset_of m) places)
 
 -- the imports of a file from a position on
-abbrev pub imports_from_position : MapOfAddresses → TablePlaces → List ℕ → PeImportPosition
+abbrev pub imports_from_position : MapOfAddresses → TablePlaces → List ℕ → PeImportCursor
     → Option (List (Option NumberedImport))
 imports_from_position m places bytes p =
     option_map (file_cursor_left m places.magic bytes) ((import_cursor m places p).value bytes)
 
 abbrev pub ImportBatch : Type 0
-ImportBatch = Batch PeImportPosition PeImport
+ImportBatch = Batch PeImportCursor PeImport
 
 -- The records hold the imports from the old position on, up to a refusal, and from the new one on
 -- come the others; the very next is no refusal, if there is room for any. Where nothing is left,
@@ -163,7 +163,7 @@ GivesInFile s t Holds = ⊥
 
 -- The walk gives the imports of a file from a position on.
 pub record GoesOn (m : MapOfAddresses) (places : TablePlaces) (bytes : List ℕ)
-    (p : PeImportPosition) (imports : FileImports) : Type 0 where
+    (p : PeImportCursor) (imports : FileImports) : Type 0 where
   pub walk : IsImportWalk m places.magic bytes imports
   pub left : imports_from_position m places bytes p ≡ Some (file_imports_left imports)
 

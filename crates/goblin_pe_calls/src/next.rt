@@ -28,7 +28,7 @@ use goblin_pe::{FileImports, Layout, Part, Result, ResultOf};
 /// places it is the walk: so it may be kept, copied and sent. Any other numbers are a walk, too.
 #[repr(C)]
 #[derive(Copy, Clone)]
-pub struct PeImportPosition {
+pub struct PeImportCursor {
     /// The file offset of the directory's first record, from which records are counted.
     pub first_record: usize,
     /// The file offset of the record that comes after the library, if there is one.
@@ -56,7 +56,7 @@ pub struct PeImportPosition {
 }
 
 // The cursor that these numbers say.
-fn cursor_said(position: &PeImportPosition) -> ImportCursor
+fn cursor_said(position: &PeImportCursor) -> ImportCursor
     ensures { result ≡ cursor_said position.now }
 {
     let at = *position;
@@ -81,10 +81,10 @@ fn cursor_said(position: &PeImportPosition) -> ImportCursor
 }
 
 // The numbers of a cursor.
-fn cursor_numbers(at: ImportCursor) -> PeImportPosition
+fn cursor_numbers(at: ImportCursor) -> PeImportCursor
     ensures { result ≡ cursor_numbers at }
 {
-    PeImportPosition {
+    PeImportCursor {
         first_record: at.first_record,
         next_record: at.next_record.unwrap_or(0),
         library: at.library,
@@ -101,7 +101,7 @@ fn cursor_numbers(at: ImportCursor) -> PeImportPosition
 }
 
 // The cursor at a position.
-fn cursor_at<'e>(layout: &Layout, position: &PeImportPosition) -> ResultOf<'e, ImportCursor>
+fn cursor_at<'e>(layout: &Layout, position: &PeImportCursor) -> ResultOf<'e, ImportCursor>
     ensures { let m = layout_map layout.now in
         Reads (λ c. c) result (import_cursor m (layout_places layout.now) position.now)
         (layout_bytes layout.now) }
@@ -167,7 +167,7 @@ fn fill_library<'a, 'm, 'e>(
 fn fill_imports<'a, 'm, 'e>(
     layout: &Layout<'a>,
     mut imports: FileImports<'a, 'm, 'e>,
-    position: &mut PeImportPosition,
+    position: &mut PeImportCursor,
     records: &mut [PeImport<'a>],
 ) -> ResultOf<'e, usize>
     requires { let m = layout_map layout.now in
@@ -208,7 +208,7 @@ fn fill_imports<'a, 'm, 'e>(
 // Fills records with the imports of a file that come next, and answers how many.
 fn next_imports<'a>(
     layout: &Layout<'a>,
-    position: &mut PeImportPosition,
+    position: &mut PeImportCursor,
     records: &mut [PeImport<'a>],
 ) -> Result<usize>
     ensures filled { let m = layout_map layout.now in
@@ -225,7 +225,7 @@ fn next_imports<'a>(
 }
 
 impl<'a> Batched<'a> for PeImport<'a> {
-    type Position = PeImportPosition;
+    type Position = PeImportCursor;
 
     ghost gives = { GivesImports };
 
@@ -233,7 +233,7 @@ impl<'a> Batched<'a> for PeImport<'a> {
 
     fn next<'e>(
         layout: &Layout<'a>,
-        position: &mut PeImportPosition,
+        position: &mut PeImportCursor,
         records: &mut [PeImport<'a>],
     ) -> ResultOf<'e, usize> {
         answer_for(next_imports(layout, position, records))

@@ -10,6 +10,7 @@ use Rattle.goblin_pe.proofs.Layouts.{sections-refused}
 use Rattle.goblin_pe.proofs.SectionRoom.{sections_counted}
 use Rattle.goblin_pe.specs.Whole.{whole_file}
 use Rattle.goblin_pe_calls.specs.Growth.{FileBegins, HasRecords}
+use Rattle.goblin_pe_calls.specs.Files.{table_of}
 use Rattle.goblin_pe_calls.specs.Opened.{records_view}
 use Rattle.goblin_pe_calls.proofs.Growth.{as-read, either-way, layout-begins, layout-kept, made-kept, sections-kept, takes-records}
 use Rattle.goblin_pe_calls.proofs.Opened.{file-of-records, imports-counted, records-read, records-refused, unopened}
@@ -86,4 +87,5 @@ returns c =
     let of = file-of-records opts bytes v read in
     let counted = sym (length-map of.whole.sections unnamed) ∙ ap length of.sections in
     let imports = imports-counted opts bytes c.args.header.now c.requires c.in_ok-layout.layout from.value from.is c.in_ok-layout.ensures.over c.in_ok-records.ensures.listed of.whole of.read in
-    rw (of.read, imports, of.exports, of.header, counted, of.relocations, of.imports, of.exports_table) (search rules)
+    let table = imports ∙ ap table_of of.imports in
+    rw (of.read, table, of.imports, of.exports, of.header, counted, of.relocations, of.exports_table) (search rules)
