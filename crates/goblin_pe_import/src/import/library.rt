@@ -31,10 +31,9 @@ use std::marker::Model;
 /// Source: PE Format, "Import Directory Table", "Import Lookup Table" and "Import Address Table".
 #[derive(Debug, Drop)]
 pub struct SyntheticImportDirectoryEntry<'a> {
-    /// The record, as it stands in the file.
+    /// The record that leads to it.
     pub import_directory_entry: ImportDirectoryEntry,
-    /// The name of the library, as it stands in the file. In permissive mode it is empty if none
-    /// can be read.
+    /// The name of the library. In permissive mode it is empty if none can be read.
     pub name: &'a str,
     /// What the lookup table keeps. `None` is for entries that are made by hand: a reader finds a
     /// table for each record that it keeps.
@@ -42,8 +41,8 @@ pub struct SyntheticImportDirectoryEntry<'a> {
     /// The slot of each entry of the lookup table, in order, counted from 0; none where there is no
     /// table. The slot of an entry that is left out is missing.
     pub import_lookup_slots: Vec<usize>,
-    /// The numbers of the address table up to the first 0, as they stand in the file: copies of the
-    /// lookup table's entries, or addresses if the imports are bound.
+    /// The numbers of the address table up to the first 0: copies of the lookup table's entries, or
+    /// addresses if the imports are bound.
     pub import_address_table: ImportAddressTable,
 }
 

@@ -33,8 +33,7 @@ pub struct Import<'a> {
     /// the ordinal in decimal digits, which is made. A file may name an import so itself, but only
     /// a name of the file's is borrowed.
     pub name: CowStr<'a>,
-    /// The name of the library, as it stands in the file; empty if permissive mode could not read
-    /// it.
+    /// The name of the library; empty if permissive mode could not read it.
     pub dll: &'a str,
     /// The ordinal; of an import by name, the hint: at which index of the library's name pointers
     /// the loader looks for the name first. A wrong hint does no harm.
