@@ -12,7 +12,7 @@ pub use Rattle.goblin_pe_import.specs.ImportEntries.{entry_value}
 use Rattle.goblin_pe_import.specs.LookupReadings.{kept_entry}
 use Rattle.goblin_pe_import.specs.declared.import.lookup_table.HintNameTableEntry.{HintNameTableEntry}
 use Rattle.goblin_pe_import.specs.declared.import.lookup_table.SyntheticImportLookupTableEntry.{SyntheticImportLookupTableEntry}
-use Rattle.goblin_pe_import.specs.declared.import.lookup_table.SyntheticImportLookupTableEntry.TheVariants as slot
+use Rattle.goblin_pe_import.specs.declared.import.lookup_table.SyntheticImportLookupTableEntry.TheVariants as variant
 
 -- The indexes of the slots whose entries the lookup table at an offset keeps: one for each kept
 -- entry.
@@ -41,8 +41,8 @@ hint_name_view entry = record { hint = entry.hint; name = entry.name.now }
 
 -- an entry that a lookup table keeps
 abbrev pub entry_view : SyntheticImportLookupTableEntry → LookupEntry
-entry_view (slot.OrdinalNumber ordinal) = ByOrdinal ordinal
-entry_view (slot.HintNameTableRVA pair) = ByName pair.0 (hint_name_view pair.1)
+entry_view (variant.OrdinalNumber ordinal) = ByOrdinal ordinal
+entry_view (variant.HintNameTableRVA pair) = ByName pair.0 (hint_name_view pair.1)
 
 -- what is kept of an entry: one entry, or nothing
 abbrev pub kept_view : Option SyntheticImportLookupTableEntry → List LookupEntry
