@@ -163,7 +163,7 @@ class Damage(Case):
     def test_what_is_refused_and_left_out_is_told(self):
         for name, image, told in (
                 ("sound", BY_NAME.read_bytes(), b""),
-                ("front", images.directory_in_front(), b"libraries that permissive mode leaves out: 1\nimports that permissive mode leaves out of others: 1\n"),
+                ("front", images.directory_in_front(), b"libraries that permissive mode leaves out: 1\nimports that permissive mode leaves out: 1\n"),
                 ("nowhere", images.import_from_nowhere(BY_NAME.read_bytes()), b"imports that lead nowhere, in either mode: 1\n"),
                 ("unmapped", images.with_directory(BY_NAME.read_bytes(), 1, 0x9000, 40), b"imports: the address 0x9000 has no offset in the file\n"),
                 ("names", images.pointers_to_nowhere(1000), b"export names that lead nowhere, in either mode: 999\n"),

@@ -41,7 +41,7 @@ int main(int argc, char **argv)
     is_whole &= is_sound("exports", damage.exports);
     is_whole &= is_sound("relocations", damage.relocations);
     is_whole &= are_none("libraries that permissive mode leaves out", damage.left_out_libraries);
-    is_whole &= are_none("imports that permissive mode leaves out of others", damage.left_out_entries);
+    is_whole &= are_none("imports that permissive mode leaves out", damage.left_out_entries);
     is_whole &= are_none("imports that lead nowhere, in either mode", damage.unmapped_entries);
     is_whole &= are_none("export names that lead nowhere, in either mode", damage.left_out_exports);
     return !is_whole;

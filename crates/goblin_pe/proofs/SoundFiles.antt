@@ -18,7 +18,7 @@ use Rattle.goblin_pe_import.specs.declared.import.left_out.LeftOut.{LeftOut}
 use Rattle.goblin_pe.specs.declared.whole.damage.Damage.{Damage}
 use Rattle.goblin_pe.specs.Damages.{AreDamaged, IsDamage, IsDamaged, IsReadByBoth, IsSound, TellsDamage, left_out_of}
 use Rattle.goblin_pe.specs.Modes.{in_mode, in_permissive_mode}
-use Rattle.goblin_pe.specs.Whole.{TableParts, TablePlaces, WholeFile, both_import_parts, export_part, import_list, layout, offset_by}
+use Rattle.goblin_pe.specs.Whole.{TableParts, TablePlaces, both_import_parts, export_part, import_list, layout, offset_by}
 use Rattle.goblin_pe.specs.Whole.{places_in, relocation_part, sections_after, table_parts, whole_file}
 use Rattle.goblin_pe.specs.Whole.{whole_of, whole_with}
 use Rattle.goblin_pe.proofs.ImportParts.{list_value}

@@ -1,9 +1,14 @@
 -- The tables of a whole file, which are in memory of their own.
 use Rattle.std.specs.Prelude.{◌≡◌, ℕ, List, map, Option, None, Some, option_map, refl}
 use Rattle.std.proofs.Common.{◌∙◌, ap}
+use Rattle.goblin_base.specs.Footprints.{Agree, led_to}
 use Rattle.goblin_base.specs.Reading.{Reading}
+use Rattle.goblin_base.proofs.Footprints.{agree-left}
 use Rattle.goblin_pe_sect.specs.declared.options.ParseOptions.{ParseOptions}
+use Rattle.goblin_pe_sect.specs.Options.{is_strict}
 use Rattle.goblin_pe_sect.specs.SectionTable.{unnamed}
+use Rattle.goblin_pe_head.specs.HeaderReadings.{pe_header}
+use Rattle.goblin_pe_head.specs.PeHeader.{PeHeader}
 use Rattle.goblin_pe_export.specs.ExportRecords.{ExportTables}
 use Rattle.goblin_pe_export.specs.ExportWalks.{NumberedExport, numbered_from}
 use Rattle.goblin_pe.specs.declared.whole.Part.{Part}
@@ -11,7 +16,7 @@ use Rattle.goblin_pe.specs.declared.whole.Part.TheVariants.{Absent, Refused}
 use Rattle.goblin_pe.specs.declared.whole.Part.TheVariants as part
 use Rattle.goblin_pe.specs.Layouts.{layout_sections}
 use Rattle.goblin_pe.specs.Whole.{CollectedFileValue, CollectedParts, WholeFile, collected_file}
-use Rattle.goblin_pe.specs.Whole.{offset_by, part_map, places_in, whole_file}
+use Rattle.goblin_pe.specs.Whole.{offset_by, part_map, places_in, whole_after, whole_file}
 use Rattle.goblin_pe.proofs.NumberedFootprints.{same-listed, same-numbered}
 use Rattle.goblin_pe.specs.declared.whole.layout.Layout.{Layout}
 use Rattle.goblin_pe.specs.BaseRelocations.{relocation_bytes}
@@ -29,6 +34,8 @@ use Rattle.goblin_pe_calls.specs.Exports.{ExportsSaid, export_view, exports_said
 use Rattle.goblin_pe_calls.specs.Exports.{file_exports, read_said}
 use Rattle.goblin_pe_calls.specs.Files.{entries_of, file_of}
 use Rattle.goblin_pe_records.specs.Filled.{Filled, without_text}
+use Rattle.goblin_pe_records.specs.Options.{alignment_in, alignment_of, options_at, options_in}
+use Rattle.goblin_pe_records.specs.declared.options.PeOptions.{PeOptions}
 use Rattle.goblin_pe_calls.specs.Imports.{ImportSaid, file_imports, import_said, import_view}
 use Rattle.goblin_pe_calls.specs.Imports.{import_views}
 use Rattle.goblin_pe_import.specs.Imports.{NumberedImport}
@@ -94,6 +101,32 @@ opened_file opts =
       is_inside = whole.is_inside;
       not_memory = whole.not_memory;
     }
+
+-- ---- a file by the options that a caller says
+
+-- Files that agree on what a read of the first reaches have one header, so by one file alignment.
+pub same-options : (o : PeOptions) (a b : List ℕ)
+    → Agree ((whole_file (options_in o a)).reaches a) a b → options_in o a ≡ options_in o b
+unfolding whole_file alignment_in
+same-options o a b agree =
+    let opts = options_in o a in
+    let header = pe_header (is_strict opts.parse_mode) in
+    let later = led_to (header.value a) (λ h. (whole_after opts h).reaches a) in
+    ap (λ (h : Option PeHeader). options_at o (alignment_of h))
+    (header.is_local a b (agree-left (header.reaches a) later a b agree))
+
+-- what is opened by these options, of which the file's own alignment may decide one
+abbrev pub opened_in : PeOptions → Reading OpenedFile
+opened_in o = record {
+  value = λ bytes. (opened_file (options_in o bytes)).value bytes;
+  IsCause = λ bytes. (opened_file (options_in o bytes)).IsCause bytes;
+  reaches = λ bytes. (opened_file (options_in o bytes)).reaches bytes;
+  is_local = λ a b agree.
+      (opened_file (options_in o a)).is_local a b agree
+      ∙ ap (λ (opts : ParseOptions). (opened_file opts).value b) (same-options o a b agree);
+  is_inside = λ bytes. (opened_file (options_in o bytes)).is_inside bytes;
+  not_memory = λ bytes. (opened_file (options_in o bytes)).not_memory bytes;
+}
 
 -- ---- what a caller passes in to be filled
 

@@ -1,5 +1,5 @@
 -- A list whose items fill records from an index on.
-use Rattle.std.proofs.Common.{◌≡◌, ◌<◌, ◌≤◌, ◌^◌, ◌*◌, ◌/◌, ℕ, ◌+◌, ◌-◌, List, length, map, drop, min, set, take, Some, None, slice_get, get_or, [], ◌∷◌, ap, sym, subst, refl, arith, ◌∙◌, inl, inr, slice_range, get_or-drop, length-drop, map-id, take_all, drop_of_length-le}
+use Rattle.std.proofs.Common.{◌≡◌, ◌<◌, ◌≤◌, ◌^◌, ◌*◌, ◌/◌, ℕ, ◌+◌, ◌-◌, List, length, map, drop, min, set, take, Some, None, slice_get, get_or, [], ap, sym, subst, refl, arith, ◌∙◌, inl, inr, slice_range, get_or-drop, length-drop, map-id, take_all, drop_of_length-le}
 use Rattle.std.specs.List.{range_with_len}
 use Rattle.std.proofs.lemmas.List.FromFn.{get_or-map-range_with_len, length-map-range_with_len}
 use Rattle.std.proofs.lemmas.Option.{get_or_from_slice_get, slice_get_cases, slice_get-get_or, slice_get_past, slice_get_within}

@@ -1,5 +1,5 @@
 -- Sections that were read have their names from the string table.
-use Rattle.std.proofs.Common.{◌≡◌, ℕ, zero, suc, ◌+◌, ◌*◌, Bool, List, [], ◌∷◌, map, refl, ap, subst, sym, Option, Some}
+use Rattle.std.proofs.Common.{◌≡◌, ℕ, zero, suc, ◌+◌, Bool, List, [], ◌∷◌, map, refl, ap, subst, sym, Option, Some}
 use Rattle.std.specs.List.{range_with_len}
 use Rattle.goblin_base.specs.declared.endian.Endian.TheVariants.{Little}
 use Rattle.goblin_base.specs.Record.{record_at}

@@ -1,5 +1,5 @@
 -- Where a symbol table and its string table lie.
-use Rattle.std.proofs.Common.{◌≡◌, ◌≤◌, ℕ, ◌+◌, ◌-◌, ◌*◌, Bool, true, false, cond, List, length, refl, ap, sym, subst, ◌∙◌, arith, inl, inr, ◌⊎◌, ◌==◌, drop, IsSomeAnd, Option, Some, None, nat_le, nat_lt, option_map, slice_range, le-leb, leb-true, length-drop, length-take}
+use Rattle.std.proofs.Common.{◌≡◌, ℕ, ◌+◌, ◌-◌, ◌*◌, Bool, true, false, cond, List, length, refl, ap, sym, subst, ◌∙◌, arith, inl, inr, ◌⊎◌, ◌==◌, drop, IsSomeAnd, Option, Some, None, nat_le, nat_lt, option_map, slice_range, le-leb, leb-true, length-drop, length-take}
 use Rattle.goblin_base.specs.declared.endian.Endian.TheVariants.{Little}
 use Rattle.goblin_base.specs.Bytes.{number_at, slice_at, text_of}
 use Rattle.goblin_base.specs.Parts.{bytes_between}
