@@ -78,7 +78,10 @@ pub fn show_damage(rt: &HostRuntime, file: &[u8]) -> io::Result<()> {
     show_part(rt, "exports", &damage.exports)?;
     show_part(rt, "relocations", &damage.relocations)?;
     let left_out = damage.left_out;
-    println!(rt; "left out: {} libraries, {} entries", left_out.libraries, left_out.entries)?;
+    println!(rt;
+        "left out: {} libraries, {} entries",
+        left_out.libraries, left_out.entries
+    )?;
     println!(rt; "by both modes: {} entries", left_out.unmapped_entries)
 }
 
