@@ -11,7 +11,7 @@ ghost use Rattle.goblin_pe_calls.specs.Damages.{RecordsDamage};
 ghost use Rattle.goblin_pe_calls.specs.Footprints.{Lists};
 ghost use Rattle.goblin_pe_calls.specs.Growth.{TakesRecords};
 ghost use Rattle.goblin_pe_records.specs.Kinds.{kind_number, kind_of};
-ghost use Rattle.goblin_pe_calls.specs.Opened.{Opened, Opens, opened_file};
+ghost use Rattle.goblin_pe_calls.specs.Opened.{Opened, Opens, opened_in};
 ghost use Rattle.goblin_pe_records.specs.Options.{header_options, options_in};
 
 use goblin_pe_calls::damage::{self, PeDamage};
@@ -60,7 +60,7 @@ pub extern "C" fn goblin_pe_raw_open<'a>(
         let opts = options_in options.now bytes.now in
         Reported result
         (ReadsInto (pe_header (is_strict opts.parse_mode)) (TakesRecords opts bytes.now)
-        (opened_file opts) bytes.now (λ read. Opens read old new) (new ≡ old)) }
+        (opened_in options.now) bytes.now (λ read. Opens read old new) (new ≡ old)) }
 {
     let opts = options_in(bytes, options);
     status_of(open::open(alloc, bytes, &opts, file, directories, tables))
@@ -138,7 +138,7 @@ pub extern "C" fn goblin_pe_raw_footprint<'a>(
     options: &PeOptions,
     ranges: &mut PeRanges<'a>,
 ) -> PeFault
-    ensures { let footprint = (opened_file (options_in options.now bytes.now)).reaches bytes.now in
+    ensures { let footprint = (opened_in options.now).reaches bytes.now in
         Reported result (Lists (length bytes.now) footprint ranges.old ranges.new) }
 {
     status_of(list_ranges(alloc, bytes, &options_in(bytes, options), ranges))
