@@ -48,6 +48,12 @@ def refused(call, file):
     return int(succeed([built("growths"), call, file]))
 
 
+@functools.cache
+def large():
+    """An image of 17 MiB, whose imports stand at its end."""
+    return images.with_data_behind(images.importer([(b"fruit.dll", [b"Apple"])]), 17 << 20)
+
+
 def need_flags(*flags):
     """Skips the test where the compiler does not build programs by these flags."""
     status, _, _ = run([CC, *flags, "-x", "c", "-o", programs.folder() / "flags", "-"], b"int main(void) { return 0; }\n")
@@ -149,6 +155,24 @@ int main(int argc, char **argv)
         source, made = self.written("readme.c", program.encode()), self.folder / "readme"
         succeed([CC, "-std=c11", *FLAGS, *STRICT, "-I", library(), "-o", made, source, library() / "libgoblin_pe.a"])
         self.assertEqual(succeed([made], cwd=self.folder), "GetTickCount from KERNEL32.dll\n")
+        self.written("some.dll", BY_NAME.read_bytes().replace(b"GetTickCount", b"Get\x1b[2J\\\xc3\xa9nt"))
+        self.assertEqual(succeed([made], cwd=self.folder), "Get\\x1b[2J\\x5c\\xc3\\xa9nt from KERNEL32.dll\n")
+        self.written("some.dll", large())
+        self.assertEqual(succeed([made], cwd=self.folder), "Apple from fruit.dll\n")
+
+    def test_no_example_cuts_a_file(self):
+        """Of more than 16 MiB, whose imports stand at its end."""
+        image, to = self.written("large.dll", large()), self.folder / "patched.dll"
+        self.assert_runs([built("walk"), "10", image], (0, b"1 imports\n0 exports\n", b""))
+        self.assert_runs([built("damage"), image], (0, b"", b""))
+        self.assert_runs([built("patch"), image, "7", ".data", ".code", to], (0, b"0x7 .code\n", b""))
+        self.assertEqual((to.stat().st_size, to.read_bytes()[0x200:]), (image.stat().st_size, image.read_bytes()[0x200:]))
+
+    def test_what_can_not_be_read_is_no_file(self):
+        for name, *words in ("walk", "10"), ("damage",):
+            self.assert_runs([built(name), *words, self.folder / "lost.dll"], (2, b"", b""))
+            self.assert_runs([built(name), *words, self.folder], (2, b"", b""))
+        self.assert_runs([built("patch"), self.folder, "7", ".data", ".code", self.folder / "not.dll"], (2, b"", b""))
 
     def test_ten_idioms_of_a_newcomer(self):
         self.assertEqual(succeed([built("idioms"), BY_NAME]), "10 of 10\n")
@@ -412,6 +436,16 @@ class Patch(Case):
         place = data.index(b".text\0\0\0", header)
         data[header + 8: header + 12], data[place: place + 8] = b"\x78\x56\x34\x12", b".code\0\0\0"
         self.assertEqual(to.read_bytes(), data)
+
+    def test_a_checksum_where_the_section_table_stands_is_not_written(self):
+        """The first record begins where the field is, and has a name that is no checksum."""
+        image = images.with_small_header(BY_NAME.read_bytes(), 64)
+        table = int.from_bytes(image[0x3C:0x40], "little") + 24 + 64
+        image[table + 40: table + 48] = b".rd".ljust(8, b"\0")  # (the number of directories, 0, is the second half)
+        to = self.folder / "patched.dll"
+        self.assert_runs([built("patch"), self.written("small.dll", image), "7", ".text", ".code", to],
+                         (1, b"", b"the section table stands where the optional header would go on\n"))
+        self.assertFalse(to.exists())
 
     def test_a_name_that_is_too_long(self):
         wanted = (1, b"", b"refused: ")
