@@ -8,7 +8,7 @@ import signal
 import struct
 import unittest
 
-from tests import images, programs
+from tests import hostile, images, programs
 from tests.programs import BY_NAME, CALLERS, CC, FLAGS, IMAGES, OBJECTS, SAMPLES, TERSE, TOP, Case, library, milliseconds, need, run, succeed, with_memory
 
 
@@ -507,6 +507,18 @@ class Reuse(Case):
         succeed([built("loader", *SANITIZED), *self.loaded])
         status, _, said = run([built("list", *SANITIZED), CALLERS / "build"])
         self.assertEqual((status, said[:9]), (1, b"refused: "))
+
+    def test_hostile_files_with_sanitizers(self):
+        """Of each example: it ends with a status of its own, and the sanitizers say nothing."""
+        need_flags(*SANITIZED)
+        to, env = self.folder / "patched.dll", {**os.environ, "ASAN_OPTIONS": "exitcode=99", "UBSAN_OPTIONS": "exitcode=99"}
+        for index, data in enumerate(itertools.islice(hostile.files(), 60)):
+            file = self.written(f"{index}.bin", data)
+            for name, *words in (("list", file), ("list", "--permissive", file), ("list", "--symbols", file), ("list", "--te", file),
+                                 ("walk", "1000", file), ("damage", file), ("loader", file), ("patch", file, "7", ".text", ".code", to)):
+                with self.subTest(name=name, index=index):
+                    status, _, said = run([built(name, *SANITIZED), *words], env=env)
+                    self.assertIn(status, (0, 1), said)
 
     def test_under_valgrind(self):
         need("valgrind")
