@@ -193,6 +193,26 @@ def importer(imports, relocated=0):
     return headers + raw
 
 
+def with_data_behind(image, size):
+    """The image with so many zeros between its headers, which have 512 bytes, and the data of its sections."""
+    image, (signature,) = bytearray(image), struct.unpack_from("<I", image, 0x3C)
+    count, optional = struct.unpack_from("<H12xH", image, signature + 6)
+    for place in range(signature + 24 + optional, signature + 24 + optional + 40 * count, 40):
+        pointer, = struct.unpack_from("<I", image, place + 20)
+        struct.pack_into("<I", image, place + 20, pointer + size)
+    return bytes(image[:0x200] + bytes(size) + image[0x200:])
+
+
+def with_small_header(image, size):
+    """The sample whose section table begins so many bytes after the begin of its optional header, over the rest of that."""
+    image, (signature,) = bytearray(image), struct.unpack_from("<I", image, 0x3C)
+    count, optional = struct.unpack_from("<H12xH", image, signature + 6)
+    table = signature + 24 + optional
+    struct.pack_into("<H", image, signature + 20, size)
+    image[signature + 24 + size: signature + 24 + size + 40 * count] = image[table: table + 40 * count]
+    return image
+
+
 def with_directory(image, index, address, size):
     """The image for 64 bits with one of its data directories at another address, of another size."""
     image = bytearray(image)

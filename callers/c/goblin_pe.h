@@ -52,7 +52,7 @@
      next_relocations, read_aux_*    none                                  the records
    find_offset, section_at, text_at,
      bytes_at, memory_at,
-     forwarder_at                    none                                  the sections, and one text
+     memory_section_at, forwarder_at none                                  the sections, and one text
    find_rva                          none                                  the sections, and these once more for each
                                                                            whose data holds the offset
    next_blocks                       none, or for more than 96 sections    the sections, and the records
@@ -140,7 +140,8 @@ static inline struct goblin_pe_image goblin_pe_sound_image(const struct goblin_p
     return sound;
 }
 
-/* What a file is, by its first bytes: a goblin_pe_kind. */
+/* What a file is, by its first bytes: a goblin_pe_kind. Archives, import objects and big objects are told, and no call
+   reads them. */
 static inline uint32_t goblin_pe_kind_of(const uint8_t *bytes, size_t length)
 {
     return goblin_pe_raw_kind_of(GOBLIN_PE_BYTES(bytes, length), length);
@@ -323,7 +324,12 @@ static inline struct goblin_pe_fault goblin_pe_read_object(
 }
 
 /* Reads a Terse Executable: its header, which says how many sections there are, and those as far as
-   there is room. The signature is not looked at. No memory is taken. */
+   there is room. The signature is not looked at. No memory is taken.
+
+   The front of such a file was stripped, and the records in it still say where all stood before. So these sections are
+   not as stored: of each the address, and each of the three pointers that is not 0, is moved by the stripped size less
+   the 40 bytes of the header that took the place, to where it is in this file. goblin_pe_read_section_data is right
+   then, but goblin_pe_write_section does not write the record that the file has. */
 static inline struct goblin_pe_fault goblin_pe_read_te(
     const uint8_t *bytes, size_t length, struct goblin_pe_te_header *header, struct goblin_pe_section *sections,
     size_t room)
@@ -371,7 +377,8 @@ static inline bool goblin_pe_symbol_at(
 }
 
 /* Reads the first auxiliary record of a symbol, by the kind that its class says; each answers false, and
-   changes nothing, where there are fewer than the 18 bytes of one. */
+   changes nothing, where there are fewer than the 18 bytes of one. None looks at the symbol: which kind its records
+   are, the caller tells by its class, its type and its section. */
 static inline bool goblin_pe_read_aux_function_definition(
     struct goblin_pe_text auxiliary, struct goblin_pe_aux_function_definition *record)
 {
@@ -495,8 +502,12 @@ static inline bool goblin_pe_find_offset(const struct goblin_pe_image *image, si
     return goblin_pe_raw_find_offset(&sound, rva, offset);
 }
 
-/* Puts the index of the section of an address into `index`, and answers whether it lies in one: the first
-   whose window holds it; none where the file alignment is no power of two. The options are not looked at. */
+/* Puts the index of the section by which an address is mapped into `index`, and answers whether there is one: the
+   first whose window holds it; none where the file alignment is no power of two. The options are not looked at. A
+   window begins at the section's address. It is empty where the raw size is 0, and else has the least of three sizes:
+   that of the data in the file, from its start rounded down to 512 up to its end rounded up to the file alignment; the
+   raw size; and the virtual size where that is not 0, these two rounded up to 4,096. So an address in the zeros that
+   follow the data may lie in none, as a TLS index does; goblin_pe_memory_section_at finds it. */
 static inline bool goblin_pe_section_at(const struct goblin_pe_image *image, size_t rva, size_t *index)
 {
     struct goblin_pe_image sound = goblin_pe_sound_image(image);
@@ -523,6 +534,23 @@ static inline struct goblin_pe_fault goblin_pe_memory_at(
 {
     struct goblin_pe_image sound = goblin_pe_sound_image(image);
     return goblin_pe_raw_memory_at(&sound, rva, size, contents);
+}
+
+/* Puts the index of the section in whose memory an address lies into `index`, also among the zeros that follow the data,
+   and answers whether there is one: the first whose virtual size, or raw size where that is 0, reaches it, as
+   goblin_pe_memory_at takes it; none, and nothing changed, where there is none, as in the headers. The options are not
+   looked at. */
+static inline bool goblin_pe_memory_section_at(const struct goblin_pe_image *image, size_t rva, size_t *index)
+{
+    for (size_t i = 0; i < image->section_count; i++) {
+        const struct goblin_pe_section *s = &image->sections[i];
+        size_t size = s->virtual_size ? s->virtual_size : s->size_of_raw_data;
+        if (rva >= s->virtual_address && rva - s->virtual_address < size) {
+            *index = i;
+            return true;
+        }
+    }
+    return false;
 }
 
 /* The text at an address, up to its NUL or the end of the file. Refused are an address without an offset in
@@ -561,7 +589,7 @@ static inline struct goblin_pe_fault goblin_pe_bytes_at(
 
 /* The data of a section: its bytes in the file, from its raw pointer, as stored or rounded down to 512 by the
    rule of the image's options, and how many zeros follow them up to the size in memory; none where the file has
-   at least as many bytes, which are not cut then. Of the image only the bytes, the options and the file
+   at least as many bytes, which are not cut at that size then, as goblin_pe_memory_at cuts them. Of the image only the bytes, the options and the file
    alignment are looked at, so for an object one with its bytes and else zeros will do. Refused is a file that is
    too short for it, and one in which it begins past the end, even where it has no bytes. No memory is taken. */
 static inline struct goblin_pe_fault goblin_pe_read_section_data(

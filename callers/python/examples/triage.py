@@ -18,7 +18,7 @@ from goblin_pe import Kind, Layout, Options, Pe, Refused, kind, names_of
 MOST = 100_000
 
 
-def entropy(data: bytes) -> float:
+def entropy(data: memoryview) -> float:
     """How random bytes are: 0, where all are alike, up to 8 bits each."""
     shares = [count / len(data) for count in Counter(data).values()]
     return sum(share * math.log2(1 / share) for share in shares)
@@ -34,9 +34,10 @@ def rich_hash(pe: Pe, data: Any) -> Optional[str]:
 
 
 def overlay(layout: Layout, data: Any) -> Optional[int]:
-    """Where the bytes begin that follow the data of all sections in the file; None where there are none."""
+    """Where the bytes begin that follow the data of all sections in the file; None where there are none. What is left of a section
+    that the end of the file cuts is no such bytes, as pefile takes it."""
     ends = (s.pointer_to_raw_data + s.size_of_raw_data for s in layout.sections if s.size_of_raw_data)
-    end = max((it for it in ends if it <= len(data)), default=0)
+    end = max((min(it, len(data)) for it in ends), default=0)
     return end if 0 < end < len(data) else None
 
 
@@ -45,7 +46,7 @@ def sections(layout: Layout) -> Iterator[Dict[str, Any]]:
     for s in layout.sections:
         told: Dict[str, Any] = {"name": s.name.decode("utf-8", "backslashreplace"), "flags": names_of(s.characteristics)}
         try:
-            content, _ = layout.section_data(s)
+            content, _ = layout.section_view(s)
             told.update(entropy=round(entropy(content), 3), md5=hashlib.md5(content, usedforsecurity=False).hexdigest())
         except Refused as refused:
             told["refused"] = str(refused)

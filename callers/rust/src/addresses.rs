@@ -109,7 +109,11 @@ impl<'a> Layout<'a> {
         Ok(Forwarder::from(&found))
     }
 
-    /// The section of an address: the first whose window holds it; `None` where there is none.
+    /// The section by which an address is mapped: the first whose window holds it; `None` where there is none. A window
+    /// begins at the section's address. It is empty where the raw size is 0, and else has the least of three sizes: that
+    /// of the data in the file, from its start rounded down to 512 up to its end rounded up to the file alignment; the raw
+    /// size; and the virtual size where that is not 0, these two rounded up to 4,096. So an address in the zeros that
+    /// follow the data may lie in none, as a TLS index does: [`memory_section_at`](Self::memory_section_at) finds it.
     ///
     /// ```no_run
     /// # let bytes = [];
@@ -121,6 +125,29 @@ impl<'a> Layout<'a> {
     #[must_use]
     pub fn section_at(&self, rva: usize) -> Option<Section<'a>> {
         let index = raw::section_at(&self.image(), rva)?;
+        self.sections().nth(index)
+    }
+
+    /// The section in whose memory an address lies, also among the zeros that follow its data: the first whose virtual
+    /// size, or raw size where that is 0, reaches it, as [`memory_at`](Self::memory_at) takes it; `None` where there is
+    /// none, as in the headers. The options are not looked at.
+    ///
+    /// ```no_run
+    /// # let bytes = [];
+    /// # let layout = goblin_pe::Layout::read(&bytes, &goblin_pe::Options::permissive())?;
+    /// let is_outside = layout.memory_section_at(layout.entry() as usize).is_none();
+    /// # Ok::<(), goblin_pe::Error>(())
+    /// ```
+    #[must_use]
+    pub fn memory_section_at(&self, rva: usize) -> Option<Section<'a>> {
+        let reaches = |s: &raw::Section| match s.virtual_size {
+            0 => s.size_of_raw_data as usize,
+            size => size as usize,
+        };
+        let index = self.sections.get().iter().position(|s| {
+            let distance = rva.checked_sub(s.virtual_address as usize);
+            distance.is_some_and(|it| it < reaches(s))
+        })?;
         self.sections().nth(index)
     }
 

@@ -73,6 +73,7 @@ mod memory;
 mod names;
 mod numbers;
 mod object;
+mod patch;
 mod pe;
 #[allow(unsafe_code)]
 mod raw;
@@ -83,15 +84,19 @@ mod tables;
 mod te;
 mod text;
 
-pub use error::Error;
+pub use error::{Error, UnknownNumber};
 pub use footprint::Footprint;
+pub use imphash::{ordinal_name, write_imphash_text};
 pub use iterators::{
     Blocks, DataDirectories, ExportAddresses, Exports, FootprintRanges, Imports, IntoImports,
     Sections, Symbols, WalkBlocks, WalkExportAddresses, WalkExports, WalkImports, WalkLibraries,
     WalkRelocations, Words,
 };
 pub use layout::Layout;
-pub use names::{DllFlags, FileFlags, Machine, SectionFlags, Subsystem};
+pub use names::{
+    BaseRelocation, ComdatSelection, DllFlags, FileFlags, Machine, SectionFlags, StorageClass,
+    Subsystem, WeakExternalSearch, relocation_name,
+};
 pub use numbers::{
     Cause, Counted, DirectoryType, ErrorKind, Kind, Part, RawPointerRule, ReadFault,
 };
@@ -109,7 +114,7 @@ pub use rows::{
 pub use te::Te;
 pub use text::Text;
 
-/// What a file is, by its first bytes.
+/// What a file is, by its first bytes. Archives, import objects and big objects are told, and nothing here reads them.
 ///
 /// ```no_run
 /// use goblin_pe::{Kind, Object, Options, Pe};
@@ -133,11 +138,14 @@ pub fn kind(bytes: &[u8]) -> Kind {
 /// that it loads at boot or into critical processes.
 ///
 /// ```no_run
-/// # use goblin_pe::{Options, Pe};
 /// let mut bytes = std::fs::read("some.sys")?;
-/// let field = Pe::read(&bytes, &Options::default())?.dos_header().pe_pointer as usize + 88;
-/// let sum = goblin_pe::checksum(&bytes, field);
-/// bytes[field..][..4].copy_from_slice(&sum.to_le_bytes());
+/// let layout = goblin_pe::Layout::parse(&bytes)?;
+/// let field = layout.dos_header().pe_pointer as usize + 88;
+/// // (a file without an optional header has no such field)
+/// if layout.optional_header().is_some() {
+///     let sum = goblin_pe::checksum(&bytes, field);
+///     bytes[field..][..4].copy_from_slice(&sum.to_le_bytes());
+/// }
 /// # Ok::<(), Box<dyn std::error::Error>>(())
 /// ```
 #[must_use]

@@ -19,11 +19,8 @@ use std::io::Write;
 /// let pe = goblin_pe::Pe::read(&bytes, &goblin_pe::Options::default())?;
 /// let mut header = pe.header();
 /// header.coff_header.time_date_stamp = 0;
-/// let (mut out, table) = (bytes.clone(), header.section_table());
-/// let mut written = vec![0; header.write(&mut [])?];
-/// let size = header.write(&mut written)?.min(table).min(out.len());
-/// out[..size].copy_from_slice(&written[..size]);
-/// # Ok::<(), goblin_pe::Error>(())
+/// let changed = pe.patched(&header, &[])?;
+/// # Ok::<(), std::io::Error>(())
 /// ```
 #[derive(Clone, Copy, Debug, PartialEq, Eq, PartialOrd, Ord, Hash)]
 #[non_exhaustive]
@@ -57,8 +54,8 @@ impl Header<'_> {
     /// Writes the header to the front of `out`, and returns how many bytes it has: all sixteen data
     /// directories are written, zeros for those that are not there. Where strict mode read it, these are
     /// the bytes of the file up to the last directory that the file has. In the file the section table may
-    /// stand where the zeros are: so write elsewhere, and copy at most the bytes before
-    /// [`section_table`](Header::section_table) into the file.
+    /// stand where the zeros are, or the header's own last bytes would:
+    /// [`Layout::patched`](crate::Layout::patched) puts a header into the file where it has a place.
     ///
     /// The PE signature follows the stub, whatever `pe_pointer` says: where permissive mode replaced the
     /// stub, the headers after it do not stand at their places.
@@ -97,6 +94,17 @@ impl Header<'_> {
     }
 }
 
+// The index of the section of a number, as a symbol has it: more than 32,767 are numbers below 0, of which the last two
+// name none.
+pub(crate) fn section_index(number: i16) -> Option<usize> {
+    let number = if number < -2 {
+        i32::from(number) + 0x1_0000
+    } else {
+        number.into()
+    };
+    usize::try_from(number).ok()?.checked_sub(1)
+}
+
 // The size of the PE signature and the COFF header, in bytes.
 const SIGNATURE_AND_COFF_HEADER: usize = 24;
 
@@ -115,7 +123,7 @@ pub struct Damage {
     pub dos_stub: Option<Error>,
     /// Of the names of the sections: one begins with a slash and goes on with bytes that are no text.
     pub section_names: Option<Error>,
-    /// Of the imports, if they are asked for.
+    /// Of the imports, if the options ask for them: else it is `None`, and nothing of them is counted, whatever they hold.
     pub imports: Option<Error>,
     /// Of the exports.
     pub exports: Option<Error>,
@@ -268,7 +276,8 @@ impl<'a> Section<'a> {
 
     /// The pair (data in the file `bytes`, how many zeros follow it in memory). The data begins at the
     /// raw pointer as stored. [`Layout::section_data`](crate::Layout::section_data) takes the bytes that were read,
-    /// and begins where the options say.
+    /// and begins where the options say. There is as much as the raw size says: it is not cut at the virtual size, as
+    /// [`Layout::memory_at`](crate::Layout::memory_at) cuts it.
     ///
     /// # Errors
     /// [`ErrorKind::Read`](crate::ErrorKind::Read) where the data passes the file, and where it begins
@@ -335,7 +344,8 @@ impl<'a> Section<'a> {
     /// # let bytes = [];
     /// let object = goblin_pe::Object::read(&bytes, &goblin_pe::Options::default())?;
     /// for section in object.sections() {
-    ///     println!("{} has {} relocations", section.name, section.walk_relocations(&bytes).count());
+    ///     let found = section.walk_relocations(&bytes).filter(Result::is_ok);
+    ///     println!("{} has {} relocations that can be read", section.name, found.count());
     /// }
     /// # Ok::<(), goblin_pe::Error>(())
     /// ```
@@ -710,7 +720,8 @@ pub struct Symbol<'a> {
 
 impl<'a> Symbol<'a> {
     /// The first auxiliary record, of a symbol that defines a function; `None` where it has none, as
-    /// in the calls below.
+    /// in the calls below. None of them looks at the symbol: which kind its records are, its class tells, and its type
+    /// and section.
     ///
     /// ```no_run
     /// # let bytes = [];
