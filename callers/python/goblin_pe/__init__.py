@@ -207,9 +207,10 @@ class Options:
         pefile maps.
     parse_imports: whether the imports are read; where not, their table is absent, and `damage` tells nothing of them.
 
-    Neither mode passes over more than sixteen data directories, a magic that is neither of the two, a section table or a header
-    that the file's end cuts, a section's name that begins with a slash and goes on as no number, or the marker of a Rich header
-    without the other one: such a file is refused.
+    Neither mode passes over more than sixteen data directories (so number_of_rva_and_sizes is at most sixteen of what was read, and
+    was not cut to that), a magic that is neither of the two, a header or a section table that the file's end cuts, a section's name
+    that is a slash and a text which is no number, or the marker `Rich` of a Rich header without `DanS` before it: such a file is
+    refused.
     """
 
     is_permissive: bool = False
