@@ -150,7 +150,11 @@ static inline uint32_t goblin_pe_kind_of(const uint8_t *bytes, size_t length)
 /* Reads an image once: says in `file` what it is, fills the records of its data directories as far as
    there is room (a file has sixteen or none), and puts all other tables into `tables`, each whole. The
    tables that stood there before are not freed. After a refusal nothing is to be freed. Memory is taken
-   for the tables. What these lack of the imports and the exports goblin_pe_read_damage counts. */
+   for the tables. What these lack of the imports and the exports goblin_pe_read_damage counts.
+
+   Neither mode passes over more than sixteen data directories, a magic that is neither of the two, a header or a section
+   table that the file's end cuts, a section's name that is a slash and a text which is no number, or the marker `Rich`
+   of a Rich header without `DanS` before it. */
 static inline struct goblin_pe_fault goblin_pe_open(
     const uint8_t *bytes, size_t length, const struct goblin_pe_options *options, struct goblin_pe_file *file,
     struct goblin_pe_directory *directories, size_t directory_room, struct goblin_pe_tables *tables)
@@ -196,7 +200,8 @@ static inline struct goblin_pe_fault goblin_pe_read_layout(
 
 /* Tells what strict mode would refuse of an image, part by part, each for itself, where its header and its
    sections are read as the options say. A file without damage, of which no library is left out, is one that both
-   modes read, and read alike. Refused are a header or sections that these options refuse, and memory, which is
+   modes read, and read alike. Of imports for which the options do not ask nothing is told. Refused are a header or
+   sections that these options refuse, and memory, which is
    taken only for an index of more than 96 sections, and given back. */
 static inline struct goblin_pe_fault goblin_pe_read_damage(
     const uint8_t *bytes, size_t length, const struct goblin_pe_options *options, struct goblin_pe_damage *damage)

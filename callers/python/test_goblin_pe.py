@@ -490,6 +490,21 @@ class HowFilesAreRead(unittest.TestCase):
         self.assertRaises(OSError, Pe.open, path + ".not")
         self.assertRaises(Refused, Pe.open, os.path.join(SAMPLES, "object_x64.obj"))
 
+    def test_what_neither_mode_passes_over(self):
+        data = sample("imports_by_name_x64.dll")
+        optional = data.index(b"PE\0\0") + 24
+        table = optional + 240
+        for place, changed, cause in ((optional + 108, b"\x11", Cause.DIRECTORY_COUNT), (optional, b"\x0C", Status.BAD_MAGIC),
+                                      (table, b"/abc".ljust(8, b"\0"), Cause.NAME_DECIMAL), (64, b"Rich", Cause.NO_DANS)):
+            file = data[:place] + changed + data[place + len(changed):]
+            for how in Options(), Options(is_permissive=True):
+                with self.assertRaises(Refused) as caught:
+                    Pe(file, how)
+                self.assertIn(str(cause), (str(caught.exception.cause), str(caught.exception.status)))
+        for end in table + 100, optional + 100:
+            for how in Options(), Options(is_permissive=True):
+                self.assertRaises(Refused, Pe, data[:end], how)
+
     def test_options_are_bools(self):
         for wrong in (1, 0, "no", None):
             self.assertRaises(TypeError, Options, is_permissive=wrong)

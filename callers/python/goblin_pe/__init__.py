@@ -33,7 +33,8 @@ A refusal raises Refused, also where the library is refused memory: its status i
 comes from Python alone, where there is no memory for what was read.
 
 The rows Section, Import, Export, Block, Symbol, Range and others are named tuples, and so are the headers, whose fields
-are those of the format: a changed copy is made by _replace, and Pe.write writes it. State, Status, Kind, Cause, Counted,
+are those of the format: a changed copy is made by _replace, and Pe.write writes it. What lists rows is a tuple, which nobody
+changes. State, Status, Kind, Cause, Counted,
 ReadFault and DirectoryType name numbers. All of them can be imported from here, and help(goblin_pe.Section) explains one;
 goblin_pe.constants has the numbers of the formats, such as IMAGE_FILE_DLL.
 
@@ -52,7 +53,7 @@ import typing as _t
 from . import _laid_out, records
 from ._imphash import imphash as imphash, ordinal_name as ordinal_name
 from ._names import flags_of as flags_of, names_of as names_of, relocation_name as relocation_name
-from ._library import LIB as _LIB, Data as Data, Kept as _Kept, held as _held, kept as _kept
+from ._library import LIB as _LIB, Data as Data, Kept as _Kept, held as _held, kept as _kept, viewed as _viewed
 from ._refused import Refused as Refused, named as _named, refusal as _refusal, test as _test
 from .constants import IMAGE_FILE_DLL as _IMAGE_FILE_DLL, MAGIC_64 as _MAGIC_64
 from .numbers import (
@@ -148,8 +149,8 @@ def _here(data: _t.Optional[_Kept]) -> _Kept:
 
 
 def kind(data: Data) -> Kind:
-    """What a file is, by its first bytes."""
-    with memoryview(data) as view, view.cast("B") as in_bytes, _held(_kept(in_bytes[:64])) as (address, length):
+    """What a file is, by its first bytes. Archives, import objects and big objects are told, and nothing here reads them."""
+    with _viewed(data) as in_bytes, _held(_kept(in_bytes[:64])) as (address, length):
         return Kind(_LIB.goblin_pe_raw_kind_of(address, length))
 
 
@@ -207,9 +208,10 @@ class Options:
         pefile maps.
     parse_imports: whether the imports are read; where not, their table is absent, and `damage` tells nothing of them.
 
-    Neither mode passes over more than sixteen data directories, a magic that is neither of the two, a section table or a header
-    that the file's end cuts, a section's name that begins with a slash and goes on as no number, or the marker of a Rich header
-    without the other one: such a file is refused.
+    Neither mode passes over more than sixteen data directories (so number_of_rva_and_sizes is at most sixteen of what was read, and
+    was not cut to that), a magic that is neither of the two, a header or a section table that the file's end cuts, a section's name
+    that is a slash and a text which is no number, or the marker `Rich` of a Rich header without `DanS` before it: such a file is
+    refused.
     """
 
     is_permissive: bool = False

@@ -41,7 +41,8 @@ class SectionView(NamedTuple):
 
 class Section(NamedTuple):
     """A section: its name (that of the string table where it has one, else its eight bytes up to the first NUL), the
-    fields of its record, and the eight bytes of the name in it. Where a number was put into it that does not fit its field,
+    fields of its record, and the eight bytes of the name in it. Of a Terse Executable the address and the three pointers are moved,
+    as Te says, and are not those of the record. Where a number was put into it that does not fit its field,
     what reads or writes by it raises OverflowError, and ValueError where its raw_name has more than eight bytes."""
 
     name: bytes

@@ -629,6 +629,22 @@ impl<'a> Symbols<'a> {
         })
     }
 
+    /// How many records the symbol table has, wherever the walk is, auxiliary ones among them: each index is below it.
+    ///
+    /// ```no_run
+    /// # let bytes = [];
+    /// let object = goblin_pe::Object::parse(&bytes)?;
+    /// let mut addresses = vec![0; object.symbols()?.record_count()];
+    /// for symbol in object.symbols()? {
+    ///     addresses[symbol.index] = symbol.value;
+    /// }
+    /// # Ok::<(), goblin_pe::Error>(())
+    /// ```
+    #[must_use]
+    pub fn record_count(&self) -> usize {
+        self.table.record_count as usize
+    }
+
     /// The symbol whose record has this index in the symbol table, wherever the walk is: relocations and weak
     /// externals name symbols so. `None` where the table ends before it; a record that says more of the symbol
     /// before it is read as a symbol, too. It takes no longer for a large table.

@@ -217,7 +217,8 @@ pub struct Section<'a> {
     pub raw_name: [u8; 8],
     /// The size in memory, in bytes: what the data in the file lacks of it is zeros.
     pub virtual_size: u32,
-    /// The address in memory, relative to the image's base.
+    /// The address in memory, relative to the image's base. Of a Terse Executable it is moved, and so are the three file
+    /// offsets below, as [`Te::sections`](crate::Te::sections) says.
     pub virtual_address: u32,
     /// The size of the data in the file, in bytes; in an image rounded up, so it may be above the
     /// virtual size.
@@ -375,7 +376,8 @@ impl<'a> Section<'a> {
         Ok(())
     }
 
-    /// Writes the record of the section, with `raw_name` for a name, and returns its size, 40 bytes.
+    /// Writes the record of the section, with `raw_name` for a name, and returns its size, 40 bytes: of a Terse Executable
+    /// not the one that the file has, as its sections are moved.
     ///
     /// # Errors
     /// Too little room; nothing is written then.

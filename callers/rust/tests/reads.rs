@@ -1058,3 +1058,22 @@ fn sections_are_found_by_number() {
     );
     assert_eq!(object.bytes().as_ptr(), many.as_ptr());
 }
+
+// A copy of the walk before its first item goes again, and says how many records there are, whatever it has given.
+#[test]
+fn symbols_are_walked_twice() {
+    let bytes = sample("object_x64.obj");
+    let object = Object::parse(&bytes).unwrap();
+    let symbols = object.symbols().unwrap();
+    let (mut first, second) = (symbols.clone(), symbols);
+    let records = first
+        .by_ref()
+        .map(|s| 1 + usize::from(s.number_of_aux_symbols));
+    let count = records.sum::<usize>();
+    let stored = object.coff_header().number_of_symbol_table as usize;
+    assert_eq!(
+        (count, first.record_count(), first.next()),
+        (stored, stored, None)
+    );
+    assert!(second.eq(object.symbols().unwrap()));
+}
