@@ -72,10 +72,10 @@ pub(super) fn test_numbers<'a, 'e, T: Bitfield<'a>>(
     }
     // (the slot at `place` is not whole, so this is refused)
     let count = (place - offset) / size;
-    match read_entry::<T>(bytes, place) {
-        Ok(_) => (Ok(()), count),
-        Err(error) => (Err(error), count),
+    if let Err(error) = read_entry::<T>(bytes, place) {
+        return (Err(error), count);
     }
+    (Ok(()), count)
 }
 
 // Tests whether the library of a record has an address table, and tells how many numbers are looked

@@ -480,16 +480,15 @@ impl<'a, 'm> Walk<'a, 'm> {
                 mut place,
                 ..
             } = self.at;
-            let next = next_kept_within::<T>(
+            match next_kept_within::<T>(
                 self.bytes,
                 table_offset,
                 &mut place,
                 &mut self.finder,
                 steps,
-            );
-            self.at.place = place;
-            match next {
+            ) {
                 Some(Ok(kept)) => {
+                    self.at.place = place;
                     let import = import_of::<T>(kept, self.dll, library, rva, table_offset);
                     return Some(Ok(import));
                 }
@@ -497,7 +496,7 @@ impl<'a, 'm> Walk<'a, 'm> {
                     self.end();
                     return Some(Err(error));
                 }
-                None => {}
+                None => self.at.place = place,
             }
             if are_out(steps) {
                 return None;
@@ -708,7 +707,7 @@ impl<'a, 'm, 'e, T: Bitfield<'a>> Iterator for Imports<'a, 'm, 'e, T> {
 
     #[inline(always)]
     fn next(&mut self) -> Option<ResultOf<'e, WalkedImport<'a>>> {
-        self.next_within(&mut None)
+        self.walk.next_within::<T>(&mut None)
     }
 
     fn size_hint(&self) -> (usize, Option<usize>)

@@ -4,7 +4,7 @@ ghost use Rattle.std.specs.Prelude.{◌≡◌, ◌⊎◌, ◌+◌, ◌<◌, ◌�
 ghost use Rattle.std.specs.Prelude.{Ok, Some, length, true};
 ghost use Rattle.goblin_pe_sect.specs.Addresses.{map_of, offset_of, reads_strictly};
 ghost use Rattle.goblin_pe_import.specs.ImportWalks.{IsEntriesCause, entries_from, kept_value};
-ghost use Rattle.goblin_pe_import.specs.ImportWalks.{place_after};
+ghost use Rattle.goblin_pe_import.specs.ImportWalks.{place_after, slots_bound};
 ghost use Rattle.goblin_pe_import.specs.StepsAhead.{AreCounted, GivesWithin, HasSteps, IsOut};
 ghost use Rattle.goblin_pe_import.specs.StepsAhead.{UnlessErr, slots_ahead};
 ghost use Rattle.readings.specs.Walks.{GivesNext};
@@ -74,6 +74,10 @@ pub(super) fn next_kept_within<'a, 'e, T: Bitfield<'a>>(
         UnlessErr result (AreCounted steps.old steps.new before after) }
     ensures given { IfSome result (λ r. IfOk r (λ _. HasSteps steps.old)) }
     ensures ended { result ≡ None → (place.new ≡ None) ⊎ IsOut steps.new }
+    ensures onward { slots_bound bytes.now place.new ≤ slots_bound bytes.now place.old }
+    ensures stays { place.old ≡ None → place.new ≡ None }
+    ensures less { let format = T.format in
+        slots_ahead format bytes.now place.new ≤ slots_ahead format bytes.now place.old }
     ensures after { IfSome result (λ r. place.new ≡ place_after T.format.width (Some r)) }
     ensures further { IfSome result (λ r. IfOk r (λ kept. IfSome place.old (λ place.
         (place ≤ kept.place) × (kept.place + T.format.width ≤ length bytes.now)))) }
