@@ -4,7 +4,7 @@ ghost use Rattle.std.specs.Prelude.{◌≡◌, ◌+◌, ◌-◌, ◌<◌, ◌≤
 ghost use Rattle.std.specs.Prelude.{IfSome};
 ghost use Rattle.std.specs.Prelude.{MatchOption, MatchResult, None, Some, false, length};
 ghost use Rattle.std.specs.Prelude.{List, option_map, true, ℕ};
-ghost use Rattle.std.specs.Prelude.{IsSome, IsOk, Ok};
+ghost use Rattle.std.specs.Prelude.{IsSome, IsOk, Ok, suc};
 ghost use Rattle.std.specs.Iterator.{UpTo, at_most};
 ghost use Rattle.std.specs.Iterator.SizeHint.{IsWithinCount};
 ghost use Rattle.std.specs.List.{flat_map};
@@ -33,9 +33,9 @@ ghost use Rattle.goblin_pe_import.specs.ImportWalks.{untested_table, walk_bound,
 ghost use Rattle.goblin_pe_import.specs.ImportWalks.{walked_value};
 ghost use Rattle.goblin_pe_import.specs.ImportRecords.{address_table_rva};
 ghost use Rattle.goblin_pe_import.specs.StepsAhead.{EndsWithin, GivesImportWithin, GivesWithin};
-ghost use Rattle.goblin_pe_import.specs.StepsAhead.{HaveRunOut, LooksAt, later_ahead, record_steps};
-ghost use Rattle.goblin_pe_import.specs.StepsAhead.{slots_ahead, tested_ahead, untested_ahead};
-ghost use Rattle.goblin_pe_import.specs.StepsAhead.{walk_ahead};
+ghost use Rattle.goblin_pe_import.specs.StepsAhead.{HaveRunOut, LooksAt, imports_ahead, later_ahead};
+ghost use Rattle.goblin_pe_import.specs.StepsAhead.{record_steps, slots_ahead, tested_ahead};
+ghost use Rattle.goblin_pe_import.specs.StepsAhead.{untested_ahead, walk_ahead};
 
 use crate::import::address_table::{test_address_table, test_numbers};
 use crate::import::bitfield::Bitfield;
@@ -428,6 +428,8 @@ impl<'a, 'm> Walk<'a, 'm> {
             (walk_at self.now (place + T.format.width))) }
         ensures inside { IfSome result (λ _. place + T.format.width ≤ length self.now.bytes.now) }
         ensures short { IfSome result (λ _. place + T.format.width < 2 ^ 63) }
+        ensures counted { IfSome result (λ _. walk_ahead T.format (walk_at self.now place)
+            ≡ suc (walk_ahead T.format (walk_at self.now (place + T.format.width)))) }
     {
         let ImportCursor {
             library,
@@ -741,7 +743,9 @@ impl<'a, 'm, 'e, T: Bitfield<'a>> PlainImports<'a, 'm, 'e, T> {
     /// it.
     #[inline(always)]
     pub fn next_import(&mut self) -> Option<WalkedImport<'a>>
-        ensures { GivesPlain T.format self.old result self.new }
+        ensures gives { GivesPlain T.format self.old result self.new }
+        ensures counted { IfSome result (λ _. imports_ahead T.format (plain_at self.old)
+            ≡ suc (imports_ahead T.format (plain_at self.new))) }
     {
         let Some(import) = self.imports.walk.plain_import::<T>(self.place) else {
             return None;

@@ -1,7 +1,7 @@
 //! The entries that a lookup table keeps, one by one.
 
 ghost use Rattle.std.specs.Prelude.{◌≡◌, ◌⊎◌, ◌+◌, ◌<◌, ◌≤◌, ◌^◌, IfErr, IfOk, IfSome, IsSome, None};
-ghost use Rattle.std.specs.Prelude.{Ok, Some, length, true};
+ghost use Rattle.std.specs.Prelude.{Ok, Some, length, suc, true};
 ghost use Rattle.goblin_pe_sect.specs.Addresses.{map_of, offset_of, reads_strictly};
 ghost use Rattle.goblin_pe_import.specs.ImportWalks.{IsEntriesCause, entries_from, kept_value};
 ghost use Rattle.goblin_pe_import.specs.ImportWalks.{place_after, slots_bound};
@@ -141,6 +141,8 @@ pub(super) fn plain_kept<'a, T: Bitfield<'a>>(
     ensures here { IfSome result (λ kept. kept.place ≡ place) }
     ensures inside { IfSome result (λ kept. place + T.format.width ≤ length bytes.now) }
     ensures short { IfSome result (λ kept. kept.place + T.format.width < 2 ^ 63) }
+    ensures counted { IfSome result (λ kept. slots_ahead T.format bytes.now (Some place)
+        ≡ suc (slots_ahead T.format bytes.now (Some (place + T.format.width)))) }
 {
     let Some(entry) = next_entry::<T>(bytes, place) else {
         return None;
