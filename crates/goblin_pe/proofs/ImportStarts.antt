@@ -12,13 +12,15 @@ use Rattle.goblin_pe_import.specs.ImportEntries.{EntryValue}
 use Rattle.goblin_pe_import.specs.ImportLookup.{entries_32, entries_64}
 use Rattle.goblin_pe_import.specs.ImportCursors.{first_import}
 use Rattle.goblin_pe_import.specs.ImportWalks.{AreImportsOver, GivesImport, HasName, cursor_left, cursor_of, imports_bytes, imports_left, imports_map, no_imports, walked_value}
+use Rattle.goblin_pe_import.specs.ImportWalks.{IsImportsCause, IsWalkFault}
+use Rattle.goblin_pe_import.specs.StepsAhead.{GivesImportWithin, GivesWithin, cursor_ahead, imports_ahead}
 use Rattle.goblin_pe_import.specs.declared.import.imports.ImportCursor.{ImportCursor}
 use Rattle.goblin_pe_import.specs.declared.import.imports.Imports.{Imports}
 use Rattle.goblin_pe_import.specs.declared.import.imports.WalkedImport.{WalkedImport}
 use Rattle.goblin_pe.specs.declared.whole.Part.TheVariants as part
 use Rattle.goblin_pe.specs.declared.whole.imports.FileImports.{FileImports}
 use Rattle.goblin_pe.specs.declared.whole.imports.FileImports.TheVariants.{Narrow, Wide}
-use Rattle.goblin_pe.specs.LayoutCursors.{GivesFileImport, GivesFirst, IsImportWalkAt, PartBegins, StartsAt, begin_in, file_cursor_left, import_begin}
+use Rattle.goblin_pe.specs.LayoutCursors.{file_ahead, file_cursor_ahead, GivesFileWithin, GivesFileImport, GivesFirst, IsImportWalkAt, PartBegins, StartsAt, begin_in, file_cursor_left, import_begin}
 use Rattle.goblin_pe.specs.Layouts.{IsFileImportsCause, file_imports_left}
 use Rattle.goblin_pe.specs.Whole.{TablePlaces, entry_format}
 use Rattle.goblin_pe_import.proofs.ImportCursors.{cursor_left_of}
@@ -115,6 +117,52 @@ wide_given s t r given =
       given.3.1,
     )
 
+-- ---- the same within a limit of steps
+
+narrow-steps : (s t : Imports ℕ) (r : Option (Result WalkedImport ErrorOf))
+    → GivesWithin walked_value (imports_left entries_32) (IsImportsCause entries_32) s r t
+    → IfSome r (λ r. IfErr r (IsWalkFault s.walk))
+    → GivesWithin walked_value file_imports_left IsFileImportsCause (Narrow s) r (Narrow t)
+    × IfSome r (λ r. IfErr r (λ e. ¬ IsMemory e))
+narrow-steps s t None given fault = (given, tt)
+narrow-steps s t (Some (Ok x)) given fault = (given, tt)
+narrow-steps s t (Some (Err e)) given fault = (given, fault.1)
+
+wide-steps : (s t : Imports ℕ) (r : Option (Result WalkedImport ErrorOf))
+    → GivesWithin walked_value (imports_left entries_64) (IsImportsCause entries_64) s r t
+    → IfSome r (λ r. IfErr r (IsWalkFault s.walk))
+    → GivesWithin walked_value file_imports_left IsFileImportsCause (Wide s) r (Wide t)
+    × IfSome r (λ r. IfErr r (λ e. ¬ IsMemory e))
+wide-steps s t None given fault = (given, tt)
+wide-steps s t (Some (Ok x)) given fault = (given, tt)
+wide-steps s t (Some (Err e)) given fault = (given, fault.1)
+
+pub narrow_within : (s t : Imports ℕ) (r : Option (Result WalkedImport ErrorOf)) (old new : Option ℕ)
+    → GivesImportWithin entries_32 s old r t new → GivesFileWithin (Narrow s) old r (Narrow t) new
+narrow_within s t r old new given =
+    let steps = narrow-steps s t r given.steps given.fault in
+    record {
+      steps = steps.0;
+      walk = λ m magic bytes walk.
+          (walk.0, over-again bytes m s t walk.1 given.over, given.named walk.2);
+      fault = steps.1;
+      looked = given.looked;
+      ended = given.ended;
+    }
+
+pub wide_within : (s t : Imports ℕ) (r : Option (Result WalkedImport ErrorOf)) (old new : Option ℕ)
+    → GivesImportWithin entries_64 s old r t new → GivesFileWithin (Wide s) old r (Wide t) new
+wide_within s t r old new given =
+    let steps = wide-steps s t r given.steps given.fault in
+    record {
+      steps = steps.0;
+      walk = λ m magic bytes walk.
+          (walk.0, over-again bytes m s t walk.1 given.over, given.named walk.2);
+      fault = steps.1;
+      looked = given.looked;
+      ended = given.ended;
+    }
+
 -- ---- a walk at a cursor
 
 at-cursor : {T : Type 0} (m : MapOfAddresses) (format own : Format EntryValue) (bytes : List ℕ) (c : ImportCursor)
@@ -131,3 +179,20 @@ walk-left m magic bytes c (Narrow imports) h =
     at-cursor m (entry_format magic) entries_32 bytes c imports h.0.0 h.0.1 h.0.2 h.1
 walk-left m magic bytes c (Wide imports) h =
     at-cursor m (entry_format magic) entries_64 bytes c imports h.0.0 h.0.1 h.0.2 h.1
+
+-- so do the steps that are ahead
+ahead-at : {T : Type 0} (m : MapOfAddresses) (format own : Format EntryValue) (bytes : List ℕ) (c : ImportCursor)
+    (imports : Imports T) → format ≡ own → AreImportsOver bytes m imports → cursor_of imports ≡ c
+    → imports_ahead own imports ≡ cursor_ahead m format bytes c
+ahead-at m format own bytes c imports is over at =
+    ap (λ (m : MapOfAddresses). cursor_ahead m own (imports_bytes imports) (cursor_of imports)) over.1
+    ∙ ap (λ (b : List ℕ). cursor_ahead m own b (cursor_of imports)) over.0
+    ∙ ap (λ (c : ImportCursor). cursor_ahead m own bytes c) at
+    ∙ ap (λ (f : Format EntryValue). cursor_ahead m f bytes c) (sym is)
+
+pub walk-ahead : (m : MapOfAddresses) (magic : ℕ) (bytes : List ℕ) (c : ImportCursor) (imports : FileImports)
+    → IsImportWalkAt m magic bytes c imports → file_ahead imports ≡ file_cursor_ahead m magic bytes c
+walk-ahead m magic bytes c (Narrow imports) h =
+    ahead-at m (entry_format magic) entries_32 bytes c imports h.0.0 h.0.1 h.1
+walk-ahead m magic bytes c (Wide imports) h =
+    ahead-at m (entry_format magic) entries_64 bytes c imports h.0.0 h.0.1 h.1

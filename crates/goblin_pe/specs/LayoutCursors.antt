@@ -1,6 +1,6 @@
 -- The imports of a file at a cursor.
 use Rattle.std.specs.Prelude.{◌≡◌, ℕ, Bool, List, Option, Some, None, Result, Ok, Err}
-use Rattle.std.specs.Prelude.{IfErr, IfSome, IsSomeAnd, MatchOption}
+use Rattle.std.specs.Prelude.{IfErr, IfSome, IsSomeAnd, MatchOption, length}
 use Rattle.goblin_base.specs.declared.error.ErrorOf.{ErrorOf}
 use Rattle.goblin_base.specs.Answers.{IsMemory}
 use Rattle.goblin_base.specs.Reading.{IsRefused, Reading}
@@ -16,6 +16,8 @@ use Rattle.goblin_pe_import.specs.Imports.{NumberedImport}
 use Rattle.goblin_pe_import.specs.ImportWalks.{AreImportsOver, HasName, IsCursorCause, cursor_left}
 use Rattle.goblin_pe_import.specs.ImportWalks.{cursor_of, imports_bytes, imports_map, no_imports}
 use Rattle.goblin_pe_import.specs.ImportWalks.{walked_value}
+use Rattle.goblin_pe_import.specs.StepsAhead.{EndsWithin, GivesWithin, HaveRunOut, LooksAt}
+use Rattle.goblin_pe_import.specs.StepsAhead.{cursor_ahead, imports_ahead}
 use Rattle.goblin_pe_import.specs.declared.import.imports.ImportCursor.{ImportCursor}
 use Rattle.goblin_pe_import.specs.declared.import.imports.WalkedImport.{WalkedImport}
 use Rattle.goblin_pe.specs.declared.whole.Part.{Part}
@@ -81,6 +83,27 @@ GivesFileImport s result t =
     × IsAtFileEnd result t
     × (file_bytes t ≡ file_bytes s)
     × (file_map t ≡ file_map s)
+
+-- how many steps are ahead: slots and records that are still to be looked at
+abbrev pub file_ahead : FileImports → ℕ
+file_ahead (Narrow imports) = imports_ahead entries_32 imports
+file_ahead (Wide imports) = imports_ahead entries_64 imports
+
+-- those from a cursor on
+abbrev pub file_cursor_ahead : MapOfAddresses → ℕ → List ℕ → ImportCursor → ℕ
+file_cursor_ahead m magic bytes c = cursor_ahead m (entry_format magic) bytes c
+
+-- A call of `next_within`: by a limit of steps, of which it leaves some.
+pub record GivesFileWithin (s : FileImports) (old : Option ℕ)
+    (result : Option (Result WalkedImport ErrorOf)) (t : FileImports) (new : Option ℕ) : Type 0
+  where
+    pub steps : GivesWithin walked_value file_imports_left IsFileImportsCause s result t
+    pub walk : (m : MapOfAddresses) (magic : ℕ) (bytes : List ℕ) → IsImportWalk m magic bytes s
+        → IsImportWalk m magic bytes t
+    pub fault : IfSome result (λ r. IfErr r (λ e. ¬ IsMemory e))
+    pub looked : LooksAt (length (file_bytes s)) result old new (file_ahead s) (file_ahead t)
+    pub ended : EndsWithin result (file_cursor t)
+        (HaveRunOut (length (file_bytes s)) old new (file_ahead s) (file_ahead t))
 
 -- A call gives the walk from the first import of a directory on, or is refused since that is.
 abbrev pub GivesFirst : MapOfAddresses → ℕ → List ℕ → Reading ImportCursor

@@ -70,6 +70,7 @@ pub use Rattle.goblin_pe_import.specs.ImportWalks
 pub use Rattle.goblin_pe_import.specs.Imports
 pub use Rattle.goblin_pe_import.specs.LeftOut
 pub use Rattle.goblin_pe_import.specs.LookupReadings
+pub use Rattle.goblin_pe_import.specs.StepsAhead
 pub use Rattle.goblin_pe_export.specs.ExportReadings
 pub use Rattle.goblin_pe_export.specs.ExportRecords
 pub use Rattle.goblin_pe_export.specs.Exports

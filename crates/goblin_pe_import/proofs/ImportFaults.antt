@@ -1,10 +1,10 @@
 -- The error that ends a walk over imports.
-use Rattle.std.proofs.Common.{ℕ, Bool, List, Option, Some, None, Err, Ok, Result}
+use Rattle.std.proofs.Common.{ℕ, Bool, List, Option, Some, None, Err, Ok, Result, ◌∙◌, inl, inr}
+use Rattle.std.proofs.Common.{IfErr, IfSome}
 use Rattle.goblin_base.specs.declared.error.ErrorOf.{ErrorOf}
 use Rattle.goblin_base.specs.Answers.{IsMemory, all_of}
 use Rattle.goblin_base.specs.Tables.{Format}
 use Rattle.goblin_base.proofs.Readings.{first_no_memory}
-use Rattle.readings.specs.Walks.{GivesNext}
 use Rattle.goblin_pe_import.specs.declared.import.imports.Imports.{Imports}
 use Rattle.goblin_pe_import.specs.declared.import.imports.Walk.{Walk}
 use Rattle.goblin_pe_import.specs.declared.import.imports.WalkedImport.{WalkedImport}
@@ -12,10 +12,12 @@ use Rattle.goblin_pe_sect.specs.Addresses.{map_of, offset_of, reads_strictly}
 use Rattle.goblin_pe_import.specs.ImportEntries.{EntryValue}
 use Rattle.goblin_pe_import.specs.ImportReadings.{libraries_at}
 use Rattle.goblin_pe_import.specs.LookupReadings.{lookup_table}
-use Rattle.goblin_pe_import.specs.ImportWalks.{AreImportsOver, GivesImport, HasName, IsAtEnd, IsEntriesCause}
+use Rattle.goblin_pe_import.specs.ImportWalks.{AreImportsOver, GivesImport, HasName, IsEntriesCause, IsImportsCause, imports_left}
 use Rattle.goblin_pe_import.specs.ImportWalks.{IsLaterCause, IsNextCause, IsWalkCause}
 use Rattle.goblin_pe_import.specs.ImportWalks.{IsWalkFault, entries_from}
 use Rattle.goblin_pe_import.specs.ImportWalks.{untested_table, walk_left, walked_value}
+use Rattle.goblin_pe_import.specs.StepsAhead.{EndsWithin, GivesWithin}
+use Rattle.goblin_pe_import.proofs.ImportSteps.{ended-left}
 
 module _ (strict : Bool) (format : Format EntryValue) (offset_of : ℕ → Option ℕ)
     (bytes : List ℕ) (e : ErrorOf) where
@@ -51,14 +53,35 @@ walk-fault : (format : Format EntryValue) (s : Walk) (e : ErrorOf) → IsWalkCau
     → IsWalkFault s e
 walk-fault format s e fault = (fault.0, walk-not_memory format s e fault)
 
--- a call that gives the next import of a walk gives that of the iterator
+-- an error that a call gives is such a one
+pub given-fault : (format : Format EntryValue) (s t : Walk) (result : Option (Result WalkedImport ErrorOf))
+    → GivesWithin walked_value (walk_left format) (IsWalkCause format) s result t
+    → IfSome result (λ r. IfErr r (IsWalkFault s))
+given-fault format s t None given = tt
+given-fault format s t (Some (Ok import)) given = tt
+given-fault format s t (Some (Err e)) given = walk-fault format s e given.2
+
+-- what a call gives of a walk, it gives of the iterator
+pub within-given : {T : Type 0} (format : Format EntryValue) (s t : Imports T)
+    (result : Option (Result WalkedImport ErrorOf))
+    → GivesWithin walked_value (walk_left format) (IsWalkCause format) s.walk result t.walk
+    → GivesWithin walked_value (imports_left format) (IsImportsCause format) s result t
+within-given format s t None given = given
+within-given format s t (Some (Ok import)) given = given
+within-given format s t (Some (Err e)) given = given
+
+-- so does one that gives the next import without a limit
 pub import-given : {T : Type 0} (format : Format EntryValue) (s t : Imports T)
     (result : Option (Result WalkedImport ErrorOf))
-    → GivesNext walked_value (walk_left format) (IsWalkCause format) s.walk result t.walk
+    → GivesWithin walked_value (walk_left format) (IsWalkCause format) s.walk result t.walk
     → (HasName s → HasName t)
-    → AreImportsOver s.walk.bytes.now (map_of s.walk.finder) t → IsAtEnd result t
+    → AreImportsOver s.walk.bytes.now (map_of s.walk.finder) t → EndsWithin result t.walk.at ⊥
     → GivesImport format s result t
-import-given format s t None given named over ended = (given, named, tt, over, ended)
-import-given format s t (Some (Ok import)) given named over ended = (given, named, tt, over, tt)
+import-given format s t None given named over (inl ended) =
+    let none = ended-left format t.walk ended in
+    ((given.0 ∙ none, none), named, tt, over, ended)
+import-given format s t None given named over (inr out) = absurd out
+import-given format s t (Some (Ok import)) given named over ended =
+    (given, named, tt, over, tt)
 import-given format s t (Some (Err e)) given named over ended =
     (given, named, walk-fault format s.walk e given.2, over, ended)

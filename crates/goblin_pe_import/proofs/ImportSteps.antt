@@ -5,6 +5,7 @@ use Rattle.goblin_base.specs.declared.error.ErrorOf.{ErrorOf}
 use Rattle.goblin_base.specs.Answers.{FirstFault, ◌>>=◌, all_of}
 use Rattle.goblin_base.specs.Tables.{Format}
 use Rattle.readings.specs.Walks.{GivesNext, until_refused}
+use Rattle.goblin_pe_import.specs.StepsAhead.{GivesWithin}
 use Rattle.goblin_pe_sect.specs.declared.address_map.AddressMap.{AddressMap}
 use Rattle.goblin_pe_import.specs.declared.import.imports.Walk.{Walk}
 use Rattle.goblin_pe_import.specs.declared.import.kept.KeptEntry.{KeptEntry}
@@ -13,6 +14,8 @@ use Rattle.goblin_pe_import.specs.ImportEntries.{EntryValue}
 use Rattle.goblin_pe_import.specs.Imports.{NumberedImport}
 use Rattle.goblin_pe_import.specs.ImportWalks.{origin}
 use Rattle.goblin_pe_import.specs.ImportWalks.{GivesLibrary, IsEntriesCause, IsLaterCause, IsNamed}
+use Rattle.goblin_pe_import.specs.ImportWalks.{IsCursorCause, IsNamedAt, slots_bound}
+use Rattle.goblin_pe_import.specs.declared.import.imports.ImportCursor.{ImportCursor}
 use Rattle.goblin_pe_import.specs.ImportWalks.{IsWalkCause, KeptValue, bound_next, no_imports}
 use Rattle.goblin_pe_import.specs.ImportWalks.{entries_from, imports_next, kept_import, kept_value, later_items, walk_answer, walk_at}
 use Rattle.goblin_pe_import.specs.ImportWalks.{place_after, walk_bound, walk_left}
@@ -43,7 +46,7 @@ GivesBy format s map r =
     r
 
 -- what holds of the walk that a call has led to
-pub walk_answer-ok : (P : Walk → Type 0) (t : Walk) (r : Result Unit ErrorOf) → P t → IfOk (walk_answer t r) P
+pub walk_answer-ok : {X : Type 0} (P : Walk → Type 0) (t : Walk) (r : Result X ErrorOf) → P t → IfOk (walk_answer t r) P
 walk_answer-ok P t (Ok x) holds = holds
 walk_answer-ok P t (Err e) holds = tt
 
@@ -57,11 +60,27 @@ imports-start format start = record {
   finder = refl;
 }
 
+first-by : {A : Type 0} (o : Option A) (IsNow IsNext IsLater : ErrorOf → Type 0) (e : ErrorOf)
+    → (IsNow e → IsNext e) → FirstFault o IsNow (λ _. IsLater) e
+    → FirstFault o IsNext (λ _. IsLater) e
+first-by None IsNow IsNext IsLater e chain fault = chain fault
+first-by (Some x) IsNow IsNext IsLater e chain fault = fault
+
+-- the walk at another place of its library, or between two
+abbrev pub walk_on : Walk → Option ℕ → Walk
+walk_on w place = record w { at = record w.at { place = place } }
+
 -- a walk that has ended
 pub ended-left : (format : Format EntryValue) (t : Walk) → t.at ≡ no_imports
     → walk_left format t ≡ []
 unfolding entries_from imports_next
 ended-left format t ended = rw ended refl
+
+pub ended-cause : (format : Format EntryValue) (t : Walk) → t.at ≡ no_imports → (e : ErrorOf)
+    → IsWalkCause format t e → ⊥
+unfolding entries_from
+ended-cause format t ended e fault =
+    (subst (λ (c : ImportCursor). IsCursorCause (map_of t.finder) format t.bytes.now c e) ended fault).1
 
 module _ (format : Format EntryValue) (start s : Walk) (h : AtImports format start s) where
   abbrev strict : Bool
@@ -124,6 +143,36 @@ module _ (format : Format EntryValue) (start s : Walk) (h : AtImports format sta
           ended-left format t ended,
           h.cause e (strictly, rw (steps.0) (steps.2)),
         )
+
+  pub steps-after : (r : Result KeptEntry ErrorOf) (place : Option ℕ)
+      → GivesWithin kept_value left IsCause s.at.place (Some r) place
+      → place ≡ place_after format.width (Some r) → Steps (Some r)
+  steps-after r place given at =
+      subst (λ (p : Option ℕ). GivesNext kept_value left IsCause s.at.place (Some r) p) at given
+
+  -- entries were passed over that give nothing
+  pub at-passed : (place : Option ℕ) → GivesWithin kept_value left IsCause s.at.place None place
+      → slots_bound s.bytes.now place ≤ slots_bound s.bytes.now s.at.place
+      → (s.at.place ≡ None → place ≡ None) → AtImports format start (walk_on s place)
+  at-passed place given onward stays = record {
+    same = h.same ∙ rw given.0 refl;
+    cause = λ e fault.
+        h.cause e (
+          fault.0,
+          rw given.0
+              (first-by (all_of (left place)) (IsCause place) (IsCause s.at.place) IsLater e (given.1 e) fault.1),
+        );
+    bound = omega (arith, onward, h.bound);
+    named = λ named. on s.at.place place stays _ _ (h.named named);
+    bytes = h.bytes;
+    finder = h.finder;
+  }
+    where
+      on : (at place : Option ℕ) → (at ≡ None → place ≡ None) → (dll name : List ℕ)
+          → IsNamedAt at dll name → IsNamedAt place dll name
+      on at None stays dll name named = tt
+      on None (Some p) stays dll name named = absurd (cc (stays refl))
+      on (Some q) (Some p) stays dll name named = named
 
   -- no entries are left
   module _ (none : Steps None) where

@@ -19,4 +19,5 @@ pub mod NumberedReach
 pub mod PermissiveReads
 pub mod PlainEntries
 mod SlotSums
+mod StepsAhead
 pub mod TakenLibraries

@@ -1,5 +1,5 @@
 -- The loop that looks for the next entry that a lookup table keeps.
-use Rattle.std.proofs.Common.{◌≡◌, ◌≤◌, ◌<◌, ◌+◌, ◌-◌, ◌/◌, ℕ, zero, suc, Bool, true, false, List, [], ◌∷◌, ◌++◌, map, Option, Some, None, Result, Ok, Err, refl, ap, sym, subst, ◌∙◌, ◌*◌, append_assoc, arith, length, not, ◌&&◌, IfSome, option_map, is_some}
+use Rattle.std.proofs.Common.{◌≡◌, ◌⊎◌, inl, inr, ◌≤◌, ◌<◌, ◌+◌, ◌-◌, ◌/◌, ℕ, zero, suc, Bool, true, false, List, [], ◌∷◌, ◌++◌, map, Option, Some, None, Result, Ok, Err, refl, ap, sym, subst, ◌∙◌, ◌*◌, append_assoc, arith, length, not, ◌&&◌, IfSome, option_map, is_some}
 use Rattle.std.proofs.lemmas.List.{length-map, map-append}
 use Rattle.std.proofs.Math.Nat.{mul-div_cancel_left}
 use Rattle.goblin_base.specs.declared.error.ErrorOf.{ErrorOf}
@@ -15,6 +15,7 @@ use Rattle.goblin_pe_import.specs.declared.import.kept.KeptEntry.{KeptEntry}
 use Rattle.goblin_pe_import.specs.ImportLookup.{KeepsEntries, entry_view, kept_view}
 use Rattle.goblin_pe_import.specs.ImportWalks.{IsEntriesCause, KeptValue, entries_from, entry_items, kept_at}
 use Rattle.goblin_pe_import.specs.ImportWalks.{kept_value, place_after}
+use Rattle.goblin_pe_import.specs.StepsAhead.{AreCounted, GivesWithin, IsOut, UnlessErr}
 use Rattle.readings.specs.Walks.{GivesNext, IsBegun, IsWalkOf, from_slot, end_items, items_at, items_of, table_walk}
 use Rattle.readings.specs.Walks.{until_refused}
 use Rattle.readings.proofs.Walked.{AtWalk, walk-all, walk-begins, walk-fault, walk-more, walk-start}
@@ -66,6 +67,22 @@ module _ (strict : Bool) (format : Format EntryValue) (offset_of : ℕ → Optio
   pub rest-start : (start : Option ℕ) (place : ℕ) → start ≡ Some place → AtRest start place
   rest-start start place is = rw is
       (record { past = omega arith; same = refl; cause = λ e fault. fault })
+
+  -- without a limit a call that gives nothing is at the end
+  pub kept-unlimited : (start place : Option ℕ) (r : Option (Result KeptEntry ErrorOf))
+      (steps : Option ℕ) (before after : ℕ) → GivesWithin kept_value comes IsCause start r place
+      → UnlessErr r (AreCounted None steps before after)
+      → (r ≡ None → (place ≡ None) ⊎ IsOut steps)
+      → IfSome r (λ r. place ≡ place_after format.width (Some r))
+      → GivesNext kept_value comes IsCause start r (place_after format.width r)
+  unfolding entries_from
+  kept-unlimited start place None steps before after given counted ended at =
+      elim (ended refl) [
+        | inl none ↦ (given.0 ∙ ap comes none, refl)
+        | inr out ↦ absurd (subst IsOut counted out)
+      ]
+  kept-unlimited start place (Some r) steps before after given counted ended at =
+      subst (λ (place : Option ℕ). GivesNext kept_value comes IsCause start (Some r) place) at given
 
   module _ (start : Option ℕ) (place : ℕ) (h : AtRest start place) (wide : 1 ≤ format.width) where
     abbrev slots : SlotFormat EntryValue

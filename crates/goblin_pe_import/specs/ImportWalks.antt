@@ -321,7 +321,7 @@ GivesLibrary left IsLeftCause later IsCause (Some (Err e)) =
     (until_refused later ≡ None ∷ []) × IsCause e
 
 -- what a call answers, with the walk that it has led to
-abbrev pub walk_answer : Walk → Result Unit ErrorOf → Result Walk ErrorOf
+abbrev pub walk_answer : {X : Type 0} → Walk → Result X ErrorOf → Result Walk ErrorOf
 walk_answer t (Ok x) = Ok t
 walk_answer t (Err e) = Err e
 

@@ -9,3 +9,4 @@ pub mod ImportWalks
 pub mod Imports
 pub mod LeftOut
 pub mod LookupReadings
+pub mod StepsAhead

@@ -34,6 +34,7 @@ mod library;
 mod listed;
 mod lookup_table;
 mod slots;
+mod steps;
 
 pub use address_table::ImportAddressTable;
 pub use bitfield::{

@@ -9,8 +9,8 @@ ghost use Rattle.readings.specs.Tests.{IsTest, counted, has_any};
 ghost use Rattle.goblin_pe_import.specs.ImportWalks.{walked_value};
 ghost use Rattle.goblin_pe_import.specs.Imports.{NumberedImport};
 ghost use Rattle.goblin_pe_sect.specs.Addresses.{MapOfAddresses, map_of};
-ghost use Rattle.goblin_pe.specs.LayoutCursors.{GivesFileImport, IsImportWalk, file_cursor};
-ghost use Rattle.goblin_pe.specs.LayoutCursors.{file_cursor_left, file_map};
+ghost use Rattle.goblin_pe.specs.LayoutCursors.{GivesFileImport, GivesFileWithin, IsImportWalk};
+ghost use Rattle.goblin_pe.specs.LayoutCursors.{file_cursor, file_cursor_left, file_map};
 ghost use Rattle.goblin_pe.specs.Layouts.{IsFileImportsCause, file_imports_bound};
 ghost use Rattle.goblin_pe.specs.Layouts.{file_imports_left};
 
@@ -44,6 +44,24 @@ impl<'a, 'm, 'e> FileImports<'a, 'm, 'e> {
         match self {
             FileImports::Narrow(imports) => imports.cursor(),
             FileImports::Wide(imports) => imports.cursor(),
+        }
+    }
+
+    /// The next import within a limit of steps, if there is one, as
+    /// [`Imports::next_within`](crate::import::Imports::next_within): each looks at a slot of a
+    /// table or at a record of the directory. `None` is the end where the
+    /// [`cursor`](FileImports::cursor) is; else the limit has run out.
+    #[inline(always)]
+    #[tactic(auto, using(crate::proofs::ImportStarts::narrow_within, crate::proofs::ImportStarts::wide_within))]
+    pub fn next_within(
+        &mut self,
+        steps: &mut Option<usize>,
+    ) -> Option<ResultOf<'e, WalkedImport<'a>>>
+        ensures { GivesFileWithin self.old steps.old result self.new steps.new }
+    {
+        match self {
+            FileImports::Narrow(imports) => imports.next_within(steps),
+            FileImports::Wide(imports) => imports.next_within(steps),
         }
     }
 

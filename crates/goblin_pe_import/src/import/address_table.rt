@@ -1,14 +1,17 @@
 //! Import address tables: numbers, which are addresses once an image is bound.
 
-ghost use Rattle.std.specs.Prelude.{IfErr};
+ghost use Rattle.std.specs.Prelude.{◌≡◌, IfErr};
 ghost use Rattle.goblin_base.specs.Answers.{IsMemory};
 ghost use Rattle.goblin_base.specs.Reading.{Reads, ReadsOrMemory};
+ghost use Rattle.goblin_base.specs.Tables.{stop};
 ghost use Rattle.readings.specs.Reads.{mapped};
 ghost use Rattle.goblin_pe_sect.specs.AddressReadings.{at_address};
 ghost use Rattle.goblin_pe_sect.specs.Addresses.{map_of, offset_of};
 ghost use Rattle.goblin_pe_import.specs.ImportDirectory.{address_table_rva};
+ghost use Rattle.goblin_pe_import.specs.ImportEntries.{entry_slots};
 ghost use Rattle.goblin_pe_import.specs.ImportLookup.{HasAddresses};
 ghost use Rattle.goblin_pe_import.specs.LookupReadings.{address_table};
+ghost use Rattle.goblin_pe_import.specs.StepsAhead.{slots_at_address};
 
 use crate::import::bitfield::{Bitfield, read_entry};
 use crate::import::directory_entry::ImportDirectoryEntry;
@@ -46,45 +49,52 @@ pub(super) fn address_table<'a, 'e, T: Bitfield<'a>>(
     }
 }
 
-// Tests whether there is an address table at an offset, as `address_table` reads it; its numbers
-// are not kept.
+// Tests whether there is an address table at an offset, as `address_table` reads it, and tells how
+// many numbers are looked at: those before its zero, or before the file's end. They are not kept.
 pub(super) fn test_numbers<'a, 'e, T: Bitfield<'a>>(
     bytes: &'a [u8],
     offset: usize,
-) -> ResultOf<'e, ()>
-    ensures { Reads (λ _. tt {0}) result
+) -> (ResultOf<'e, ()>, usize)
+    ensures tested { Reads (λ _. tt {0}) result.0
         (mapped (λ _. tt {0}) (address_table T.format offset)) bytes.now }
+    ensures counted { result.1 ≡ stop (entry_slots T.format) bytes.now offset }
 {
     let size = T::size_of();
     if bytes.len() < offset {
-        return Err(Error::Read(ReadFault::BadOffset));
+        return (Err(Error::Read(ReadFault::BadOffset)), 0);
     }
     let mut place = offset;
     'slots: while size <= bytes.len() - place {
         if T::read(&bytes[place..place + size]).is_zero() {
-            return Ok(());
+            return (Ok(()), (place - offset) / size);
         }
         place += size;
     }
     // (the slot at `place` is not whole, so this is refused)
-    read_entry::<T>(bytes, place)?;
-    Ok(())
+    let count = (place - offset) / size;
+    if let Err(error) = read_entry::<T>(bytes, place) {
+        return (Err(error), count);
+    }
+    (Ok(()), count)
 }
 
-// Tests whether the library of a record has an address table; its numbers are not kept.
+// Tests whether the library of a record has an address table, and tells how many numbers are looked
+// at; they are not kept.
 pub(super) fn test_address_table<'a, 'e, T: Bitfield<'a>>(
     bytes: &'a [u8],
     entry: &ImportDirectoryEntry,
     address_map: &AddressMap,
-) -> ResultOf<'e, ()>
-    ensures { let rva = address_table_rva entry.now in
-        Reads (λ _. tt {0}) result
+) -> (ResultOf<'e, ()>, usize)
+    ensures tested { let rva = address_table_rva entry.now in
+        Reads (λ _. tt {0}) result.0
         (mapped (λ _. tt {0}) (at_address (offset_of (map_of address_map.now)) rva (address_table T.format)))
         bytes.now }
+    ensures counted { result.1 ≡ slots_at_address T.format (offset_of (map_of address_map.now)) bytes.now
+        (address_table_rva entry.now) }
 {
     let rva = address_table_rva(entry);
     let Some(offset) = address_map.offset_of(rva) else {
-        return Err(Error::Malformed(Cause::Unmapped(rva as usize)));
+        return (Err(Error::Malformed(Cause::Unmapped(rva as usize))), 0);
     };
     test_numbers::<T>(bytes, offset)
 }

@@ -4,7 +4,7 @@ ghost use Rattle.std.specs.Prelude.{◌≡◌, ◌+◌, ◌-◌, ◌<◌, ◌≤
 ghost use Rattle.std.specs.Prelude.{IfSome};
 ghost use Rattle.std.specs.Prelude.{MatchOption, MatchResult, None, Some, false, length};
 ghost use Rattle.std.specs.Prelude.{List, option_map, true, ℕ};
-ghost use Rattle.std.specs.Prelude.{IsSome, IsOk, Ok};
+ghost use Rattle.std.specs.Prelude.{IsSome, IsOk, Ok, suc};
 ghost use Rattle.std.specs.Iterator.{UpTo, at_most};
 ghost use Rattle.std.specs.Iterator.SizeHint.{IsWithinCount};
 ghost use Rattle.std.specs.List.{flat_map};
@@ -31,16 +31,22 @@ ghost use Rattle.goblin_pe_import.specs.ImportWalks.{finder_of, plain_at, plain_
 ghost use Rattle.goblin_pe_import.specs.ImportWalks.{record_index, records_left, slots_bound};
 ghost use Rattle.goblin_pe_import.specs.ImportWalks.{untested_table, walk_bound, walk_left};
 ghost use Rattle.goblin_pe_import.specs.ImportWalks.{walked_value};
+ghost use Rattle.goblin_pe_import.specs.ImportRecords.{address_table_rva};
+ghost use Rattle.goblin_pe_import.specs.StepsAhead.{EndsWithin, GivesImportWithin, GivesWithin};
+ghost use Rattle.goblin_pe_import.specs.StepsAhead.{HaveRunOut, LooksAt, imports_ahead, later_ahead};
+ghost use Rattle.goblin_pe_import.specs.StepsAhead.{record_steps, slots_ahead, tested_ahead};
+ghost use Rattle.goblin_pe_import.specs.StepsAhead.{untested_ahead, walk_ahead};
 
 use crate::import::address_table::{test_address_table, test_numbers};
 use crate::import::bitfield::Bitfield;
 use crate::import::directory_entry::{ImportDirectoryEntry, SIZEOF_IMPORT_DIRECTORY_ENTRY};
-use crate::import::kept::{KeptEntry, next_kept, plain_kept};
+use crate::import::kept::{KeptEntry, next_kept_within, plain_kept};
 use crate::import::library::{
     address_table_rva, first_record_offset, library_name, lookup_offset, said_name,
 };
 use crate::import::lookup_table::SyntheticImportLookupTableEntry;
 use crate::import::slots::{may_end, next_record};
+use crate::import::steps::{are_out, spend};
 use goblin_base::{Cause, Error, ResultOf};
 use goblin_pe_sect::address_map::{AddressMap, Finder};
 use goblin_pe_sect::data_directories::DataDirectory;
@@ -153,44 +159,60 @@ struct Walk<'a, 'm> {
     at: ImportCursor,
 }
 
-// Tests the address table that is still to be tested, if there is one. Permissive mode has tested
-// it before.
+// Tests the address table that is still to be tested, if there is one, and tells how many slots are
+// looked at. Permissive mode has tested it before.
 fn test_untested<'a, 'e, T: Bitfield<'a>>(
     bytes: &'a [u8],
     untested: Option<u32>,
     finder: &mut Finder<'_>,
-) -> ResultOf<'e, ()>
+) -> ResultOf<'e, usize>
     ensures value { let m = map_of finder.old in
         Reads (λ _. tt {0}) result
         (mapped (λ _. tt {0}) (untested_table (reads_strictly m) T.format (offset_of m) untested))
         bytes.now }
+    ensures counted { let m = map_of finder.old in
+        IfOk result (λ n.
+        n ≡ untested_ahead (reads_strictly m) T.format (offset_of m) bytes.now untested) }
+    ensures few { IfOk result (λ n. n ≤ length bytes.now) }
     ensures strictly { IfErr result (λ e. reads_strictly (map_of finder.old) ≡ true) }
     ensures there { IfErr result (λ e. 1 ≤ one_if untested) }
     ensures wide { 1 ≤ T.format.width }
     ensures same { finder.new ≡ finder.old }
 {
     let Some(rva) = untested else {
-        return Ok(());
+        return Ok(0);
     };
     if !finder.reads_strictly() {
-        return Ok(());
+        return Ok(0);
     }
     let Some(offset) = finder.offset_of(rva) else {
         return Err(Error::Malformed(Cause::Unmapped(rva as usize)));
     };
-    test_numbers::<T>(bytes, offset)
+    match test_numbers::<T>(bytes, offset) {
+        (Ok(()), count) => Ok(count),
+        (Err(error), _) => Err(error),
+    }
 }
 
-// Whether permissive mode leaves out the library of a record: it has no address table.
+// Whether permissive mode leaves out the library of a record, as it has no address table, and how
+// many slots of that are looked at.
 fn is_left_out<'a, T: Bitfield<'a>>(
     bytes: &'a [u8],
     entry: &ImportDirectoryEntry,
     address_map: &AddressMap,
-) -> bool
-    ensures { let m = map_of address_map.now in
-        result ≡ is_left_out (reads_strictly m) T.format (offset_of m) bytes.now entry.now }
+) -> (bool, usize)
+    ensures out { let m = map_of address_map.now in
+        result.0 ≡ is_left_out (reads_strictly m) T.format (offset_of m) bytes.now entry.now }
+    ensures counted { let m = map_of address_map.now in
+        result.1 ≡ tested_ahead (reads_strictly m) T.format (offset_of m) bytes.now
+        (address_table_rva entry.now) }
+    ensures few { result.1 ≤ length bytes.now }
 {
-    !address_map.reads_strictly() && test_address_table::<T>(bytes, entry, address_map).is_err()
+    if address_map.reads_strictly() {
+        return (false, 0);
+    }
+    let (tested, count) = test_address_table::<T>(bytes, entry, address_map);
+    (tested.is_err(), count)
 }
 
 // The import of an entry of the library `dll`, whose record has an index, whose lookup table is at
@@ -269,14 +291,14 @@ impl<'a, 'm> Walk<'a, 'm> {
     }
 
     // Leads the walk to the library of the record at an offset, and then to those whose records are
-    // in the directory from the offset `next` on.
+    // in the directory from the offset `next` on. It answers how many steps that takes.
     #[inline(always)]
     fn enter<'e, T: Bitfield<'a>>(
         &mut self,
         entry: &ImportDirectoryEntry,
         offset: usize,
         next: usize,
-    ) -> ResultOf<'e, ()>
+    ) -> ResultOf<'e, usize>
         ensures gives { let m = map_of self.old.finder in
             let strict = reads_strictly m in
             let bytes = self.old.bytes.now in
@@ -300,12 +322,24 @@ impl<'a, 'm> Walk<'a, 'm> {
         ensures bytes { self.new.bytes.now ≡ self.old.bytes.now }
         ensures finder { self.new.finder ≡ self.old.finder }
         ensures next { IfOk (walk_answer self.new result) (λ t. t.at.next_record ≡ Some next) }
+        ensures counted { let m = map_of self.old.finder in
+            let strict = reads_strictly m in
+            let bytes = self.old.bytes.now in
+            IfOk result (λ n.
+            n + slots_ahead T.format bytes self.new.at.place
+            + untested_ahead strict T.format (offset_of m) bytes self.new.at.untested
+            ≡ record_steps strict T.format (offset_of m) bytes entry.now) }
+        ensures looked { let m = map_of self.old.finder in
+            IfOk result (λ n. n ≡ 1 + tested_ahead (reads_strictly m) T.format (offset_of m)
+            self.old.bytes.now (address_table_rva entry.now)) }
+        ensures few { IfOk result (λ n. n ≤ length self.old.bytes.now + 1) }
     {
-        if is_left_out::<T>(self.bytes, entry, self.finder.address_map()) {
+        let (is_out, tested) = is_left_out::<T>(self.bytes, entry, self.finder.address_map());
+        if is_out {
             self.at.next_record = Some(next);
             self.at.place = None;
             self.at.untested = None;
-            return Ok(());
+            return Ok(tested + 1);
         }
         let first_record = self.at.first_record;
         self.dll = library_name(self.bytes, entry.name_rva, &mut self.finder)?;
@@ -320,12 +354,13 @@ impl<'a, 'm> Walk<'a, 'm> {
             place,
             untested: Some(address_table_rva(entry)),
         };
-        Ok(())
+        Ok(tested + 1)
     }
 
-    // Leads the walk to the next library, once the entries of this one have come.
+    // Leads the walk to the next library, once the entries of this one have come, and answers how
+    // many steps that takes.
     #[inline(always)]
-    fn next_library<'e, T: Bitfield<'a>>(&mut self) -> Option<ResultOf<'e, ()>>
+    fn next_library<'e, T: Bitfield<'a>>(&mut self) -> Option<ResultOf<'e, usize>>
         ensures gives { let m = map_of self.old.finder in
             let bytes = self.old.bytes.now in
             let c = self.old.at in
@@ -346,10 +381,18 @@ impl<'a, 'm> Walk<'a, 'm> {
         ensures there { let c = self.old.at in
             IfSome result (λ r. IfErr r (λ e.
             1 ≤ one_if c.untested + bound_next self.old.bytes.now c.next_record)) }
+        ensures counted { let m = map_of self.old.finder in
+            let bytes = self.old.bytes.now in
+            let c = self.old.at in
+            let before =
+            later_ahead (reads_strictly m) T.format (offset_of m) bytes c.untested c.next_record in
+            MatchOption result (before ≤ length bytes) (λ r. IfOk r (λ n.
+            (n + walk_ahead T.format self.new ≡ before) × (n ≤ length bytes + 1))) }
     {
-        if let Err(error) = test_untested::<T>(self.bytes, self.at.untested, &mut self.finder) {
-            return Some(Err(error));
-        }
+        let tested = match test_untested::<T>(self.bytes, self.at.untested, &mut self.finder) {
+            Ok(tested) => tested,
+            Err(error) => return Some(Err(error)),
+        };
         let Some(offset) = self.at.next_record else {
             return None;
         };
@@ -360,7 +403,10 @@ impl<'a, 'm> Walk<'a, 'm> {
             }
             return Some(Err(Error::Malformed(Cause::ImportRecordEnd(offset))));
         };
-        Some(self.enter::<T>(&record, offset, offset + size))
+        match self.enter::<T>(&record, offset, offset + size) {
+            Ok(entered) => Some(Ok(tested + entered)),
+            Err(error) => Some(Err(error)),
+        }
     }
 
     // No more imports come than this, if it fits.
@@ -382,6 +428,8 @@ impl<'a, 'm> Walk<'a, 'm> {
             (walk_at self.now (place + T.format.width))) }
         ensures inside { IfSome result (λ _. place + T.format.width ≤ length self.now.bytes.now) }
         ensures short { IfSome result (λ _. place + T.format.width < 2 ^ 63) }
+        ensures counted { IfSome result (λ _. walk_ahead T.format (walk_at self.now place)
+            ≡ suc (walk_ahead T.format (walk_at self.now (place + T.format.width)))) }
     {
         let ImportCursor {
             library,
@@ -407,29 +455,42 @@ impl<'a, 'm> Walk<'a, 'm> {
         }
     }
 
-    // The next import.
+    // The next import, within a limit of steps, each of which looks at a slot or a record. `None` is
+    // the end where the walk is there, and else says that the limit has run out.
     #[inline(always)]
-    fn next_import<'e, T: Bitfield<'a>>(&mut self) -> Option<ResultOf<'e, WalkedImport<'a>>>
-        ensures steps { GivesNext walked_value (walk_left T.format) (IsWalkCause T.format)
+    fn next_within<'e, T: Bitfield<'a>>(
+        &mut self,
+        steps: &mut Option<usize>,
+    ) -> Option<ResultOf<'e, WalkedImport<'a>>>
+        ensures steps { GivesWithin walked_value (walk_left T.format) (IsWalkCause T.format)
             self.old result self.new }
         ensures named { IsNamed self.old → IsNamed self.new }
         ensures bytes { self.new.bytes.now ≡ self.old.bytes.now }
         ensures finder { self.new.finder ≡ self.old.finder }
         ensures fewer { IfSome result (λ r. walk_bound self.new < walk_bound self.old) }
-        ensures ended { let c = self.new.at in
-            MatchOption result (c ≡ no_imports) (λ r. IfErr r (λ e. c ≡ no_imports)) }
+        ensures looked { LooksAt (length self.old.bytes.now) result steps.old steps.new
+            (walk_ahead T.format self.old) (walk_ahead T.format self.new) }
+        ensures ended { EndsWithin result self.new.at
+            (HaveRunOut (length self.old.bytes.now) steps.old steps.new
+            (walk_ahead T.format self.old) (walk_ahead T.format self.new)) }
     {
         'libraries: loop {
             let ImportCursor {
                 library,
                 rva,
                 table_offset,
-                place,
+                mut place,
                 ..
             } = self.at;
-            match next_kept::<T>(self.bytes, table_offset, place, &mut self.finder) {
+            match next_kept_within::<T>(
+                self.bytes,
+                table_offset,
+                &mut place,
+                &mut self.finder,
+                steps,
+            ) {
                 Some(Ok(kept)) => {
-                    self.at.place = Some(kept.place + T::size_of());
+                    self.at.place = place;
                     let import = import_of::<T>(kept, self.dll, library, rva, table_offset);
                     return Some(Ok(import));
                 }
@@ -437,10 +498,13 @@ impl<'a, 'm> Walk<'a, 'm> {
                     self.end();
                     return Some(Err(error));
                 }
-                None => {}
+                None => self.at.place = place,
+            }
+            if are_out(steps) {
+                return None;
             }
             match self.next_library::<T>() {
-                Some(Ok(())) => {}
+                Some(Ok(count)) => spend(steps, count),
                 Some(Err(error)) => {
                     self.end();
                     return Some(Err(error));
@@ -603,6 +667,21 @@ impl<'a, 'm, 'e, T: Bitfield<'a>> Imports<'a, 'm, 'e, T> {
         Some(PlainImports { imports, place })
     }
 
+    /// The next import within a limit of steps, if there is one: each step looks at a slot of a
+    /// table or at a record of the directory, whether or not it gives something. `steps` says how
+    /// many are left. `None` is the end where the [`cursor`](Imports::cursor) is; else the limit
+    /// has run out, and the walk goes on with a new one. The slots of an address table are looked
+    /// at in one go, the last time also beyond the limit.
+    #[inline(always)]
+    pub fn next_within(
+        &mut self,
+        steps: &mut Option<usize>,
+    ) -> Option<ResultOf<'e, WalkedImport<'a>>>
+        ensures { GivesImportWithin T.format self.old steps.old result self.new steps.new }
+    {
+        self.walk.next_within::<T>(steps)
+    }
+
     /// A finder by the map that the walk goes by, with what the walk has at hand.
     #[inline(always)]
     pub fn finder(&self) -> Finder<'m>
@@ -630,7 +709,7 @@ impl<'a, 'm, 'e, T: Bitfield<'a>> Iterator for Imports<'a, 'm, 'e, T> {
 
     #[inline(always)]
     fn next(&mut self) -> Option<ResultOf<'e, WalkedImport<'a>>> {
-        self.walk.next_import::<T>()
+        self.walk.next_within::<T>(&mut None)
     }
 
     fn size_hint(&self) -> (usize, Option<usize>)
@@ -664,7 +743,9 @@ impl<'a, 'm, 'e, T: Bitfield<'a>> PlainImports<'a, 'm, 'e, T> {
     /// it.
     #[inline(always)]
     pub fn next_import(&mut self) -> Option<WalkedImport<'a>>
-        ensures { GivesPlain T.format self.old result self.new }
+        ensures gives { GivesPlain T.format self.old result self.new }
+        ensures counted { IfSome result (λ _. imports_ahead T.format (plain_at self.old)
+            ≡ suc (imports_ahead T.format (plain_at self.new))) }
     {
         let Some(import) = self.imports.walk.plain_import::<T>(self.place) else {
             return None;

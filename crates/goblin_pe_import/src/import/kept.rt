@@ -1,15 +1,18 @@
 //! The entries that a lookup table keeps, one by one.
 
-ghost use Rattle.std.specs.Prelude.{◌≡◌, ◌+◌, ◌<◌, ◌≤◌, ◌^◌, IfErr, IfOk, IfSome, IsSome, Ok, Some};
-ghost use Rattle.std.specs.Prelude.{length, true};
+ghost use Rattle.std.specs.Prelude.{◌≡◌, ◌⊎◌, ◌+◌, ◌<◌, ◌≤◌, ◌^◌, IfErr, IfOk, IfSome, IsSome, None};
+ghost use Rattle.std.specs.Prelude.{Ok, Some, length, suc, true};
 ghost use Rattle.goblin_pe_sect.specs.Addresses.{map_of, offset_of, reads_strictly};
 ghost use Rattle.goblin_pe_import.specs.ImportWalks.{IsEntriesCause, entries_from, kept_value};
-ghost use Rattle.goblin_pe_import.specs.ImportWalks.{place_after};
+ghost use Rattle.goblin_pe_import.specs.ImportWalks.{place_after, slots_bound};
+ghost use Rattle.goblin_pe_import.specs.StepsAhead.{AreCounted, GivesWithin, HasSteps, IsOut};
+ghost use Rattle.goblin_pe_import.specs.StepsAhead.{UnlessErr, slots_ahead};
 ghost use Rattle.readings.specs.Walks.{GivesNext};
 
 use crate::import::bitfield::Bitfield;
 use crate::import::lookup_table::SyntheticImportLookupTableEntry;
 use crate::import::slots::{may_end, next_entry};
+use crate::import::steps::{are_out, spend};
 use goblin_base::{Cause, Error, ResultOf};
 use goblin_pe_sect::address_map::Finder;
 
@@ -46,22 +49,76 @@ pub(super) fn next_kept<'a, 'e, T: Bitfield<'a>>(
     ensures strictly { IfSome result (λ r. IfErr r (λ e. reads_strictly (map_of finder.old) ≡ true)) }
     ensures same { finder.new ≡ finder.old }
 {
+    let mut place = place;
+    next_kept_within::<T>(bytes, offset, &mut place, finder, &mut None)
+}
+
+// The same within a limit of steps, each of which looks at a slot; `place` moves on. `None` is the
+// end where no place is left, and else says that the limit has run out.
+#[inline(always)]
+pub(super) fn next_kept_within<'a, 'e, T: Bitfield<'a>>(
+    bytes: &'a [u8],
+    offset: usize,
+    place: &mut Option<usize>,
+    finder: &mut Finder<'_>,
+    steps: &mut Option<usize>,
+) -> Option<ResultOf<'e, KeptEntry<'a>>>
+    ensures steps { let m = map_of finder.old in
+        GivesWithin kept_value
+        (entries_from (reads_strictly m) T.format (offset_of m) bytes.now offset)
+        (IsEntriesCause (reads_strictly m) T.format (offset_of m) bytes.now)
+        place.old result place.new }
+    ensures counted { let format = T.format in
+        let before = slots_ahead format bytes.now place.old in
+        let after = slots_ahead format bytes.now place.new in
+        UnlessErr result (AreCounted steps.old steps.new before after) }
+    ensures given { IfSome result (λ r. IfOk r (λ _. HasSteps steps.old)) }
+    ensures ended { result ≡ None → (place.new ≡ None) ⊎ IsOut steps.new }
+    ensures onward { slots_bound bytes.now place.new ≤ slots_bound bytes.now place.old }
+    ensures stays { place.old ≡ None → place.new ≡ None }
+    ensures less { let format = T.format in
+        slots_ahead format bytes.now place.new ≤ slots_ahead format bytes.now place.old }
+    ensures after { IfSome result (λ r. place.new ≡ place_after T.format.width (Some r)) }
+    ensures further { IfSome result (λ r. IfOk r (λ kept. IfSome place.old (λ place.
+        (place ≤ kept.place) × (kept.place + T.format.width ≤ length bytes.now)))) }
+    ensures short { IfSome result (λ r. IfOk r (λ kept. kept.place + T.format.width < 2 ^ 63)) }
+    ensures there { IfSome result (λ r. IsSome place.old) }
+    ensures strictly { IfSome result (λ r. IfErr r (λ e. reads_strictly (map_of finder.old) ≡ true)) }
+    ensures same { finder.new ≡ finder.old }
+{
     let size = T::size_of();
-    let mut place = place?;
+    let Some(start) = *place else {
+        return None;
+    };
+    let mut at = start;
     'slots: loop {
-        let Some(entry) = next_entry::<T>(bytes, place) else {
-            if may_end(bytes, place, size, finder.reads_strictly()) {
+        if are_out(steps) {
+            *place = Some(at);
+            return None;
+        }
+        let Some(entry) = next_entry::<T>(bytes, at) else {
+            *place = None;
+            if may_end(bytes, at, size, finder.reads_strictly()) {
                 return None;
             }
-            return Some(Err(Error::Malformed(Cause::LookupEnd(place))));
+            return Some(Err(Error::Malformed(Cause::LookupEnd(at))));
         };
+        spend(steps, 1);
         match SyntheticImportLookupTableEntry::kept(&entry, bytes, finder) {
             Ok(Some(entry)) => {
-                let slot = place.saturating_sub(offset) / size;
-                return Some(Ok(KeptEntry { slot, place, entry }));
+                let slot = at.saturating_sub(offset) / size;
+                *place = Some(at + size);
+                return Some(Ok(KeptEntry {
+                    slot,
+                    place: at,
+                    entry,
+                }));
             }
-            Ok(None) => place += size,
-            Err(error) => return Some(Err(error)),
+            Ok(None) => at += size,
+            Err(error) => {
+                *place = None;
+                return Some(Err(error));
+            }
         }
     }
 }
@@ -84,6 +141,8 @@ pub(super) fn plain_kept<'a, T: Bitfield<'a>>(
     ensures here { IfSome result (λ kept. kept.place ≡ place) }
     ensures inside { IfSome result (λ kept. place + T.format.width ≤ length bytes.now) }
     ensures short { IfSome result (λ kept. kept.place + T.format.width < 2 ^ 63) }
+    ensures counted { IfSome result (λ kept. slots_ahead T.format bytes.now (Some place)
+        ≡ suc (slots_ahead T.format bytes.now (Some (place + T.format.width)))) }
 {
     let Some(entry) = next_entry::<T>(bytes, place) else {
         return None;

@@ -1,15 +1,22 @@
-use Rattle.std.proofs.Common.{◌≡◌, ◌+◌, ◌≤◌, length, true, [], Some, sym, ap, ◌∙◌, arith, refl, option_map}
-use Rattle.std.proofs.lemmas.Result.{err_from_is_err_and}
+use Rattle.std.proofs.Common.{◌≡◌, ◌+◌, ◌≤◌, length, true, [], None, Some, sym, ap, ◌∙◌, arith, refl, option_map}
 use Rattle.readings.proofs.Loops.{read-end, read-missing, read-next, read-start}
 use Rattle.goblin_base.specs.declared.error.ErrorOf.TheVariants.{Read}
 use Rattle.goblin_base.specs.declared.error.ReadFault.TheVariants.{BadOffset}
 use Rattle.goblin_pe_import.specs.ImportEntries.{entry_slots}
 use Rattle.goblin_pe_import.specs.LookupReadings.{entry_number, entry_value_at}
 use Rattle.goblin_pe_import.proofs.AddressTables.{entry_there, record_past}
+use Rattle.goblin_pe_import.proofs.StepsAhead.{stop-here, stop-reached}
 use Rattle.goblin_pe_import.proofs.import.address_table.test_numbers.Goals as goal
 
-pub returns-then-bytes-offset : goal.returns-then-bytes-offset
-returns-then-bytes-offset g c =
+pub returns-then-bytes-offset-clause-counted : goal.returns-then-bytes-offset-clause-counted
+returns-then-bytes-offset-clause-counted g c =
+    let wide : 1 ≤ g.T.Bitfield.format.width = omega (arith, c.size_of-size.ensures.width, c.size_of-size.ensures.positive) in
+    let past : length c.args.bytes.now ≤ c.args.offset = omega (arith, c.if-bytes-offset.true) in
+    let none = record_past g.T.Bitfield.format.width g.T.Bitfield.format.value_of c.args.bytes.now c.args.offset past in
+    sym (stop-here (entry_slots g.T.Bitfield.format) c.args.bytes.now c.args.offset wide None none refl)
+
+pub returns-then-bytes-offset-clause-tested : goal.returns-then-bytes-offset-clause-tested
+returns-then-bytes-offset-clause-tested g c =
     let wide : 1 ≤ g.T.Bitfield.format.width = omega (arith, c.size_of-size.ensures.width, c.size_of-size.ensures.positive) in
     let past : length c.args.bytes.now ≤ c.args.offset = omega (arith, c.if-bytes-offset.true) in
     let none = record_past g.T.Bitfield.format.width g.T.Bitfield.format.value_of c.args.bytes.now c.args.offset past in
@@ -22,8 +29,14 @@ slots-init g c =
     let wide : 1 ≤ g.T.Bitfield.format.width = omega (arith, c.size_of-size.ensures.width, c.size_of-size.ensures.positive) in
     (omega (arith, c.if-bytes-offset.false), [], read-start _ _ _ _ wide)
 
-pub returns-then-is_zero : goal.returns-then-is_zero
-returns-then-is_zero g c =
+pub returns-then-is_zero-clause-counted : goal.returns-then-is_zero-clause-counted
+returns-then-is_zero-clause-counted g c =
+    let width : c.size_of-size.result ≡ g.T.Bitfield.format.width = c.size_of-size.ensures.width in
+    let read = entry_there g.T.Bitfield.format.width c.size_of-size.result g.T.Bitfield.format.value_of g.T.Bitfield.value c.args.bytes.now c.slots.place c.read.result width c.size_of-size.ensures.positive c.slots-test.true c.slots.invariant.0 c.read.ensures in
+    stop-reached g.T.Bitfield.format c.args.bytes.now c.args.offset c.slots.place _ c.slots.invariant.2 (Some _) read (sym c.is_zero.ensures ∙ c.if-is_zero.true) c.size_of-size.result width
+
+pub returns-then-is_zero-clause-tested : goal.returns-then-is_zero-clause-tested
+returns-then-is_zero-clause-tested g c =
     let width : c.size_of-size.result ≡ g.T.Bitfield.format.width = c.size_of-size.ensures.width in
     let read = entry_there g.T.Bitfield.format.width c.size_of-size.result g.T.Bitfield.format.value_of g.T.Bitfield.value c.args.bytes.now c.slots.place c.read.result width c.size_of-size.ensures.positive c.slots-test.true c.slots.invariant.0 c.read.ensures in
     ap (option_map _) (read-end _ _ _ _ _ _ c.slots.invariant.2 _ (entry_value_at g.T.Bitfield.format) (Some _) read (sym c.is_zero.ensures ∙ c.if-is_zero.true) refl)
@@ -36,8 +49,11 @@ slots-preserved g c =
     let next = read-next _ _ _ _ _ _ c.slots.invariant.2 _ _ read (sym c.is_zero.ensures ∙ c.if-is_zero.false) refl in
     rw width (room, _, next)
 
-pub returns-in_err-read_entry : goal.returns-in_err-read_entry
-returns-in_err-read_entry g c =
-    let e = err_from_is_err_and c.from_residual.result c.from_residual.ensures.1 in
-    let both = read-missing _ _ _ _ _ _ c.slots.invariant.2 _ (entry_value_at g.T.Bitfield.format) _ c.in_err-read_entry.ensures.0 refl c.in_err-read_entry.ensures.1 in
-    rw (e.1, e.2) (ap (option_map _) both.0, both.1)
+pub returns-in-Err-clause-tested : goal.returns-in-Err-clause-tested
+returns-in-Err-clause-tested g c =
+    let both = read-missing _ _ _ _ _ _ c.slots.invariant.2 _ (entry_value_at g.T.Bitfield.format) _ c.in-Err.ensures.0 refl c.in-Err.ensures.1 in
+    (ap (option_map _) both.0, both.1)
+
+pub returns-in-Err-clause-counted : goal.returns-in-Err-clause-counted
+returns-in-Err-clause-counted g c =
+    stop-reached g.T.Bitfield.format c.args.bytes.now c.args.offset c.slots.place _ c.slots.invariant.2 None c.in-Err.ensures.0 refl c.size_of-size.result c.size_of-size.ensures.width

@@ -5,6 +5,6 @@ use Rattle.goblin_pe_import.proofs.import.imports.ImportsIterator.next.Goals as 
 
 pub returns-clause-steps : goal.returns-clause-steps
 returns-clause-steps g c =
-    import-given g.T.Bitfield.format c.args.self.now _ _ c.next_import.ensures.steps
-    c.next_import.ensures.named
-    (c.next_import.ensures.bytes, ap map_of c.next_import.ensures.finder) c.next_import.ensures.ended
+    import-given g.T.Bitfield.format c.args.self.now _ _ c.next_within.ensures.steps
+    c.next_within.ensures.named
+    (c.next_within.ensures.bytes, ap map_of c.next_within.ensures.finder) c.next_within.ensures.ended

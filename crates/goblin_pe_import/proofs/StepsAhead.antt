@@ -1,0 +1,355 @@
+-- The steps that a walk over imports takes.
+use Rattle.std.proofs.Common.{◌≡◌, ◌⊎◌, ◌<◌, ◌≤◌, ◌+◌, ◌-◌, ◌*◌, ◌/◌, ℕ, zero, suc, Bool, true, false, List, length, Option, Some, None, refl, sym, subst, ap, ◌∙◌, arith, inl, inr, lit≤, IfOk, Ok, Result}
+use Rattle.std.proofs.lemmas.Bool.{cases_Bool, cases_lt}
+use Rattle.goblin_base.specs.declared.error.ErrorOf.{ErrorOf}
+use Rattle.goblin_base.specs.Tables.{Format, SlotFormat, ends_table, slot_at, slot_place, stop}
+use Rattle.goblin_base.proofs.Below.{least-before, least-le}
+use Rattle.goblin_base.proofs.SlotTables.{ends, reach-stop, reads, stop-after, stop-is}
+use Rattle.readings.proofs.Loops.{AtRead}
+use Rattle.goblin_pe_import.specs.ImportEntries.{EntryValue, entry_slots}
+use Rattle.goblin_pe_import.specs.LookupReadings.{entry_number}
+use Rattle.goblin_pe_import.proofs.LookupWalk.{in_slot}
+use Rattle.goblin_pe_import.specs.LeftOut.{amount_of, sum_below, sum_of_slots}
+use Rattle.goblin_pe_import.specs.StepsAhead.{AreBounded, AreCounted, HasSteps, HaveRunOut, IsOut}
+use Rattle.goblin_pe_import.specs.StepsAhead.{later_ahead, record_steps, records_ahead, slots_ahead}
+use Rattle.goblin_pe_import.specs.StepsAhead.{spent, tested_ahead, untested_ahead, walk_ahead}
+use Rattle.goblin_pe_import.specs.ImportRecords.{address_table_rva, import_slots, is_last_record, lookup_offset}
+use Rattle.goblin_pe_import.specs.ImportWalks.{is_left_out, no_imports}
+use Rattle.goblin_pe_import.specs.declared.import.directory_entry.ImportDirectoryEntry.{ImportDirectoryEntry}
+use Rattle.goblin_pe_import.specs.declared.import.imports.Walk.{Walk}
+use Rattle.goblin_pe_sect.specs.Addresses.{map_of, offset_of, reads_strictly}
+use Rattle.goblin_pe_sect.specs.declared.address_map.AddressMap.{AddressMap}
+
+-- ---- the slots before a stop
+
+-- no more than there are bytes
+pub stop-few : {V : Type 0} (slots : SlotFormat V) (bytes : List ℕ) (o : ℕ)
+    → stop slots bytes o ≤ length bytes
+unfolding stop
+stop-few slots bytes o = least-le (ends slots bytes o) (length bytes)
+
+module _ {V : Type 0} (slots : SlotFormat V) (bytes : List ℕ) (o : ℕ)
+    (wide : 1 ≤ slots.entry.width) where
+  -- a table that ends at once
+  pub stop-here : (end : Option V) → reads slots bytes o ≡ end
+      → ends_table slots.is_last end ≡ true → stop slots bytes o ≡ 0
+  stop-here end r e =
+      let here : o + slots.entry.width * 0 ≡ o = omega arith in
+      stop-is slots bytes o 0 wide (λ j below. absurd (omega (arith, below)))
+      (ap (λ (p : ℕ). ends_table slots.is_last (reads slots bytes p)) here
+      ∙ ap (ends_table slots.is_last) r ∙ e)
+
+  stop-ends : ends slots bytes o (stop slots bytes o) ≡ true
+  unfolding stop
+  stop-ends =
+      let n = stop slots bytes o in
+      elim (cases_Bool (ends slots bytes o n)) [
+        | inl is ↦ is
+        | inr not ↦
+            let after : n < n =
+            stop-after slots bytes o n wide (least-before (ends slots bytes o) (length bytes))
+            not in
+            absurd (omega (arith, after))
+      ]
+
+module _ {V : Type 0} (slots : SlotFormat V) (bytes : List ℕ) (o : ℕ)
+    (wide : 1 ≤ slots.entry.width) (v : V) (r : reads slots bytes o ≡ Some v)
+    (going : slots.is_last v ≡ false) where
+  abbrev next : ℕ
+  next = o + slots.entry.width
+
+  shifted : (i : ℕ) → slot_place slots o (suc i) ≡ slot_place slots next i
+  shifted i = omega arith
+
+  here : slot_at slots bytes o 0 ≡ Some v
+  here =
+      let at : slot_place slots o 0 ≡ o = omega arith in
+      ap (reads slots bytes) at ∙ r
+
+  moved : (i : ℕ) → ends slots bytes o (suc i) ≡ ends slots bytes next i
+  moved i = ap (λ (p : ℕ). ends_table slots.is_last (reads slots bytes p)) (shifted i)
+
+  -- one slot more than from the next one on
+  pub stop-next : stop slots bytes o ≡ suc (stop slots bytes next)
+  unfolding stop
+  stop-next =
+      let n = stop slots bytes next in
+      stop-is slots bytes o (suc n) wide
+      (before n (least-before (ends slots bytes next) (length bytes)))
+      (moved n ∙ stop-ends slots bytes next wide)
+    where
+      before : (n : ℕ) → ((j : ℕ) → j < n → ends slots bytes next j ≡ false)
+          → (j : ℕ) → j < suc n → ends slots bytes o j ≡ false
+      before n later zero below = ap (ends_table slots.is_last) here ∙ going
+      before n later (suc j) below = moved j ∙ later j (omega (arith, below))
+
+  first-below : (f g : ℕ → ℕ) (a : ℕ) → f 0 ≡ a → ((i : ℕ) → f (suc i) ≡ g i) → (n : ℕ)
+      → sum_below f (suc n) ≡ a + sum_below g n
+  unfolding sum_below
+  first-below f g a is same zero = omega (arith, is)
+  first-below f g a is same (suc n) = omega (arith, first-below f g a is same n, same n)
+
+  -- the amount of the first slot comes to that of the others
+  pub sum-first : (amount : V → ℕ)
+      → sum_of_slots slots amount bytes o ≡ amount v + sum_of_slots slots amount bytes next
+  unfolding sum_of_slots
+  sum-first amount =
+      ap (sum_below (λ i. amount_of amount (slot_at slots bytes o i))) stop-next
+      ∙ first-below (λ i. amount_of amount (slot_at slots bytes o i))
+      (λ i. amount_of amount (slot_at slots bytes next i)) (amount v)
+      (ap (amount_of amount) here)
+      (λ i. ap (λ (p : ℕ). amount_of amount (reads slots bytes p)) (shifted i)) (stop slots bytes next)
+
+-- a table that ends at once amounts to nothing
+pub sum-here : {V : Type 0} (slots : SlotFormat V) (amount : V → ℕ) (bytes : List ℕ) (o : ℕ)
+    → 1 ≤ slots.entry.width → (end : Option V) → reads slots bytes o ≡ end
+    → ends_table slots.is_last end ≡ true → sum_of_slots slots amount bytes o ≡ 0
+unfolding sum_of_slots sum_below
+sum-here slots amount bytes o wide end r e =
+    ap (sum_below (λ i. amount_of amount (slot_at slots bytes o i))) (stop-here slots bytes o wide end r e)
+
+-- ---- an address table
+
+-- its slots, where a loop has reached the last one
+pub stop-reached : (format : Format EntryValue) (bytes : List ℕ) (o place : ℕ) (numbers : List ℕ)
+    → AtRead (entry_slots format) entry_number bytes o place numbers → (slot : Option EntryValue)
+    → reads (entry_slots format) bytes place ≡ slot
+    → ends_table (entry_slots format).is_last slot ≡ true → (size : ℕ) → size ≡ format.width
+    → (place - o) / size ≡ stop (entry_slots format) bytes o
+stop-reached format bytes o place numbers h slot r z size is =
+    ap (λ (n : ℕ). (place - o) / n) is
+    ∙ ap (λ (p : ℕ). (p - o) / format.width) (sym h.at.here)
+    ∙ in_slot format.width o h.at.index h.wide
+    ∙ sym (reach-stop (entry_slots format) bytes o place _ h.at slot r h.wide z)
+
+pub slots-few : (format : Format EntryValue) (bytes : List ℕ) (place : Option ℕ)
+    → slots_ahead format bytes place ≤ length bytes
+slots-few format bytes None = omega arith
+slots-few format bytes (Some place) = stop-few (entry_slots format) bytes place
+
+-- it is looked at before its library's entries or after them
+pub address-few : (strict : Bool) (format : Format EntryValue) (offset_of : ℕ → Option ℕ)
+    (bytes : List ℕ) (untested : Option ℕ) (rva : ℕ)
+    → untested_ahead strict format offset_of bytes untested
+    + tested_ahead strict format offset_of bytes rva ≤ length bytes
+address-few true format offset_of bytes None rva = omega arith
+address-few true format offset_of bytes (Some at) rva =
+    let few = slots-few format bytes (offset_of at) in
+    omega (arith, few)
+address-few false format offset_of bytes untested rva =
+    let few = slots-few format bytes (offset_of rva) in
+    omega (arith, few)
+
+pub untested-few : (strict : Bool) (format : Format EntryValue) (offset_of : ℕ → Option ℕ)
+    (bytes : List ℕ) (untested : Option ℕ)
+    → untested_ahead strict format offset_of bytes untested ≤ length bytes
+untested-few true format offset_of bytes None = omega arith
+untested-few true format offset_of bytes (Some at) = slots-few format bytes (offset_of at)
+untested-few false format offset_of bytes untested = omega arith
+
+-- ---- a record
+
+untested-none : (strict : Bool) (format : Format EntryValue) (offset_of : ℕ → Option ℕ)
+    (bytes : List ℕ) → untested_ahead strict format offset_of bytes None ≡ 0
+untested-none true format offset_of bytes = refl
+untested-none false format offset_of bytes = refl
+
+module _ (strict : Bool) (format : Format EntryValue) (offset_of : ℕ → Option ℕ)
+    (bytes : List ℕ) (r : ImportDirectoryEntry) (tested : ℕ)
+    (is : tested ≡ tested_ahead strict format offset_of bytes (address_table_rva r)) where
+  -- its library is left out
+  pub steps-left_out : is_left_out strict format offset_of bytes r ≡ true
+      → tested + 1 + slots_ahead format bytes None
+      + untested_ahead strict format offset_of bytes None
+      ≡ record_steps strict format offset_of bytes r
+  unfolding record_steps
+  steps-left_out out = rw out (omega (arith, is, untested-none strict format offset_of bytes))
+
+  -- it is walked over
+  pub steps-entered : is_left_out strict format offset_of bytes r ≡ false
+      → tested + 1 + slots_ahead format bytes (lookup_offset offset_of r)
+      + untested_ahead strict format offset_of bytes (Some (address_table_rva r))
+      ≡ record_steps strict format offset_of bytes r
+  unfolding record_steps
+  steps-entered kept = rw kept (omega (arith, is))
+
+-- ---- a walk
+
+-- nothing is ahead of one that has ended
+pub ended-ahead : (format : Format EntryValue) (t : Walk) → t.at ≡ no_imports
+    → walk_ahead format t ≡ 0
+ended-ahead format t ended =
+    let none = untested-none (reads_strictly (map_of t.finder)) format (offset_of (map_of t.finder)) t.bytes.now in
+    rw ended (omega (arith, none))
+
+module _ (format : Format EntryValue) (s : Walk) where
+  abbrev strict : Bool
+  strict = reads_strictly (map_of s.finder)
+
+  abbrev places : ℕ → Option ℕ
+  places = offset_of (map_of s.finder)
+
+  abbrev later : Option ℕ → ℕ
+  later next = later_ahead strict format places s.bytes.now s.at.untested next
+
+  -- there is no next record
+  pub later-few : (p : ℕ) (end : Option ImportDirectoryEntry)
+      → reads import_slots s.bytes.now p ≡ end → ends_table is_last_record end ≡ true
+      → later (Some p) ≤ length s.bytes.now
+  later-few p end r z =
+      let few = untested-few strict format places s.bytes.now s.at.untested in
+      let none = sum-here import_slots (record_steps strict format places s.bytes.now) s.bytes.now p (lit≤ tt) end r z in
+      omega (arith, few, none)
+
+  -- the walk goes on at t, in the library of the record at p
+  pub library-counted : (p : ℕ) (v : ImportDirectoryEntry) (t : Walk) (tested entered : ℕ)
+      → reads import_slots s.bytes.now p ≡ Some v → is_last_record v ≡ false
+      → t.bytes.now ≡ s.bytes.now → t.finder ≡ s.finder → t.at.next_record ≡ Some (p + 20)
+      → tested ≡ untested_ahead strict format places s.bytes.now s.at.untested
+      → entered ≡ 1 + tested_ahead strict format places s.bytes.now (address_table_rva v)
+      → entered + slots_ahead format s.bytes.now t.at.place
+      + untested_ahead strict format places s.bytes.now t.at.untested
+      ≡ record_steps strict format places s.bytes.now v
+      → (tested + entered + walk_ahead format t ≡ later (Some p))
+      × (tested + entered ≤ length s.bytes.now + 1)
+  library-counted p v t tested entered r going bytes finder next first one counted =
+      let ahead : walk_ahead format t ≡ walked s.finder s.bytes.now (Some (p + 20)) =
+      ap (λ (f : AddressMap). walked f t.bytes.now t.at.next_record) finder
+      ∙ ap (λ (b : List ℕ). walked s.finder b t.at.next_record) bytes
+      ∙ ap (λ (n : Option ℕ). walked s.finder s.bytes.now n) next in
+      let sum = sum-first import_slots s.bytes.now p (lit≤ tt) v r going
+      (record_steps strict format places s.bytes.now) in
+      let few = address-few strict format places s.bytes.now s.at.untested (address_table_rva v) in
+      (omega (arith, ahead, sum, first, counted), omega (arith, few, first, one))
+    where
+      walked : AddressMap → List ℕ → Option ℕ → ℕ
+      walked f b n =
+          slots_ahead format b t.at.place
+          + later_ahead (reads_strictly (map_of f)) format (offset_of (map_of f)) b t.at.untested n
+
+-- ---- what a limit has left
+
+pub counted-start : (steps : Option ℕ) (n : ℕ) → AreCounted steps steps n n
+counted-start None n = refl
+counted-start (Some a) n = refl
+
+-- one step more
+pub counted-one : (old now : Option ℕ) (before ahead after : ℕ) → HasSteps now → ahead ≡ suc after
+    → AreCounted old now before ahead → AreCounted old (spent now 1) before after
+counted-one None now before ahead after has one h = rw h refl
+counted-one (Some a) None before ahead after has one h = absurd h
+counted-one (Some a) (Some b) before ahead after has one h = omega (arith, has, one, h)
+
+-- a limit has steps left where one is looked at
+pub counted-given : (old now : Option ℕ) (before ahead : ℕ) → HasSteps now → ahead ≤ before
+    → AreCounted old now before ahead → HasSteps old
+counted-given None now before ahead has less h = tt
+counted-given (Some a) None before ahead has less h = absurd h
+counted-given (Some a) (Some b) before ahead has less h = omega (arith, has, less, h)
+
+-- a limit that has steps left, or none
+still : (n : ℕ) (old now : Option ℕ) (before ahead : ℕ) → HasSteps now
+    → AreCounted old now before ahead ⊎ HaveRunOut n old now before ahead
+    → AreCounted old now before ahead
+still n old now before ahead has (inl counted) = counted
+still n None now before ahead has (inr out) = absurd out
+still n (Some a) None before ahead has (inr out) = absurd out
+still n (Some a) (Some b) before ahead has (inr out) = absurd (omega (arith, has, out.0))
+
+-- more is counted
+counted-then : (old now new : Option ℕ) (before x y rest : ℕ) → AreCounted old now before (x + rest)
+    → AreCounted now new x y → AreCounted old new before (y + rest)
+counted-then None now new before x y rest h more = subst (λ (s : Option ℕ). AreCounted s new x y) h more
+counted-then (Some a) None new before x y rest h more = absurd h
+counted-then (Some a) (Some b) None before x y rest h more = absurd more
+counted-then (Some a) (Some b) (Some d) before x y rest h more = omega (arith, h, more)
+
+-- What is counted up to now, or has run out.
+abbrev pub AtSteps : ℕ → Option ℕ → Option ℕ → ℕ → ℕ → Type 0
+AtSteps n old now before ahead = AreCounted old now before ahead ⊎ HaveRunOut n old now before ahead
+
+module _ (n : ℕ) (old : Option ℕ) (before : ℕ) where
+  -- some slots were passed over
+  pub steps-kept : (now new : Option ℕ) (x y rest : ℕ) → AtSteps n old now before (x + rest)
+      → AreCounted now new x y → y ≤ x → AtSteps n old new before (y + rest)
+  steps-kept now new x y rest (inl h) more less = inl (counted-then old now new before x y rest h more)
+  steps-kept now new x y rest (inr h) more less = inr (run-out old now new h more)
+    where
+      run-out : (old now new : Option ℕ) → HaveRunOut n old now before (x + rest)
+          → AreCounted now new x y → HaveRunOut n old new before (y + rest)
+      run-out None now new h more = absurd h
+      run-out (Some a) None new h more = absurd h
+      run-out (Some a) (Some b) None h more = absurd more
+      run-out (Some a) (Some b) (Some d) h more =
+          (omega (arith, h.0, more, less), omega (arith, h.0, h.1, more, less), omega (arith, h.0, h.2, more, less))
+
+  -- a slot gives something
+  pub steps-given : (now new : Option ℕ) (x y rest : ℕ) → AtSteps n old now before (x + rest)
+      → HasSteps now → AreCounted now new x y → AreCounted old new before (y + rest)
+  steps-given now new x y rest h has more =
+      counted-then old now new before x y rest (still n old now before (x + rest) has h) more
+
+  -- a record is looked at, and perhaps an address table
+  pub steps-library : (now : Option ℕ) (ahead count after : ℕ) → AtSteps n old now before ahead
+      → HasSteps now → count + after ≡ ahead → count ≤ n + 1
+      → AtSteps n old (spent now count) before after
+  steps-library now ahead count after h has is few =
+      by old now has (still n old now before ahead has h)
+    where
+      by : (old now : Option ℕ) → HasSteps now → AreCounted old now before ahead
+          → AtSteps n old (spent now count) before after
+      by None now has h = inl (ap (λ (s : Option ℕ). spent s count) h)
+      by (Some a) None has h = absurd h
+      by (Some a) (Some b) has h = elim (cases_lt b count) [
+        | inl less ↦ inr (omega (arith, less), omega (arith, less, h, is), omega (arith, less, has, few, h, is))
+        | inr most ↦ inl (omega (arith, most, h, is))
+      ]
+
+  -- the walk ends, or the limit
+  pub steps-ended : (now : Option ℕ) (ahead : ℕ) → AtSteps n old now before ahead → HasSteps now
+      → ahead ≤ n → AreBounded n old now before 0
+  steps-ended now ahead h has few = by old now (still n old now before ahead has h)
+    where
+      by : (old now : Option ℕ) → AreCounted old now before ahead → AreBounded n old now before 0
+      by None now h = h
+      by (Some a) None h = absurd h
+      by (Some a) (Some b) h = omega (arith, h, few)
+
+  pub steps-bounded : (now : Option ℕ) (ahead : ℕ) → AtSteps n old now before ahead
+      → AreBounded n old now before ahead
+  steps-bounded now ahead (inl h) = by old now h
+    where
+      by : (old now : Option ℕ) → AreCounted old now before ahead → AreBounded n old now before ahead
+      by None now h = h
+      by (Some a) None h = absurd h
+      by (Some a) (Some b) h = omega (arith, h)
+  steps-bounded now ahead (inr h) = by old now h
+    where
+      by : (old now : Option ℕ) → HaveRunOut n old now before ahead
+          → AreBounded n old now before ahead
+      by None now h = absurd h
+      by (Some a) None h = absurd h
+      by (Some a) (Some b) h = omega (arith, h.0, h.2)
+
+  pub steps-out : (now : Option ℕ) (ahead : ℕ) → AtSteps n old now before ahead → IsOut now
+      → HaveRunOut n old now before ahead
+  steps-out now ahead (inl h) out = by old now h out
+    where
+      by : (old now : Option ℕ) → AreCounted old now before ahead → IsOut now
+          → HaveRunOut n old now before ahead
+      by None None h out = absurd out
+      by None (Some b) h out = absurd (cc h)
+      by (Some a) None h out = absurd h
+      by (Some a) (Some b) h out = (out, omega (arith, h, out), omega (arith, h, out))
+  steps-out now ahead (inr h) out = h
+
+-- where a limit has steps left, a table's end is reached
+pub place-ended : (place steps : Option ℕ) → (place ≡ None) ⊎ IsOut steps → HasSteps steps
+    → place ≡ None
+place-ended place steps (inl is) has = is
+place-ended place None (inr out) has = absurd out
+place-ended place (Some left) (inr out) has = absurd (omega (arith, out, has))
+
+-- what holds of a value that a call has answered
+pub of_ok : {A : Type 0} (P : A → Type 0) (r : Result A ErrorOf) (x : A) → r ≡ Ok x → IfOk r P → P x
+of_ok {A} P r x is holds = subst (λ (q : Result A ErrorOf). IfOk q P) is holds

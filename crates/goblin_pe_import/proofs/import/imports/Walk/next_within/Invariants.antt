@@ -1,0 +1,15 @@
+use Rattle.std.proofs.Common.{length}
+use Rattle.goblin_pe_import.specs.ImportWalks.{records_left}
+use Rattle.goblin_pe_import.specs.StepsAhead.{walk_ahead}
+use Rattle.goblin_pe_import.proofs.ImportSteps.{AtImports}
+use Rattle.goblin_pe_import.proofs.StepsAhead.{AtSteps}
+use Rattle.goblin_pe_import.proofs.import.imports.Walk.next_within.Given as goal
+
+abbrev pub invariant-libraries : goal.invariant-libraries
+invariant-libraries g l =
+    AtImports g.T.Bitfield.format l.initial.self l.self
+    × AtSteps (length l.initial.self.bytes.now) l.initial.steps l.steps
+    (walk_ahead g.T.Bitfield.format l.initial.self) (walk_ahead g.T.Bitfield.format l.self)
+
+abbrev pub decreases-libraries : goal.decreases-libraries
+decreases-libraries g l = records_left l.self.bytes.now l.self.at.next_record

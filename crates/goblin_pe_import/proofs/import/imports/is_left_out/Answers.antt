@@ -1,0 +1,8 @@
+use Rattle.goblin_pe_sect.specs.Addresses.{map_of, offset_of}
+use Rattle.goblin_pe_import.proofs.StepsAhead.{slots-few}
+use Rattle.goblin_pe_import.proofs.import.imports.is_left_out.Goals as goal
+
+pub returns-clause-few : goal.returns-clause-few
+returns-clause-few g c =
+    rw c.test_address_table-count.ensures.counted
+    (slots-few g.T.Bitfield.format c.args.bytes.now _)

@@ -1,0 +1,149 @@
+-- What a walk over imports looks at, in steps: slots and records, whether or not they give something.
+use Rattle.std.specs.Prelude.{◌≡◌, ◌⊎◌, ◌≤◌, ℕ, ◌+◌, ◌-◌, Bool, if◌then◌else◌, List, length, ⊤}
+use Rattle.std.specs.Prelude.{Option, Some, None, option_map, Result, Ok, Err, IfErr, IfSome}
+use Rattle.goblin_base.specs.declared.error.ErrorOf.{ErrorOf}
+use Rattle.goblin_base.specs.Tables.{Format, stop}
+use Rattle.readings.specs.Walks.{GivesNext}
+use Rattle.goblin_pe_sect.specs.Addresses.{MapOfAddresses, map_of, offset_of, reads_strictly}
+use Rattle.goblin_pe_import.specs.ImportEntries.{EntryValue, entry_slots}
+use Rattle.goblin_pe_import.specs.ImportRecords.{address_table_rva, import_slots, lookup_offset}
+use Rattle.goblin_pe_import.specs.ImportWalks.{is_left_out, no_imports, walked_value}
+use Rattle.goblin_pe_import.specs.ImportWalks.{HasName, IsImportsCause, IsWalkFault}
+use Rattle.goblin_pe_import.specs.ImportWalks.{AreImportsOver, cursor_of, imports_bytes}
+use Rattle.goblin_pe_import.specs.ImportWalks.{imports_left, imports_map}
+use Rattle.goblin_pe_import.specs.LeftOut.{amount_of, sum_of_slots}
+use Rattle.goblin_pe_import.specs.declared.import.directory_entry.ImportDirectoryEntry.{ImportDirectoryEntry}
+use Rattle.goblin_pe_import.specs.declared.import.imports.ImportCursor.{ImportCursor}
+use Rattle.goblin_pe_import.specs.declared.import.imports.Imports.{Imports}
+use Rattle.goblin_pe_import.specs.declared.import.imports.Walk.{Walk}
+use Rattle.goblin_pe_import.specs.declared.import.imports.WalkedImport.{WalkedImport}
+
+-- ---- what is ahead
+
+-- how many slots a table has before its stop, from the one at a place on; none without a place
+abbrev pub slots_ahead : Format EntryValue → List ℕ → Option ℕ → ℕ
+slots_ahead format bytes place = amount_of (stop (entry_slots format) bytes) place
+
+-- those of the table at an address
+abbrev pub slots_at_address : Format EntryValue → (ℕ → Option ℕ) → List ℕ → ℕ → ℕ
+slots_at_address format offset_of bytes rva = slots_ahead format bytes (offset_of rva)
+
+-- those of an address table that is tested after its library's entries, as strict mode does
+abbrev pub untested_ahead : Bool → Format EntryValue → (ℕ → Option ℕ) → List ℕ → Option ℕ → ℕ
+untested_ahead strict format offset_of bytes untested =
+    if strict then amount_of (slots_at_address format offset_of bytes) untested else 0
+
+-- those of an address table that is tested before them, as permissive mode does
+abbrev pub tested_ahead : Bool → Format EntryValue → (ℕ → Option ℕ) → List ℕ → ℕ → ℕ
+tested_ahead strict format offset_of bytes rva =
+    if strict then 0 else slots_at_address format offset_of bytes rva
+
+-- A record is one step; then come the slots of its library's address table, and, where that is not
+-- left out, those of its lookup table.
+unfoldable pub record_steps : Bool → Format EntryValue → (ℕ → Option ℕ) → List ℕ
+    → ImportDirectoryEntry → ℕ
+record_steps strict format offset_of bytes r =
+    1 + tested_ahead strict format offset_of bytes (address_table_rva r)
+    + (if is_left_out strict format offset_of bytes r then 0
+      else slots_ahead format bytes (lookup_offset offset_of r)
+          + untested_ahead strict format offset_of bytes (Some (address_table_rva r)))
+
+-- those of the records of a directory, from the next one on
+abbrev pub records_ahead : Bool → Format EntryValue → (ℕ → Option ℕ) → List ℕ → Option ℕ → ℕ
+records_ahead strict format offset_of bytes next =
+    amount_of (sum_of_slots import_slots (record_steps strict format offset_of bytes) bytes) next
+
+-- once the entries of a library have come
+abbrev pub later_ahead : Bool → Format EntryValue → (ℕ → Option ℕ) → List ℕ → Option ℕ → Option ℕ
+    → ℕ
+later_ahead strict format offset_of bytes untested next =
+    untested_ahead strict format offset_of bytes untested
+    + records_ahead strict format offset_of bytes next
+
+-- How many steps a walk takes from a cursor to its end.
+abbrev pub cursor_ahead : MapOfAddresses → Format EntryValue → List ℕ → ImportCursor → ℕ
+cursor_ahead m format bytes c =
+    slots_ahead format bytes c.place
+    + later_ahead (reads_strictly m) format (offset_of m) bytes c.untested c.next_record
+
+abbrev pub walk_ahead : Format EntryValue → Walk → ℕ
+walk_ahead format w = cursor_ahead (map_of w.finder) format w.bytes.now w.at
+
+abbrev pub imports_ahead : {T : Type 0} → Format EntryValue → Imports T → ℕ
+imports_ahead format it = walk_ahead format it.walk
+
+-- ---- a limit of steps, if there is one
+
+-- what is left of it after so many steps
+abbrev pub spent : Option ℕ → ℕ → Option ℕ
+spent steps n = option_map (λ left. left - n) steps
+
+-- it has steps left, or has none
+abbrev pub HasSteps : Option ℕ → Type 0
+HasSteps None = ⊤
+HasSteps (Some left) = 1 ≤ left
+
+abbrev pub IsOut : Option ℕ → Type 0
+IsOut None = ⊥
+IsOut (Some left) = left ≡ 0
+
+-- Of a limit are gone as many steps as are no longer ahead.
+abbrev pub AreCounted : Option ℕ → Option ℕ → ℕ → ℕ → Type 0
+AreCounted None new before after = new ≡ None
+AreCounted (Some a) None before after = ⊥
+AreCounted (Some a) (Some b) before after = before + b ≡ after + a
+
+-- All are gone, and at most n steps more, as the slots of an address table are looked at in one go.
+abbrev pub HaveRunOut : ℕ → Option ℕ → Option ℕ → ℕ → ℕ → Type 0
+HaveRunOut n None new before after = ⊥
+HaveRunOut n (Some a) None before after = ⊥
+HaveRunOut n (Some a) (Some b) before after =
+    (b ≡ 0) × (after + a ≤ before) × (before ≤ after + a + n)
+
+-- No more than n are gone over what is counted.
+abbrev pub AreBounded : ℕ → Option ℕ → Option ℕ → ℕ → ℕ → Type 0
+AreBounded n None new before after = new ≡ None
+AreBounded n (Some a) None before after = ⊥
+AreBounded n (Some a) (Some b) before after = before + b ≤ after + a + n
+
+-- ---- a call that ends after so many steps
+
+-- A call gives what comes next, as `GivesNext` says; or it gives nothing, and the same is still to
+-- come.
+abbrev pub GivesWithin : {S X A : Type 0} → (X → A) → (S → List (Option A))
+    → (S → ErrorOf → Type 0) → S → Option (Result X ErrorOf) → S → Type 0
+GivesWithin view left IsCause s None t = (left s ≡ left t) × ((e : ErrorOf) → IsCause t e → IsCause s e)
+GivesWithin view left IsCause s (Some r) t = GivesNext view left IsCause s (Some r) t
+
+-- something holds where a call is not refused
+abbrev pub UnlessErr : {X : Type 0} → Option (Result X ErrorOf) → Type 0 → Type 0
+UnlessErr None Holds = Holds
+UnlessErr (Some (Ok x)) Holds = Holds
+UnlessErr (Some (Err e)) Holds = ⊤
+
+-- What it has looked at, unless it is refused.
+abbrev pub LooksAt : {X : Type 0} → ℕ → Option (Result X ErrorOf) → Option ℕ → Option ℕ → ℕ → ℕ
+    → Type 0
+LooksAt n None old new before after = AreBounded n old new before after
+LooksAt n (Some (Ok x)) old new before after = AreCounted old new before after
+LooksAt n (Some (Err e)) old new before after = ⊤
+
+-- One that gives nothing is at the end, or its limit has run out.
+abbrev pub EndsWithin : {X : Type 0} → Option (Result X ErrorOf) → ImportCursor → Type 0 → Type 0
+EndsWithin None c RunOut = (c ≡ no_imports) ⊎ RunOut
+EndsWithin (Some (Ok x)) c RunOut = ⊤
+EndsWithin (Some (Err e)) c RunOut = c ≡ no_imports
+
+-- A call of `next_within` of a walk over imports, which keeps what is walked over.
+pub record GivesImportWithin {T : Type 0} (format : Format EntryValue) (s : Imports T)
+    (old : Option ℕ) (result : Option (Result WalkedImport ErrorOf)) (t : Imports T)
+    (new : Option ℕ) : Type 0 where
+  pub steps : GivesWithin walked_value (imports_left format) (IsImportsCause format) s result t
+  pub named : HasName s → HasName t
+  pub fault : IfSome result (λ r. IfErr r (IsWalkFault s.walk))
+  pub over : AreImportsOver (imports_bytes s) (imports_map s) t
+  pub looked : LooksAt (length (imports_bytes s)) result old new (imports_ahead format s)
+      (imports_ahead format t)
+  pub ended : EndsWithin result (cursor_of t)
+      (HaveRunOut (length (imports_bytes s)) old new (imports_ahead format s)
+      (imports_ahead format t))

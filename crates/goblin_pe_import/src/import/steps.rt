@@ -1,0 +1,26 @@
+//! A limit of steps: how many slots and records a call may look at.
+
+ghost use Rattle.std.specs.Prelude.{◌≡◌, false, true};
+ghost use Rattle.goblin_pe_import.specs.StepsAhead.{HasSteps, IsOut, spent};
+
+// Whether a limit has run out.
+#[inline(always)]
+pub(super) fn are_out(steps: &Option<usize>) -> bool
+    ensures yes { result ≡ true → IsOut steps.now }
+    ensures no { result ≡ false → HasSteps steps.now }
+{
+    match steps {
+        Some(left) => *left == 0,
+        None => false,
+    }
+}
+
+// Takes so many steps off a limit, or all that are left.
+#[inline(always)]
+pub(super) fn spend(steps: &mut Option<usize>, count: usize)
+    ensures { steps.new ≡ spent steps.old count }
+{
+    if let Some(left) = *steps {
+        *steps = Some(left.saturating_sub(count));
+    }
+}
