@@ -8,4 +8,5 @@ pub mod ImportRecords
 pub mod ImportWalks
 pub mod Imports
 pub mod LeftOut
+pub mod Libraries
 pub mod LookupReadings
