@@ -69,6 +69,7 @@ pub use Rattle.goblin_pe_import.specs.ImportRecords
 pub use Rattle.goblin_pe_import.specs.ImportWalks
 pub use Rattle.goblin_pe_import.specs.Imports
 pub use Rattle.goblin_pe_import.specs.LeftOut
+pub use Rattle.goblin_pe_import.specs.Libraries
 pub use Rattle.goblin_pe_import.specs.LookupReadings
 pub use Rattle.goblin_pe_import.specs.StepsAhead
 pub use Rattle.goblin_pe_export.specs.ExportReadings

@@ -25,6 +25,7 @@ use std::marker::Model;
 mod damage;
 mod imports;
 mod layout;
+mod libraries;
 mod listed;
 mod places;
 mod reached;

@@ -8,6 +8,7 @@ pub mod Imports
 mod ImportsValue
 mod ImportsWalk
 pub mod LeftOutLibraries
+mod LibrariesWalk
 pub mod LibraryNames
 mod Listed
 pub mod ListedImports

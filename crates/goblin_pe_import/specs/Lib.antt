@@ -8,5 +8,6 @@ pub mod ImportRecords
 pub mod ImportWalks
 pub mod Imports
 pub mod LeftOut
+pub mod Libraries
 pub mod LookupReadings
 pub mod StepsAhead

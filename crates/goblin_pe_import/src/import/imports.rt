@@ -243,7 +243,7 @@ fn import_of<'a, T: Bitfield<'a>>(
 }
 
 // The index of a record of a directory whose first record is at a file offset.
-fn record_index(first: usize, offset: usize) -> usize
+pub(super) fn record_index(first: usize, offset: usize) -> usize
     ensures { result ≡ record_index first offset }
 {
     offset.saturating_sub(first) / SIZEOF_IMPORT_DIRECTORY_ENTRY

@@ -85,7 +85,7 @@ fn entries_of_table<'a, T: Bitfield<'a>>(
 
 // Whether a record leads to no library: it has no address table.
 #[tactic(auto, using(crate::proofs::LeftOutLibraries::library_left_out))]
-fn leads_to_none<'a, T: Bitfield<'a>>(
+pub(super) fn leads_to_none<'a, T: Bitfield<'a>>(
     bytes: &'a [u8],
     entry: &ImportDirectoryEntry,
     address_map: &AddressMap,

@@ -1,0 +1,177 @@
+-- The walk over the libraries of an import directory: what is still to come.
+use Rattle.std.specs.Prelude.{◌≡◌, ℕ, Bool, true, false, if◌then◌else◌, List, [], ◌∷◌, Option}
+use Rattle.std.specs.Prelude.{Some, None, unwrap_or, Result, Ok, Err, IfErr, IfSome}
+use Rattle.std.specs.Option.{ok_or}
+use Rattle.std.specs.Result.{result_map_both}
+use Rattle.goblin_base.specs.declared.error.ErrorOf.{ErrorOf}
+use Rattle.goblin_base.specs.declared.error.ErrorOf.TheVariants.{Malformed}
+use Rattle.goblin_base.specs.declared.error.CauseOf.TheVariants.{NameRead, Unmapped}
+use Rattle.goblin_base.specs.Answers.{IsMemory}
+use Rattle.goblin_base.specs.Reading.{Reading}
+use Rattle.goblin_base.specs.Tables.{Format}
+use Rattle.readings.specs.Reads.{given, table, text_at}
+use Rattle.readings.specs.Walks.{GivesNext, table_walk}
+use Rattle.goblin_pe_sect.specs.Addresses.{MapOfAddresses, map_of, offset_of, reads_strictly}
+use Rattle.goblin_pe_import.specs.ImportEntries.{EntryValue, entries_32, entries_64}
+use Rattle.goblin_pe_import.specs.ImportReadings.{import_record_at}
+use Rattle.goblin_pe_import.specs.ImportRecords.{import_slots, lookup_offset}
+use Rattle.goblin_pe_import.specs.ImportWalks.{entries_from, no_imports, record_index, records_left}
+use Rattle.goblin_pe_import.specs.LeftOut.{leads_to_none}
+use Rattle.goblin_pe_import.specs.declared.import.directory_entry.ImportDirectoryEntry.{ImportDirectoryEntry}
+use Rattle.goblin_pe_import.specs.declared.import.imports.ImportCursor.{ImportCursor}
+use Rattle.goblin_pe_import.specs.declared.import.library_walk.Libraries.{Libraries}
+use Rattle.goblin_pe_import.specs.declared.import.library_walk.WalkedLibrary.{WalkedLibrary}
+
+-- ---- a library
+
+-- the text at an offset of this address, or why there is none
+abbrev pub text_or_cause : List ℕ → ℕ → Option ℕ → Result (List ℕ) ErrorOf
+text_or_cause bytes rva None = Err (Malformed (Unmapped rva))
+text_or_cause bytes rva (Some p) = ok_or ((text_at p).value bytes) (Malformed (NameRead p))
+
+-- the name at an address, or why there is none, in either mode
+abbrev pub name_or_cause : (ℕ → Option ℕ) → List ℕ → ℕ → Result (List ℕ) ErrorOf
+name_or_cause offset_of bytes rva = text_or_cause bytes rva (offset_of rva)
+
+-- an item comes first, and not a refusal
+abbrev pub has_first : {A : Type 0} → List (Option A) → Bool
+has_first [] = false
+has_first (None ∷ items) = false
+has_first (Some x ∷ items) = true
+
+-- an entry comes first of the lookup table of a record, and not its end or a refusal
+abbrev pub has_imports : Bool → Format EntryValue → (ℕ → Option ℕ) → List ℕ → ImportDirectoryEntry
+    → Bool
+has_imports strict format offset_of bytes r =
+    let table = lookup_offset offset_of r in
+    has_first (entries_from strict format offset_of bytes (unwrap_or table 0) table)
+
+-- the cursor before the record at p, in a directory whose first record is at `first`
+abbrev pub at_record : ℕ → ℕ → ImportCursor
+at_record first p = record no_imports { first_record = first; next_record = Some p }
+
+-- A library: the index and the place of its record, and this itself; its name; whether permissive
+-- mode leaves it out, and whether it has imports; and the cursor where these begin.
+pub record LibraryValue : Type 0 where
+  pub index : ℕ
+  pub offset : ℕ
+  pub entry : ImportDirectoryEntry
+  pub name : Result (List ℕ) ErrorOf
+  pub is_left_out : Bool
+  pub has_imports : Bool
+  pub cursor : ImportCursor
+
+-- that of the record at p, in a directory whose first record is at `first`
+abbrev pub library_at : Bool → Format EntryValue → (ℕ → Option ℕ) → List ℕ → ℕ → ℕ
+    → ImportDirectoryEntry → LibraryValue
+library_at strict format offset_of bytes first p r = record {
+  index = record_index first p;
+  offset = p;
+  entry = r;
+  name = name_or_cause offset_of bytes r.name_rva;
+  is_left_out = leads_to_none format offset_of bytes r;
+  has_imports = has_imports strict format offset_of bytes r;
+  cursor = at_record first p;
+}
+
+-- a library that a walk yields
+abbrev pub library_value : WalkedLibrary → LibraryValue
+library_value x = record {
+  index = x.index;
+  offset = x.offset;
+  entry = x.import_directory_entry;
+  name = result_map_both (λ s. s.now) (λ e. e) x.name;
+  is_left_out = x.is_left_out;
+  has_imports = x.has_imports;
+  cursor = x.cursor;
+}
+
+-- ---- all libraries
+
+-- One for each record of a directory from a place on, up to the first that is not in the file or
+-- ends the directory. Strict mode needs that record.
+unfoldable pub libraries_from_record : Bool → Format EntryValue → (ℕ → Option ℕ) → List ℕ → ℕ → ℕ
+    → List (Option LibraryValue)
+libraries_from_record strict format offset_of bytes first p =
+    table_walk import_slots strict
+    (λ p r. Some (library_at strict format offset_of bytes first p r) ∷ []) bytes p
+
+-- those from the next record on, if there is one
+unfoldable pub libraries_next : Bool → Format EntryValue → (ℕ → Option ℕ) → List ℕ → ℕ → Option ℕ
+    → List (Option LibraryValue)
+libraries_next strict format offset_of bytes first None = []
+libraries_next strict format offset_of bytes first (Some p) =
+    libraries_from_record strict format offset_of bytes first p
+
+-- those whose records come at a cursor: a library that it is in has come
+abbrev pub cursor_libraries : MapOfAddresses → Format EntryValue → List ℕ → ImportCursor
+    → List (Option LibraryValue)
+cursor_libraries m format bytes c =
+    libraries_next (reads_strictly m) format (offset_of m) bytes c.first_record c.next_record
+
+-- The records of a directory from a place on: those before the first that is not in the file or ends
+-- the directory. Strict mode needs that record.
+abbrev pub directory_records : Bool → ℕ → Reading (List ImportDirectoryEntry)
+directory_records strict p = table import_slots strict import_record_at (λ r. given (r ∷ [])) p
+
+-- which cause is true if there is a refusal among them: the directory reaches the end of the file
+abbrev pub IsEndCause : Bool → List ℕ → Option ℕ → ErrorOf → Type 0
+IsEndCause strict bytes None e = ⊥
+IsEndCause strict bytes (Some p) e = (directory_records strict p).IsCause bytes e
+
+abbrev pub IsCursorEndCause : MapOfAddresses → List ℕ → ImportCursor → ErrorOf → Type 0
+IsCursorEndCause m bytes c e = IsEndCause (reads_strictly m) bytes c.next_record e
+
+-- ---- the walk
+
+-- entries of four bytes, or of eight
+abbrev pub entries_by : Bool → Format EntryValue
+entries_by is_narrow = if is_narrow then entries_32 else entries_64
+
+abbrev pub libraries_format : Libraries → Format EntryValue
+libraries_format it = entries_by it.is_narrow
+
+abbrev pub libraries_map : Libraries → MapOfAddresses
+libraries_map it = map_of it.finder
+
+abbrev pub libraries_bytes : Libraries → List ℕ
+libraries_bytes it = it.bytes.now
+
+-- where the walk is
+abbrev pub libraries_cursor : Libraries → ImportCursor
+libraries_cursor it = it.at
+
+-- what is still to come
+abbrev pub libraries_left : Libraries → List (Option LibraryValue)
+libraries_left it =
+    cursor_libraries (libraries_map it) (libraries_format it) (libraries_bytes it)
+    (libraries_cursor it)
+
+abbrev pub IsLibrariesCause : Libraries → ErrorOf → Type 0
+IsLibrariesCause it e =
+    IsCursorEndCause (libraries_map it) (libraries_bytes it) (libraries_cursor it) e
+
+-- no more than this comes
+abbrev pub libraries_bound : Libraries → ℕ
+libraries_bound it = records_left (libraries_bytes it) (libraries_cursor it).next_record
+
+-- the walk over these bytes, by this map and with such entries
+pub record AreLibrariesOver (m : MapOfAddresses) (format : Format EntryValue) (bytes : List ℕ)
+    (it : Libraries) : Type 0 where
+  pub bytes_are : libraries_bytes it ≡ bytes
+  pub map_is : libraries_map it ≡ m
+  pub format_is : libraries_format it ≡ format
+
+-- it is at this cursor
+abbrev pub AreLibrariesAt : MapOfAddresses → Format EntryValue → List ℕ → ImportCursor → Libraries
+    → Type 0
+AreLibrariesAt m format bytes c it =
+    AreLibrariesOver m format bytes it × (libraries_cursor it ≡ c)
+
+-- A call of `next` gives the next library, or has ended the walk, or is refused since the directory
+-- reaches the end of the file, in strict mode; it keeps what is walked over.
+abbrev pub GivesNextLibrary : Libraries → Option (Result WalkedLibrary ErrorOf) → Libraries → Type 0
+GivesNextLibrary s result t =
+    GivesNext library_value libraries_left IsLibrariesCause s result t
+    × IfSome result (λ r. IfErr r (λ e. ¬ IsMemory e))
+    × AreLibrariesOver (libraries_map s) (libraries_format s) (libraries_bytes s) t

@@ -1,0 +1,255 @@
+//! A walk over the libraries of an image: the records of its import directory.
+
+ghost use Rattle.std.specs.Prelude.{◌≡◌, ◌<◌, IfErr, IfSome, List, Some, ℕ};
+ghost use Rattle.std.specs.Iterator.{UpTo, at_most};
+ghost use Rattle.std.specs.Iterator.SizeHint.{IsWithinCount};
+ghost use Rattle.std.specs.Result.{result_map_both};
+ghost use Rattle.goblin_base.specs.Answers.{IsMemory};
+ghost use Rattle.goblin_base.specs.Tables.{Format};
+ghost use Rattle.readings.specs.Walks.{GivesNext};
+ghost use Rattle.goblin_pe_sect.specs.Addresses.{MapOfAddresses, map_of, offset_of};
+ghost use Rattle.goblin_pe_sect.specs.Addresses.{reads_strictly};
+ghost use Rattle.goblin_pe_import.specs.ImportEntries.{EntryValue};
+ghost use Rattle.goblin_pe_import.specs.ImportWalks.{cursor_left, imports_from_record};
+ghost use Rattle.goblin_pe_import.specs.LeftOut.{leads_to_none};
+ghost use Rattle.goblin_pe_import.specs.Libraries.{AreLibrariesAt, AreLibrariesOver};
+ghost use Rattle.goblin_pe_import.specs.Libraries.{GivesNextLibrary, IsLibrariesCause, at_record};
+ghost use Rattle.goblin_pe_import.specs.Libraries.{cursor_libraries, entries_by, has_imports};
+ghost use Rattle.goblin_pe_import.specs.Libraries.{libraries_bound, libraries_bytes};
+ghost use Rattle.goblin_pe_import.specs.Libraries.{libraries_cursor, libraries_format};
+ghost use Rattle.goblin_pe_import.specs.Libraries.{libraries_left, libraries_map, library_at};
+ghost use Rattle.goblin_pe_import.specs.Libraries.{library_value, name_or_cause};
+
+use crate::import::bitfield::Bitfield;
+use crate::import::directory_entry::{ImportDirectoryEntry, SIZEOF_IMPORT_DIRECTORY_ENTRY};
+use crate::import::imports::{ImportCursor, record_index};
+use crate::import::kept::next_kept;
+use crate::import::left_out::leads_to_none;
+use crate::import::library::lookup_offset;
+use crate::import::slots::{may_end, next_record};
+use goblin_base::{Cause, Error, Result, pread_str};
+use goblin_pe_sect::address_map::Finder;
+use std::fmt;
+use std::iter::FusedIterator;
+
+/// A library, as a walk yields it: a record of the import directory, and what it tells at once.
+///
+/// Source: PE Format, "Import Directory Table".
+#[derive(Debug, Drop)]
+pub struct WalkedLibrary<'a> {
+    /// Its record.
+    pub import_directory_entry: ImportDirectoryEntry,
+    /// The index of the record in the directory.
+    pub index: usize,
+    /// The file offset of the record.
+    pub offset: usize,
+    /// Its name; in either mode an error where none can be read: [`Error::Malformed`] with
+    /// [`Cause::Unmapped`] if its address has no file offset, and with [`Cause::NameRead`] if there
+    /// is no text.
+    pub name: Result<&'a str>,
+    /// Whether permissive mode leaves it out, and strict mode refuses it after its imports: it has
+    /// no address table.
+    pub is_left_out: bool,
+    /// Whether an import comes first of its lookup table. Else that keeps none, or strict mode
+    /// refuses what comes first.
+    pub has_imports: bool,
+    /// Where its imports begin.
+    pub cursor: ImportCursor,
+}
+
+// The name at an address.
+fn name_or_cause<'a>(bytes: &'a [u8], rva: u32, finder: &mut Finder<'_>) -> Result<&'a str>
+    ensures value { result_map_both (λ s. s.now) (λ e. e) result
+        ≡ name_or_cause (offset_of (map_of finder.old)) bytes.now rva }
+    ensures same { finder.new ≡ finder.old }
+{
+    let Some(offset) = finder.offset_of_name(rva) else {
+        return Err(Error::Malformed(Cause::Unmapped(rva as usize)));
+    };
+    match pread_str(bytes, offset) {
+        Ok(name) => Ok(name),
+        Err(_) => Err(Error::Malformed(Cause::NameRead(offset))),
+    }
+}
+
+// Whether an import comes first of the lookup table of a record.
+fn has_imports<'a, T: Bitfield<'a>>(
+    bytes: &'a [u8],
+    entry: &ImportDirectoryEntry,
+    finder: &mut Finder<'_>,
+) -> bool
+    ensures value { let m = map_of finder.old in
+        result ≡ has_imports (reads_strictly m) T.format (offset_of m) bytes.now entry.now }
+    ensures same { finder.new ≡ finder.old }
+{
+    let place = lookup_offset(entry, finder);
+    let first = next_kept::<T>(bytes, place.unwrap_or(0), place, finder);
+    match first {
+        Some(Ok(_)) => true,
+        Some(Err(_)) => false,
+        None => false,
+    }
+}
+
+impl ImportCursor {
+    /// Before the record at a file offset, in a directory whose first record is at `first`: what
+    /// comes there are the imports of its library, and those of the later ones.
+    pub fn at_record(first: usize, offset: usize) -> ImportCursor
+        ensures is { result ≡ at_record first offset }
+        ensures left { (m : MapOfAddresses) (format : Format EntryValue) (bytes : List ℕ)
+            → cursor_left m format bytes result
+            ≡ imports_from_record (reads_strictly m) format (offset_of m) bytes first offset }
+    {
+        ImportCursor {
+            first_record: first,
+            next_record: Some(offset),
+            ..ImportCursor::end()
+        }
+    }
+}
+
+// Whether permissive mode leaves out the library of a record, and whether it has imports.
+fn flags_of<'a, T: Bitfield<'a>>(
+    bytes: &'a [u8],
+    entry: &ImportDirectoryEntry,
+    finder: &mut Finder<'_>,
+) -> (bool, bool)
+    ensures left_out { let m = map_of finder.old in
+        result.0 ≡ leads_to_none T.format (offset_of m) bytes.now entry.now }
+    ensures imports { let m = map_of finder.old in
+        result.1 ≡ has_imports (reads_strictly m) T.format (offset_of m) bytes.now entry.now }
+    ensures same { finder.new ≡ finder.old }
+{
+    let is_left_out = leads_to_none::<T>(bytes, entry, finder.address_map());
+    (is_left_out, has_imports::<T>(bytes, entry, finder))
+}
+
+/// The libraries that an image imports from, in the order of their records, without memory: one for
+/// each record of the import directory, up to the first that has no name or no address table. One
+/// library may have several.
+///
+/// Those that permissive mode leaves out of the imports come, too, and say so. In strict mode it
+/// ends with one error where the directory reaches the end of the file; else there is none.
+#[derive(Drop)]
+pub struct Libraries<'a, 'm> {
+    bytes: &'a [u8],
+    finder: Finder<'m>,
+    // Whether their tables have entries of four bytes, not of eight.
+    is_narrow: bool,
+    at: ImportCursor,
+}
+
+impl<'a, 'm> Libraries<'a, 'm> {
+    /// The libraries whose records come next at a cursor, as [`ImportCursor::first`],
+    /// [`Libraries::cursor`] or a walk over imports gave it. The tables of these have entries of
+    /// four bytes if `is_narrow`, else of eight.
+    pub fn at_cursor(
+        bytes: &'a [u8],
+        at: ImportCursor,
+        is_narrow: bool,
+        finder: Finder<'m>,
+    ) -> Libraries<'a, 'm>
+        ensures { AreLibrariesAt (map_of finder.entry) (entries_by is_narrow) bytes.now at result }
+    {
+        Libraries {
+            bytes,
+            finder,
+            is_narrow,
+            at,
+        }
+    }
+
+    /// Where the walk is: before the record that comes next, where also its imports begin.
+    pub fn cursor(&self) -> ImportCursor
+        ensures is { result ≡ libraries_cursor self.now }
+        ensures left { libraries_left self.now
+            ≡ cursor_libraries (libraries_map self.now) (libraries_format self.now)
+            (libraries_bytes self.now) result }
+    {
+        self.at
+    }
+
+    // The library of the record at an offset.
+    fn library_at(&mut self, offset: usize, entry: ImportDirectoryEntry) -> WalkedLibrary<'a>
+        ensures value { let m = libraries_map self.old in
+            library_value result
+            ≡ library_at (reads_strictly m) (libraries_format self.old) (offset_of m)
+            (libraries_bytes self.old) (libraries_cursor self.old).first_record offset entry }
+        ensures same { self.new ≡ self.old }
+    {
+        let first = self.at.first_record;
+        let (is_left_out, has_imports) = if self.is_narrow {
+            flags_of::<u32>(self.bytes, &entry, &mut self.finder)
+        } else {
+            flags_of::<u64>(self.bytes, &entry, &mut self.finder)
+        };
+        WalkedLibrary {
+            import_directory_entry: entry,
+            index: record_index(first, offset),
+            offset,
+            name: name_or_cause(self.bytes, entry.name_rva, &mut self.finder),
+            is_left_out,
+            has_imports,
+            cursor: ImportCursor::at_record(first, offset),
+        }
+    }
+
+    // The next library.
+    fn next_library(&mut self) -> Option<Result<WalkedLibrary<'a>>>
+        ensures gives { GivesNext library_value libraries_left IsLibrariesCause self.old result self.new }
+        ensures refused { IfSome result (λ r. IfErr r (λ e. ¬ IsMemory e)) }
+        ensures over { AreLibrariesOver (libraries_map self.old) (libraries_format self.old)
+            (libraries_bytes self.old) self.new }
+        ensures fewer { IfSome result (λ r. libraries_bound self.new < libraries_bound self.old) }
+    {
+        let Some(offset) = self.at.next_record else {
+            return None;
+        };
+        let Some(record) = next_record(self.bytes, offset) else {
+            self.at = ImportCursor::end();
+            let size = SIZEOF_IMPORT_DIRECTORY_ENTRY;
+            if may_end(self.bytes, offset, size, self.finder.reads_strictly()) {
+                return None;
+            }
+            return Some(Err(Error::Malformed(Cause::ImportRecordEnd(offset))));
+        };
+        let library = self.library_at(offset, record);
+        let next = offset + SIZEOF_IMPORT_DIRECTORY_ENTRY;
+        self.at = ImportCursor::at_record(self.at.first_record, next);
+        Some(Ok(library))
+    }
+}
+
+impl<'a, 'm> Iterator for Libraries<'a, 'm> {
+    type Item = Result<WalkedLibrary<'a>>;
+
+    ghost next_gives = { GivesNextLibrary };
+
+    ghost remaining = { λ it. at_most (libraries_bound it) };
+
+    fn next(&mut self) -> Option<Result<WalkedLibrary<'a>>> {
+        self.next_library()
+    }
+
+    fn size_hint(&self) -> (usize, Option<usize>)
+        ensures lower { IsWithinCount result.0 (at_most (libraries_bound self.now)) }
+        ensures upper { IfSome result.1 (UpTo (at_most (libraries_bound self.now))) }
+        ensures value { result ≡ (0, Some (libraries_bound self.now)) }
+    {
+        let most = match self.at.next_record {
+            Some(offset) => self.bytes.len().saturating_sub(offset) + 1,
+            None => 0,
+        };
+        (0, Some(most))
+    }
+}
+
+impl<'a, 'm> FusedIterator for Libraries<'a, 'm> {}
+
+impl<'a, 'm> fmt::Debug for Libraries<'a, 'm> {
+    fn fmt<W: fmt::Write>(&self, f: &mut fmt::Formatter<W>) -> fmt::Result {
+        f.debug_struct("Libraries")
+            .field("cursor", &self.at)
+            .finish_non_exhaustive()
+    }
+}
