@@ -136,7 +136,7 @@ def next_symbols(file):
     position, count, found = c.c_size_t(), c.c_size_t(), 0
     fault = LIB.goblin_pe_raw_read_symbol_table(file, len(file), c.byref(header), c.byref(table))
     while not fault.status:
-        fault = LIB.goblin_pe_raw_next_symbols(file, len(file), c.byref(table), c.byref(position), room, 256, c.byref(count))
+        fault = LIB.goblin_pe_raw_next_symbols(file, len(file), c.byref(table), c.byref(position), room, 256, 0, c.byref(count))
         if not count.value:
             break
         found += count.value
@@ -162,7 +162,7 @@ def next_imports(file, options=STRICT, batches=1):
     position, room, count, found = records.ImportCursor(), (records.Import * 256)(), c.c_size_t(), 0
     for _ in range(batches):
         fault = LIB.goblin_pe_raw_next_imports(
-            file, len(file), c.byref(options), c.byref(layout.places), c.byref(position), room, 256, c.byref(count))
+            file, len(file), c.byref(options), c.byref(layout.places), c.byref(position), room, 256, 0, c.byref(count))
         found += count.value
     return fault.status, found
 

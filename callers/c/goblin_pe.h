@@ -239,11 +239,11 @@ static inline void goblin_pe_free_ranges(struct goblin_pe_ranges *ranges)
    in some 25 milliseconds, so give room for thousands then. */
 static inline struct goblin_pe_fault goblin_pe_next_imports(
     const uint8_t *bytes, size_t length, const struct goblin_pe_options *options, const struct goblin_pe_places *places,
-    struct goblin_pe_import_cursor *cursor, struct goblin_pe_import *imports, size_t room, size_t *count)
+    struct goblin_pe_import_cursor *cursor, struct goblin_pe_import *imports, size_t room, size_t steps, size_t *count)
 {
     return goblin_pe_raw_next_imports(
         GOBLIN_PE_BYTES(bytes, length), length, goblin_pe_options_or_default(options), places, cursor,
-        GOBLIN_PE_SOME(struct goblin_pe_import, imports, room), room, count);
+        GOBLIN_PE_SOME(struct goblin_pe_import, imports, room), room, steps, count);
 }
 
 /* Reads the 20 bytes at this file offset as the record of a library in the import directory, puts it into `record`,
@@ -263,11 +263,11 @@ static inline bool goblin_pe_import_record_at(
    hint: it stands four times that index after the file offset of name_pointer_rva of the export directory's record. */
 static inline struct goblin_pe_fault goblin_pe_next_exports(
     const uint8_t *bytes, size_t length, const struct goblin_pe_options *options, const struct goblin_pe_places *places,
-    size_t *position, struct goblin_pe_export *exports, size_t room, size_t *count)
+    size_t *position, struct goblin_pe_export *exports, size_t room, size_t steps, size_t *count)
 {
     return goblin_pe_raw_next_exports(
         GOBLIN_PE_BYTES(bytes, length), length, goblin_pe_options_or_default(options), places, position,
-        GOBLIN_PE_SOME(struct goblin_pe_export, exports, room), room, count);
+        GOBLIN_PE_SOME(struct goblin_pe_export, exports, room), room, steps, count);
 }
 
 /* Reads what the export directory of an image says, with its ordinal base: the record that goblin_pe_open puts beside its
@@ -287,11 +287,11 @@ static inline struct goblin_pe_fault goblin_pe_read_export_directory(
    for. goblin_pe_forwarder_at reads the forwarder of one. */
 static inline struct goblin_pe_fault goblin_pe_next_export_addresses(
     const uint8_t *bytes, size_t length, const struct goblin_pe_options *options, const struct goblin_pe_places *places,
-    size_t *position, struct goblin_pe_export_address *addresses, size_t room, size_t *count)
+    size_t *position, struct goblin_pe_export_address *addresses, size_t room, size_t steps, size_t *count)
 {
     return goblin_pe_raw_next_export_addresses(
         GOBLIN_PE_BYTES(bytes, length), length, goblin_pe_options_or_default(options), places, position,
-        GOBLIN_PE_SOME(struct goblin_pe_export_address, addresses, room), room, count);
+        GOBLIN_PE_SOME(struct goblin_pe_export_address, addresses, room), room, steps, count);
 }
 
 /* Goes on with the walk over the blocks of base relocations of an image, as goblin_pe_next_imports does over imports;
@@ -301,11 +301,11 @@ static inline struct goblin_pe_fault goblin_pe_next_export_addresses(
    goblin_pe_open says of the rest. */
 static inline struct goblin_pe_fault goblin_pe_next_blocks(
     const uint8_t *bytes, size_t length, const struct goblin_pe_options *options, const struct goblin_pe_places *places,
-    size_t *position, struct goblin_pe_block *blocks, size_t room, size_t *count)
+    size_t *position, struct goblin_pe_block *blocks, size_t room, size_t steps, size_t *count)
 {
     return goblin_pe_raw_next_blocks(
         GOBLIN_PE_BYTES(bytes, length), length, goblin_pe_options_or_default(options), places, position,
-        GOBLIN_PE_SOME(struct goblin_pe_block, blocks, room), room, count);
+        GOBLIN_PE_SOME(struct goblin_pe_block, blocks, room), room, steps, count);
 }
 
 /* Reads an object, which begins with a COFF header: says in `object` how many sections there are, and fills
@@ -351,11 +351,11 @@ static inline struct goblin_pe_fault goblin_pe_read_symbol_table(
    its string table only the names that are given are tested. No memory is taken. */
 static inline struct goblin_pe_fault goblin_pe_next_symbols(
     const uint8_t *bytes, size_t length, const struct goblin_pe_symbol_table *table, size_t *position,
-    struct goblin_pe_named_symbol *symbols, size_t room, size_t *count)
+    struct goblin_pe_named_symbol *symbols, size_t room, size_t steps, size_t *count)
 {
     return goblin_pe_raw_next_symbols(
         GOBLIN_PE_BYTES(bytes, length), length, table, position,
-        GOBLIN_PE_SOME(struct goblin_pe_named_symbol, symbols, room), room,
+        GOBLIN_PE_SOME(struct goblin_pe_named_symbol, symbols, room), room, steps,
         count);
 }
 
@@ -432,23 +432,24 @@ static inline struct goblin_pe_fault goblin_pe_read_relocations(
    none. No memory is taken. */
 static inline struct goblin_pe_fault goblin_pe_next_relocations(
     const uint8_t *bytes, size_t length, const struct goblin_pe_section *section, size_t *position,
-    struct goblin_pe_relocation *relocations, size_t room, size_t *count)
+    struct goblin_pe_relocation *relocations, size_t room, size_t steps, size_t *count)
 {
     struct goblin_pe_section sound = goblin_pe_sound_section(section);
     return goblin_pe_raw_next_relocations(
         GOBLIN_PE_BYTES(bytes, length), length, &sound, position,
-        GOBLIN_PE_SOME(struct goblin_pe_relocation, relocations, room), room, count);
+        GOBLIN_PE_SOME(struct goblin_pe_relocation, relocations, room), room, steps, count);
 }
 
 /* Goes on with the walk over the words of a block of base relocations from the index `position` on, 0 at the
    beginning: fills as many records as there is room for, moves `position` past them, and answers how many these
    are; 0 is the end, where there is room. A byte that is left after the words is no word. */
 static inline size_t goblin_pe_next_words(
-    const struct goblin_pe_block *block, size_t *position, struct goblin_pe_word *words, size_t room)
+    const struct goblin_pe_block *block, size_t *position, struct goblin_pe_word *words, size_t room,
+    size_t steps)
 {
     struct goblin_pe_block sound = *block;
     sound.words.bytes = GOBLIN_PE_BYTES(sound.words.bytes, sound.words.length);
-    return goblin_pe_raw_next_words(&sound, position, GOBLIN_PE_SOME(struct goblin_pe_word, words, room), room);
+    return goblin_pe_raw_next_words(&sound, position, GOBLIN_PE_SOME(struct goblin_pe_word, words, room), room, steps);
 }
 
 /* What maps the addresses of an image with these sections and this file alignment. */

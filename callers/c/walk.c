@@ -17,7 +17,7 @@ static bool count_imports(size_t length, const struct goblin_pe_places *places, 
     struct goblin_pe_fault fault;
     size_t found = 0, count = 0;
     do {
-        fault = goblin_pe_next_imports(bytes, length, NULL, places, &position, imports, BATCH, &count);
+        fault = goblin_pe_next_imports(bytes, length, NULL, places, &position, imports, BATCH, 0, &count);
         found += fault.status == GOBLIN_PE_STATUS_OK ? count : 0;
     } while (fault.status == GOBLIN_PE_STATUS_OK && count && found < most);
     printf("%zu imports%s\n", found, fault.status == GOBLIN_PE_STATUS_OK && count ? " and perhaps more" : "");
@@ -30,7 +30,7 @@ static bool count_exports(size_t length, const struct goblin_pe_places *places, 
     struct goblin_pe_fault fault;
     size_t position = 0, found = 0, count = 0;
     do {
-        fault = goblin_pe_next_exports(bytes, length, NULL, places, &position, exports, BATCH, &count);
+        fault = goblin_pe_next_exports(bytes, length, NULL, places, &position, exports, BATCH, 0, &count);
         found += fault.status == GOBLIN_PE_STATUS_OK ? count : 0;
     } while (fault.status == GOBLIN_PE_STATUS_OK && count && found < most);
     printf("%zu exports%s\n", found, fault.status == GOBLIN_PE_STATUS_OK && count ? " and perhaps more" : "");
