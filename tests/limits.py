@@ -85,6 +85,14 @@ def libraries_of_left_out_entries(base, size):
     return (directory + struct.pack("<I", 0x70000000) * (entries - 4) + bytes(4)).ljust(size - 8, b"\0") + b"a.dll".ljust(8, b"\0")
 
 
+def libraries_of_no_address_table(base, size):
+    """Libraries that are left out, as the address table that they share goes on to the end of the file."""
+    libraries = size // 40
+    table = base + 20 * libraries
+    record = struct.pack("<5I", table, 0, 0, base, table)
+    return (record * (libraries - 1) + bytes(20)).ljust(size, b"\1")
+
+
 def exports_in_one_text(base, size):
     """Exports of one address, the names of which begin so, too."""
     count = (size - 56) // 8
@@ -136,7 +144,7 @@ def next_symbols(file):
     position, count, found = c.c_size_t(), c.c_size_t(), 0
     fault = LIB.goblin_pe_raw_read_symbol_table(file, len(file), c.byref(header), c.byref(table))
     while not fault.status:
-        fault = LIB.goblin_pe_raw_next_symbols(file, len(file), c.byref(table), c.byref(position), room, 256, c.byref(count))
+        fault = LIB.goblin_pe_raw_next_symbols(file, len(file), c.byref(table), c.byref(position), room, 256, 0, c.byref(count))
         if not count.value:
             break
         found += count.value
@@ -156,19 +164,23 @@ def open_without_imports(file):
     return fault.status, tables.count("exports")
 
 
-def next_imports(file, options=STRICT, batches=1):
+def next_imports(file, options=STRICT, batches=1, steps=0):
     layout, directories = records.Layout(), (records.Directory * 16)()
     LIB.goblin_pe_raw_read_layout(file, len(file), c.byref(options), c.byref(layout), directories, 16, (records.Section * 1)(), 0)
     position, room, count, found = records.ImportCursor(), (records.Import * 256)(), c.c_size_t(), 0
     for _ in range(batches):
         fault = LIB.goblin_pe_raw_next_imports(
-            file, len(file), c.byref(options), c.byref(layout.places), c.byref(position), room, 256, c.byref(count))
+            file, len(file), c.byref(options), c.byref(layout.places), c.byref(position), room, 256, steps, c.byref(count))
         found += count.value
     return fault.status, found
 
 
 def next_imports_permissively(file):
     return next_imports(file, PERMISSIVE)
+
+
+def imports_within_steps(file):
+    return next_imports(file, PERMISSIVE, 1, 100000)
 
 
 def all_imports_permissively(file):
@@ -188,6 +200,10 @@ ROWS = {
     "exports in one text": (open_without_imports, lambda: in_one_section((0x1000, 40, 0, 0), exports_in_one_text, MIB // 2)),
     "imports that are all left out": (
         next_imports_permissively, lambda: in_one_section((0, 0, 0x1000, 40), libraries_of_left_out_entries, MIB // 8)),
+    "imports that are all left out, within steps": (
+        imports_within_steps, lambda: in_one_section((0, 0, 0x1000, 40), libraries_of_left_out_entries, MIB)),
+    "libraries that are all left out, within steps": (
+        imports_within_steps, lambda: in_one_section((0, 0, 0x1000, 40), libraries_of_no_address_table, MIB)),
     "many batches of one library": (
         all_imports_permissively, lambda: in_one_section((0, 0, 0x1000, 40), imports_of_one_library, 4 * MIB)),
     "a batch of many sections": (next_imports, lambda: bytes(images.hostile_image(64 * (65535 + 16)))),

@@ -277,7 +277,7 @@ class Tables(unittest.TestCase):
             with self.subTest(table=table):
                 said = records.SymbolTable(*table)
                 fault = calls.goblin_pe_raw_next_symbols(
-                    file, len(file), ctypes.byref(said), ctypes.byref(position), ctypes.byref(symbol), 0, ctypes.byref(count))
+                    file, len(file), ctypes.byref(said), ctypes.byref(position), ctypes.byref(symbol), 0, 0, ctypes.byref(count))
                 is_there = calls.goblin_pe_raw_symbol_at(file, len(file), ctypes.byref(said), 0, ctypes.byref(symbol))
                 self.assertEqual((fault.status, is_there, position.value), (status, table == (1, 2, 40, 0), 0))
 

@@ -45,7 +45,7 @@ static bool are_imports_walked_over(size_t *imports, size_t room)
     if (goblin_pe_read_layout(bytes, length, NULL, &layout, NULL, 0, NULL, 0).status != GOBLIN_PE_STATUS_OK)
         return false;
     for (*imports = 0; count; *imports += count)
-        if (goblin_pe_next_imports(bytes, length, NULL, &layout.places, &position, records, room, &count).status !=
+        if (goblin_pe_next_imports(bytes, length, NULL, &layout.places, &position, records, room, 0, &count).status !=
             GOBLIN_PE_STATUS_OK)
             return false;
     return true;
@@ -59,7 +59,7 @@ static bool are_exports_walked_over(size_t *exports, size_t room)
     if (goblin_pe_read_layout(bytes, length, NULL, &layout, NULL, 0, NULL, 0).status != GOBLIN_PE_STATUS_OK)
         return false;
     for (*exports = 0; count; *exports += count)
-        if (goblin_pe_next_exports(bytes, length, NULL, &layout.places, &position, records, room, &count).status !=
+        if (goblin_pe_next_exports(bytes, length, NULL, &layout.places, &position, records, room, 0, &count).status !=
             GOBLIN_PE_STATUS_OK)
             return false;
     return true;

@@ -82,7 +82,7 @@ static bool has_symbols(const struct goblin_pe_coff_header *header)
     if (!is_ok(goblin_pe_read_symbol_table(bytes, length, header, &table)))
         return false;
     for (;;) {
-        if (!is_ok(goblin_pe_next_symbols(bytes, length, &table, &position, &symbol, 1, &count)))
+        if (!is_ok(goblin_pe_next_symbols(bytes, length, &table, &position, &symbol, 1, 0, &count)))
             return false;
         if (!count)
             return next == table.record_count && !goblin_pe_symbol_at(bytes, length, &table, next, &symbol);
@@ -212,11 +212,11 @@ static bool goes_by_places(const struct goblin_pe_places *own)
     size_t index = 0, count = 77;
     places.number_of_sections = 1;
     places.section_table = length;
-    if (!is_fault(goblin_pe_next_imports(bytes, length, NULL, &places, &first, &import, 1, &count),
+    if (!is_fault(goblin_pe_next_imports(bytes, length, NULL, &places, &first, &import, 1, 0, &count),
                   GOBLIN_PE_STATUS_READ, GOBLIN_PE_READ_FAULT_BAD_OFFSET))
         return false;
     places.section_table = length - 39;
-    if (!is_fault(goblin_pe_next_exports(bytes, length, NULL, &places, &index, &export, 1, &count),
+    if (!is_fault(goblin_pe_next_exports(bytes, length, NULL, &places, &index, &export, 1, 0, &count),
                   GOBLIN_PE_STATUS_READ, GOBLIN_PE_READ_FAULT_TOO_BIG) ||
         count != 77)
         return false;
@@ -224,17 +224,17 @@ static bool goes_by_places(const struct goblin_pe_places *own)
     places.section_table = SIZE_MAX;
     places.has_imports = places.has_exports = true;
     places.imports.virtual_address = places.exports.virtual_address = 0xFFFFFFFF;
-    if (!is_fault(goblin_pe_next_imports(bytes, length, NULL, &places, &first, &import, 1, &count),
+    if (!is_fault(goblin_pe_next_imports(bytes, length, NULL, &places, &first, &import, 1, 0, &count),
                   GOBLIN_PE_STATUS_MALFORMED, GOBLIN_PE_CAUSE_UNMAPPED) ||
-        !is_fault(goblin_pe_next_exports(bytes, length, NULL, &places, &index, &export, 1, &count),
+        !is_fault(goblin_pe_next_exports(bytes, length, NULL, &places, &index, &export, 1, 0, &count),
                   GOBLIN_PE_STATUS_MALFORMED, GOBLIN_PE_CAUSE_UNMAPPED) ||
         !is_fault(goblin_pe_read_export_directory(bytes, length, NULL, &places, &directory),
                   GOBLIN_PE_STATUS_MALFORMED, GOBLIN_PE_CAUSE_UNMAPPED) ||
         count != 77)
         return false;
     places.has_imports = places.has_exports = false;
-    return is_ok(goblin_pe_next_imports(bytes, length, NULL, &places, &first, &import, 1, &count)) && !count &&
-           is_ok(goblin_pe_next_exports(bytes, length, NULL, &places, &index, &export, 1, &count)) && !count &&
+    return is_ok(goblin_pe_next_imports(bytes, length, NULL, &places, &first, &import, 1, 0, &count)) && !count &&
+           is_ok(goblin_pe_next_exports(bytes, length, NULL, &places, &index, &export, 1, 0, &count)) && !count &&
            is_ok(goblin_pe_read_export_directory(bytes, length, NULL, &places, &directory)) && !directory.is_read;
 }
 
@@ -384,20 +384,20 @@ static bool walks_and_adds(void)
     struct goblin_pe_relocation found[2];
     struct goblin_pe_word word[2];
     size_t position = 0, count;
-    if (goblin_pe_next_words(&block, &position, word, 2) != 2 || position != 2 || word[0].rva != 0xFFFFF004 ||
+    if (goblin_pe_next_words(&block, &position, word, 2, 0) != 2 || position != 2 || word[0].rva != 0xFFFFF004 ||
         word[0].typ != 3 || word[1].rva != 0xFFFFFFFF || word[1].typ != 10)
         return false;
-    if (goblin_pe_next_words(&block, &position, word, 2) != 1 || word[0].rva != 0xFFFFF000 || word[0].typ != 0 ||
-        position != 3 || goblin_pe_next_words(&block, &position, NULL, 0) ||
-        goblin_pe_next_words(&block, &position, word, 2))
+    if (goblin_pe_next_words(&block, &position, word, 2, 0) != 1 || word[0].rva != 0xFFFFF000 || word[0].typ != 0 ||
+        position != 3 || goblin_pe_next_words(&block, &position, NULL, 0, 0) ||
+        goblin_pe_next_words(&block, &position, word, 2, 0))
         return false;
     memset(&section, 0, sizeof section);
     section.number_of_relocations = 2;
     position = 1;
-    if (goblin_pe_next_relocations(relocation, 20, &section, &position, found, 2, &count).status || count != 1 ||
+    if (goblin_pe_next_relocations(relocation, 20, &section, &position, found, 2, 0, &count).status || count != 1 ||
         position != 2)
         return false;
-    if (!is_fault(goblin_pe_next_relocations(relocation, 19, &section, &position, found, 2, &count),
+    if (!is_fault(goblin_pe_next_relocations(relocation, 19, &section, &position, found, 2, 0, &count),
                   GOBLIN_PE_STATUS_READ, GOBLIN_PE_READ_FAULT_TOO_BIG))
         return false;
     return goblin_pe_checksum(words, sizeof words, 2) == 0x300B + 7 && goblin_pe_checksum(NULL, 0, 0) == 0;

@@ -38,7 +38,12 @@
    What a file of n bytes may take, beside the caller's records. A name is a text of the file, which nothing
    bounds but the file's end, and which is read once for each who has it: m names take n * m steps at most. A step
    of a long text takes some 0.15 nanoseconds where it is ASCII, else up to three. A walk is stopped after any batch,
-   but a batch ends only at a record, or where the table ends; no other call is stopped.
+   and a batch by its `steps`; no other call is stopped.
+
+   The `steps` of a call are how many records of its table it may look at, and for imports also how many records of
+   libraries and slots of their tables, whether or not these give something; 0 is no limit. The call ends after so many,
+   and the next one goes on from where it was left. A name may be read in each step, and the slots of an address table
+   are looked at in one go, so that the last one may take up to n / 4 more.
 
    call                              memory at most                        time at most
    kind_of, read_section_data,
@@ -85,7 +90,8 @@
 
    Time is for the caller to limit, too. What is passed over for one record are libraries without an import, entries
    that permissive mode leaves out, and name pointers that give no export, with their forwarders' texts: where
-   libraries share a table of such entries, 128 KiB may take a second, and 1 MiB a minute. Of half a mebibyte whose
+   libraries share a table of such entries, 128 KiB may take a second, and 1 MiB a minute, so give steps: 100,000 take
+   some tens of milliseconds where names are short. Of half a mebibyte whose
    imports begin two bytes apart in one text read_damage takes some twelve seconds.
 
    goblin_pe_records.h has the records, the numbers in them and the default options, as the proved library
@@ -231,10 +237,18 @@ static inline void goblin_pe_free_ranges(struct goblin_pe_ranges *ranges)
     memset(ranges, 0, sizeof *ranges);
 }
 
+/* Whether nothing comes from a cursor on that a call has left. */
+static inline bool goblin_pe_is_end(const struct goblin_pe_import_cursor *cursor)
+{
+    return cursor->is_begun && !cursor->has_next && !cursor->has_place && !cursor->is_untested;
+}
+
 /* Goes on with the walk over the imports of an image from `cursor`, zeros at the beginning: fills as many
    records as there is room for, says in `count` how many, and leaves in `cursor` where the next call goes on. The count 0
-   without a refusal is the end, where there is room; so it is of a file without imports, where these are not
-   asked for, and in permissive mode where their directory is an empty list there. What gives no import
+   without a refusal is the end, where there is room and no limit of steps; so it is of a file without imports, where these
+   are not asked for, and in permissive mode where their directory is an empty list there. The call ends after so many
+   `steps`, 0 for no limit, perhaps with the count 0: it is the end only where goblin_pe_is_end says so of the cursor. With
+   room for as many records as steps, a call takes all of them, but at the end. What gives no import
    goblin_pe_read_damage counts: `unmapped_entries` in either mode, `left_out_libraries` and `left_out_entries` in
    permissive mode. In strict mode the walk ends with a refusal where goblin_pe_open has one for its imports; what
    comes before it is given first, and no law says on which bytes that depends. The cursor is the walk in numbers: it
@@ -246,11 +260,11 @@ static inline void goblin_pe_free_ranges(struct goblin_pe_ranges *ranges)
    in some 25 milliseconds, so give room for thousands then. */
 static inline struct goblin_pe_fault goblin_pe_next_imports(
     const uint8_t *bytes, size_t length, const struct goblin_pe_options *options, const struct goblin_pe_places *places,
-    struct goblin_pe_import_cursor *cursor, struct goblin_pe_import *imports, size_t room, size_t *count)
+    struct goblin_pe_import_cursor *cursor, struct goblin_pe_import *imports, size_t room, size_t steps, size_t *count)
 {
     return goblin_pe_raw_next_imports(
         GOBLIN_PE_BYTES(bytes, length), length, goblin_pe_options_or_default(options), places, cursor,
-        GOBLIN_PE_SOME(struct goblin_pe_import, imports, room), room, count);
+        GOBLIN_PE_SOME(struct goblin_pe_import, imports, room), room, steps, count);
 }
 
 /* Reads the 20 bytes at this file offset as the record of a library in the import directory, puts it into `record`,
@@ -264,17 +278,18 @@ static inline bool goblin_pe_import_record_at(
     return goblin_pe_raw_import_record_at(GOBLIN_PE_BYTES(bytes, length), length, offset, record);
 }
 
-/* Goes on with the walk over the exports of an image, as goblin_pe_next_imports does over imports. The
-   position is the index of a name pointer, 0 at the beginning. There are none where permissive mode passes over
+/* Goes on with the walk over the exports of an image, as goblin_pe_next_imports does over imports, with no more of them
+   than `steps`, where these are not 0; name pointers that give no export are passed over without a step. The position is
+   the index of a name pointer, 0 at the beginning. There are none where permissive mode passes over
    a refused directory; strict mode refuses it at once. A name pointer gives no export where no export has its index as
    hint: it stands four times that index after the file offset of name_pointer_rva of the export directory's record. */
 static inline struct goblin_pe_fault goblin_pe_next_exports(
     const uint8_t *bytes, size_t length, const struct goblin_pe_options *options, const struct goblin_pe_places *places,
-    size_t *position, struct goblin_pe_export *exports, size_t room, size_t *count)
+    size_t *position, struct goblin_pe_export *exports, size_t room, size_t steps, size_t *count)
 {
     return goblin_pe_raw_next_exports(
         GOBLIN_PE_BYTES(bytes, length), length, goblin_pe_options_or_default(options), places, position,
-        GOBLIN_PE_SOME(struct goblin_pe_export, exports, room), room, count);
+        GOBLIN_PE_SOME(struct goblin_pe_export, exports, room), room, steps, count);
 }
 
 /* Reads what the export directory of an image says, with its ordinal base: the record that goblin_pe_open puts beside its
@@ -289,30 +304,30 @@ static inline struct goblin_pe_fault goblin_pe_read_export_directory(
 }
 
 /* Goes on with the walk over the entries of the export address table of an image, as goblin_pe_next_exports does over
-   exports: the records that goblin_pe_open puts into a table. The position is the index of an entry, 0 at the
+   exports, each in a step: the records that goblin_pe_open puts into a table. The position is the index of an entry, 0 at the
    beginning; with the ordinal base, which goblin_pe_read_export_directory reads, it is the ordinal that the entry stands
    for. goblin_pe_forwarder_at reads the forwarder of one. */
 static inline struct goblin_pe_fault goblin_pe_next_export_addresses(
     const uint8_t *bytes, size_t length, const struct goblin_pe_options *options, const struct goblin_pe_places *places,
-    size_t *position, struct goblin_pe_export_address *addresses, size_t room, size_t *count)
+    size_t *position, struct goblin_pe_export_address *addresses, size_t room, size_t steps, size_t *count)
 {
     return goblin_pe_raw_next_export_addresses(
         GOBLIN_PE_BYTES(bytes, length), length, goblin_pe_options_or_default(options), places, position,
-        GOBLIN_PE_SOME(struct goblin_pe_export_address, addresses, room), room, count);
+        GOBLIN_PE_SOME(struct goblin_pe_export_address, addresses, room), room, steps, count);
 }
 
-/* Goes on with the walk over the blocks of base relocations of an image, as goblin_pe_next_imports does over imports;
+/* Goes on with the walk over the blocks of base relocations of an image, as goblin_pe_next_exports does over exports;
    goblin_pe_next_words walks over the words of one. The position is the offset in the directory at which the next block
    begins, 0 at the beginning. There are none where permissive mode passes over a refused directory; strict mode refuses
    it at once. In both modes the walk ends with a refusal where a rest of the directory is no block: with the one that
    goblin_pe_open says of the rest. */
 static inline struct goblin_pe_fault goblin_pe_next_blocks(
     const uint8_t *bytes, size_t length, const struct goblin_pe_options *options, const struct goblin_pe_places *places,
-    size_t *position, struct goblin_pe_block *blocks, size_t room, size_t *count)
+    size_t *position, struct goblin_pe_block *blocks, size_t room, size_t steps, size_t *count)
 {
     return goblin_pe_raw_next_blocks(
         GOBLIN_PE_BYTES(bytes, length), length, goblin_pe_options_or_default(options), places, position,
-        GOBLIN_PE_SOME(struct goblin_pe_block, blocks, room), room, count);
+        GOBLIN_PE_SOME(struct goblin_pe_block, blocks, room), room, steps, count);
 }
 
 /* Reads an object, which begins with a COFF header: says in `object` how many sections there are, and fills
@@ -356,18 +371,18 @@ static inline struct goblin_pe_fault goblin_pe_read_symbol_table(
 }
 
 /* Goes on with the walk over the symbols of a table, from the record at the index `position` on, 0 at the
-   beginning: fills as many records as there is room for, says in `count` how many, and leaves in `position` the
-   index of the record that is read next. The count 0 without a refusal is the end, where there is room; so it is
+   beginning: fills as many records as there is room for, but no more than `steps`, where these are not 0, says in
+   `count` how many, and leaves in `position` the index of the record that is read next. The count 0 without a refusal is the end, where there is room; so it is
    of a table of zeros. The record at the position is read as a symbol, even where it is an auxiliary one of the
    symbol before it. A table may also be made by hand: it is refused where it does not lie in the file, and of
    its string table only the names that are given are tested. No memory is taken. */
 static inline struct goblin_pe_fault goblin_pe_next_symbols(
     const uint8_t *bytes, size_t length, const struct goblin_pe_symbol_table *table, size_t *position,
-    struct goblin_pe_named_symbol *symbols, size_t room, size_t *count)
+    struct goblin_pe_named_symbol *symbols, size_t room, size_t steps, size_t *count)
 {
     return goblin_pe_raw_next_symbols(
         GOBLIN_PE_BYTES(bytes, length), length, table, position,
-        GOBLIN_PE_SOME(struct goblin_pe_named_symbol, symbols, room), room,
+        GOBLIN_PE_SOME(struct goblin_pe_named_symbol, symbols, room), room, steps,
         count);
 }
 
@@ -438,30 +453,31 @@ static inline struct goblin_pe_fault goblin_pe_read_relocations(
 }
 
 /* Goes on with the walk over all relocations of a section of an object from the index `position` on, 0 at the
-   beginning: fills as many records as there is room for, says in `count` how many, and moves `position` past them.
-   The count 0 without a refusal is the end, where there is room. Where the section has more than its counter can say,
+   beginning: fills as many records as there is room for, but no more than `steps`, where these are not 0, says in
+   `count` how many, and moves `position` past them. The count 0 without a refusal is the end, where there is room. Where the section has more than its counter can say,
    the first record is none of them: its virtual_address is the number of all records, itself among them. Refused is
    a file that is too short for all of them, and one in which they begin at or past the end, even where there are
    none. No memory is taken. */
 static inline struct goblin_pe_fault goblin_pe_next_relocations(
     const uint8_t *bytes, size_t length, const struct goblin_pe_section *section, size_t *position,
-    struct goblin_pe_relocation *relocations, size_t room, size_t *count)
+    struct goblin_pe_relocation *relocations, size_t room, size_t steps, size_t *count)
 {
     struct goblin_pe_section sound = goblin_pe_sound_section(section);
     return goblin_pe_raw_next_relocations(
         GOBLIN_PE_BYTES(bytes, length), length, &sound, position,
-        GOBLIN_PE_SOME(struct goblin_pe_relocation, relocations, room), room, count);
+        GOBLIN_PE_SOME(struct goblin_pe_relocation, relocations, room), room, steps, count);
 }
 
 /* Goes on with the walk over the words of a block of base relocations from the index `position` on, 0 at the
-   beginning: fills as many records as there is room for, moves `position` past them, and answers how many these
-   are; 0 is the end, where there is room. A byte that is left after the words is no word. */
+   beginning: fills as many records as there is room for, but no more than `steps`, where these are not 0, moves
+   `position` past them, and answers how many these are; 0 is the end, where there is room. A byte that is left after the words is no word. */
 static inline size_t goblin_pe_next_words(
-    const struct goblin_pe_block *block, size_t *position, struct goblin_pe_word *words, size_t room)
+    const struct goblin_pe_block *block, size_t *position, struct goblin_pe_word *words, size_t room,
+    size_t steps)
 {
     struct goblin_pe_block sound = *block;
     sound.words.bytes = GOBLIN_PE_BYTES(sound.words.bytes, sound.words.length);
-    return goblin_pe_raw_next_words(&sound, position, GOBLIN_PE_SOME(struct goblin_pe_word, words, room), room);
+    return goblin_pe_raw_next_words(&sound, position, GOBLIN_PE_SOME(struct goblin_pe_word, words, room), room, steps);
 }
 
 /* What maps the addresses of an image with these sections and this file alignment. */

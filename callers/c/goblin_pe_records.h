@@ -16,15 +16,15 @@ extern "C" {
 #define GOBLIN_PE_INTERFACE_VERSION 4
 
 /* The sum of the interface that is declared here. goblin_pe_interface answers that of the library. */
-#define GOBLIN_PE_INTERFACE 0x36b9b8fcu
+#define GOBLIN_PE_INTERFACE 0x7ee19383u
 
 /* What follows .so. in the name by which programs ask for the shared library. */
-#define GOBLIN_PE_SONAME "4.36b9b8fc"
+#define GOBLIN_PE_SONAME "4.7ee19383"
 
 /* Only a library of this very interface has this call, so that a program is linked with no other. */
-uint32_t goblin_pe_interface_36b9b8fc(void);
+uint32_t goblin_pe_interface_7ee19383(void);
 #ifdef __GNUC__
-__attribute__((used)) static uint32_t (*const goblin_pe_needs_interface)(void) = goblin_pe_interface_36b9b8fc;
+__attribute__((used)) static uint32_t (*const goblin_pe_needs_interface)(void) = goblin_pe_interface_7ee19383;
 #endif
 
 /* What a file is, by its first bytes. This does not tell whether it can be read, and no call reads
@@ -1146,7 +1146,8 @@ struct goblin_pe_fault goblin_pe_raw_read_symbol_table(
     struct goblin_pe_symbol_table *table);
 struct goblin_pe_fault goblin_pe_raw_next_symbols(
     const uint8_t *bytes, size_t byte_count, const struct goblin_pe_symbol_table *table,
-    size_t *position, struct goblin_pe_named_symbol *records, size_t record_room, size_t *count);
+    size_t *position, struct goblin_pe_named_symbol *records, size_t record_room, size_t steps,
+    size_t *count);
 bool goblin_pe_raw_symbol_at(
     const uint8_t *bytes, size_t byte_count, const struct goblin_pe_symbol_table *table,
     size_t index, struct goblin_pe_named_symbol *symbol);
@@ -1159,28 +1160,29 @@ struct goblin_pe_fault goblin_pe_raw_read_te(
 struct goblin_pe_fault goblin_pe_raw_next_imports(
     const uint8_t *bytes, size_t byte_count, const struct goblin_pe_options *options,
     const struct goblin_pe_places *places, struct goblin_pe_import_cursor *cursor,
-    struct goblin_pe_import *records, size_t record_room, size_t *count);
+    struct goblin_pe_import *records, size_t record_room, size_t steps, size_t *count);
 struct goblin_pe_fault goblin_pe_raw_next_exports(
     const uint8_t *bytes, size_t byte_count, const struct goblin_pe_options *options,
     const struct goblin_pe_places *places, size_t *position, struct goblin_pe_export *records,
-    size_t record_room, size_t *count);
+    size_t record_room, size_t steps, size_t *count);
 struct goblin_pe_fault goblin_pe_raw_read_export_directory(
     const uint8_t *bytes, size_t byte_count, const struct goblin_pe_options *options,
     const struct goblin_pe_places *places, struct goblin_pe_export_directory *directory);
 struct goblin_pe_fault goblin_pe_raw_next_export_addresses(
     const uint8_t *bytes, size_t byte_count, const struct goblin_pe_options *options,
     const struct goblin_pe_places *places, size_t *position,
-    struct goblin_pe_export_address *records, size_t record_room, size_t *count);
+    struct goblin_pe_export_address *records, size_t record_room, size_t steps, size_t *count);
 struct goblin_pe_fault goblin_pe_raw_next_blocks(
     const uint8_t *bytes, size_t byte_count, const struct goblin_pe_options *options,
     const struct goblin_pe_places *places, size_t *position, struct goblin_pe_block *records,
-    size_t record_room, size_t *count);
+    size_t record_room, size_t steps, size_t *count);
 struct goblin_pe_fault goblin_pe_raw_next_relocations(
     const uint8_t *bytes, size_t byte_count, const struct goblin_pe_section *section,
-    size_t *position, struct goblin_pe_relocation *records, size_t record_room, size_t *count);
+    size_t *position, struct goblin_pe_relocation *records, size_t record_room, size_t steps,
+    size_t *count);
 size_t goblin_pe_raw_next_words(
     const struct goblin_pe_block *block, size_t *position, struct goblin_pe_word *words,
-    size_t word_room);
+    size_t word_room, size_t steps);
 uint32_t goblin_pe_raw_kind_of(const uint8_t *bytes, size_t byte_count);
 struct goblin_pe_fault goblin_pe_raw_open(
     const uint8_t *bytes, size_t byte_count, const struct goblin_pe_options *options,

@@ -79,7 +79,7 @@ static struct goblin_pe_fault read_symbols(struct records *r)
     if (fault.status == GOBLIN_PE_STATUS_OK)
         fault = goblin_pe_read_symbol_table(bytes, length, &r->object.coff_header, &r->symbol_table);
     if (fault.status == GOBLIN_PE_STATUS_OK)
-        fault = goblin_pe_next_symbols(bytes, length, &r->symbol_table, &r->position, r->symbols, 4, &r->count);
+        fault = goblin_pe_next_symbols(bytes, length, &r->symbol_table, &r->position, r->symbols, 4, 0, &r->count);
     return fault;
 }
 
@@ -88,14 +88,14 @@ static struct goblin_pe_fault called_by_places(const char *name, struct records 
 {
     const struct goblin_pe_places *places = &layout.places;
     if (!strcmp(name, "imports"))
-        return goblin_pe_next_imports(bytes, length, NULL, places, &r->place, r->imports, 4, &r->count);
+        return goblin_pe_next_imports(bytes, length, NULL, places, &r->place, r->imports, 4, 0, &r->count);
     if (!strcmp(name, "exports"))
-        return goblin_pe_next_exports(bytes, length, NULL, places, &r->position, r->exports, 4, &r->count);
+        return goblin_pe_next_exports(bytes, length, NULL, places, &r->position, r->exports, 4, 0, &r->count);
     if (!strcmp(name, "directory"))
         return goblin_pe_read_export_directory(bytes, length, NULL, places, &r->directory);
     if (!strcmp(name, "addresses"))
-        return goblin_pe_next_export_addresses(bytes, length, NULL, places, &r->position, r->addresses, 4, &r->count);
-    return goblin_pe_next_blocks(bytes, length, NULL, places, &r->position, r->blocks, 4, &r->count);
+        return goblin_pe_next_export_addresses(bytes, length, NULL, places, &r->position, r->addresses, 4, 0, &r->count);
+    return goblin_pe_next_blocks(bytes, length, NULL, places, &r->position, r->blocks, 4, 0, &r->count);
 }
 
 static struct goblin_pe_fault called(const char *name, struct records *r)

@@ -105,7 +105,7 @@ static bool a_walk(void)
     if (goblin_pe_read_layout(bytes, length, NULL, &layout, NULL, 0, NULL, 0).status)
         return false;
     do {
-        if (goblin_pe_next_exports(bytes, length, NULL, &layout.places, &position, room, 1, &count).status)
+        if (goblin_pe_next_exports(bytes, length, NULL, &layout.places, &position, room, 1, 0, &count).status)
             return false;
         all += count;
     } while (count);

@@ -155,7 +155,7 @@ static struct goblin_pe_fault put_symbols(const uint8_t *bytes, size_t length,
     if (fault.status != GOBLIN_PE_STATUS_OK)
         return fault;
     do {
-        fault = goblin_pe_next_symbols(bytes, length, &table, &position, symbols, 16, &count);
+        fault = goblin_pe_next_symbols(bytes, length, &table, &position, symbols, 16, 0, &count);
         for (size_t i = 0; fault.status == GOBLIN_PE_STATUS_OK && i < count; i++) {
             const struct goblin_pe_symbol *s = &symbols[i].symbol;
             printf("symbol %zu value=%u section=%d class=%u aux=%u", symbols[i].index, s->value,

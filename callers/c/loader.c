@@ -193,7 +193,7 @@ static int relocate(struct module *m)
     for (size_t i = 0; moved && i < m->tables.block_count; i++) {
         struct goblin_pe_word word;
         size_t position = 0;
-        while (goblin_pe_next_words(&m->tables.blocks[i], &position, &word, 1)) {
+        while (goblin_pe_next_words(&m->tables.blocks[i], &position, &word, 1, 0)) {
             size_t size = word.typ == GOBLIN_PE_IMAGE_REL_BASED_DIR64 ? 8 : 4;
             uint8_t *place = place_of(m, word.rva, size);
             if (word.typ == GOBLIN_PE_IMAGE_REL_BASED_ABSOLUTE)

@@ -94,7 +94,7 @@ static bool walks_over_imports(const struct goblin_pe_places *places, const stru
     struct goblin_pe_import imports[2];
     size_t found = 0, count = 0;
     do {
-        if (goblin_pe_next_imports(bytes, length, NULL, places, &position, imports, 2, &count).status !=
+        if (goblin_pe_next_imports(bytes, length, NULL, places, &position, imports, 2, 0, &count).status !=
             GOBLIN_PE_STATUS_OK)
             return false;
         for (size_t i = 0; i < count; i++, found++)
@@ -109,7 +109,7 @@ static bool walks_over_exports(const struct goblin_pe_places *places, const stru
     struct goblin_pe_export exports[2];
     size_t position = 0, found = 0, count = 0;
     do {
-        if (goblin_pe_next_exports(bytes, length, NULL, places, &position, exports, 2, &count).status !=
+        if (goblin_pe_next_exports(bytes, length, NULL, places, &position, exports, 2, 0, &count).status !=
             GOBLIN_PE_STATUS_OK)
             return false;
         for (size_t i = 0; i < count; i++, found++)
@@ -127,7 +127,7 @@ static bool walks_over_addresses(const struct goblin_pe_places *places, const st
     size_t position = 0, count = 0;
     do {
         size_t from = position;
-        if (goblin_pe_next_export_addresses(bytes, length, NULL, places, &position, found, 2, &count).status !=
+        if (goblin_pe_next_export_addresses(bytes, length, NULL, places, &position, found, 2, 0, &count).status !=
                 GOBLIN_PE_STATUS_OK ||
             position != from + count || position > tables->export_address_count)
             return false;
@@ -158,7 +158,7 @@ static bool walks_over_blocks(const struct goblin_pe_file *file, const struct go
     struct goblin_pe_fault fault;
     size_t position = 0, found = 0, count = 0;
     for (;;) {
-        fault = goblin_pe_next_blocks(bytes, length, NULL, &file->places, &position, blocks, 2, &count);
+        fault = goblin_pe_next_blocks(bytes, length, NULL, &file->places, &position, blocks, 2, 0, &count);
         if (fault.status != GOBLIN_PE_STATUS_OK || !count)
             break;
         for (size_t i = 0; i < count; i++, found++)

@@ -31,9 +31,9 @@ static bool makes_the_other_calls(void)
     goblin_pe_free_ranges(&ranges);
     is_granted &= goblin_pe_read_layout(image.bytes, image.length, NULL, &layout, NULL, 0, NULL, 0).status ==
                   GOBLIN_PE_STATUS_OK;
-    is_granted &= goblin_pe_next_imports(image.bytes, image.length, NULL, &layout.places, &position, &import, 1, &count)
+    is_granted &= goblin_pe_next_imports(image.bytes, image.length, NULL, &layout.places, &position, &import, 1, 0, &count)
                       .status == GOBLIN_PE_STATUS_OK;
-    is_granted &= goblin_pe_next_exports(image.bytes, image.length, NULL, &layout.places, &place, &export, 1, &count)
+    is_granted &= goblin_pe_next_exports(image.bytes, image.length, NULL, &layout.places, &place, &export, 1, 0, &count)
                       .status == GOBLIN_PE_STATUS_OK;
     is_granted &=
         goblin_pe_read_object(object.bytes, object.length, NULL, &parts, &section, 1).status == GOBLIN_PE_STATUS_OK;

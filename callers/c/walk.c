@@ -33,7 +33,7 @@ static bool count_imports(const uint8_t *bytes, size_t length, const struct gobl
     struct goblin_pe_fault fault;
     size_t found = 0, count = 0;
     do {
-        fault = goblin_pe_next_imports(bytes, length, NULL, places, &position, imports, BATCH, &count);
+        fault = goblin_pe_next_imports(bytes, length, NULL, places, &position, imports, BATCH, 0, &count);
         found += fault.status == GOBLIN_PE_STATUS_OK ? count : 0;
     } while (fault.status == GOBLIN_PE_STATUS_OK && count && found < most);
     printf("%zu imports%s\n", found, fault.status == GOBLIN_PE_STATUS_OK && count ? " and perhaps more" : "");
@@ -46,7 +46,7 @@ static bool count_exports(const uint8_t *bytes, size_t length, const struct gobl
     struct goblin_pe_fault fault;
     size_t position = 0, found = 0, count = 0;
     do {
-        fault = goblin_pe_next_exports(bytes, length, NULL, places, &position, exports, BATCH, &count);
+        fault = goblin_pe_next_exports(bytes, length, NULL, places, &position, exports, BATCH, 0, &count);
         found += fault.status == GOBLIN_PE_STATUS_OK ? count : 0;
     } while (fault.status == GOBLIN_PE_STATUS_OK && count && found < most);
     printf("%zu exports%s\n", found, fault.status == GOBLIN_PE_STATUS_OK && count ? " and perhaps more" : "");

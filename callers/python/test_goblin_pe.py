@@ -1,6 +1,7 @@
 """Tries the module beyond its listings: python3 -X dev -m unittest test_goblin_pe."""
 import array
 import concurrent.futures
+import contextlib
 import copy
 import ctypes
 import dataclasses
@@ -622,6 +623,30 @@ class Files(unittest.TestCase):
         call = goblin_pe._LIB.goblin_pe_raw_next_imports
         with unittest.mock.patch.object(goblin_pe._LIB, "goblin_pe_raw_next_imports", wraps=call) as counted:
             return sum(1 for _ in layout.walk_imports()), counted.call_count
+
+    def test_a_walk_ends_after_so_many_steps(self):
+        """A record, the slot of its one import, and that of its address table are a step each. Permissive mode tests the address
+        table first, and then looks once more for the end."""
+        for options, wanted in (Options(), [0, 0, 1, 1]), (Options(is_permissive=True), [0, 0, 0, 1, 1]):
+            found, last = [], len(wanted) - 1
+            for steps in range(len(wanted)):
+                rows = Layout(sample("imports_by_name_x64.dll"), options).walk_imports(steps)
+                found.append(0)
+                with self.subTest(steps=steps), contextlib.nullcontext() if steps == last else self.assertRaisesRegex(
+                        goblin_pe.OutOfSteps, "^the walk has taken its %d steps$" % steps):
+                    for _ in rows:
+                        found[steps] += 1
+            self.assertEqual(found, wanted)
+
+    def test_a_walk_goes_on_after_each_step(self):
+        data = with_libraries(with_section_names(3, 200), [b"a.dll", b"b.dll", b"c.dll"], [3, 0, 2])
+        layout, cursor, count, found = Layout(data, Options(resolve_rva=False)), goblin_pe.records.ImportCursor(), ctypes.c_size_t(), []
+        room, call = (goblin_pe.records.Import * 1)(), layout._next(DirectoryType.IMPORT_TABLE)
+        for _ in range(100):
+            self.assertFalse(call(layout._address, len(data), ctypes.byref(cursor), room, 1, 1, ctypes.byref(count)).status)
+            found += [it.slot for it in room[:count.value]]
+        self.assertTrue(cursor.is_begun and not (cursor.has_next or cursor.has_place or cursor.is_untested))
+        self.assertEqual(found, [it.slot for it in layout.walk_imports()])
 
     def test_a_walk_ends_with_the_refusal_of_a_read(self):
         data = bytearray(sample("imports_by_name_x64.dll"))

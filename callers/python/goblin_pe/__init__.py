@@ -69,7 +69,7 @@ from .records import (
 from .rows import (
     NO_TEXT as _NO_TEXT, Block as Block, Export as Export, ExportAddress as ExportAddress,
     ExportDirectory as ExportDirectory, ExportEntry as ExportEntry, Import as Import, Library as Library, Range as Range,
-    RichHeader as RichHeader, Rows as _Rows,
+    OutOfSteps as OutOfSteps, RichHeader as RichHeader, Rows as _Rows,
     Section as Section, SectionData as SectionData, SectionView as SectionView, Symbol as Symbol, batches as _batches,
     data_of as _data_of, growing_batches as _growing_batches, record_of as _section_record, room as _room, view_of as _view_of)
 
@@ -114,9 +114,9 @@ _MOST_KEPT = 1 << 20
 
 
 def _walk(data: _Kept, kind: _t.Any, row: str, call: _t.Callable[..., records.Fault], position: _t.Any,
-          most: int = _BATCH) -> _t.Iterator[_t.Any]:
+          most: int = _BATCH, steps: _t.Optional[int] = None) -> _t.Iterator[_t.Any]:
     # the rows of a walk, each made when it is asked for; large batches grow
-    batches = _growing_batches(data, _room(kind, most), call, position, _LARGEST_BATCH if most > _BATCH else 0)
+    batches = _growing_batches(data, _room(kind, most), call, position, _LARGEST_BATCH if most > _BATCH else 0, steps)
     return _itertools.chain.from_iterable(
         map(getattr(_Rows(data, address, _MOST_KEPT), row), _laid_out.first_of(found, count)) for address, count, found in batches)
 
@@ -547,10 +547,11 @@ class Layout(_File):
         call, asked = getattr(_LIB, _WALKED[table][0]), options or self._with_imports
         return lambda address, length, *to: call(address, length, _c.byref(asked), _c.byref(self._places), *to)
 
-    def _walked(self, table: DirectoryType, row: str) -> _t.Iterator[_t.Any]:
-        # the rows of a table
+    def _walked(self, table: DirectoryType, row: str, steps: _t.Optional[int]) -> _t.Iterator[_t.Any]:
+        # the rows of a table, within so many steps
         _, kind, position = _WALKED[table]
-        return _walk(self._bytes(), kind, row, self._next(table), position(), self._batch())
+        limit = None if steps is None else _size(steps)
+        return _walk(self._bytes(), kind, row, self._next(table), position(), self._batch(), limit)
 
     def _records(self, table: DirectoryType) -> _t.Iterator[_t.Tuple[int, _t.Iterable[_t.Any]]]:
         # the records of a table, batch by batch: how many, and these
@@ -584,11 +585,12 @@ class Layout(_File):
             return State.READ if table == DirectoryType.IMPORT_TABLE else State.REFUSED
         return State.READ
 
-    def walk_imports(self) -> _t.Iterator[Import]:
-        """The imports one by one, of which none is kept: also where the options left them out. In strict mode Refused is
+    def walk_imports(self, steps: _t.Optional[int] = None) -> _t.Iterator[Import]:
+        """The imports one by one, of which none is kept: also where the options left them out. With `steps` it raises OutOfSteps
+        once it has looked at so many slots and records of its tables, whether or not these gave an import. In strict mode Refused is
         raised where it would be of the list, after what comes before; no law says on which bytes that depends. What gives no
         import is counted by `damage`: `unmapped_entries` in either mode, the other two in permissive mode."""
-        return self._walked(DirectoryType.IMPORT_TABLE, "imported")
+        return self._walked(DirectoryType.IMPORT_TABLE, "imported", steps)
 
     def walk_libraries(self) -> _t.Iterator[Library]:
         """The libraries of which something is imported one by one, in the order of their records, as walk_imports gives imports.
@@ -615,9 +617,9 @@ class Layout(_File):
             _LIB.goblin_pe_raw_import_record_at(address, length, offset, _c.byref(record))
         return Library(name, offset, record.time_date_stamp, record.forwarder_chain, record.name_rva, index)
 
-    def walk_exports(self) -> _t.Iterator[Export]:
-        """The exports one by one, of which none is kept."""
-        return self._walked(DirectoryType.EXPORT_TABLE, "exported")
+    def walk_exports(self, steps: _t.Optional[int] = None) -> _t.Iterator[Export]:
+        """The exports one by one, of which none is kept. With `steps` it raises OutOfSteps after so many."""
+        return self._walked(DirectoryType.EXPORT_TABLE, "exported", steps)
 
     def find_export(self, name: _t.Union[bytes, str]) -> _t.Optional[Export]:
         """The first export of this name; None where there is none. It walks over the exports, of which it keeps none."""
@@ -668,11 +670,11 @@ class Layout(_File):
         for it in _itertools.chain.from_iterable(_laid_out.first_of(found, count) for _, count, found in batches):
             yield ExportEntry(next(ordinals), it.rva, it.forwards, self.forwarder_at(it.rva) if it.forwards else None)
 
-    def walk_blocks(self) -> _t.Iterator[Block]:
-        """The blocks of base relocations one by one, of which none is kept. Where a rest of their directory is no block, Refused
-        is raised in either mode, after what comes before, as block_rest of a Pe has it; and where strict mode refuses the
-        directory."""
-        return self._walked(DirectoryType.BASE_RELOCATION_TABLE, "block")
+    def walk_blocks(self, steps: _t.Optional[int] = None) -> _t.Iterator[Block]:
+        """The blocks of base relocations one by one, of which none is kept. With `steps` it raises OutOfSteps after so many. Where
+        a rest of their directory is no block, Refused is raised in either mode, after what comes before, as block_rest of a Pe
+        has it; and where strict mode refuses the directory."""
+        return self._walked(DirectoryType.BASE_RELOCATION_TABLE, "block", steps)
 
     @property
     def symbols(self) -> _t.Tuple[Symbol, ...]:

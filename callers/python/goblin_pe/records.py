@@ -7,7 +7,7 @@ from typing import Annotated, Any, Dict, List, NamedTuple, Tuple
 from ._laid_out import Address, HandedOver, Record, header, record, tables, to
 
 # The sum of the interface that is declared here: of its records, the numbers in them, and its calls.
-INTERFACE = 0x36b9b8fc
+INTERFACE = 0x7ee19383
 
 
 @record
@@ -1099,7 +1099,7 @@ CALLS: Dict[str, Tuple[Any, List[Any]]] = {
     "goblin_pe_raw_read_symbol_table":
         (Fault, [c.c_void_p, c.c_size_t, to(CoffHeader), to(SymbolTable)]),
     "goblin_pe_raw_next_symbols":
-        (Fault, [c.c_void_p, c.c_size_t, to(SymbolTable), to(c.c_size_t), to(NamedSymbol), c.c_size_t, to(c.c_size_t)]),
+        (Fault, [c.c_void_p, c.c_size_t, to(SymbolTable), to(c.c_size_t), to(NamedSymbol), c.c_size_t, c.c_size_t, to(c.c_size_t)]),
     "goblin_pe_raw_symbol_at":
         (c.c_bool, [c.c_void_p, c.c_size_t, to(SymbolTable), c.c_size_t, to(NamedSymbol)]),
     "goblin_pe_raw_read_relocations":
@@ -1107,19 +1107,19 @@ CALLS: Dict[str, Tuple[Any, List[Any]]] = {
     "goblin_pe_raw_read_te":
         (Fault, [c.c_void_p, c.c_size_t, to(TeHeader), to(Section), c.c_size_t]),
     "goblin_pe_raw_next_imports":
-        (Fault, [c.c_void_p, c.c_size_t, to(Options), to(Places), to(ImportCursor), to(Import), c.c_size_t, to(c.c_size_t)]),
+        (Fault, [c.c_void_p, c.c_size_t, to(Options), to(Places), to(ImportCursor), to(Import), c.c_size_t, c.c_size_t, to(c.c_size_t)]),
     "goblin_pe_raw_next_exports":
-        (Fault, [c.c_void_p, c.c_size_t, to(Options), to(Places), to(c.c_size_t), to(Export), c.c_size_t, to(c.c_size_t)]),
+        (Fault, [c.c_void_p, c.c_size_t, to(Options), to(Places), to(c.c_size_t), to(Export), c.c_size_t, c.c_size_t, to(c.c_size_t)]),
     "goblin_pe_raw_read_export_directory":
         (Fault, [c.c_void_p, c.c_size_t, to(Options), to(Places), to(ExportDirectory)]),
     "goblin_pe_raw_next_export_addresses":
-        (Fault, [c.c_void_p, c.c_size_t, to(Options), to(Places), to(c.c_size_t), to(ExportAddress), c.c_size_t, to(c.c_size_t)]),
+        (Fault, [c.c_void_p, c.c_size_t, to(Options), to(Places), to(c.c_size_t), to(ExportAddress), c.c_size_t, c.c_size_t, to(c.c_size_t)]),
     "goblin_pe_raw_next_blocks":
-        (Fault, [c.c_void_p, c.c_size_t, to(Options), to(Places), to(c.c_size_t), to(Block), c.c_size_t, to(c.c_size_t)]),
+        (Fault, [c.c_void_p, c.c_size_t, to(Options), to(Places), to(c.c_size_t), to(Block), c.c_size_t, c.c_size_t, to(c.c_size_t)]),
     "goblin_pe_raw_next_relocations":
-        (Fault, [c.c_void_p, c.c_size_t, to(Section), to(c.c_size_t), to(Relocation), c.c_size_t, to(c.c_size_t)]),
+        (Fault, [c.c_void_p, c.c_size_t, to(Section), to(c.c_size_t), to(Relocation), c.c_size_t, c.c_size_t, to(c.c_size_t)]),
     "goblin_pe_raw_next_words":
-        (c.c_size_t, [to(Block), to(c.c_size_t), to(Word), c.c_size_t]),
+        (c.c_size_t, [to(Block), to(c.c_size_t), to(Word), c.c_size_t, c.c_size_t]),
     "goblin_pe_raw_kind_of":
         (c.c_uint32, [c.c_void_p, c.c_size_t]),
     "goblin_pe_raw_open":

@@ -302,25 +302,51 @@ def room(kind: Any, count: int) -> Any:
     return (kind * (count + 1))()
 
 
+class OutOfSteps(Exception):
+    """A walk has taken all the steps that it was given: `steps` of them."""
+
+    __module__ = "goblin_pe"
+
+    def __init__(self, steps: int):
+        super().__init__("the walk has taken its %d steps" % steps)
+        self.steps = steps
+
+    def __reduce__(self) -> Tuple[Any, ...]:
+        return type(self), (self.steps,), self.__dict__
+
+
 def batches(data: Kept, found: Any, call: Callable[..., records.Fault], position: Any) -> Iterator[Tuple[int, int]]:
     """What a walk gives into this room, as long as there is more: the address of the file's bytes, and how many records.
-    `call` takes the address, the length, the position, the room, how much that is, and the count."""
+    `call` takes the address, the length, the position, the room, how much that is, the steps, and the count."""
     return ((address, count) for address, count, _ in growing_batches(data, found, call, position, 0))
 
 
 def growing_batches(data: Kept, found: Any, call: Callable[..., records.Fault], position: Any,
-                    most: int) -> Iterator[Tuple[int, int, Any]]:
+                    most: int, limit: Optional[int] = None) -> Iterator[Tuple[int, int, Any]]:
     """As `batches`, and the room that they are in: this one, and each time that it was full one for four times as many, up to so
-    many records."""
-    count = c.c_size_t()
+    many records. With a limit of steps no call takes more of them than it has room for: so over imports it takes all, but at
+    the end, and over others one for each record."""
+    count, left = c.c_size_t(), limit
     while True:
+        steps = 0 if left is None else min(left, len(found) - 1)
+        if limit is not None and left == 0:
+            raise OutOfSteps(limit)
         with held(data) as (address, length):
-            test(call(address, length, c.byref(position), found, len(found) - 1, c.byref(count)))
-        if not count.value:
+            test(call(address, length, c.byref(position), found, len(found) - 1, steps, c.byref(count)))
+        is_cursor = isinstance(position, records.ImportCursor)
+        if left is not None:
+            left -= steps if is_cursor else count.value
+        if count.value:
+            yield address, count.value, found
+        elif left is None or not is_cursor or _is_end(position):
             return
-        yield address, count.value, found
         if count.value == len(found) - 1 < most:
             found = _larger(found, most)
+
+
+def _is_end(cursor: records.ImportCursor) -> bool:
+    # whether nothing comes from there on
+    return not (cursor.has_next or cursor.has_place or cursor.is_untested)
 
 
 def _larger(found: Any, most: int) -> Any:

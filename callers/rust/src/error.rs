@@ -30,6 +30,16 @@ impl Error {
         second: 0,
     });
 
+    // That a walk has taken all the steps that it was given, so many.
+    pub(crate) const fn out_of_steps(steps: usize) -> Error {
+        Error(raw::Fault {
+            status: ErrorKind::OutOfSteps as u32,
+            cause: 0,
+            first: steps as u64,
+            second: 0,
+        })
+    }
+
     // The refusal that a fault says, where it says one.
     pub(crate) fn of(fault: raw::Fault) -> Option<Error> {
         (fault.status != 0).then_some(Error(fault))
@@ -117,6 +127,9 @@ impl fmt::Display for Error {
         let length = raw::fault_text(&self.0, &mut text).min(text.len());
         match (self.kind(), self.0.status) {
             (ErrorKind::Unknown, status) => write!(f, "refused, by the unknown status {status}"),
+            (ErrorKind::OutOfSteps, _) => {
+                f.pad(&format!("the walk has taken its {} steps", self.0.first))
+            }
             _ => f.pad(&String::from_utf8_lossy(&text[..length])),
         }
     }

@@ -251,6 +251,9 @@ struct Batches<T, P> {
     batch: usize,
     most: usize,
     position: P,
+    // How many steps may be taken, and how many are left, where there is a limit.
+    limit: Option<usize>,
+    left: usize,
     // Whether no more are read: after the last and a refusal, and where the file has no such table.
     is_over: bool,
 }
@@ -265,7 +268,18 @@ impl<T, P: Position> Batches<T, P> {
             batch,
             most: batch,
             position,
+            limit: None,
+            left: 0,
             is_over: false,
+        }
+    }
+
+    // Takes no more steps than these from here on.
+    fn within(self, steps: usize) -> Self {
+        Batches {
+            limit: Some(steps),
+            left: steps,
+            ..self
         }
     }
 
@@ -288,13 +302,14 @@ impl<T, P: Position> Batches<T, P> {
     }
 
     // The next record, or the refusal that ends the walk. Where those that were read are taken, and others may
-    // follow, the call reads these.
+    // follow, the call reads these, within so many steps; 0 is no limit.
     fn next(
         &mut self,
-        call: impl FnOnce(&mut P, &mut Vec<T>) -> Fault,
+        mut call: impl FnMut(&mut P, usize, &mut Vec<T>) -> Fault,
     ) -> Option<Result<&T, Error>> {
-        if self.next == self.records.len() && !self.is_over {
-            if let Err(error) = self.fill(call) {
+        // (steps that give nothing may take more than one call)
+        while self.next == self.records.len() && !self.is_over {
+            if let Err(error) = self.fill(&mut call) {
                 return Some(Err(error));
             }
         }
@@ -310,8 +325,12 @@ impl<T, P: Position> Batches<T, P> {
     }
 
     // Reads the next records, and answers whether that was refused. More are read than before where these took all the
-    // room; where memory for more of them is refused, it reads as many as before.
-    fn fill(&mut self, call: impl FnOnce(&mut P, &mut Vec<T>) -> Fault) -> Result<(), Error> {
+    // room; where memory for more of them is refused, it reads as many as before. With a limit it takes no more steps
+    // than it has room for: so it takes all of them, but at the end.
+    fn fill(
+        &mut self,
+        mut call: impl FnMut(&mut P, usize, &mut Vec<T>) -> Fault,
+    ) -> Result<(), Error> {
         let had = self.records.capacity();
         let room = match had {
             0 => self.first,
@@ -320,10 +339,16 @@ impl<T, P: Position> Batches<T, P> {
         };
         self.end();
         make_room(&mut self.records, room).or_else(|e| if had == 0 { Err(e) } else { Ok(()) })?;
-        Error::test(call(&mut self.position, &mut self.records))?;
+        let room = self.records.capacity();
+        let steps = self.limit.map_or(0, |_| self.left.min(room));
+        if let (Some(limit), 0) = (self.limit, steps) {
+            return Err(Error::out_of_steps(limit));
+        }
+        Error::test(call(&mut self.position, steps, &mut self.records))?;
         let count = self.records.len();
-        let is_full = count == self.records.capacity();
-        self.is_over = count == 0 || self.position.is_end(is_full);
+        self.left -= steps;
+        let is_full = count == if steps == 0 { room } else { steps };
+        self.is_over = (count == 0 && steps == 0) || self.position.is_end(is_full);
         Ok(())
     }
 }
@@ -347,14 +372,23 @@ macro_rules! walks {
                 let batches = Batches::of_table(&places, places.$is_there, start(&places), BATCH);
                 $name { bytes, options, places, batches }
             }
+
+            /// The walk from here on within so many steps: each looks at a record of its table, or at a slot, whether
+            /// or not that gives something. Where more would be taken, it ends with an error of the kind
+            /// [`ErrorKind::OutOfSteps`](crate::ErrorKind::OutOfSteps).
+            #[must_use]
+            pub fn within(self, steps: usize) -> Self {
+                let batches = self.batches.within(steps);
+                $name { batches, ..self }
+            }
         }
 
         impl<'a> Iterator for $name<'a> {
             type Item = Result<$item, Error>;
 
             fn next(&mut self) -> Option<Result<$item, Error>> {
-                let found = self.batches.next(|position, records| {
-                    $call(self.bytes, &self.options, &self.places, position, records)
+                let found = self.batches.next(|position, steps, records| {
+                    $call(self.bytes, &self.options, &self.places, position, steps, records)
                 })?;
                 Some(found.map(<$item>::from))
             }
@@ -391,9 +425,10 @@ fn next_blocks<'a>(
     options: &Options,
     places: &raw::Places,
     position: &mut BlockPosition,
+    steps: usize,
     blocks: &mut Vec<raw::Block<'a>>,
 ) -> Fault {
-    raw::next_blocks(bytes, options, places, &mut position.offset, blocks)
+    raw::next_blocks(bytes, options, places, &mut position.offset, steps, blocks)
 }
 
 /// A walk over the entries of the export address table of an image, each with its forwarder, in constant memory but for
@@ -427,7 +462,7 @@ impl<'a> WalkExportAddresses<'a> {
     fn next_address(&mut self) -> Option<Result<raw::ExportAddress, Error>> {
         let (bytes, options, places) = (self.bytes, &self.options, &self.places);
         let ordinal = &mut self.ordinal;
-        let found = self.batches.next(|position, records| {
+        let found = self.batches.next(|position, steps, records| {
             if *position == 0 {
                 let mut directory = raw::ExportDirectory::default();
                 let fault = raw::read_export_directory(bytes, options, places, &mut directory);
@@ -436,7 +471,7 @@ impl<'a> WalkExportAddresses<'a> {
                 }
                 *ordinal = directory.table.ordinal_base as usize;
             }
-            raw::next_export_addresses(bytes, options, places, position, records)
+            raw::next_export_addresses(bytes, options, places, position, steps, records)
         })?;
         Some(found.copied())
     }
@@ -517,10 +552,10 @@ impl<'a> WalkLibraries<'a> {
 
     // The next import among those that are read. Others are read from the record after the last one's on.
     fn next_import(&mut self) -> Option<Result<raw::Import<'a>, Error>> {
-        let found = self.batches.next(|position, records| {
+        let found = self.batches.next(|position, steps, records| {
             position.has_place = false;
             position.is_untested = false;
-            raw::next_imports(self.bytes, &self.options, &self.places, position, records)
+            raw::next_imports(self.bytes, &self.options, &self.places, position, steps, records)
         })?;
         Some(found.copied())
     }
@@ -592,8 +627,8 @@ impl Iterator for WalkRelocations<'_> {
     type Item = Result<Relocation, Error>;
 
     fn next(&mut self) -> Option<Result<Relocation, Error>> {
-        let found = self.batches.next(|position, records| {
-            raw::next_relocations(self.bytes, &self.section, position, records)
+        let found = self.batches.next(|position, steps, records| {
+            raw::next_relocations(self.bytes, &self.section, position, steps, records)
         })?;
         Some(found.copied())
     }
@@ -621,7 +656,9 @@ impl<'a> Symbols<'a> {
         let mut table = raw::SymbolTable::default();
         Error::test(raw::read_symbol_table(bytes, header, &mut table))?;
         let mut batches = Batches::new(0, BATCH);
-        batches.fill(|position, records| raw::next_symbols(bytes, &table, position, records))?;
+        batches.fill(|position, steps, records| {
+            raw::next_symbols(bytes, &table, position, steps, records)
+        })?;
         Ok(Symbols {
             bytes,
             table,
@@ -671,8 +708,8 @@ impl<'a> Iterator for Symbols<'a> {
     type Item = Symbol<'a>;
 
     fn next(&mut self) -> Option<Symbol<'a>> {
-        let found = self.batches.next(|position, records| {
-            raw::next_symbols(self.bytes, &self.table, position, records)
+        let found = self.batches.next(|position, steps, records| {
+            raw::next_symbols(self.bytes, &self.table, position, steps, records)
         })?;
         // (what is refused is so at the first call)
         found.ok().map(Symbol::from)
@@ -693,8 +730,17 @@ mod tests {
     use super::*;
 
     // What a call reads of a table of so many numbers, which a refusal may follow.
-    fn read(total: usize, refused: bool, position: &mut usize, records: &mut Vec<usize>) -> Fault {
-        let room = records.capacity();
+    fn read(
+        total: usize,
+        refused: bool,
+        position: &mut usize,
+        steps: usize,
+        records: &mut Vec<usize>,
+    ) -> Fault {
+        let room = match steps {
+            0 => records.capacity(),
+            _ => records.capacity().min(steps),
+        };
         records.extend((*position..total).take(room));
         *position += records.len();
         Fault {
@@ -707,7 +753,7 @@ mod tests {
 
     // Which number comes after those from one on, each of which comes once.
     fn rest(mut from: usize, batches: &mut Batches<usize, usize>, total: usize) -> usize {
-        while let Some(record) = batches.next(|at, to| read(total, false, at, to)) {
+        while let Some(record) = batches.next(|at, steps, to| read(total, false, at, steps, to)) {
             assert_eq!(record.ok(), Some(&from));
             from += 1;
         }
@@ -721,7 +767,7 @@ mod tests {
             let mut batches = Batches::new(0, BATCH);
             assert_eq!(rest(0, &mut batches.clone(), total), total);
             for index in 0..total {
-                let record = batches.next(|at, to| read(total, false, at, to));
+                let record = batches.next(|at, steps, to| read(total, false, at, steps, to));
                 assert_eq!(record.unwrap().ok(), Some(&index));
                 assert_eq!(rest(index + 1, &mut batches.clone(), total), total);
             }
@@ -730,14 +776,31 @@ mod tests {
     }
 
     #[test]
+    fn a_limit_ends_a_walk_with_an_error_that_says_so() {
+        for (total, steps) in [(1000, 0), (1000, 1), (1000, 128), (1000, 500), (1000, 1000)] {
+            let mut batches = Batches::new(0, BATCH).within(steps);
+            for index in 0..steps {
+                let record = batches.next(|at, steps, to| read(total, false, at, steps, to));
+                assert_eq!(record.unwrap().ok(), Some(&index));
+            }
+            let last = batches.next(|at, steps, to| read(total, false, at, steps, to));
+            let error = last.unwrap().unwrap_err();
+            assert_eq!(error.numbers(), (0, steps as u64, 0));
+            assert!(batches.next(|at, steps, to| read(total, false, at, steps, to)).is_none());
+        }
+        let mut batches = Batches::new(0, BATCH).within(1001);
+        assert_eq!(rest(0, &mut batches, 1000), 1000);
+    }
+
+    #[test]
     fn nothing_comes_after_a_refusal() {
         let mut batches = Batches::new(0, BATCH);
         for _ in 0..128 {
-            let record = batches.next(|at, to| read(128, true, at, to));
+            let record = batches.next(|at, steps, to| read(128, true, at, steps, to));
             assert!(record.unwrap().is_ok());
         }
-        let refused = batches.next(|at, to| read(128, true, at, to));
+        let refused = batches.next(|at, steps, to| read(128, true, at, steps, to));
         assert!(refused.unwrap().is_err());
-        assert!(batches.next(|at, to| read(1000, false, at, to)).is_none());
+        assert!(batches.next(|at, steps, to| read(1000, false, at, steps, to)).is_none());
     }
 }

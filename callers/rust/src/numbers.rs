@@ -192,7 +192,9 @@ pub enum ErrorKind {
     Read = 4,
     /// Memory was asked for and refused.
     Memory = 5,
-    /// A kind that this crate does not know, which is no number of the library's.
+    /// A walk has taken all the steps that it was given, `first` of them.
+    OutOfSteps = 0xFFFF_FFFE,
+    /// A kind that this crate does not know.
     Unknown = 0xFFFF_FFFF,
 }
 
@@ -210,6 +212,7 @@ impl TryFrom<u32> for ErrorKind {
             3 => Ok(ErrorKind::BufferTooShort),
             4 => Ok(ErrorKind::Read),
             5 => Ok(ErrorKind::Memory),
+            0xFFFF_FFFE => Ok(ErrorKind::OutOfSteps),
             0xFFFF_FFFF => Ok(ErrorKind::Unknown),
             _ => Err(UnknownNumber(number as usize)),
         }

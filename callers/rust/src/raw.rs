@@ -333,7 +333,8 @@ pub fn footprint(bytes: &[u8], options: &Options, ranges: &mut Ranges<'_>) -> Fa
     unsafe { goblin_pe_raw_footprint(bytes.as_ptr(), bytes.len(), options, ranges) }
 }
 
-// Walks that go on in a file whose tables lie at these places: each fills the vector as far as it has room.
+// Walks that go on in a file whose tables lie at these places: each fills the vector as far as it has room, within so
+// many steps; 0 is no limit.
 macro_rules! walks {
     ($($(#[$of:meta])* $name:ident by $call:ident from $position:ty => $record:ty;)*) => {$(
         $(#[$of])*
@@ -344,13 +345,14 @@ macro_rules! walks {
             options: &Options,
             places: &Places,
             position: &mut $position,
+            steps: usize,
             records: &mut Vec<$record>,
         ) -> Fault {
             test_interface();
             fill(records, |first, room, count| {
                 let (file, length) = (bytes.as_ptr(), bytes.len());
                 // SAFETY: as in `read_layout`.
-                unsafe { $call(file, length, options, places, position, first, room, count) }
+                unsafe { $call(file, length, options, places, position, first, room, steps, count) }
             })
         }
     )*};
@@ -437,6 +439,7 @@ pub fn next_symbols<'a>(
     bytes: &'a [u8],
     table: &SymbolTable,
     position: &mut usize,
+    steps: usize,
     symbols: &mut Vec<NamedSymbol<'a>>,
 ) -> Fault {
     test_interface();
@@ -450,6 +453,7 @@ pub fn next_symbols<'a>(
                 position,
                 first,
                 room,
+                steps,
                 count,
             )
         }
@@ -537,6 +541,7 @@ pub fn next_relocations(
     bytes: &[u8],
     section: &Section<'_>,
     position: &mut usize,
+    steps: usize,
     relocations: &mut Vec<Relocation>,
 ) -> Fault {
     test_interface();
@@ -550,6 +555,7 @@ pub fn next_relocations(
                 position,
                 first,
                 room,
+                steps,
                 count,
             )
         }

@@ -5,7 +5,7 @@ use crate::raw::{List, Shared, Slice};
 use std::mem::offset_of;
 
 /// The sum of the interface that is declared here: of its records, the numbers in them, and its calls.
-pub const INTERFACE: u32 = 0x36b9_b8fc;
+pub const INTERFACE: u32 = 0x7ee1_9383;
 
 /// What follows a symbol that defines a function.
 ///
@@ -1373,6 +1373,7 @@ unsafe extern "C" {
         position: &mut usize,
         records: *mut NamedSymbol<'_>,
         record_room: usize,
+        steps: usize,
         count: &mut usize,
     ) -> Fault;
 
@@ -1409,6 +1410,7 @@ unsafe extern "C" {
         cursor: &mut ImportCursor,
         records: *mut Import<'_>,
         record_room: usize,
+        steps: usize,
         count: &mut usize,
     ) -> Fault;
 
@@ -1420,6 +1422,7 @@ unsafe extern "C" {
         position: &mut usize,
         records: *mut Export<'_>,
         record_room: usize,
+        steps: usize,
         count: &mut usize,
     ) -> Fault;
 
@@ -1439,6 +1442,7 @@ unsafe extern "C" {
         position: &mut usize,
         records: *mut ExportAddress,
         record_room: usize,
+        steps: usize,
         count: &mut usize,
     ) -> Fault;
 
@@ -1450,6 +1454,7 @@ unsafe extern "C" {
         position: &mut usize,
         records: *mut Block<'_>,
         record_room: usize,
+        steps: usize,
         count: &mut usize,
     ) -> Fault;
 
@@ -1460,6 +1465,7 @@ unsafe extern "C" {
         position: &mut usize,
         records: *mut Relocation,
         record_room: usize,
+        steps: usize,
         count: &mut usize,
     ) -> Fault;
 
@@ -1468,6 +1474,7 @@ unsafe extern "C" {
         position: &mut usize,
         words: *mut Word,
         word_room: usize,
+        steps: usize,
     ) -> usize;
 
     pub fn goblin_pe_raw_kind_of(bytes: *const u8, byte_count: usize) -> u32;

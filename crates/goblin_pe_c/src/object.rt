@@ -1,6 +1,7 @@
 //! The calls that read an object, a Terse Executable, symbols and relocations.
 
-ghost use Rattle.std.specs.Prelude.{◌≡◌};
+ghost use Rattle.std.specs.Prelude.{◌≡◌, drop, length, take};
+ghost use Rattle.goblin_pe_calls.specs.Batches.{room_within};
 ghost use Rattle.goblin_pe_sect.specs.Options.{is_strict};
 ghost use Rattle.goblin_pe_records.specs.Calls.{ReadsWithout, Reported};
 ghost use Rattle.goblin_pe_records.specs.Found.{Puts};
@@ -15,6 +16,7 @@ ghost use Rattle.goblin_pe_records.specs.Symbols.{symbol_tables, tables_said};
 
 use goblin_pe::header::CoffHeader;
 use goblin_pe::relocation::Relocation;
+use goblin_pe_calls::batch::room_within;
 use goblin_pe_records::fault::{PeFault, status_of};
 use goblin_pe_records::found::put_found;
 use goblin_pe_records::object::{self, PeObject};
@@ -74,8 +76,8 @@ pub extern "C" fn goblin_pe_raw_read_symbol_table(
 
 /// Fills records of the symbols of a table that
 /// [`goblin_pe_raw_read_symbol_table`](crate::object::goblin_pe_raw_read_symbol_table) told of,
-/// from the record at the index `position` on: as many as there are and as there is room for.
-/// `count` says how many these are, and `position` is then the index of the record that is read
+/// from the record at the index `position` on: as many as there are and as there is room for, but
+/// no more than `steps`, where these are not 0. `count` says how many these are, and `position` is then the index of the record that is read
 /// next. The first record is read as a symbol, even where it is an auxiliary one of a symbol before
 /// it. After the last symbol, and where the table's offset is 0, `count` is 0, as it is without
 /// room; the position then stays. It takes no memory, and time for these symbols alone.
@@ -90,17 +92,22 @@ pub extern "C" fn goblin_pe_raw_next_symbols<'a>(
     table: &PeSymbolTable,
     position: &mut usize,
     records: &mut [PeNamedSymbol<'a>],
+    steps: usize,
     count: &mut usize,
 ) -> PeFault
-    ensures { let old : SymbolRecords =
-        record { position = position.old; records = records.old; count = count.old } in
+    ensures given { let room = room_within steps (length records.old) in
+        let old : SymbolRecords =
+        record { position = position.old; records = take room records.old; count = count.old } in
         let new : SymbolRecords =
-        record { position = position.new; records = records.new; count = count.new } in
+        record { position = position.new; records = take room records.new; count = count.new } in
         Reported result
         (ReadsWithout (tables_said table.now) bytes.now (λ x. SaysSymbols x old new)
         (new ≡ old)) }
+    ensures rest { let room = room_within steps (length records.old) in
+        drop room records.new ≡ drop room records.old }
 {
-    status_of(read_symbols(bytes, table, position, records, count))
+    let (front, _) = records.split_at_mut(room_within(steps, records.len()));
+    status_of(read_symbols(bytes, table, position, front, count))
 }
 
 /// Puts the symbol whose record has this index in a table into `symbol`, and answers whether there

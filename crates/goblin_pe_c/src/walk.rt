@@ -1,13 +1,14 @@
-//! The calls that walk over a table, from any position on: as many records as there is room for;
-//! and the one that reads what the export directory says. They take no memory, but for an index
+//! The calls that walk over a table, from any position on: as many records as there is room for,
+//! and within so many steps; and the one that reads what the export directory says. They take no memory, but for an index
 //! where a file has more than 96 sections.
 
-ghost use Rattle.std.specs.Prelude.{◌≡◌};
+ghost use Rattle.std.specs.Prelude.{◌≡◌, drop, length, take};
 ghost use Rattle.goblin_pe_calls.specs.Batches.{AddressBatch, BlockBatch, ExportBatch};
 ghost use Rattle.goblin_pe_calls.specs.Batches.{GivesAddresses, GivesBatch, GivesBlocks};
 ghost use Rattle.goblin_pe_calls.specs.Batches.{GivesExports, GivesImports, GivesRecords};
 ghost use Rattle.goblin_pe_calls.specs.Batches.{ImportBatch, IsBlocksFault, IsExportBatchFault};
 ghost use Rattle.goblin_pe_calls.specs.Batches.{IsExportsFault, IsImportsFault, SaysDirectory};
+ghost use Rattle.goblin_pe_calls.specs.Batches.{room_within};
 ghost use Rattle.goblin_pe_calls.specs.ExportDirectories.{directory_view};
 ghost use Rattle.goblin_pe_records.specs.Calls.{ReadsWithout, Reported};
 ghost use Rattle.goblin_pe_records.specs.Onward.{GivesOnward};
@@ -16,7 +17,7 @@ ghost use Rattle.goblin_pe_records.specs.Relocations.{all_relocations};
 ghost use Rattle.goblin_pe_records.specs.Sections.{section_view};
 ghost use Rattle.goblin_pe_records.specs.Words.{block_words};
 
-use goblin_pe_calls::batch::give;
+use goblin_pe_calls::batch::{give, room_within};
 use goblin_pe_calls::export::PeExport;
 use goblin_pe_calls::export_directory::{PeExportAddress, PeExportDirectory, give_directory};
 use goblin_pe_calls::import::PeImport;
@@ -32,11 +33,17 @@ use goblin_pe_sect::relocation::Relocation;
 use std::alloc::Global;
 
 /// Fills `records` with the imports of a file from a cursor on, as many as there is room for,
-/// says in `count` how many, and leaves in `cursor` where the next call goes on. With room for
-/// any, a `count` of 0 is the end. Zeros are the cursor before the first import; a file without an
-/// import directory, or imports that are not asked for, have none, and in permissive mode neither
-/// has a directory that is an empty list there. Where nothing is left, and there is room for more,
-/// the cursor's `is_begun` is true, and its other fields are 0; without room the cursor stays.
+/// says in `count` how many, and leaves in `cursor` where the next call goes on. Zeros are the
+/// cursor before the first import; a file without an import directory, or imports that are not
+/// asked for, have none, and in permissive mode neither has a directory that is an empty list
+/// there. Where nothing is left, and there is room for more, the cursor is at the end: its
+/// `is_begun` is true, and its other fields are 0. Without room the cursor stays.
+///
+/// The call ends after `steps` steps, 0 for no limit: a step looks at a slot of a table or at a
+/// record of the directory, whether or not it gives an import. So with a limit a `count` of 0 is
+/// the end only where the cursor is at the end; else the next call goes on from there. The slots of
+/// an address table are looked at in one go, the last time also beyond the limit. With room for as
+/// many records as steps, a call that does not reach the end takes all of them.
 ///
 /// The sections and the import directory lie where `places` says, as
 /// [`goblin_pe_raw_read_layout`](crate::whole_file::goblin_pe_raw_read_layout) and
@@ -60,22 +67,26 @@ pub extern "C" fn goblin_pe_raw_next_imports<'a>(
     places: &PePlaces,
     cursor: &mut PeImportCursor,
     records: &mut [PeImport<'a>],
+    steps: usize,
     count: &mut usize,
 ) -> PeFault
     ensures { let old : ImportBatch = record { position = cursor.old; records = records.old } in
         let new : ImportBatch = record { position = cursor.new; records = records.new } in
         let opts = options_at options.now places.now.file_alignment in
-        Reported result (GivesRecords opts places.now bytes.now GivesImports IsImportsFault old new
-        count.old count.new) }
+        Reported result (GivesRecords opts places.now bytes.now GivesImports IsImportsFault steps
+        old new count.old count.new) }
 {
     let opts = options_at(options, places.file_alignment);
-    status_of(give::<PeImport>(alloc, bytes, &opts, places, cursor, records, count))
+    status_of(give::<PeImport>(
+        alloc, bytes, &opts, places, cursor, steps, records, count,
+    ))
 }
 
 /// Fills `records` with the exports of a file from a position on, as many as there is room for,
 /// says in `count` how many, and leaves in `position` where the next call goes on: an index in the
 /// name pointer table from which the others come, at first 0. With room for any, a `count` of 0 is
-/// the end; the position then stays. A file without an export directory, and in permissive mode one
+/// the end; the position then stays. No more than `steps` come, 0 for no limit; name pointers that
+/// have no export are passed over without a step. A file without an export directory, and in permissive mode one
 /// whose directory is refused, has none. The sections and the directory lie where `places` says, as
 /// for [`goblin_pe_raw_next_imports`].
 ///
@@ -89,16 +100,19 @@ pub extern "C" fn goblin_pe_raw_next_exports<'a>(
     places: &PePlaces,
     position: &mut usize,
     records: &mut [PeExport<'a>],
+    steps: usize,
     count: &mut usize,
 ) -> PeFault
     ensures { let old : ExportBatch = record { position = position.old; records = records.old } in
         let new : ExportBatch = record { position = position.new; records = records.new } in
         let opts = options_at options.now places.now.file_alignment in
-        Reported result (GivesRecords opts places.now bytes.now GivesExports IsExportBatchFault old new
-        count.old count.new) }
+        Reported result (GivesRecords opts places.now bytes.now GivesExports IsExportBatchFault
+        steps old new count.old count.new) }
 {
     let opts = options_at(options, places.file_alignment);
-    status_of(give::<PeExport>(alloc, bytes, &opts, places, position, records, count))
+    status_of(give::<PeExport>(
+        alloc, bytes, &opts, places, position, steps, records, count,
+    ))
 }
 
 /// Puts into `directory` what the export directory of a file says, and lists no export: the record
@@ -129,9 +143,9 @@ pub extern "C" fn goblin_pe_raw_read_export_directory<'a>(
 }
 
 /// Fills `records` with the entries of the export address table of a file from the index `position`
-/// on, as many as there is room for, says in `count` how many, and moves `position` past them. With
-/// room for any, a `count` of 0 is the end. The index and the ordinal base are the ordinal that an
-/// entry stands for. A file without an export directory, and in permissive mode one whose directory
+/// on, as many as there is room for, but no more than `steps`, where these are not 0; says in
+/// `count` how many, and moves `position` past them. With room for any, a `count` of 0 is the end.
+/// The index and the ordinal base are the ordinal that an entry stands for. A file without an export directory, and in permissive mode one whose directory
 /// is refused, has none. The sections and the directory lie where `places` says, as for
 /// [`goblin_pe_raw_next_imports`].
 ///
@@ -145,21 +159,24 @@ pub extern "C" fn goblin_pe_raw_next_export_addresses(
     places: &PePlaces,
     position: &mut usize,
     records: &mut [PeExportAddress],
+    steps: usize,
     count: &mut usize,
 ) -> PeFault
     ensures { let old : AddressBatch = record { position = position.old; records = records.old } in
         let new : AddressBatch = record { position = position.new; records = records.new } in
         let opts = options_at options.now places.now.file_alignment in
-        Reported result (GivesRecords opts places.now bytes.now GivesAddresses IsExportBatchFault old new
-        count.old count.new) }
+        Reported result (GivesRecords opts places.now bytes.now GivesAddresses IsExportBatchFault
+        steps old new count.old count.new) }
 {
     let opts = options_at(options, places.file_alignment);
-    status_of(give::<PeExportAddress>(alloc, bytes, &opts, places, position, records, count))
+    status_of(give::<PeExportAddress>(
+        alloc, bytes, &opts, places, position, steps, records, count,
+    ))
 }
 
 /// Fills `records` with the blocks of base relocations of a file from a position on, as many as
-/// there is room for, says in `count` how many, and leaves in `position` where the next call goes
-/// on: the offset in the directory at which the next block begins, at first 0. With room for any, a
+/// there is room for, but no more than `steps`, where these are not 0; says in `count` how many,
+/// and leaves in `position` where the next call goes on: the offset in the directory at which the next block begins, at first 0. With room for any, a
 /// `count` of 0 is the end. A file without a directory of base relocations, and in permissive mode
 /// one whose directory is refused, has none. The sections and the directory lie where `places`
 /// says, as for [`goblin_pe_raw_next_imports`].
@@ -176,20 +193,24 @@ pub extern "C" fn goblin_pe_raw_next_blocks<'a>(
     places: &PePlaces,
     position: &mut usize,
     records: &mut [PeBlock<'a>],
+    steps: usize,
     count: &mut usize,
 ) -> PeFault
     ensures { let old : BlockBatch = record { position = position.old; records = records.old } in
         let new : BlockBatch = record { position = position.new; records = records.new } in
         let opts = options_at options.now places.now.file_alignment in
-        Reported result (GivesRecords opts places.now bytes.now GivesBlocks IsBlocksFault old new
-        count.old count.new) }
+        Reported result (GivesRecords opts places.now bytes.now GivesBlocks IsBlocksFault steps old
+        new count.old count.new) }
 {
     let opts = options_at(options, places.file_alignment);
-    status_of(give::<PeBlock>(alloc, bytes, &opts, places, position, records, count))
+    status_of(give::<PeBlock>(
+        alloc, bytes, &opts, places, position, steps, records, count,
+    ))
 }
 
 /// Fills `records` with all relocations of a section of an object from the index `position` on, as
-/// many as there is room for, says in `count` how many these are, and moves `position` past them.
+/// many as there is room for, but no more than `steps`, where these are not 0; says in `count` how
+/// many these are, and moves `position` past them.
 /// Where there is room, a `count` of 0 is the end. A section that has more than its counter can
 /// say, by the bit `IMAGE_SCN_LNK_NRELOC_OVFL` and a counter of 65,535, begins with a record that
 /// is none of them: its `virtual_address` is the number of all records, itself among them.
@@ -202,27 +223,38 @@ pub extern "C" fn goblin_pe_raw_next_relocations(
     section: &PeSection,
     position: &mut usize,
     records: &mut [Relocation],
+    steps: usize,
     count: &mut usize,
 ) -> PeFault
-    ensures { Reported result
+    ensures given { let room = room_within steps (length records.old) in
+        Reported result
         (ReadsWithout (all_relocations (section_view section.now)) bytes.now
-        (λ all. GivesOnward all position.old records.old position.new records.new count.new)
+        (λ all. GivesOnward all position.old (take room records.old) position.new
+        (take room records.new) count.new)
         ((position.new ≡ position.old) × (records.new ≡ records.old) × (count.new ≡ count.old))) }
+    ensures rest { let room = room_within steps (length records.old) in
+        drop room records.new ≡ drop room records.old }
 {
-    status_of(next_relocations(bytes, section, position, records, count))
+    let (front, _) = records.split_at_mut(room_within(steps, records.len()));
+    status_of(next_relocations(bytes, section, position, front, count))
 }
 
 /// Fills `words` with those of a block of base relocations from the index `position` on, each with
-/// its address and its type, as many as there is room for, moves `position` past them, and answers
-/// how many these are. A byte that is left after the words is no word.
+/// its address and its type, as many as there is room for, but no more than `steps`, where these
+/// are not 0; moves `position` past them, and answers how many these are. A byte that is left after the words is no word.
 #[unsafe(no_mangle)]
 pub extern "C" fn goblin_pe_raw_next_words(
     block: &PeBlock,
     position: &mut usize,
     words: &mut [PeWord],
+    steps: usize,
 ) -> usize
-    ensures { GivesOnward (block_words block.now) position.old words.old position.new words.new
-        result }
+    ensures given { let room = room_within steps (length words.old) in
+        GivesOnward (block_words block.now) position.old (take room words.old) position.new
+        (take room words.new) result }
+    ensures rest { let room = room_within steps (length words.old) in
+        drop room words.new ≡ drop room words.old }
 {
-    next_words(block, position, words)
+    let (front, _) = words.split_at_mut(room_within(steps, words.len()));
+    next_words(block, position, front)
 }

@@ -20,7 +20,7 @@ module _ (m : MapOfAddresses) (places : TablePlaces) (bytes : List ℕ) (found :
     (x : ℕ) (old : List PeExportAddress) where
   given : (p : Part (ExportTables × List ExportRow)) → part_map walked_exports found ≡ p
       → (y count : ℕ) (new : List PeExportAddress) → GivesOnward (addresses_in p) x old y new count
-      → GivesAddresses m places bytes (record { position = x; records = old }) (record { position = y; records = new }) count
+      → GivesAddresses m places bytes 0 (record { position = x; records = old }) (record { position = y; records = new }) count
   given p is y count new gives =
       subst (λ (v : Option (Part (ExportTables × List ExportRow))). IsSomeAnd v (λ p. GivesOnward (addresses_in p) x old y new count))
       (sym (read ∙ ap (λ (p : Part (ExportTables × List ExportRow)). Some p) is)) gives
@@ -28,12 +28,12 @@ module _ (m : MapOfAddresses) (places : TablePlaces) (bytes : List ℕ) (found :
   -- where the directory was read
   pub addresses-given : (walk : Exports) → found ≡ part.Read walk → (y count : ℕ) (new : List PeExportAddress)
       → GivesOnward (map address_said (walked_tables walk).export_address_table) x old y new count
-      → GivesAddresses m places bytes (record { position = x; records = old }) (record { position = y; records = new }) count
+      → GivesAddresses m places bytes 0 (record { position = x; records = old }) (record { position = y; records = new }) count
   addresses-given walk is y count new gives =
       given (part.Read (walked_exports walk)) (ap (part_map walked_exports) is) y count new gives
 
   -- where there are none
   pub addresses-none : (found ≡ Absent) ⊎ (found ≡ Refused)
-      → GivesAddresses m places bytes (record { position = x; records = old }) (record { position = x; records = old }) 0
+      → GivesAddresses m places bytes 0 (record { position = x; records = old }) (record { position = x; records = old }) 0
   addresses-none (inl none) = given Absent (ap (part_map walked_exports) none) x 0 old (onward-none [] x old (omega arith))
   addresses-none (inr none) = given Refused (ap (part_map walked_exports) none) x 0 old (onward-none [] x old (omega arith))

@@ -193,13 +193,13 @@ module _ (m : MapOfAddresses) (places : TablePlaces) (bytes : List ℕ) (found :
     -- where the directory was read
     pub blocks-given : (relocations : RelocationData) → found ≡ part.Read relocations
         → FillsBlocks (block_items (relocation_bytes relocations) x) (block_items (relocation_bytes relocations) y) (record { position = x; records = old }) (record { position = y; records = new }) count
-        → GivesBlocks m places bytes (record { position = x; records = old }) (record { position = y; records = new }) count
+        → GivesBlocks m places bytes 0 (record { position = x; records = old }) (record { position = y; records = new }) count
     blocks-given relocations is fills =
         rw (read ∙ ap (λ (p : Part RelocationData). Some (part_map relocation_bytes p)) is) fills
 
   module _ (x : ℕ) (old : List PeBlock) where
     nothing : (p : Part (List ℕ)) → items_from x p ≡ [] → (relocation_part m.opts (offset_of m) places).value bytes ≡ Some p
-        → GivesBlocks m places bytes (record { position = x; records = old }) (record { position = x; records = old }) 0
+        → GivesBlocks m places bytes 0 (record { position = x; records = old }) (record { position = x; records = old }) 0
     nothing p none is =
         let values = values-end (items_from x p) none in
         rw is (record {
@@ -210,7 +210,7 @@ module _ (m : MapOfAddresses) (places : TablePlaces) (bytes : List ℕ) (found :
         })
 
     pub blocks-none : (found ≡ Absent) ⊎ (found ≡ Refused)
-        → GivesBlocks m places bytes (record { position = x; records = old }) (record { position = x; records = old }) 0
+        → GivesBlocks m places bytes 0 (record { position = x; records = old }) (record { position = x; records = old }) 0
     blocks-none (inl none) = nothing Absent refl (read ∙ ap (λ (p : Part RelocationData). Some (part_map relocation_bytes p)) none)
     blocks-none (inr none) = nothing Refused refl (read ∙ ap (λ (p : Part RelocationData). Some (part_map relocation_bytes p)) none)
 
@@ -228,7 +228,7 @@ pub blocks-answered : (m : MapOfAddresses) (places : TablePlaces) (bytes : List 
     → (result : Result ℕ ErrorOf)
     → MatchResult result (FillsBlocks (block_items (relocation_bytes relocations) x) (block_items (relocation_bytes relocations) y) (record { position = x; records = old }) (record { position = y; records = new }))
     (λ e. (0 < length old) × IsNextRefusal (block_items (relocation_bytes relocations) x) e × (◌≡◌ {A = BlockBatch} (record { position = y; records = new }) (record { position = x; records = old })))
-    → MatchResult result (GivesBlocks m places bytes (record { position = x; records = old }) (record { position = y; records = new }))
+    → MatchResult result (GivesBlocks m places bytes 0 (record { position = x; records = old }) (record { position = y; records = new }))
     (λ e. IsBlocksFault m places bytes (record { position = x; records = old }) e × (◌≡◌ {A = BlockBatch} (record { position = y; records = new }) (record { position = x; records = old })))
 blocks-answered m places bytes found read x y old new relocations is (Ok count) fills =
     blocks-given m places bytes found read x y old new count relocations is fills

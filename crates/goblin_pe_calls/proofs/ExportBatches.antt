@@ -71,7 +71,7 @@ module _ (m : MapOfAddresses) (places : TablePlaces) (bytes : List ℕ) (found :
     pub exports-given : (now next : Exports) (y count : ℕ) (new : List PeExport) → exports_left now ≡ exports_at walk x → KeepsOver walk now
         → IsBatch export_view export_said (exports_left now) old new count → exports_left next ≡ drop count (exports_left now)
         → KeepsOver now next → (0 < count → exports_left next ≡ exports_at next y) → (count ≡ 0 → y ≡ x)
-        → GivesExports m places bytes (record { position = x; records = old }) (record { position = y; records = new }) count
+        → GivesExports m places bytes 0 (record { position = x; records = old }) (record { position = y; records = new }) count
     exports-given now next y count new begun over_now batch later over_next at stays =
         let left : exports_left now ≡ numbered_from (offset_of m) bytes (walked_tables walk) x = begun ∙ from-there x in
         let rest = later-there now next y over_now over_next x count (later ∙ ap (λ (items : List NumberedExport). drop count items) left) at stays in
@@ -85,7 +85,7 @@ module _ (m : MapOfAddresses) (places : TablePlaces) (bytes : List ℕ) (found :
 
   nothing : (p : Part (ExportTables × List ExportRow)) → exports_in m bytes x p ≡ []
       → (export_part m.opts (offset_of m) places).value bytes ≡ Some p
-      → GivesExports m places bytes (record { position = x; records = old }) (record { position = x; records = old }) 0
+      → GivesExports m places bytes 0 (record { position = x; records = old }) (record { position = x; records = old }) 0
   nothing p none is =
       let batch = batch-end export_view export_said old [] [] [] old 0 (batch-start export_view export_said old) refl (inr refl) in
       subst (λ (v : Option (Part (ExportTables × List ExportRow))). IsSomeAnd v (λ p.
@@ -95,6 +95,6 @@ module _ (m : MapOfAddresses) (places : TablePlaces) (bytes : List ℕ) (found :
       (subst (λ (items : List NumberedExport). IsBatch export_view export_said items old old 0) (sym none) batch, refl, λ none. refl)
 
   pub exports-none : (found ≡ Absent) ⊎ (found ≡ Refused)
-      → GivesExports m places bytes (record { position = x; records = old }) (record { position = x; records = old }) 0
+      → GivesExports m places bytes 0 (record { position = x; records = old }) (record { position = x; records = old }) 0
   exports-none (inl none) = nothing Absent refl (read ∙ ap (λ (p : Part Exports). Some (part_map walked_exports p)) none)
   exports-none (inr none) = nothing Refused refl (read ∙ ap (λ (p : Part Exports). Some (part_map walked_exports p)) none)

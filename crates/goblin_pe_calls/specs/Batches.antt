@@ -1,5 +1,6 @@
 -- Batches: as many records of what comes from a position on as there is room for.
-use Rattle.std.specs.Prelude.{◌≡◌, ℕ, ◌<◌, ◌≤◌, ⊤, true, if◌then◌else◌, List, [], ◌∷◌}
+use Rattle.std.specs.Prelude.{◌≡◌, ◌≢◌, ◌⊎◌, ℕ, zero, suc, ◌<◌, ◌≤◌, ⊤, true, if◌then◌else◌, List}
+use Rattle.std.specs.Prelude.{[], ◌∷◌}
 use Rattle.std.specs.Prelude.{◌+◌, ◌++◌, map, drop, take, length, min, Option, Some, None}
 use Rattle.std.specs.Prelude.{Bool, is_some, option_map, Result, Ok, Err, IsSomeAnd, sum_by, unwrap_or}
 use Rattle.goblin_base.specs.declared.error.ErrorOf.{ErrorOf}
@@ -15,7 +16,8 @@ use Rattle.goblin_pe.specs.ExportWalks.{NumberedExport, numbered_from}
 use Rattle.goblin_pe.specs.Imports.{NumberedImport}
 use Rattle.goblin_pe.specs.ImportWalks.{no_imports}
 use Rattle.goblin_pe.specs.LayoutCursors.{IsFileCursorCause, IsImportWalk, file_cursor_left}
-use Rattle.goblin_pe.specs.LayoutCursors.{import_begin}
+use Rattle.goblin_pe.specs.LayoutCursors.{file_ahead, file_cursor_ahead, import_begin}
+use Rattle.goblin_pe.specs.LeftOut.{amount_of}
 use Rattle.goblin_pe.specs.Reads.{given, pick}
 use Rattle.goblin_pe.specs.Layouts.{file_imports_left}
 use Rattle.goblin_pe.specs.Whole.{TablePlaces, export_part, relocation_part}
@@ -77,6 +79,30 @@ pub record AtBatch {R A B : Type 0} (view : R → B) (said : A → B) (old : Lis
   pub same : length records ≡ length old
   pub fits : count ≤ length old
 
+-- ---- a limit of steps
+
+-- the limit that a number of steps says; 0 is none
+abbrev pub limit_of : ℕ → Option ℕ
+limit_of zero = None
+limit_of (suc n) = Some (suc n)
+
+-- how many records there is room for, as each is a step
+abbrev pub room_within : ℕ → ℕ → ℕ
+room_within zero room = room
+room_within (suc n) room = min room (suc n)
+
+-- the front of the records
+abbrev pub front : {P R : Type 0} → ℕ → Batch P R → Batch P R
+front room batch = record batch { records = take room batch.records }
+
+-- As many slots and records were looked at as the steps say.
+abbrev pub IsOutOfSteps : ℕ → ℕ → ℕ → Type 0
+IsOutOfSteps steps before after = (steps ≢ 0) × (after + steps ≤ before)
+
+-- No more were, but for at most n slots of an address table, which are looked at in one go.
+abbrev pub KeepsSteps : ℕ → ℕ → ℕ → ℕ → Type 0
+KeepsSteps n steps before after = steps ≢ 0 → before ≤ after + steps + n
+
 -- ---- imports
 
 -- a number that is there
@@ -127,18 +153,39 @@ imports_from_position m places bytes p =
 abbrev pub ImportBatch : Type 0
 ImportBatch = Batch PeImportCursor PeImport
 
--- The records hold the imports from the old position on, up to a refusal, and from the new one on
--- come the others; the very next is no refusal, if there is room for any. Where nothing is left,
--- and there is room for more, the new position is the end; without room the position stays.
-abbrev pub GivesImports : MapOfAddresses → TablePlaces → List ℕ → ImportBatch → ImportBatch → ℕ
-    → Type 0
-GivesImports m places bytes old new count =
-    IsSomeAnd (imports_from_position m places bytes old.position) (λ left.
-    IsBatch import_view import_said (values_before left) old.records new.records count
-    × (imports_from_position m places bytes new.position ≡ Some (drop count left))
+-- how many slots and records are still to be looked at from a position on
+abbrev pub position_ahead : MapOfAddresses → TablePlaces → List ℕ → PeImportCursor → ℕ
+position_ahead m places bytes p =
+    amount_of (file_cursor_ahead m places.magic bytes) ((import_cursor m places p).value bytes)
+
+-- There is room for nothing more, or all is given up to a refusal; the very next is no refusal, if
+-- there is room for any. Where nothing is left, and there is room for more, the new position is the
+-- end.
+abbrev pub IsWhole : List (Option NumberedImport) → ImportBatch → ImportBatch → ℕ → Type 0
+IsWhole left old new count =
+    (count ≡ min (length old.records) (length (values_before left)))
     × (IsRefusedNext left → length old.records ≡ 0)
     × (IsEnd left old.records count → new.position ≡ cursor_numbers no_imports)
-    × (length old.records ≡ 0 → new.position ≡ old.position))
+
+-- Of these that are left the records hold those that come first, and from the new position on come
+-- the others; without room the position stays. If more would come, the steps have run out.
+pub record FillsImports (m : MapOfAddresses) (places : TablePlaces) (bytes : List ℕ) (steps : ℕ)
+    (left : List (Option NumberedImport)) (old new : ImportBatch) (count : ℕ) : Type 0 where
+  pub batch : IsBatch import_view import_said (take count (values_before left)) old.records
+      new.records count
+  pub later : imports_from_position m places bytes new.position ≡ Some (drop count left)
+  pub whole : IsOutOfSteps steps (position_ahead m places bytes old.position)
+      (position_ahead m places bytes new.position)
+      ⊎ IsWhole left old new count
+  pub stays : length old.records ≡ 0 → new.position ≡ old.position
+  pub looked : KeepsSteps (length bytes) steps (position_ahead m places bytes old.position)
+      (position_ahead m places bytes new.position)
+
+abbrev pub GivesImports : MapOfAddresses → TablePlaces → List ℕ → ℕ → ImportBatch → ImportBatch → ℕ
+    → Type 0
+GivesImports m places bytes steps old new count =
+    IsSomeAnd (imports_from_position m places bytes old.position) (λ left.
+    FillsImports m places bytes steps left old new count)
 
 -- Where the imports begin is refused, or else the very next import, and there is room for it.
 abbrev pub IsImportsFault : MapOfAddresses → TablePlaces → List ℕ → ImportBatch → ErrorOf → Type 0
@@ -151,9 +198,11 @@ IsImportsFault m places bytes old e =
 
 -- Whatever the records held up to `first`, they hold these imports after it, up to `last`.
 abbrev pub Fills : List PeImport → List PeImport → ℕ → ℕ → List NumberedImport → Type 0
-Fills old new first last values = (base : List PeImport) (before : List NumberedImport)
+Fills old new first last values =
+    (last ≡ first + length values)
+    × ((base : List PeImport) (before : List NumberedImport)
     → AtBatch import_view import_said base before old first
-    → AtBatch import_view import_said base (before ++ values) new last
+    → AtBatch import_view import_said base (before ++ values) new last)
 
 -- `GivesHere` of the imports of a file
 abbrev pub GivesInFile : FileImports → FileImports → (List NumberedImport → Type 0) → Type 0
@@ -166,6 +215,7 @@ pub record GoesOn (m : MapOfAddresses) (places : TablePlaces) (bytes : List ℕ)
     (p : PeImportCursor) (imports : FileImports) : Type 0 where
   pub walk : IsImportWalk m places.magic bytes imports
   pub left : imports_from_position m places bytes p ≡ Some (file_imports_left imports)
+  pub ahead : position_ahead m places bytes p ≡ file_ahead imports
 
 -- ---- exports
 
@@ -181,9 +231,9 @@ ExportBatch = Batch ℕ PeExport
 
 -- The records hold the exports from the old position on, and from the new one on come the others.
 -- Where there are none, the position stays.
-abbrev pub GivesExports : MapOfAddresses → TablePlaces → List ℕ → ExportBatch → ExportBatch → ℕ
+abbrev pub GivesExports : MapOfAddresses → TablePlaces → List ℕ → ℕ → ExportBatch → ExportBatch → ℕ
     → Type 0
-GivesExports m places bytes old new count =
+GivesExports m places bytes steps old new count =
     IsSomeAnd ((export_part m.opts (offset_of m) places).value bytes) (λ p.
     let left = exports_in m bytes old.position p in
     IsBatch export_view export_said left old.records new.records count
@@ -225,9 +275,9 @@ abbrev pub AddressBatch : Type 0
 AddressBatch = Batch ℕ PeExportAddress
 
 -- The records hold the entries from the old index on, and from the new one on come the others.
-abbrev pub GivesAddresses : MapOfAddresses → TablePlaces → List ℕ → AddressBatch → AddressBatch → ℕ
-    → Type 0
-GivesAddresses m places bytes old new count =
+abbrev pub GivesAddresses : MapOfAddresses → TablePlaces → List ℕ → ℕ → AddressBatch → AddressBatch
+    → ℕ → Type 0
+GivesAddresses m places bytes steps old new count =
     IsSomeAnd ((export_part m.opts (offset_of m) places).value bytes) (λ p.
     GivesOnward (addresses_in p) old.position old.records new.position new.records count)
 
@@ -259,9 +309,9 @@ pub record FillsBlocks (left later : List (Result Block ErrorOf)) (old new : Blo
   pub position : new.position
       ≡ old.position + sum_by (λ (b : Block). b.size) (take count (values_of left))
 
-abbrev pub GivesBlocks : MapOfAddresses → TablePlaces → List ℕ → BlockBatch → BlockBatch → ℕ
+abbrev pub GivesBlocks : MapOfAddresses → TablePlaces → List ℕ → ℕ → BlockBatch → BlockBatch → ℕ
     → Type 0
-GivesBlocks m places bytes old new count =
+GivesBlocks m places bytes steps old new count =
     IsSomeAnd ((relocation_part m.opts (offset_of m) places).value bytes) (λ p.
     FillsBlocks (items_from old.position p) (items_from new.position p) old new count)
 
@@ -289,11 +339,15 @@ GivesBatch opts p bytes Gives IsFault Left (Err e) =
     × (IsMemory e → TakesIndexAt opts p bytes)
     × Left
 
--- A call has given the records of a table that come next, so many, or is refused.
+-- A call has given the records of a table that come next, so many, or is refused. As each record is
+-- a step, only the front of the records is filled where the steps are fewer.
 abbrev pub GivesRecords : {P R : Type 0} → ParseOptions → PePlaces → List ℕ
-    → (MapOfAddresses → TablePlaces → List ℕ → Batch P R → Batch P R → ℕ → Type 0)
+    → (MapOfAddresses → TablePlaces → List ℕ → ℕ → Batch P R → Batch P R → ℕ → Type 0)
     → (MapOfAddresses → TablePlaces → List ℕ → Batch P R → ErrorOf → Type 0)
-    → Batch P R → Batch P R → ℕ → ℕ → Result Unit ErrorOf → Type 0
-GivesRecords opts p bytes Gives IsFault old new before count result =
-    GivesBatch opts p bytes (λ m places. Gives m places bytes old new count)
-    (λ m places. IsFault m places bytes old) ((new ≡ old) × (count ≡ before)) result
+    → ℕ → Batch P R → Batch P R → ℕ → ℕ → Result Unit ErrorOf → Type 0
+GivesRecords opts p bytes Gives IsFault steps old new before count result =
+    let room = room_within steps (length old.records) in
+    GivesBatch opts p bytes
+    (λ m places. Gives m places bytes steps (front room old) (front room new) count)
+    (λ m places. IsFault m places bytes (front room old)) ((new ≡ old) × (count ≡ before)) result
+    × (drop room new.records ≡ drop room old.records)

@@ -1,12 +1,13 @@
 -- The records of imports, as definitions.
 use Rattle.std.specs.Prelude.{◌≡◌, ℕ, Bool, List, [], ◌++◌, Option, Some, Vec, if◌then◌else◌}
-use Rattle.std.specs.Prelude.{map}
+use Rattle.std.specs.Prelude.{◌+◌, length, map}
 use Rattle.std.specs.Global.{Global}
 use Rattle.goblin_base.specs.declared.error.ErrorOf.{ErrorOf}
 use Rattle.goblin_base.specs.Tables.{Format}
 use Rattle.goblin_pe_import.specs.ImportEntries.{EntryValue}
 use Rattle.goblin_pe_import.specs.ImportWalks.{AreImportsOver, HasName, IsImportsCause}
 use Rattle.goblin_pe_import.specs.ImportWalks.{imports_bytes, imports_left, imports_map}
+use Rattle.goblin_pe_import.specs.StepsAhead.{imports_ahead}
 use Rattle.goblin_pe_import.specs.declared.import.imports.Imports.{Imports}
 use Rattle.goblin_pe_import.specs.Imports.{NumberedImport}
 use Rattle.goblin_pe_sect.specs.declared.options.ParseOptions.{ParseOptions}
@@ -77,6 +78,7 @@ pub record GivesHere {T : Type 0} (format : Format EntryValue) (s t : Imports T)
   pub held : Holds values
   pub yielded : imports_left format s ≡ map (λ x. Some x) values ++ imports_left format t
   pub cause : (e : ErrorOf) → IsImportsCause format t e → IsImportsCause format s e
+  pub ahead : imports_ahead format s ≡ length values + imports_ahead format t
   pub kept : HasName s → HasName t
   pub over : AreImportsOver (imports_bytes s) (imports_map s) t
 

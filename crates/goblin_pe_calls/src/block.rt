@@ -88,6 +88,7 @@ impl<'a> Batched<'a> for PeBlock<'a> {
     fn next<'e>(
         layout: &Layout<'a>,
         position: &mut usize,
+        _steps: usize,
         records: &mut [PeBlock<'a>],
     ) -> ResultOf<'e, usize> {
         match layout.relocations()? {

@@ -180,6 +180,7 @@ impl<'a> Batched<'a> for PeExportAddress {
     fn next<'e>(
         layout: &Layout<'a>,
         position: &mut usize,
+        _steps: usize,
         records: &mut [PeExportAddress],
     ) -> ResultOf<'e, usize> {
         match layout.exports()? {

@@ -1,18 +1,19 @@
 //! Imports and exports in batches.
 
-ghost use Rattle.std.specs.Prelude.{◌≡◌, ◌<◌, ◌≤◌, IfErr, MatchResult, Some, drop, length};
+ghost use Rattle.std.specs.Prelude.{◌≡◌, ◌+◌, ◌<◌, ◌≤◌, IfErr, IfSome, MatchResult, drop, length};
 ghost use Rattle.goblin_base.specs.Answers.{IsMemory};
 ghost use Rattle.goblin_base.specs.Reading.{Reads};
-ghost use Rattle.goblin_pe.specs.ImportWalks.{no_imports};
+ghost use Rattle.goblin_pe.specs.LayoutCursors.{file_ahead};
+ghost use Rattle.goblin_pe.specs.StepsAhead.{AreCounted};
 ghost use Rattle.goblin_pe_export.specs.ExportWalks.{KeepsOver, exports_at, exports_left};
 ghost use Rattle.goblin_pe_export.specs.ExportWalks.{exports_position};
 ghost use Rattle.goblin_pe.specs.Layouts.{IsFileImportsCause, file_imports_left, layout_map};
 ghost use Rattle.goblin_pe.specs.Layouts.{layout_bytes, layout_places};
-ghost use Rattle.goblin_pe_calls.specs.Batches.{Fills, GivesExports, GivesImports, GivesInFile};
-ghost use Rattle.goblin_pe_calls.specs.Batches.{GoesOn, ImportBatch, IsBatch, IsEnd, IsExportBatchFault};
-ghost use Rattle.goblin_pe_calls.specs.Batches.{IsImportsFault, IsRefusedNext};
+ghost use Rattle.goblin_pe_calls.specs.Batches.{Fills, FillsImports, GivesExports, GivesImports};
+ghost use Rattle.goblin_pe_calls.specs.Batches.{GivesInFile, GoesOn, ImportBatch, IsBatch};
+ghost use Rattle.goblin_pe_calls.specs.Batches.{IsExportBatchFault, IsImportsFault, IsRefusedNext};
 ghost use Rattle.goblin_pe_calls.specs.Batches.{cursor_numbers, cursor_said, import_cursor};
-ghost use Rattle.goblin_pe_calls.specs.Batches.{imports_from_position, values_before};
+ghost use Rattle.goblin_pe_calls.specs.Batches.{limit_of};
 ghost use Rattle.goblin_pe_calls.specs.Exports.{export_said, export_view};
 ghost use Rattle.goblin_pe_calls.specs.Imports.{GivesHere, import_said, import_view};
 
@@ -112,25 +113,46 @@ fn cursor_at<'e>(layout: &Layout, position: &PeImportCursor) -> ResultOf<'e, Imp
     layout.imports_begin()
 }
 
+// The limit that a number of steps says; 0 is none.
+fn limit_of(steps: usize) -> Option<usize>
+    ensures { result ≡ limit_of steps }
+{
+    if steps == 0 { None } else { Some(steps) }
+}
+
+// Up to which record there is room from `first` on, as each is a step.
+fn end_within(room: usize, first: usize, steps: &Option<usize>) -> usize
+    ensures room { result ≤ room }
+    ensures steps { IfSome steps.now (λ left. result ≤ first + left) }
+{
+    match steps {
+        Some(left) => room.min(first.saturating_add(*left)),
+        None => room,
+    }
+}
+
 // Fills records from `first` on with the plain imports that come next in the library of the walk,
-// as far as there is room, and returns the index after the last one filled. It is not inlined, so
-// that its loop shares no registers with its caller's.
+// up to `end`, and returns the index after the last one filled. It is not inlined, so that its loop
+// shares no registers with its caller's.
 #[inline(never)]
 fn fill_here<'a, 'm, 'e, T: Bitfield<'a>>(
     bytes: &'a [u8],
     imports: &mut Imports<'a, 'm, 'e, T>,
     records: &mut [PeImport<'a>],
     first: usize,
+    end: usize,
 ) -> usize
+    requires { end ≤ length records.old }
     ensures filled { GivesHere T.format imports.old imports.new
         (Fills records.old records.new first result) }
     ensures further { first ≤ result }
+    ensures within { first ≤ end → result ≤ end }
 {
     let Some(mut plain) = imports.plain() else {
         return first;
     };
     let mut count = first;
-    'plain: while count < records.len() {
+    'plain: while count < end {
         let Some(import) = plain.next_import() else {
             break 'plain;
         };
@@ -141,33 +163,42 @@ fn fill_here<'a, 'm, 'e, T: Bitfield<'a>>(
     count
 }
 
-// As `fill_here`, by the width of the file's entries. Where there is no room, nothing is made ready
-// for what comes next.
+// As `fill_here`, by the width of the file's entries, within a limit of steps. Where there is no
+// room, nothing is made ready for what comes next.
 #[inline(always)]
 fn fill_library<'a, 'm, 'e>(
     bytes: &'a [u8],
     imports: &mut FileImports<'a, 'm, 'e>,
     records: &mut [PeImport<'a>],
     first: usize,
+    steps: &mut Option<usize>,
 ) -> usize
     ensures filled { GivesInFile imports.old imports.new
         (Fills records.old records.new first result) }
     ensures further { first ≤ result }
+    ensures counted { AreCounted steps.old steps.new (file_ahead imports.old) (file_ahead imports.new) }
 {
-    if records.len() <= first {
+    let end = end_within(records.len(), first, steps);
+    if end <= first {
         return first;
     }
-    match imports {
-        FileImports::Narrow(imports) => fill_here(bytes, imports, records, first),
-        FileImports::Wide(imports) => fill_here(bytes, imports, records, first),
+    let count = match imports {
+        FileImports::Narrow(imports) => fill_here(bytes, imports, records, first, end),
+        FileImports::Wide(imports) => fill_here(bytes, imports, records, first, end),
+    };
+    if let Some(left) = *steps {
+        *steps = Some(left - (count - first));
     }
+    count
 }
 
-// Fills records with the imports that come next, as far as there is room, and answers how many.
+// Fills records with the imports that come next, as far as there is room and within so many steps,
+// and answers how many.
 fn fill_imports<'a, 'm, 'e>(
     layout: &Layout<'a>,
     mut imports: FileImports<'a, 'm, 'e>,
     position: &mut PeImportCursor,
+    steps: usize,
     records: &mut [PeImport<'a>],
 ) -> ResultOf<'e, usize>
     requires { let m = layout_map layout.now in
@@ -176,28 +207,26 @@ fn fill_imports<'a, 'm, 'e>(
         let places = layout_places layout.now in
         let bytes = layout_bytes layout.now in
         let left = file_imports_left imports.entry in
-        MatchResult result
-        (λ count. IsBatch import_view import_said (values_before left) records.old records.new count
-        × (imports_from_position m places bytes position.new ≡ Some (drop count left))
-        × (IsRefusedNext left → length records.old ≡ 0)
-        × (IsEnd left records.old count → position.new ≡ cursor_numbers no_imports)
-        × (length records.old ≡ 0 → position.new ≡ position.old))
+        let old : ImportBatch = record { position = position.old; records = records.old } in
+        let new : ImportBatch = record { position = position.new; records = records.new } in
+        MatchResult result (FillsImports m places bytes steps left old new)
         (λ e. IsRefusedNext left × IsFileImportsCause imports.entry e × (0 < length records.old)
-        × (records.new ≡ records.old) × (position.new ≡ position.old)) }
+        × (new ≡ old)) }
     ensures refused { IfErr result (λ e. ¬ IsMemory e) }
 {
+    let mut limit = limit_of(steps);
     let mut count = 0;
     'imports: while count < records.len() {
-        match imports.next() {
+        match imports.next_within(&mut limit) {
             Some(Ok(import)) => {
                 put_import(&mut records[count], layout.bytes(), &import);
-                count = fill_library(layout.bytes(), &mut imports, records, count + 1);
+                count = fill_library(layout.bytes(), &mut imports, records, count + 1, &mut limit);
                 *position = cursor_numbers(imports.cursor());
             }
             Some(Err(error)) if count == 0 => return Err(error),
             Some(Err(_)) => return Ok(count),
             None => {
-                *position = cursor_numbers(ImportCursor::end());
+                *position = cursor_numbers(imports.cursor());
                 return Ok(count);
             }
         }
@@ -209,6 +238,7 @@ fn fill_imports<'a, 'm, 'e>(
 fn next_imports<'a>(
     layout: &Layout<'a>,
     position: &mut PeImportCursor,
+    steps: usize,
     records: &mut [PeImport<'a>],
 ) -> Result<usize>
     ensures filled { let m = layout_map layout.now in
@@ -216,12 +246,12 @@ fn next_imports<'a>(
         let bytes = layout_bytes layout.now in
         let old : ImportBatch = record { position = position.old; records = records.old } in
         let new : ImportBatch = record { position = position.new; records = records.new } in
-        MatchResult result (GivesImports m places bytes old new)
+        MatchResult result (GivesImports m places bytes steps old new)
         (λ e. IsImportsFault m places bytes old e × (new ≡ old)) }
     ensures refused { IfErr result (λ e. ¬ IsMemory e) }
 {
     let at = cursor_at(layout, position)?;
-    fill_imports(layout, layout.imports_at(at), position, records)
+    fill_imports(layout, layout.imports_at(at), position, steps, records)
 }
 
 impl<'a> Batched<'a> for PeImport<'a> {
@@ -234,9 +264,10 @@ impl<'a> Batched<'a> for PeImport<'a> {
     fn next<'e>(
         layout: &Layout<'a>,
         position: &mut PeImportCursor,
+        steps: usize,
         records: &mut [PeImport<'a>],
     ) -> ResultOf<'e, usize> {
-        answer_for(next_imports(layout, position, records))
+        answer_for(next_imports(layout, position, steps, records))
     }
 }
 
@@ -293,6 +324,7 @@ impl<'a> Batched<'a> for PeExport<'a> {
     fn next<'e>(
         layout: &Layout<'a>,
         position: &mut usize,
+        _steps: usize,
         records: &mut [PeExport<'a>],
     ) -> ResultOf<'e, usize> {
         match layout.exports()? {

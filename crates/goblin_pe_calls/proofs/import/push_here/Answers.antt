@@ -16,7 +16,7 @@ plain-init g c = (
 pub plain-preserved : goal.plain-preserved
 plain-preserved g c =
     let gives = c.in-Some-next_import.ensures in (
-      here-more g.T.Bitfield.format c.args.imports.now _ _ _ _ c.plain.invariant.0 c.in-Some-next_import.import gives.0 (pushed-more _ _ _ c.in-Some-next_import.import c.push_within.ensures.value),
+      here-more g.T.Bitfield.format c.args.imports.now _ _ _ _ c.plain.invariant.0 c.in-Some-next_import.import gives.gives.0 gives.counted (pushed-more _ _ _ c.in-Some-next_import.import c.push_within.ensures.value),
       λ room. c.push_within.ensures.room (c.plain.invariant.1 room),
-      gives.1 ∙ c.plain.invariant.2,
+      gives.gives.1 ∙ c.plain.invariant.2,
     )

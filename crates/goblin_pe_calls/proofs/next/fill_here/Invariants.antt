@@ -10,6 +10,8 @@ invariant-plain g l =
     GivesHere g.T.Bitfield.format l.initial.imports (plain_at l.plain) (Fills l.initial.records l.records l.first l.count)
     × (l.first ≤ l.count)
     × (l.plain.imports ≡ l.initial.imports)
+    × (length l.records ≡ length l.initial.records)
+    × (l.first ≤ l.end → l.count ≤ l.end)
 
 abbrev pub decreases-plain : goal.decreases-plain
 decreases-plain g l = length l.records - l.count
