@@ -16,7 +16,7 @@ STRICT = ["-pedantic", "-Wcast-qual", "-Wconversion", "-Wshadow"]
 VALGRIND = ["valgrind", "-q", "--error-exitcode=9", "--leak-check=full"]
 SANITIZED = ("-std=c11", "-g", "-fsanitize=address,undefined", "-fno-sanitize-recover=all")
 # The calls for an image: those that fill the caller's records alone, and all.
-IN_PLACE = ("damage", "imports", "exports", "directory", "addresses", "blocks")
+IN_PLACE = ("damage", "imports", "libraries", "exports", "directory", "addresses", "blocks")
 OF_IMAGES = ("open", "footprint", *IN_PLACE)
 # How many imports an image has, and that image, an object and a Terse Executable, for eight threads to read.
 THREADED = ("1", BY_NAME, SAMPLES / "object_x64.obj", SAMPLES / "firmware_x64.te")

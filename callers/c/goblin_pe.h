@@ -68,6 +68,9 @@
                                                                            in, a name for each record and for what is
                                                                            passed over before it, and the address table
                                                                            of each library it comes to
+   next_libraries                    the same                              the sections, and for each record a name, the
+                                                                           address table, and what is passed over in the
+                                                                           lookup table before its first import
    next_exports                      the same                              the sections, the library's own name, and a name
                                                                            for each record and for what is passed over
                                                                            before it
@@ -265,6 +268,21 @@ static inline struct goblin_pe_fault goblin_pe_next_imports(
     return goblin_pe_raw_next_imports(
         GOBLIN_PE_BYTES(bytes, length), length, goblin_pe_options_or_default(options), places, cursor,
         GOBLIN_PE_SOME(struct goblin_pe_import, imports, room), room, steps, count);
+}
+
+/* Goes on with the walk over the libraries of an image from `cursor`, zeros at the beginning, as
+   goblin_pe_next_imports does over imports: gives one for each record of the import directory, up to the first that
+   has no name or no address table, also where permissive mode leaves the library out of the imports. Each has a cursor
+   of its own, at which goblin_pe_next_imports gives its imports, and then those of later ones; from such a cursor
+   this walk goes on with that library. In strict mode the walk ends with a refusal where the directory reaches the end
+   of the file; what else it refuses of a library goblin_pe_next_imports tells, and of its name the record. */
+static inline struct goblin_pe_fault goblin_pe_next_libraries(
+    const uint8_t *bytes, size_t length, const struct goblin_pe_options *options, const struct goblin_pe_places *places,
+    struct goblin_pe_import_cursor *cursor, struct goblin_pe_library *libraries, size_t room, size_t steps, size_t *count)
+{
+    return goblin_pe_raw_next_libraries(
+        GOBLIN_PE_BYTES(bytes, length), length, goblin_pe_options_or_default(options), places, cursor,
+        GOBLIN_PE_SOME(struct goblin_pe_library, libraries, room), room, steps, count);
 }
 
 /* Reads the 20 bytes at this file offset as the record of a library in the import directory, puts it into `record`,

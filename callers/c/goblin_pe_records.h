@@ -16,15 +16,15 @@ extern "C" {
 #define GOBLIN_PE_INTERFACE_VERSION 4
 
 /* The sum of the interface that is declared here. goblin_pe_interface answers that of the library. */
-#define GOBLIN_PE_INTERFACE 0x7ee19383u
+#define GOBLIN_PE_INTERFACE 0xb6febbe9u
 
 /* What follows .so. in the name by which programs ask for the shared library. */
-#define GOBLIN_PE_SONAME "4.7ee19383"
+#define GOBLIN_PE_SONAME "4.b6febbe9"
 
 /* Only a library of this very interface has this call, so that a program is linked with no other. */
-uint32_t goblin_pe_interface_7ee19383(void);
+uint32_t goblin_pe_interface_b6febbe9(void);
 #ifdef __GNUC__
-__attribute__((used)) static uint32_t (*const goblin_pe_needs_interface)(void) = goblin_pe_interface_7ee19383;
+__attribute__((used)) static uint32_t (*const goblin_pe_needs_interface)(void) = goblin_pe_interface_b6febbe9;
 #endif
 
 /* What a file is, by its first bytes. This does not tell whether it can be read, and no call reads
@@ -443,6 +443,103 @@ struct goblin_pe_import_directory_entry {
     uint32_t import_address_table_rva;
 };
 
+/* Where a table of an image lies.
+
+   Source: PE Format, "Optional Header Data Directories (Image Only)". Numbers are as stored; the
+   record has 8 bytes, and `at` gives a field's offset in it. */
+struct goblin_pe_data_directory {
+    /* The table's address, relative to the image's base, at 0. That of the certificates is a file
+       offset, since they are not loaded. */
+    uint32_t virtual_address;
+    /* The table's size in bytes, at 4. An import directory ends at its own last record, and a value
+       at an address by its own type, whatever the size; of an export directory the size says which
+       addresses are forwarders, of base relocations where the blocks end. */
+    uint32_t size;
+};
+
+/* Where the sections and the tables of an image lie, and how the tables are read, as its header
+   says: what walks over the tables take, so that none reads the header again.
+
+   Source: PE Format, "COFF File Header (Object and Image)", "Optional Header (Image Only)" and
+   "Section Table (Section Headers)". */
+struct goblin_pe_places {
+    /* The file offset of the section table. */
+    size_t section_table;
+    /* The export directory; zeros where there is none. */
+    struct goblin_pe_data_directory exports;
+    /* The import directory; zeros where there is none. */
+    struct goblin_pe_data_directory imports;
+    /* The directory of base relocations; zeros where there is none. */
+    struct goblin_pe_data_directory relocations;
+    /* The file alignment of the sections' raw data, in bytes; 0 where there is no optional header. */
+    uint32_t file_alignment;
+    /* How many records the section table has. */
+    uint16_t number_of_sections;
+    /* The magic of the optional header: by 0x10B the entries of import tables have four bytes, else
+       eight; 0 where there is no optional header. */
+    uint16_t magic;
+    /* Whether there is an export directory. */
+    bool has_exports;
+    /* Whether there is an import directory. */
+    bool has_imports;
+    /* Whether there is a directory of base relocations. */
+    bool has_relocations;
+};
+
+/* Where a walk over imports is, in numbers; zeros are the beginning. With the file's bytes and
+   places it is the walk: so it may be kept, copied and sent. Any other numbers are a walk, too. */
+struct goblin_pe_import_cursor {
+    /* The file offset of the directory's first record, from which records are counted. */
+    size_t first_record;
+    /* The file offset of the record that comes after the library, if there is one. */
+    size_t next_record;
+    /* The index of the library's record. */
+    size_t library;
+    /* The file offset of its lookup table. */
+    size_t table_offset;
+    /* The file offset of the slot that is read next in that table, in a library. */
+    size_t place;
+    /* The address of the library's name. */
+    uint32_t name_rva;
+    /* The address of its address table. */
+    uint32_t rva;
+    /* The address of its address table, if that is to be tested after its entries. */
+    uint32_t untested;
+    /* Whether the walk has begun; else the other fields are not looked at. */
+    bool is_begun;
+    /* Whether a record comes after the library. */
+    bool has_next;
+    /* Whether it is in a library. */
+    bool has_place;
+    /* Whether the address table is to be tested. */
+    bool is_untested;
+};
+
+/* A library: a record of the import directory, and what it tells at once. One library may have
+   several. */
+struct goblin_pe_library {
+    /* The name; empty where it can't be read. */
+    struct goblin_pe_text name;
+    /* The index of its record in the import directory. */
+    size_t index;
+    /* The file offset of its record, of 20 bytes. */
+    size_t record_offset;
+    /* Where its imports begin. */
+    struct goblin_pe_import_cursor cursor;
+    /* Why its name can't be read, in either mode; the status is 0 where it can. */
+    struct goblin_pe_fault name_fault;
+    /* Its record. */
+    struct goblin_pe_import_directory_entry import_directory_entry;
+    /* Whether permissive mode leaves it out of the imports, and strict mode refuses it after its
+       imports: it has no address table. */
+    bool is_left_out;
+    /* Whether an import comes first of its lookup table. Else that keeps none, or strict mode
+       refuses what comes first. */
+    bool has_imports;
+    /* Zero. It stands where padding would be, so that each byte of the record is defined. */
+    uint16_t reserved;
+};
+
 /* The header of a COFF file, or of the COFF part of an image.
 
    Source: PE Format, "COFF File Header (Object and Image)". Numbers are as stored; the record has
@@ -545,20 +642,6 @@ struct goblin_pe_relocation {
     uint16_t typ;
 };
 
-/* Where a table of an image lies.
-
-   Source: PE Format, "Optional Header Data Directories (Image Only)". Numbers are as stored; the
-   record has 8 bytes, and `at` gives a field's offset in it. */
-struct goblin_pe_data_directory {
-    /* The table's address, relative to the image's base, at 0. That of the certificates is a file
-       offset, since they are not loaded. */
-    uint32_t virtual_address;
-    /* The table's size in bytes, at 4. An import directory ends at its own last record, and a value
-       at an address by its own type, whatever the size; of an export directory the size says which
-       addresses are forwarders, of base relocations where the blocks end. */
-    uint32_t size;
-};
-
 /* The header of a Terse Executable.
 
    Source: UEFI Platform Initialization Specification, volume 1, "TE Image". Numbers are as stored,
@@ -590,64 +673,6 @@ struct goblin_pe_te_header {
     struct goblin_pe_data_directory reloc_dir;
     /* Where the debug data lies, at 32; in a header that was parsed, with the address adjusted. */
     struct goblin_pe_data_directory debug_dir;
-};
-
-/* Where the sections and the tables of an image lie, and how the tables are read, as its header
-   says: what walks over the tables take, so that none reads the header again.
-
-   Source: PE Format, "COFF File Header (Object and Image)", "Optional Header (Image Only)" and
-   "Section Table (Section Headers)". */
-struct goblin_pe_places {
-    /* The file offset of the section table. */
-    size_t section_table;
-    /* The export directory; zeros where there is none. */
-    struct goblin_pe_data_directory exports;
-    /* The import directory; zeros where there is none. */
-    struct goblin_pe_data_directory imports;
-    /* The directory of base relocations; zeros where there is none. */
-    struct goblin_pe_data_directory relocations;
-    /* The file alignment of the sections' raw data, in bytes; 0 where there is no optional header. */
-    uint32_t file_alignment;
-    /* How many records the section table has. */
-    uint16_t number_of_sections;
-    /* The magic of the optional header: by 0x10B the entries of import tables have four bytes, else
-       eight; 0 where there is no optional header. */
-    uint16_t magic;
-    /* Whether there is an export directory. */
-    bool has_exports;
-    /* Whether there is an import directory. */
-    bool has_imports;
-    /* Whether there is a directory of base relocations. */
-    bool has_relocations;
-};
-
-/* Where a walk over imports is, in numbers; zeros are the beginning. With the file's bytes and
-   places it is the walk: so it may be kept, copied and sent. Any other numbers are a walk, too. */
-struct goblin_pe_import_cursor {
-    /* The file offset of the directory's first record, from which records are counted. */
-    size_t first_record;
-    /* The file offset of the record that comes after the library, if there is one. */
-    size_t next_record;
-    /* The index of the library's record. */
-    size_t library;
-    /* The file offset of its lookup table. */
-    size_t table_offset;
-    /* The file offset of the slot that is read next in that table, in a library. */
-    size_t place;
-    /* The address of the library's name. */
-    uint32_t name_rva;
-    /* The address of its address table. */
-    uint32_t rva;
-    /* The address of its address table, if that is to be tested after its entries. */
-    uint32_t untested;
-    /* Whether the walk has begun; else the other fields are not looked at. */
-    bool is_begun;
-    /* Whether a record comes after the library. */
-    bool has_next;
-    /* Whether it is in a library. */
-    bool has_place;
-    /* Whether the address table is to be tested. */
-    bool is_untested;
 };
 
 /* An import. */
@@ -1133,6 +1158,10 @@ struct goblin_pe_fault goblin_pe_raw_read_section_data(
 bool goblin_pe_raw_import_record_at(
     const uint8_t *bytes, size_t byte_count, size_t offset,
     struct goblin_pe_import_directory_entry *entry);
+struct goblin_pe_fault goblin_pe_raw_next_libraries(
+    const uint8_t *bytes, size_t byte_count, const struct goblin_pe_options *options,
+    const struct goblin_pe_places *places, struct goblin_pe_import_cursor *cursor,
+    struct goblin_pe_library *records, size_t record_room, size_t steps, size_t *count);
 bool goblin_pe_raw_section_at(const struct goblin_pe_image *image, size_t rva, size_t *index);
 bool goblin_pe_raw_find_rva(const struct goblin_pe_image *image, size_t offset, size_t *rva);
 struct goblin_pe_fault goblin_pe_raw_memory_at(
@@ -1307,6 +1336,47 @@ GOBLIN_PE_IS_AT(import_directory_entry, forwarder_chain, 8);
 GOBLIN_PE_IS_AT(import_directory_entry, name_rva, 12);
 GOBLIN_PE_IS_AT(import_directory_entry, import_address_table_rva, 16);
 
+GOBLIN_PE_HAS_SIZE(data_directory, 8, 4);
+GOBLIN_PE_IS_AT(data_directory, virtual_address, 0);
+GOBLIN_PE_IS_AT(data_directory, size, 4);
+
+GOBLIN_PE_HAS_SIZE(places, 48, 8);
+GOBLIN_PE_IS_AT(places, section_table, 0);
+GOBLIN_PE_IS_AT(places, exports, 8);
+GOBLIN_PE_IS_AT(places, imports, 16);
+GOBLIN_PE_IS_AT(places, relocations, 24);
+GOBLIN_PE_IS_AT(places, file_alignment, 32);
+GOBLIN_PE_IS_AT(places, number_of_sections, 36);
+GOBLIN_PE_IS_AT(places, magic, 38);
+GOBLIN_PE_IS_AT(places, has_exports, 40);
+GOBLIN_PE_IS_AT(places, has_imports, 41);
+GOBLIN_PE_IS_AT(places, has_relocations, 42);
+
+GOBLIN_PE_HAS_SIZE(import_cursor, 56, 8);
+GOBLIN_PE_IS_AT(import_cursor, first_record, 0);
+GOBLIN_PE_IS_AT(import_cursor, next_record, 8);
+GOBLIN_PE_IS_AT(import_cursor, library, 16);
+GOBLIN_PE_IS_AT(import_cursor, table_offset, 24);
+GOBLIN_PE_IS_AT(import_cursor, place, 32);
+GOBLIN_PE_IS_AT(import_cursor, name_rva, 40);
+GOBLIN_PE_IS_AT(import_cursor, rva, 44);
+GOBLIN_PE_IS_AT(import_cursor, untested, 48);
+GOBLIN_PE_IS_AT(import_cursor, is_begun, 52);
+GOBLIN_PE_IS_AT(import_cursor, has_next, 53);
+GOBLIN_PE_IS_AT(import_cursor, has_place, 54);
+GOBLIN_PE_IS_AT(import_cursor, is_untested, 55);
+
+GOBLIN_PE_HAS_SIZE(library, 136, 8);
+GOBLIN_PE_IS_AT(library, name, 0);
+GOBLIN_PE_IS_AT(library, index, 16);
+GOBLIN_PE_IS_AT(library, record_offset, 24);
+GOBLIN_PE_IS_AT(library, cursor, 32);
+GOBLIN_PE_IS_AT(library, name_fault, 88);
+GOBLIN_PE_IS_AT(library, import_directory_entry, 112);
+GOBLIN_PE_IS_AT(library, is_left_out, 132);
+GOBLIN_PE_IS_AT(library, has_imports, 133);
+GOBLIN_PE_IS_AT(library, reserved, 134);
+
 GOBLIN_PE_HAS_SIZE(coff_header, 20, 4);
 GOBLIN_PE_IS_AT(coff_header, machine, 0);
 GOBLIN_PE_IS_AT(coff_header, number_of_sections, 2);
@@ -1346,10 +1416,6 @@ GOBLIN_PE_IS_AT(relocation, virtual_address, 0);
 GOBLIN_PE_IS_AT(relocation, symbol_table_index, 4);
 GOBLIN_PE_IS_AT(relocation, typ, 8);
 
-GOBLIN_PE_HAS_SIZE(data_directory, 8, 4);
-GOBLIN_PE_IS_AT(data_directory, virtual_address, 0);
-GOBLIN_PE_IS_AT(data_directory, size, 4);
-
 GOBLIN_PE_HAS_SIZE(te_header, 40, 8);
 GOBLIN_PE_IS_AT(te_header, signature, 0);
 GOBLIN_PE_IS_AT(te_header, machine, 2);
@@ -1361,32 +1427,6 @@ GOBLIN_PE_IS_AT(te_header, base_of_code, 12);
 GOBLIN_PE_IS_AT(te_header, image_base, 16);
 GOBLIN_PE_IS_AT(te_header, reloc_dir, 24);
 GOBLIN_PE_IS_AT(te_header, debug_dir, 32);
-
-GOBLIN_PE_HAS_SIZE(places, 48, 8);
-GOBLIN_PE_IS_AT(places, section_table, 0);
-GOBLIN_PE_IS_AT(places, exports, 8);
-GOBLIN_PE_IS_AT(places, imports, 16);
-GOBLIN_PE_IS_AT(places, relocations, 24);
-GOBLIN_PE_IS_AT(places, file_alignment, 32);
-GOBLIN_PE_IS_AT(places, number_of_sections, 36);
-GOBLIN_PE_IS_AT(places, magic, 38);
-GOBLIN_PE_IS_AT(places, has_exports, 40);
-GOBLIN_PE_IS_AT(places, has_imports, 41);
-GOBLIN_PE_IS_AT(places, has_relocations, 42);
-
-GOBLIN_PE_HAS_SIZE(import_cursor, 56, 8);
-GOBLIN_PE_IS_AT(import_cursor, first_record, 0);
-GOBLIN_PE_IS_AT(import_cursor, next_record, 8);
-GOBLIN_PE_IS_AT(import_cursor, library, 16);
-GOBLIN_PE_IS_AT(import_cursor, table_offset, 24);
-GOBLIN_PE_IS_AT(import_cursor, place, 32);
-GOBLIN_PE_IS_AT(import_cursor, name_rva, 40);
-GOBLIN_PE_IS_AT(import_cursor, rva, 44);
-GOBLIN_PE_IS_AT(import_cursor, untested, 48);
-GOBLIN_PE_IS_AT(import_cursor, is_begun, 52);
-GOBLIN_PE_IS_AT(import_cursor, has_next, 53);
-GOBLIN_PE_IS_AT(import_cursor, has_place, 54);
-GOBLIN_PE_IS_AT(import_cursor, is_untested, 55);
 
 GOBLIN_PE_HAS_SIZE(import, 64, 8);
 GOBLIN_PE_IS_AT(import, name, 0);

@@ -1,6 +1,6 @@
 /* Makes a call with its first growth of memory refused, then its second, and so on, until one meets no refusal:
-   growths CALL FILE, where CALL is open, layout, damage, footprint, imports, exports, directory, addresses, blocks,
-   object, symbols or te. The status is 0 where each refused growth is answered as such, changes no record and leaves
+   growths CALL FILE, where CALL is open, layout, damage, footprint, imports, libraries, exports, directory, addresses,
+   blocks, object, symbols or te. The status is 0 where each refused growth is answered as such, changes no record and leaves
    no block behind, and where all blocks of the last call are freed with what it filled. Then it prints how many
    growths it refused. It stands before malloc, realloc and free of glibc. */
 #include "goblin_pe.h"
@@ -60,6 +60,7 @@ struct records {
     struct goblin_pe_ranges ranges;
     struct goblin_pe_import_cursor place;
     struct goblin_pe_import imports[4];
+    struct goblin_pe_library libraries[4];
     struct goblin_pe_export exports[4];
     struct goblin_pe_export_directory directory;
     struct goblin_pe_export_address addresses[4];
@@ -89,6 +90,8 @@ static struct goblin_pe_fault called_by_places(const char *name, struct records 
     const struct goblin_pe_places *places = &layout.places;
     if (!strcmp(name, "imports"))
         return goblin_pe_next_imports(bytes, length, NULL, places, &r->place, r->imports, 4, 0, &r->count);
+    if (!strcmp(name, "libraries"))
+        return goblin_pe_next_libraries(bytes, length, NULL, places, &r->place, r->libraries, 4, 0, &r->count);
     if (!strcmp(name, "exports"))
         return goblin_pe_next_exports(bytes, length, NULL, places, &r->position, r->exports, 4, 0, &r->count);
     if (!strcmp(name, "directory"))

@@ -104,6 +104,42 @@ static bool walks_over_imports(const struct goblin_pe_places *places, const stru
     return found == tables->import_count;
 }
 
+/* Whether the walk from a library's cursor on gives the listed imports from one on; says how many are the library's. */
+static bool has_imports(const struct goblin_pe_places *places, const struct goblin_pe_tables *tables,
+                        const struct goblin_pe_library *library, size_t *first)
+{
+    struct goblin_pe_import_cursor position = library->cursor;
+    struct goblin_pe_import import;
+    size_t count = 0, begin = *first;
+    for (;; (*first)++) {
+        if (goblin_pe_next_imports(bytes, length, NULL, places, &position, &import, 1, &count).status !=
+            GOBLIN_PE_STATUS_OK)
+            return false;
+        if (!count || import.library != library->index)
+            return library->has_imports == (*first > begin) && !library->is_left_out;
+        if (*first >= tables->import_count || !is_import(&import, &tables->imports[*first]) ||
+            import.dll.bytes != library->name.bytes)
+            return false;
+    }
+}
+
+static bool walks_over_libraries(const struct goblin_pe_places *places, const struct goblin_pe_tables *tables)
+{
+    struct goblin_pe_import_cursor position = { 0 };
+    struct goblin_pe_library libraries[2];
+    size_t found = 0, count = 0, index = 0;
+    do {
+        if (goblin_pe_next_libraries(bytes, length, NULL, places, &position, libraries, 2, 0, &count).status !=
+            GOBLIN_PE_STATUS_OK)
+            return false;
+        for (size_t i = 0; i < count; i++, index++)
+            if (libraries[i].index != index || libraries[i].name_fault.status != GOBLIN_PE_STATUS_OK ||
+                !has_imports(places, tables, &libraries[i], &found))
+                return false;
+    } while (count);
+    return found == tables->import_count;
+}
+
 static bool walks_over_exports(const struct goblin_pe_places *places, const struct goblin_pe_tables *tables)
 {
     struct goblin_pe_export exports[2];
@@ -223,9 +259,9 @@ int main(int argc, char **argv)
             return 4;
         if (!are_in_file(&tables) || !has_footprint() || !has_addresses(&tables))
             return 5;
-        if (!walks_over_imports(&file.places, &tables) || !walks_over_exports(&file.places, &tables) ||
-            !walks_over_addresses(&file.places, &tables) || !has_directory(&file.places, &tables) ||
-            !walks_over_blocks(&file, &tables))
+        if (!walks_over_imports(&file.places, &tables) || !walks_over_libraries(&file.places, &tables) ||
+            !walks_over_exports(&file.places, &tables) || !walks_over_addresses(&file.places, &tables) ||
+            !has_directory(&file.places, &tables) || !walks_over_blocks(&file, &tables))
             return 6;
         if (has_header && !is_written(&file, directories, &tables))
             return 7;

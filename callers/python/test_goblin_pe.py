@@ -579,17 +579,48 @@ class Files(unittest.TestCase):
         record = Pe(data).find_offset(Pe(data).data_directories[DirectoryType.IMPORT_TABLE].virtual_address)
         struct.pack_into("<II", data, record + 4, 1, 2)
         library, = Pe(data, Options(parse_imports=False)).walk_libraries()
-        self.assertEqual(library[:4] + library[5:], (b"KERNEL32.dll", record, 1, 2, 0))
+        self.assertEqual(library[:4] + library[5:-1], (b"KERNEL32.dll", record, 1, 2, 0, None, False, True))
         self.assertEqual(Pe(data).text_at(library.name_rva), library.name)
         self.assertEqual(list(Pe(sample("forwarders_x64.dll")).walk_libraries()), [])
 
-    def test_libraries_without_imports_are_left_out(self):
+    def test_a_library_whose_name_cannot_be_read(self):
+        """Where its name is said to be the file ends. Strict mode refuses its imports, too."""
+        start = sample("forwarders_x64.dll")
+        data = bytearray(with_libraries(start, [b"a.dll", b"b.dll"], [1, 1]))
+        struct.pack_into("<I", data, len(start) + 12, len(data))
+        for is_permissive in False, True:
+            layout = Layout(data, Options(is_permissive=is_permissive, resolve_rva=False))
+            first, second = layout.walk_libraries()
+            self.assertEqual((first.name, first.has_imports, second.name), (None, True, b"b.dll"))
+            self.assertEqual((first.refusal.cause, first.refusal.first), (Cause.NAME_READ, len(data)))
+            if is_permissive:
+                self.assertEqual([x.dll for x in layout.walk_imports(first)], [b"", b"b.dll"])
+            else:
+                with self.assertRaises(Refused) as refused:
+                    next(layout.walk_imports(first))
+                self.assertEqual(refused.exception, first.refusal)
+            self.assertEqual([x.dll for x in layout.walk_imports(second)], [b"b.dll"])
+
+    def test_libraries_up_to_the_end_of_the_file(self):
+        """No record ends the directory, which strict mode refuses after the libraries."""
+        start = sample("forwarders_x64.dll")
+        data = bytearray(start) + struct.pack("<5I", 0, 0, 0, 0x40, 0x40)
+        struct.pack_into("<II", data, int.from_bytes(start[0x3C:0x40], "little") + 24 + 112 + 8, len(start), 20)
+        walk = Layout(data, Options(resolve_rva=False)).walk_libraries()
+        self.assertEqual(next(walk).record_offset, len(start))
+        with self.assertRaises(Refused) as refused:
+            next(walk)
+        self.assertEqual((refused.exception.cause, refused.exception.first), (Cause.IMPORT_RECORD_END, len(data)))
+        self.assertEqual(len(list(Layout(data, Options(is_permissive=True, resolve_rva=False)).walk_libraries())), 1)
+
+    def test_libraries_without_imports(self):
         """The second of three."""
         data = sample("forwarders_x64.dll")
         layout = Layout(with_libraries(data, [b"a.dll", b"b.dll", b"c.dll"], [1, 0, 1]), Options(resolve_rva=False))
         begin = len(data)
-        libraries = [(*x[:4], layout.text_at(x.name_rva), x.index) for x in layout.walk_libraries()]
-        self.assertEqual(libraries, [(b"a.dll", begin, 0, 0, b"a.dll", 0), (b"c.dll", begin + 40, 2, 0, b"c.dll", 2)])
+        libraries = [(*x[:4], layout.text_at(x.name_rva), x.index, x.has_imports) for x in layout.walk_libraries()]
+        self.assertEqual(libraries, [(b"a.dll", begin, 0, 0, b"a.dll", 0, True), (b"b.dll", begin + 20, 1, 0, b"b.dll", 1, False),
+                                     (b"c.dll", begin + 40, 2, 0, b"c.dll", 2, True)])
         imports = [(x.dll, x.name, x.ordinal, x.library) for x in layout.walk_imports()]
         self.assertEqual(imports, [(b"a.dll", None, 7, 0), (b"c.dll", None, 7, 2)])
 
@@ -602,14 +633,18 @@ class Files(unittest.TestCase):
         wanted = [(b"a.dll", 0), (b"a.dll", 0), (b"c.dll", 2)]
         self.assertEqual([(x.dll, x.library) for x in pe.imports], wanted)
         self.assertEqual([(x.dll, x.library) for x in pe.walk_imports()], wanted)
-        self.assertEqual([(x.name, x.index) for x in pe.walk_libraries()], [(b"a.dll", 0), (b"c.dll", 2)])
+        libraries = [(x.name, x.index, x.is_left_out) for x in pe.walk_libraries()]
+        self.assertEqual(libraries, [(b"a.dll", 0, False), (b"b.dll", 1, True), (b"c.dll", 2, False)])
 
     def test_libraries_of_a_file_of_many_sections(self):
-        """A call reads thousands of imports, and the next one goes on with the record after that of the last."""
+        """From each of them on come its imports and those of the later ones."""
         names = [b"%d.dll" % i for i in range(6)]
         data = with_libraries(with_section_names(97, 200), names, [3, 5000, 0, 2, 5000, 1])
-        libraries = Layout(data, Options(resolve_rva=False)).walk_libraries()
-        self.assertEqual([(x.name, x.index) for x in libraries], [(names[i], i) for i in (0, 1, 3, 4, 5)])
+        layout = Layout(data, Options(resolve_rva=False))
+        libraries = list(layout.walk_libraries())
+        self.assertEqual([(x.name, x.index, x.has_imports) for x in libraries], [(names[i], i, i != 2) for i in range(6)])
+        counts = [sum(1 for _ in layout.walk_imports(x)) for x in libraries]
+        self.assertEqual(counts, [10006, 10003, 5003, 5003, 5001, 1])
 
     def test_a_call_gives_more_where_it_makes_an_index(self):
         for sections, imports, calls in (96, 300, 3), (97, 300, 2), (97, 30000, 4), (97, 90000, 5):

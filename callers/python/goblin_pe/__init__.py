@@ -547,11 +547,11 @@ class Layout(_File):
         call, asked = getattr(_LIB, _WALKED[table][0]), options or self._with_imports
         return lambda address, length, *to: call(address, length, _c.byref(asked), _c.byref(self._places), *to)
 
-    def _walked(self, table: DirectoryType, row: str, steps: _t.Optional[int]) -> _t.Iterator[_t.Any]:
-        # the rows of a table, within so many steps
+    def _walked(self, table: DirectoryType, row: str, steps: _t.Optional[int], begin: _t.Tuple[int, ...] = ()) -> _t.Iterator[_t.Any]:
+        # the rows of a table, from where these numbers say, within so many steps
         _, kind, position = _WALKED[table]
         limit = None if steps is None else _size(steps)
-        return _walk(self._bytes(), kind, row, self._next(table), position(), self._batch(), limit)
+        return _walk(self._bytes(), kind, row, self._next(table), position(*begin), self._batch(), limit)
 
     def _records(self, table: DirectoryType) -> _t.Iterator[_t.Tuple[int, _t.Iterable[_t.Any]]]:
         # the records of a table, batch by batch: how many, and these
@@ -585,37 +585,23 @@ class Layout(_File):
             return State.READ if table == DirectoryType.IMPORT_TABLE else State.REFUSED
         return State.READ
 
-    def walk_imports(self, steps: _t.Optional[int] = None) -> _t.Iterator[Import]:
-        """The imports one by one, of which none is kept: also where the options left them out. With `steps` it raises OutOfSteps
-        once it has looked at so many slots and records of its tables, whether or not these gave an import. In strict mode Refused is
-        raised where it would be of the list, after what comes before; no law says on which bytes that depends. What gives no
-        import is counted by `damage`: `unmapped_entries` in either mode, the other two in permissive mode."""
-        return self._walked(DirectoryType.IMPORT_TABLE, "imported", steps)
+    def walk_imports(self, library: _t.Optional[Library] = None, steps: _t.Optional[int] = None) -> _t.Iterator[Import]:
+        """The imports one by one, of which none is kept: also where the options left them out; from the first one of a library
+        on, where one is given, which walk_libraries of this file gave. With `steps` it raises OutOfSteps once it has looked at so
+        many slots and records of its tables, whether or not these gave an import. In strict mode Refused is raised where it would
+        be of the list, after what comes before; no law says on which bytes that depends. What gives no import is counted by
+        `damage`: `unmapped_entries` in either mode, the other two in permissive mode."""
+        return self._walked(DirectoryType.IMPORT_TABLE, "imported", steps, library.cursor if library else ())
 
-    def walk_libraries(self) -> _t.Iterator[Library]:
-        """The libraries of which something is imported one by one, in the order of their records, as walk_imports gives imports.
-        One library may have several records, and one without imports is left out. Of each library only the first import is
-        read, so what strict mode refuses of the others is not told; but of more than 96 sections, of which each call makes an
-        index, a call reads thousands, and passes over what comes after them of the last library."""
-        return self._libraries(self._bytes(), self._next(DirectoryType.IMPORT_TABLE))
-
-    def _libraries(self, data: _Kept, call: _t.Callable[..., records.Fault]) -> _t.Iterator[Library]:
-        # the libraries of the imports of each call, which then goes on with the record after the last one's
-        begin = self.find_offset(self._places.imports.virtual_address) or 0  # (without an offset there are no libraries)
-        most, last, position = self._batch() if self._batch() > _BATCH else 1, -1, records.ImportCursor()
-        batches = _growing_batches(data, _room(records.Import, most), call, position, _LARGEST_BATCH if most > 1 else 0)
-        for address, count, found in batches:
-            for it in _laid_out.first_of(found, count):
-                if it.library != last:
-                    last = it.library
-                    yield self._library(data, _Rows(data, address).text(it.dll), begin + 20 * last, last)
-            position.has_place = position.is_untested = False
-
-    def _library(self, data: _Kept, name: bytes, offset: int, index: int) -> Library:
-        record = _laid_out.laid_out(records.ImportDirectoryEntry)()
-        with _held(data) as (address, length):
-            _LIB.goblin_pe_raw_import_record_at(address, length, offset, _c.byref(record))
-        return Library(name, offset, record.time_date_stamp, record.forwarder_chain, record.name_rva, index)
+    def walk_libraries(self, steps: _t.Optional[int] = None) -> _t.Iterator[Library]:
+        """The libraries one by one, as walk_imports gives imports: one for each record of the import directory, in order, up to
+        the first that has no name or no address table. Those that permissive mode leaves out of the imports come, too. With
+        `steps` it raises OutOfSteps after so many. In strict mode Refused is raised where the directory reaches the end of the
+        file; what else is refused of a library walk_imports tells, where it is given that."""
+        call, asked = _LIB.goblin_pe_raw_next_libraries, self._with_imports
+        return _walk(self._bytes(), records.Library, "library", lambda address, length, *to: call(
+            address, length, _c.byref(asked), _c.byref(self._places), *to), records.ImportCursor(), self._batch(),
+            None if steps is None else _size(steps))
 
     def walk_exports(self, steps: _t.Optional[int] = None) -> _t.Iterator[Export]:
         """The exports one by one, of which none is kept. With `steps` it raises OutOfSteps after so many."""

@@ -7,7 +7,7 @@ from typing import Annotated, Any, Dict, List, NamedTuple, Tuple
 from ._laid_out import Address, HandedOver, Record, header, record, tables, to
 
 # The sum of the interface that is declared here: of its records, the numbers in them, and its calls.
-INTERFACE = 0x7ee19383
+INTERFACE = 0xb6febbe9
 
 
 @record
@@ -265,6 +265,120 @@ class ImportDirectoryEntry(NamedTuple):
 
 
 @header
+class DataDirectory(NamedTuple):
+    """Where a table of an image lies.
+
+    Source: PE Format, "Optional Header Data Directories (Image Only)". Numbers are as stored; the
+    record has 8 bytes, and `at` gives a field's offset in it.
+
+    virtual_address: The table's address, relative to the image's base, at 0. That of the
+        certificates is a file offset, since they are not loaded.
+    size: The table's size in bytes, at 4. An import directory ends at its own last record, and a
+        value at an address by its own type, whatever the size; of an export directory the size says
+        which addresses are forwarders, of base relocations where the blocks end.
+    """
+
+    virtual_address: Annotated[int, c.c_uint32]
+    size: Annotated[int, c.c_uint32]
+
+
+@record
+class Places(Record):
+    """Where the sections and the tables of an image lie, and how the tables are read, as its header
+    says: what walks over the tables take, so that none reads the header again.
+
+    Source: PE Format, "COFF File Header (Object and Image)", "Optional Header (Image Only)" and
+    "Section Table (Section Headers)".
+
+    section_table: The file offset of the section table.
+    exports: The export directory; zeros where there is none.
+    imports: The import directory; zeros where there is none.
+    relocations: The directory of base relocations; zeros where there is none.
+    file_alignment: The file alignment of the sections' raw data, in bytes; 0 where there is no
+        optional header.
+    number_of_sections: How many records the section table has.
+    magic: The magic of the optional header: by 0x10B the entries of import tables have four bytes,
+        else eight; 0 where there is no optional header.
+    has_exports: Whether there is an export directory.
+    has_imports: Whether there is an import directory.
+    has_relocations: Whether there is a directory of base relocations.
+    """
+
+    section_table: Annotated[int, c.c_size_t]
+    exports: DataDirectory
+    imports: DataDirectory
+    relocations: DataDirectory
+    file_alignment: Annotated[int, c.c_uint32]
+    number_of_sections: Annotated[int, c.c_uint16]
+    magic: Annotated[int, c.c_uint16]
+    has_exports: Annotated[bool, c.c_bool]
+    has_imports: Annotated[bool, c.c_bool]
+    has_relocations: Annotated[bool, c.c_bool]
+
+
+@record
+class ImportCursor(Record):
+    """Where a walk over imports is, in numbers; zeros are the beginning. With the file's bytes and
+    places it is the walk: so it may be kept, copied and sent. Any other numbers are a walk, too.
+
+    first_record: The file offset of the directory's first record, from which records are counted.
+    next_record: The file offset of the record that comes after the library, if there is one.
+    library: The index of the library's record.
+    table_offset: The file offset of its lookup table.
+    place: The file offset of the slot that is read next in that table, in a library.
+    name_rva: The address of the library's name.
+    rva: The address of its address table.
+    untested: The address of its address table, if that is to be tested after its entries.
+    is_begun: Whether the walk has begun; else the other fields are not looked at.
+    has_next: Whether a record comes after the library.
+    has_place: Whether it is in a library.
+    is_untested: Whether the address table is to be tested.
+    """
+
+    first_record: Annotated[int, c.c_size_t]
+    next_record: Annotated[int, c.c_size_t]
+    library: Annotated[int, c.c_size_t]
+    table_offset: Annotated[int, c.c_size_t]
+    place: Annotated[int, c.c_size_t]
+    name_rva: Annotated[int, c.c_uint32]
+    rva: Annotated[int, c.c_uint32]
+    untested: Annotated[int, c.c_uint32]
+    is_begun: Annotated[bool, c.c_bool]
+    has_next: Annotated[bool, c.c_bool]
+    has_place: Annotated[bool, c.c_bool]
+    is_untested: Annotated[bool, c.c_bool]
+
+
+@record
+class Library(Record):
+    """A library: a record of the import directory, and what it tells at once. One library may have
+    several.
+
+    name: The name; empty where it can't be read.
+    index: The index of its record in the import directory.
+    record_offset: The file offset of its record, of 20 bytes.
+    cursor: Where its imports begin.
+    name_fault: Why its name can't be read, in either mode; the status is 0 where it can.
+    import_directory_entry: Its record.
+    is_left_out: Whether permissive mode leaves it out of the imports, and strict mode refuses it
+        after its imports: it has no address table.
+    has_imports: Whether an import comes first of its lookup table. Else that keeps none, or strict
+        mode refuses what comes first.
+    reserved: Zero. It stands where padding would be, so that each byte of the record is defined.
+    """
+
+    name: Text
+    index: Annotated[int, c.c_size_t]
+    record_offset: Annotated[int, c.c_size_t]
+    cursor: ImportCursor
+    name_fault: Fault
+    import_directory_entry: ImportDirectoryEntry
+    is_left_out: Annotated[bool, c.c_bool]
+    has_imports: Annotated[bool, c.c_bool]
+    reserved: Annotated[int, c.c_uint16]
+
+
+@header
 class CoffHeader(NamedTuple):
     """The header of a COFF file, or of the COFF part of an image.
 
@@ -397,24 +511,6 @@ class Relocation(NamedTuple):
 
 
 @header
-class DataDirectory(NamedTuple):
-    """Where a table of an image lies.
-
-    Source: PE Format, "Optional Header Data Directories (Image Only)". Numbers are as stored; the
-    record has 8 bytes, and `at` gives a field's offset in it.
-
-    virtual_address: The table's address, relative to the image's base, at 0. That of the
-        certificates is a file offset, since they are not loaded.
-    size: The table's size in bytes, at 4. An import directory ends at its own last record, and a
-        value at an address by its own type, whatever the size; of an export directory the size says
-        which addresses are forwarders, of base relocations where the blocks end.
-    """
-
-    virtual_address: Annotated[int, c.c_uint32]
-    size: Annotated[int, c.c_uint32]
-
-
-@header
 class TeHeader(NamedTuple):
     """The header of a Terse Executable.
 
@@ -450,73 +546,6 @@ class TeHeader(NamedTuple):
     image_base: Annotated[int, c.c_uint64]
     reloc_dir: DataDirectory
     debug_dir: DataDirectory
-
-
-@record
-class Places(Record):
-    """Where the sections and the tables of an image lie, and how the tables are read, as its header
-    says: what walks over the tables take, so that none reads the header again.
-
-    Source: PE Format, "COFF File Header (Object and Image)", "Optional Header (Image Only)" and
-    "Section Table (Section Headers)".
-
-    section_table: The file offset of the section table.
-    exports: The export directory; zeros where there is none.
-    imports: The import directory; zeros where there is none.
-    relocations: The directory of base relocations; zeros where there is none.
-    file_alignment: The file alignment of the sections' raw data, in bytes; 0 where there is no
-        optional header.
-    number_of_sections: How many records the section table has.
-    magic: The magic of the optional header: by 0x10B the entries of import tables have four bytes,
-        else eight; 0 where there is no optional header.
-    has_exports: Whether there is an export directory.
-    has_imports: Whether there is an import directory.
-    has_relocations: Whether there is a directory of base relocations.
-    """
-
-    section_table: Annotated[int, c.c_size_t]
-    exports: DataDirectory
-    imports: DataDirectory
-    relocations: DataDirectory
-    file_alignment: Annotated[int, c.c_uint32]
-    number_of_sections: Annotated[int, c.c_uint16]
-    magic: Annotated[int, c.c_uint16]
-    has_exports: Annotated[bool, c.c_bool]
-    has_imports: Annotated[bool, c.c_bool]
-    has_relocations: Annotated[bool, c.c_bool]
-
-
-@record
-class ImportCursor(Record):
-    """Where a walk over imports is, in numbers; zeros are the beginning. With the file's bytes and
-    places it is the walk: so it may be kept, copied and sent. Any other numbers are a walk, too.
-
-    first_record: The file offset of the directory's first record, from which records are counted.
-    next_record: The file offset of the record that comes after the library, if there is one.
-    library: The index of the library's record.
-    table_offset: The file offset of its lookup table.
-    place: The file offset of the slot that is read next in that table, in a library.
-    name_rva: The address of the library's name.
-    rva: The address of its address table.
-    untested: The address of its address table, if that is to be tested after its entries.
-    is_begun: Whether the walk has begun; else the other fields are not looked at.
-    has_next: Whether a record comes after the library.
-    has_place: Whether it is in a library.
-    is_untested: Whether the address table is to be tested.
-    """
-
-    first_record: Annotated[int, c.c_size_t]
-    next_record: Annotated[int, c.c_size_t]
-    library: Annotated[int, c.c_size_t]
-    table_offset: Annotated[int, c.c_size_t]
-    place: Annotated[int, c.c_size_t]
-    name_rva: Annotated[int, c.c_uint32]
-    rva: Annotated[int, c.c_uint32]
-    untested: Annotated[int, c.c_uint32]
-    is_begun: Annotated[bool, c.c_bool]
-    has_next: Annotated[bool, c.c_bool]
-    has_place: Annotated[bool, c.c_bool]
-    is_untested: Annotated[bool, c.c_bool]
 
 
 @record
@@ -1088,6 +1117,8 @@ CALLS: Dict[str, Tuple[Any, List[Any]]] = {
         (Fault, [to(Image), to(Section), to(SectionData)]),
     "goblin_pe_raw_import_record_at":
         (c.c_bool, [c.c_void_p, c.c_size_t, c.c_size_t, to(ImportDirectoryEntry)]),
+    "goblin_pe_raw_next_libraries":
+        (Fault, [c.c_void_p, c.c_size_t, to(Options), to(Places), to(ImportCursor), to(Library), c.c_size_t, c.c_size_t, to(c.c_size_t)]),
     "goblin_pe_raw_section_at":
         (c.c_bool, [to(Image), c.c_size_t, to(c.c_size_t)]),
     "goblin_pe_raw_find_rva":

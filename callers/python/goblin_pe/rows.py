@@ -6,7 +6,7 @@ from typing import Any, Callable, Dict, Iterator, List, NamedTuple, Optional, Tu
 
 from . import _laid_out, records
 from ._library import LIB, Data, Kept, held, kept, part_kept, viewed
-from ._refused import test
+from ._refused import Refused, refusal, test
 from .constants import (IMAGE_SCN_LNK_NRELOC_OVFL, IMAGE_SYM_CLASS_EXTERNAL, IMAGE_SYM_CLASS_FILE, IMAGE_SYM_CLASS_FUNCTION, IMAGE_SYM_CLASS_STATIC,
                         IMAGE_SYM_CLASS_WEAK_EXTERNAL, IMAGE_SYM_DTYPE_FUNCTION, IMAGE_SYM_DTYPE_SHIFT)
 from .numbers import Forwards
@@ -122,17 +122,24 @@ class Import(NamedTuple):
 
 
 class Library(NamedTuple):
-    """A library of which something is imported: its name, the file offset of its record, three numbers of that, and the index of
-    the record in the import directory. The numbers are the time stamp, which is 0 where its imports are not bound, the index of
-    the first import that it forwards, where they are bound in the old way, and the address of its name, where bytes_at reads one
-    that is not UTF-8. The name is empty where permissive mode could not read it; records that are left out count."""
+    """A library: its name, the file offset of its record in the import directory, three numbers of that, and its index there.
+    The numbers are the time stamp, which is 0 where its imports are not bound, the index of the first import that it forwards,
+    where they are bound in the old way, and the address of its name, where bytes_at reads one that is not UTF-8. A name that
+    can't be read is None in either mode, and the refusal says why; else that is None. Permissive mode leaves out of the imports
+    a library that has no address table, and strict mode refuses it after its imports. It has imports where one comes first of
+    its lookup table; else that keeps none, or strict mode refuses what comes first. The cursor is where walk_imports begins
+    with them. One library may have several records."""
 
-    name: bytes
+    name: Optional[bytes]
     record_offset: int
     time_date_stamp: int
     forwarder_chain: int
     name_rva: int
     index: int  # type: ignore[assignment]  # (it takes the place of the method of that name)
+    refusal: Optional[Refused]
+    is_left_out: bool
+    has_imports: bool
+    cursor: Tuple[int, ...]
 
 
 class Export(NamedTuple):
@@ -399,6 +406,13 @@ class Rows:
         """The row of an import."""
         name = self.text(x.name) if x.is_by_name else None
         return Import(self.text(x.dll), name, x.ordinal, x.slot_rva, x.rva, x.slot, x.library)
+
+    def library(self, x: records.Library) -> Library:
+        """The row of a library."""
+        record, why = x.import_directory_entry, refusal(x.name_fault)
+        cursor = tuple(getattr(x.cursor, it) for it, _ in x.cursor._fields_)
+        return Library(None if why else self.text(x.name), x.record_offset, record.time_date_stamp, record.forwarder_chain,
+                       record.name_rva, x.index, why, x.is_left_out, x.has_imports, cursor)
 
     def exported(self, x: records.Export) -> Export:
         """The row of an export."""

@@ -11,7 +11,6 @@ use crate::layout::Layout;
 use crate::memory::make_room;
 use crate::raw::{self, CoffHeader, Fault, Options, Relocation};
 use crate::rows::{Block, Export, ExportAddress, ExportEntry, Import, Library, Section, Symbol};
-use crate::text::Text;
 
 // Iterators that make a row of each item of another one.
 macro_rules! iterators {
@@ -410,12 +409,24 @@ walks! {
     WalkImports by raw::next_imports, Import from |_| raw::ImportCursor::default() => raw::ImportCursor,
         has_imports => Import<'a>;
 
+    /// A walk over the libraries of an image, in constant memory. A copy is as that of [`WalkImports`].
+    WalkLibraries by raw::next_libraries, Library from |_| raw::ImportCursor::default() => raw::ImportCursor,
+        has_imports => Library<'a>;
+
     /// A walk over the exports of an image, in constant memory. A copy is as that of [`WalkImports`].
     WalkExports by raw::next_exports, Export from |_| 0 => usize, has_exports => Export<'a>;
 
     /// A walk over the blocks of base relocations of an image, in constant memory. A copy is as that of
     /// [`WalkImports`].
     WalkBlocks by next_blocks, Block from BlockPosition::of => BlockPosition, has_relocations => Block<'a>;
+}
+
+impl WalkImports<'_> {
+    // The same walk from the first import of a library on.
+    pub(crate) fn at_library(mut self, library: &Library) -> Self {
+        self.batches.position = library.cursor;
+        self
+    }
 }
 
 // The call of the walk over blocks, as those of the other walks are.
@@ -510,97 +521,6 @@ impl fmt::Debug for WalkExportAddresses<'_> {
     fn fmt(&self, f: &mut fmt::Formatter<'_>) -> fmt::Result {
         f.debug_struct("WalkExportAddresses")
             .finish_non_exhaustive()
-    }
-}
-
-/// A walk over the libraries of which an image imports something, in constant memory. A copy is as that of
-/// [`WalkImports`].
-#[derive(Clone)]
-pub struct WalkLibraries<'a> {
-    bytes: &'a [u8],
-    options: Options,
-    places: raw::Places,
-    // The file offset of the first record.
-    directory: usize,
-    // The index of the record of the last library.
-    last: Option<usize>,
-    batches: Batches<raw::Import<'a>, raw::ImportCursor>,
-}
-
-impl<'a> WalkLibraries<'a> {
-    // From the beginning, of a file whose tables lie at these places, and whose import directory at this offset.
-    pub(crate) fn of(
-        bytes: &'a [u8],
-        options: Options,
-        places: raw::Places,
-        directory: usize,
-    ) -> Self {
-        WalkLibraries {
-            bytes,
-            options,
-            places,
-            directory,
-            last: None,
-            batches: Batches::of_table(
-                &places,
-                places.has_imports,
-                raw::ImportCursor::default(),
-                1,
-            ),
-        }
-    }
-
-    // The next import among those that are read. Others are read from the record after the last one's on.
-    fn next_import(&mut self) -> Option<Result<raw::Import<'a>, Error>> {
-        let found = self.batches.next(|position, steps, records| {
-            position.has_place = false;
-            position.is_untested = false;
-            raw::next_imports(self.bytes, &self.options, &self.places, position, steps, records)
-        })?;
-        Some(found.copied())
-    }
-
-    // The library of an import.
-    fn library(&self, import: &raw::Import<'a>) -> Library<'a> {
-        let record_offset = self.directory + IMPORT_RECORD * import.library;
-        // (it was read for the import)
-        let record = raw::import_record_at(self.bytes, record_offset).unwrap_or_default();
-        Library {
-            name: Text(import.dll.get()),
-            name_rva: record.name_rva,
-            index: import.library,
-            record_offset,
-            time_date_stamp: record.time_date_stamp,
-            forwarder_chain: record.forwarder_chain,
-        }
-    }
-}
-
-// The size of a library's record in the file, in bytes.
-const IMPORT_RECORD: usize = 20;
-
-impl<'a> Iterator for WalkLibraries<'a> {
-    type Item = Result<Library<'a>, Error>;
-
-    fn next(&mut self) -> Option<Result<Library<'a>, Error>> {
-        loop {
-            let import = match self.next_import()? {
-                Ok(import) => import,
-                Err(error) => return Some(Err(error)),
-            };
-            if self.last != Some(import.library) {
-                self.last = Some(import.library);
-                return Some(Ok(self.library(&import)));
-            }
-        }
-    }
-}
-
-impl FusedIterator for WalkLibraries<'_> {}
-
-impl fmt::Debug for WalkLibraries<'_> {
-    fn fmt(&self, f: &mut fmt::Formatter<'_>) -> fmt::Result {
-        f.debug_struct("WalkLibraries").finish_non_exhaustive()
     }
 }
 

@@ -15,7 +15,9 @@ use crate::memory::{make_room, room};
 use crate::numbers::DirectoryType;
 use crate::pe::Pe;
 use crate::raw::{self, CoffHeader, DataDirectory, DosHeader, OptionalHeader, Options};
-use crate::rows::{Damage, ExportDirectory, Header, Section, section_index, section_table};
+use crate::rows::{
+    Damage, ExportDirectory, Header, Library, Section, section_index, section_table,
+};
 use crate::text::Text;
 
 /// An image by its header and its sections. Nothing of it is listed, so it takes memory for its sections alone,
@@ -396,31 +398,46 @@ impl<'a> Layout<'a> {
         )
     }
 
-    /// A walk over the libraries of which something is imported, in the order of their records, as
-    /// [`walk_imports`](Self::walk_imports) is over imports. One library may have several records, and one without
-    /// imports is left out. Of each library only the first import is read, so what strict mode refuses of the others
-    /// is not told; but of more than 96 sections, of which each call makes an index, a call reads thousands, and passes
-    /// over what comes after them of the last library.
+    /// A walk over the imports from the first one of a library on, which [`walk_libraries`](Self::walk_libraries) of this
+    /// file gave: it goes on with those of the later ones.
     ///
     /// ```no_run
     /// # let bytes = [];
     /// # let layout = goblin_pe::Layout::read(&bytes, &goblin_pe::Options::permissive())?;
     /// for library in layout.walk_libraries() {
     ///     let library = library?;
-    ///     println!("{} {}", library.name, library.time_date_stamp);
+    ///     let walk = layout.walk_imports_from(&library);
+    ///     for import in walk.map_while(Result::ok).take_while(|it| it.library == library.index) {
+    ///         println!("{} {}", import.dll, import.name);
+    ///     }
+    /// }
+    /// # Ok::<(), goblin_pe::Error>(())
+    /// ```
+    #[must_use]
+    pub fn walk_imports_from(&self, library: &Library) -> WalkImports<'a> {
+        self.walk_imports().at_library(library)
+    }
+
+    /// A walk over the libraries, as [`walk_imports`](Self::walk_imports) is over imports: one for each record of the
+    /// import directory, in order, up to the first that has no name or no address table. One library may have several.
+    /// Those that permissive mode leaves out of the imports come, too. In strict mode it ends with an error where the
+    /// directory reaches the end of the file; what else is refused of a library the walk over its imports tells.
+    ///
+    /// ```no_run
+    /// # let bytes = [];
+    /// # let layout = goblin_pe::Layout::read(&bytes, &goblin_pe::Options::permissive())?;
+    /// for library in layout.walk_libraries() {
+    ///     let library = library?;
+    ///     println!("{} {}", library.name?, library.time_date_stamp);
     /// }
     /// # Ok::<(), goblin_pe::Error>(())
     /// ```
     #[must_use]
     pub fn walk_libraries(&self) -> WalkLibraries<'a> {
-        let directory = self.file.places.imports.virtual_address;
-        // (without an offset there are no libraries)
-        let offset = self.find_offset(directory as usize);
         WalkLibraries::of(
             self.bytes,
             self.options.with_parse_imports(true),
             self.file.places,
-            offset.unwrap_or(0),
         )
     }
 

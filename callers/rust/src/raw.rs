@@ -361,22 +361,14 @@ macro_rules! walks {
 walks! {
     /// Goes on with the walk over imports.
     next_imports by goblin_pe_raw_next_imports from ImportCursor => Import<'a>;
+    /// Goes on with the walk over libraries.
+    next_libraries by goblin_pe_raw_next_libraries from ImportCursor => Library<'a>;
     /// Goes on with the walk over exports.
     next_exports by goblin_pe_raw_next_exports from usize => Export<'a>;
     /// Goes on with the walk over the entries of the export address table.
     next_export_addresses by goblin_pe_raw_next_export_addresses from usize => ExportAddress;
     /// Goes on with the walk over the blocks of base relocations.
     next_blocks by goblin_pe_raw_next_blocks from usize => Block<'a>;
-}
-
-/// The record of a library in the import directory, at a file offset.
-pub fn import_record_at(bytes: &[u8], offset: usize) -> Option<ImportDirectoryEntry> {
-    test_interface();
-    let mut record = ImportDirectoryEntry::default();
-    // SAFETY: as in `kind`.
-    let is_there =
-        unsafe { goblin_pe_raw_import_record_at(bytes.as_ptr(), bytes.len(), offset, &mut record) };
-    is_there.then_some(record)
 }
 
 /// Reads what the export directory says.

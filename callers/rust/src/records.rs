@@ -5,7 +5,7 @@ use crate::raw::{List, Shared, Slice};
 use std::mem::offset_of;
 
 /// The sum of the interface that is declared here: of its records, the numbers in them, and its calls.
-pub const INTERFACE: u32 = 0x7ee1_9383;
+pub const INTERFACE: u32 = 0xb6fe_bbe9;
 
 /// What follows a symbol that defines a function.
 ///
@@ -219,6 +219,111 @@ pub struct ImportDirectoryEntry {
     pub import_address_table_rva: u32,
 }
 
+/// Where a table of an image lies.
+///
+/// Source: PE Format, "Optional Header Data Directories (Image Only)". Numbers are as stored; the
+/// record has 8 bytes, and `at` gives a field's offset in it.
+#[repr(C)]
+#[derive(Clone, Copy, Default, Debug, PartialEq, Eq, PartialOrd, Ord, Hash)]
+pub struct DataDirectory {
+    /// The table's address, relative to the image's base, at 0. That of the certificates is a file
+    /// offset, since they are not loaded.
+    pub virtual_address: u32,
+    /// The table's size in bytes, at 4. An import directory ends at its own last record, and a
+    /// value at an address by its own type, whatever the size; of an export directory the size says
+    /// which addresses are forwarders, of base relocations where the blocks end.
+    pub size: u32,
+}
+
+/// Where the sections and the tables of an image lie, and how the tables are read, as its header
+/// says: what walks over the tables take, so that none reads the header again.
+///
+/// Source: PE Format, "COFF File Header (Object and Image)", "Optional Header (Image Only)" and
+/// "Section Table (Section Headers)".
+#[repr(C)]
+#[derive(Clone, Copy, Default, Debug, PartialEq, Eq, PartialOrd, Ord, Hash)]
+pub struct Places {
+    /// The file offset of the section table.
+    pub section_table: usize,
+    /// The export directory; zeros where there is none.
+    pub exports: DataDirectory,
+    /// The import directory; zeros where there is none.
+    pub imports: DataDirectory,
+    /// The directory of base relocations; zeros where there is none.
+    pub relocations: DataDirectory,
+    /// The file alignment of the sections' raw data, in bytes; 0 where there is no optional header.
+    pub file_alignment: u32,
+    /// How many records the section table has.
+    pub number_of_sections: u16,
+    /// The magic of the optional header: by 0x10B the entries of import tables have four bytes,
+    /// else eight; 0 where there is no optional header.
+    pub magic: u16,
+    /// Whether there is an export directory.
+    pub has_exports: bool,
+    /// Whether there is an import directory.
+    pub has_imports: bool,
+    /// Whether there is a directory of base relocations.
+    pub has_relocations: bool,
+}
+
+/// Where a walk over imports is, in numbers; zeros are the beginning. With the file's bytes and
+/// places it is the walk: so it may be kept, copied and sent. Any other numbers are a walk, too.
+#[repr(C)]
+#[derive(Clone, Copy, Default, Debug, PartialEq, Eq, PartialOrd, Ord, Hash)]
+pub struct ImportCursor {
+    /// The file offset of the directory's first record, from which records are counted.
+    pub first_record: usize,
+    /// The file offset of the record that comes after the library, if there is one.
+    pub next_record: usize,
+    /// The index of the library's record.
+    pub library: usize,
+    /// The file offset of its lookup table.
+    pub table_offset: usize,
+    /// The file offset of the slot that is read next in that table, in a library.
+    pub place: usize,
+    /// The address of the library's name.
+    pub name_rva: u32,
+    /// The address of its address table.
+    pub rva: u32,
+    /// The address of its address table, if that is to be tested after its entries.
+    pub untested: u32,
+    /// Whether the walk has begun; else the other fields are not looked at.
+    pub is_begun: bool,
+    /// Whether a record comes after the library.
+    pub has_next: bool,
+    /// Whether it is in a library.
+    pub has_place: bool,
+    /// Whether the address table is to be tested.
+    pub is_untested: bool,
+}
+
+/// A library: a record of the import directory, and what it tells at once. One library may have
+/// several.
+#[repr(C)]
+#[derive(Clone, Copy, Default)]
+pub struct Library<'a> {
+    /// The name; empty where it can't be read.
+    pub name: Slice<'a>,
+    /// The index of its record in the import directory.
+    pub index: usize,
+    /// The file offset of its record, of 20 bytes.
+    pub record_offset: usize,
+    /// Where its imports begin.
+    pub cursor: ImportCursor,
+    /// Why its name can't be read, in either mode; the status is 0 where it can.
+    pub name_fault: Fault,
+    /// Its record.
+    pub import_directory_entry: ImportDirectoryEntry,
+    /// Whether permissive mode leaves it out of the imports, and strict mode refuses it after its
+    /// imports: it has no address table.
+    pub is_left_out: bool,
+    /// Whether an import comes first of its lookup table. Else that keeps none, or strict mode
+    /// refuses what comes first.
+    pub has_imports: bool,
+    /// Zero. It stands where padding would be, so that each byte of the record is defined.
+    pub reserved: u16,
+}
+
 /// The header of a COFF file, or of the COFF part of an image.
 ///
 /// Source: PE Format, "COFF File Header (Object and Image)". Numbers are as stored; the record has
@@ -334,22 +439,6 @@ pub struct Relocation {
     pub typ: u16,
 }
 
-/// Where a table of an image lies.
-///
-/// Source: PE Format, "Optional Header Data Directories (Image Only)". Numbers are as stored; the
-/// record has 8 bytes, and `at` gives a field's offset in it.
-#[repr(C)]
-#[derive(Clone, Copy, Default, Debug, PartialEq, Eq, PartialOrd, Ord, Hash)]
-pub struct DataDirectory {
-    /// The table's address, relative to the image's base, at 0. That of the certificates is a file
-    /// offset, since they are not loaded.
-    pub virtual_address: u32,
-    /// The table's size in bytes, at 4. An import directory ends at its own last record, and a
-    /// value at an address by its own type, whatever the size; of an export directory the size says
-    /// which addresses are forwarders, of base relocations where the blocks end.
-    pub size: u32,
-}
-
 /// The header of a Terse Executable.
 ///
 /// Source: UEFI Platform Initialization Specification, volume 1, "TE Image". Numbers are as stored,
@@ -383,68 +472,6 @@ pub struct TeHeader {
     pub reloc_dir: DataDirectory,
     /// Where the debug data lies, at 32; in a header that was parsed, with the address adjusted.
     pub debug_dir: DataDirectory,
-}
-
-/// Where the sections and the tables of an image lie, and how the tables are read, as its header
-/// says: what walks over the tables take, so that none reads the header again.
-///
-/// Source: PE Format, "COFF File Header (Object and Image)", "Optional Header (Image Only)" and
-/// "Section Table (Section Headers)".
-#[repr(C)]
-#[derive(Clone, Copy, Default, Debug, PartialEq, Eq, PartialOrd, Ord, Hash)]
-pub struct Places {
-    /// The file offset of the section table.
-    pub section_table: usize,
-    /// The export directory; zeros where there is none.
-    pub exports: DataDirectory,
-    /// The import directory; zeros where there is none.
-    pub imports: DataDirectory,
-    /// The directory of base relocations; zeros where there is none.
-    pub relocations: DataDirectory,
-    /// The file alignment of the sections' raw data, in bytes; 0 where there is no optional header.
-    pub file_alignment: u32,
-    /// How many records the section table has.
-    pub number_of_sections: u16,
-    /// The magic of the optional header: by 0x10B the entries of import tables have four bytes,
-    /// else eight; 0 where there is no optional header.
-    pub magic: u16,
-    /// Whether there is an export directory.
-    pub has_exports: bool,
-    /// Whether there is an import directory.
-    pub has_imports: bool,
-    /// Whether there is a directory of base relocations.
-    pub has_relocations: bool,
-}
-
-/// Where a walk over imports is, in numbers; zeros are the beginning. With the file's bytes and
-/// places it is the walk: so it may be kept, copied and sent. Any other numbers are a walk, too.
-#[repr(C)]
-#[derive(Clone, Copy, Default, Debug, PartialEq, Eq, PartialOrd, Ord, Hash)]
-pub struct ImportCursor {
-    /// The file offset of the directory's first record, from which records are counted.
-    pub first_record: usize,
-    /// The file offset of the record that comes after the library, if there is one.
-    pub next_record: usize,
-    /// The index of the library's record.
-    pub library: usize,
-    /// The file offset of its lookup table.
-    pub table_offset: usize,
-    /// The file offset of the slot that is read next in that table, in a library.
-    pub place: usize,
-    /// The address of the library's name.
-    pub name_rva: u32,
-    /// The address of its address table.
-    pub rva: u32,
-    /// The address of its address table, if that is to be tested after its entries.
-    pub untested: u32,
-    /// Whether the walk has begun; else the other fields are not looked at.
-    pub is_begun: bool,
-    /// Whether a record comes after the library.
-    pub has_next: bool,
-    /// Whether it is in a library.
-    pub has_place: bool,
-    /// Whether the address table is to be tested.
-    pub is_untested: bool,
 }
 
 /// An import.
@@ -1017,6 +1044,43 @@ const _: () = {
     assert!(offset_of!(ImportDirectoryEntry, forwarder_chain) == 8);
     assert!(offset_of!(ImportDirectoryEntry, name_rva) == 12);
     assert!(offset_of!(ImportDirectoryEntry, import_address_table_rva) == 16);
+    assert!(size_of::<DataDirectory>() == 8 && align_of::<DataDirectory>() == 4);
+    assert!(offset_of!(DataDirectory, virtual_address) == 0);
+    assert!(offset_of!(DataDirectory, size) == 4);
+    assert!(size_of::<Places>() == 48 && align_of::<Places>() == 8);
+    assert!(offset_of!(Places, section_table) == 0);
+    assert!(offset_of!(Places, exports) == 8);
+    assert!(offset_of!(Places, imports) == 16);
+    assert!(offset_of!(Places, relocations) == 24);
+    assert!(offset_of!(Places, file_alignment) == 32);
+    assert!(offset_of!(Places, number_of_sections) == 36);
+    assert!(offset_of!(Places, magic) == 38);
+    assert!(offset_of!(Places, has_exports) == 40);
+    assert!(offset_of!(Places, has_imports) == 41);
+    assert!(offset_of!(Places, has_relocations) == 42);
+    assert!(size_of::<ImportCursor>() == 56 && align_of::<ImportCursor>() == 8);
+    assert!(offset_of!(ImportCursor, first_record) == 0);
+    assert!(offset_of!(ImportCursor, next_record) == 8);
+    assert!(offset_of!(ImportCursor, library) == 16);
+    assert!(offset_of!(ImportCursor, table_offset) == 24);
+    assert!(offset_of!(ImportCursor, place) == 32);
+    assert!(offset_of!(ImportCursor, name_rva) == 40);
+    assert!(offset_of!(ImportCursor, rva) == 44);
+    assert!(offset_of!(ImportCursor, untested) == 48);
+    assert!(offset_of!(ImportCursor, is_begun) == 52);
+    assert!(offset_of!(ImportCursor, has_next) == 53);
+    assert!(offset_of!(ImportCursor, has_place) == 54);
+    assert!(offset_of!(ImportCursor, is_untested) == 55);
+    assert!(size_of::<Library>() == 136 && align_of::<Library>() == 8);
+    assert!(offset_of!(Library, name) == 0);
+    assert!(offset_of!(Library, index) == 16);
+    assert!(offset_of!(Library, record_offset) == 24);
+    assert!(offset_of!(Library, cursor) == 32);
+    assert!(offset_of!(Library, name_fault) == 88);
+    assert!(offset_of!(Library, import_directory_entry) == 112);
+    assert!(offset_of!(Library, is_left_out) == 132);
+    assert!(offset_of!(Library, has_imports) == 133);
+    assert!(offset_of!(Library, reserved) == 134);
     assert!(size_of::<CoffHeader>() == 20 && align_of::<CoffHeader>() == 4);
     assert!(offset_of!(CoffHeader, machine) == 0);
     assert!(offset_of!(CoffHeader, number_of_sections) == 2);
@@ -1050,9 +1114,6 @@ const _: () = {
     assert!(offset_of!(Relocation, virtual_address) == 0);
     assert!(offset_of!(Relocation, symbol_table_index) == 4);
     assert!(offset_of!(Relocation, typ) == 8);
-    assert!(size_of::<DataDirectory>() == 8 && align_of::<DataDirectory>() == 4);
-    assert!(offset_of!(DataDirectory, virtual_address) == 0);
-    assert!(offset_of!(DataDirectory, size) == 4);
     assert!(size_of::<TeHeader>() == 40 && align_of::<TeHeader>() == 8);
     assert!(offset_of!(TeHeader, signature) == 0);
     assert!(offset_of!(TeHeader, machine) == 2);
@@ -1064,30 +1125,6 @@ const _: () = {
     assert!(offset_of!(TeHeader, image_base) == 16);
     assert!(offset_of!(TeHeader, reloc_dir) == 24);
     assert!(offset_of!(TeHeader, debug_dir) == 32);
-    assert!(size_of::<Places>() == 48 && align_of::<Places>() == 8);
-    assert!(offset_of!(Places, section_table) == 0);
-    assert!(offset_of!(Places, exports) == 8);
-    assert!(offset_of!(Places, imports) == 16);
-    assert!(offset_of!(Places, relocations) == 24);
-    assert!(offset_of!(Places, file_alignment) == 32);
-    assert!(offset_of!(Places, number_of_sections) == 36);
-    assert!(offset_of!(Places, magic) == 38);
-    assert!(offset_of!(Places, has_exports) == 40);
-    assert!(offset_of!(Places, has_imports) == 41);
-    assert!(offset_of!(Places, has_relocations) == 42);
-    assert!(size_of::<ImportCursor>() == 56 && align_of::<ImportCursor>() == 8);
-    assert!(offset_of!(ImportCursor, first_record) == 0);
-    assert!(offset_of!(ImportCursor, next_record) == 8);
-    assert!(offset_of!(ImportCursor, library) == 16);
-    assert!(offset_of!(ImportCursor, table_offset) == 24);
-    assert!(offset_of!(ImportCursor, place) == 32);
-    assert!(offset_of!(ImportCursor, name_rva) == 40);
-    assert!(offset_of!(ImportCursor, rva) == 44);
-    assert!(offset_of!(ImportCursor, untested) == 48);
-    assert!(offset_of!(ImportCursor, is_begun) == 52);
-    assert!(offset_of!(ImportCursor, has_next) == 53);
-    assert!(offset_of!(ImportCursor, has_place) == 54);
-    assert!(offset_of!(ImportCursor, is_untested) == 55);
     assert!(size_of::<Import>() == 64 && align_of::<Import>() == 8);
     assert!(offset_of!(Import, name) == 0);
     assert!(offset_of!(Import, dll) == 16);
@@ -1338,6 +1375,18 @@ unsafe extern "C" {
         offset: usize,
         entry: &mut ImportDirectoryEntry,
     ) -> bool;
+
+    pub fn goblin_pe_raw_next_libraries(
+        bytes: *const u8,
+        byte_count: usize,
+        options: &Options,
+        places: &Places,
+        cursor: &mut ImportCursor,
+        records: *mut Library<'_>,
+        record_room: usize,
+        steps: usize,
+        count: &mut usize,
+    ) -> Fault;
 
     pub fn goblin_pe_raw_section_at(image: &Image<'_, '_>, rva: usize, index: &mut usize) -> bool;
 

@@ -518,15 +518,15 @@ impl<'a> From<&raw::Import<'a>> for Import<'a> {
     }
 }
 
-/// A library of which something is imported.
-#[derive(Clone, Copy, Debug, PartialEq, Eq, PartialOrd, Ord, Hash)]
+/// A library: a record of the import directory, and what it tells at once. One library may have several.
+#[derive(Clone, Copy, Debug, PartialEq, Eq, Hash)]
 #[non_exhaustive]
 pub struct Library<'a> {
-    /// The name; empty where permissive mode could not read it.
-    pub name: Text<'a>,
+    /// The name, or why it can't be read, in either mode.
+    pub name: Result<Text<'a>, Error>,
     /// The address of its name, where [`Layout::bytes_at`](crate::Layout::bytes_at) reads one that is not UTF-8.
     pub name_rva: u32,
-    /// The index of its record in the import directory. Records that are left out count.
+    /// The index of its record in the import directory.
     pub index: usize,
     /// The file offset of its record, of 20 bytes.
     pub record_offset: usize,
@@ -534,6 +534,31 @@ pub struct Library<'a> {
     pub time_date_stamp: u32,
     /// The index of the first import that it forwards, where its imports are bound in the old way.
     pub forwarder_chain: u32,
+    /// Whether permissive mode leaves it out of the imports, and strict mode refuses it after its imports: it has no
+    /// address table.
+    pub is_left_out: bool,
+    /// Whether an import comes first of its lookup table. Else that keeps none, or strict mode refuses what comes
+    /// first.
+    pub has_imports: bool,
+    // Where its imports begin.
+    pub(crate) cursor: raw::ImportCursor,
+}
+
+impl<'a> From<&raw::Library<'a>> for Library<'a> {
+    fn from(x: &raw::Library<'a>) -> Library<'a> {
+        let record = x.import_directory_entry;
+        Library {
+            name: Error::test(x.name_fault).map(|()| Text(x.name.get())),
+            name_rva: record.name_rva,
+            index: x.index,
+            record_offset: x.record_offset,
+            time_date_stamp: record.time_date_stamp,
+            forwarder_chain: record.forwarder_chain,
+            is_left_out: x.is_left_out,
+            has_imports: x.has_imports,
+            cursor: x.cursor,
+        }
+    }
 }
 
 /// What an export that is a forwarder stands for.

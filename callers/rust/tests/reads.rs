@@ -277,9 +277,12 @@ fn a_walk_ends_with_the_refusal_of_a_read() {
     let mut walk = pe.walk_imports();
     assert_eq!(walk.next().unwrap().err(), refused);
     assert!(walk.next().is_none());
-    let mut walk = pe.walk_libraries();
-    assert_eq!(walk.next().unwrap().err(), refused);
-    assert!(walk.next().is_none());
+    let library = pe.walk_libraries().next().unwrap().unwrap();
+    assert_eq!(library.name.err(), refused);
+    assert_eq!(
+        pe.walk_imports_from(&library).next().unwrap().err(),
+        refused
+    );
     let permissive = Pe::read(&bytes, &Options::permissive()).unwrap();
     let damage = permissive.damage().unwrap();
     assert_eq!(damage.imports, refused);
@@ -487,15 +490,39 @@ fn libraries_have_records() {
                 it.time_date_stamp,
                 it.forwarder_chain,
                 pe.bytes_at(it.name_rva as usize, 4).unwrap(),
+                (it.is_left_out, it.has_imports),
             )
         })
         .collect();
     assert_eq!(
         found,
-        [(Text(b"KERNEL32.dll"), 0, record, 1, 2, &b"KERN"[..])]
+        [(
+            Ok(Text(b"KERNEL32.dll")),
+            0,
+            record,
+            1,
+            2,
+            &b"KERN"[..],
+            (false, true)
+        )]
     );
     let bytes = sample("forwarders_x64.dll");
     assert_eq!(Pe::parse(&bytes).unwrap().walk_libraries().count(), 0);
+}
+
+// The imports of a file are those of its libraries, each from its own first one on.
+#[test]
+fn a_walk_over_imports_begins_at_any_library() {
+    for name in ["imports_by_name_x64.dll", "imports_by_ordinal_x86.dll"] {
+        let bytes = sample(name);
+        let pe = Pe::parse(&bytes).unwrap();
+        let libraries = pe.walk_libraries().map(Result::unwrap);
+        let imports = libraries.flat_map(|library| {
+            let walk = pe.walk_imports_from(&library).map(Result::unwrap);
+            walk.take_while(move |it| it.library == library.index)
+        });
+        assert!(imports.eq(pe.imports()));
+    }
 }
 
 fn key(pe: &Pe<'_>) -> Vec<u8> {

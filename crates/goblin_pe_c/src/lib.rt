@@ -15,6 +15,7 @@ mod forwarder;
 mod image;
 mod import;
 mod interface;
+mod library;
 mod look_up;
 mod object;
 mod te;

@@ -33,7 +33,7 @@ number-said : (o : Option ℕ) → option_said (is_some o) (unwrap_or o 0) ≡ o
 number-said None = refl
 number-said (Some n) = refl
 
-said-again : (c : ImportCursor) → cursor_said (cursor_numbers c) ≡ c
+pub said-again : (c : ImportCursor) → cursor_said (cursor_numbers c) ≡ c
 said-again c = rw (number-said c.next_record, number-said c.place, number-said c.untested) refl
 
 -- ---- a walk goes on

@@ -1,6 +1,7 @@
 pub mod Batches
 pub mod Blocked
 pub mod Blocks
+pub mod CursorBatches
 pub mod Damages
 pub mod ExportDirectories
 pub mod Exports
@@ -10,6 +11,7 @@ pub mod Footprints
 pub mod ForwardersAt
 pub mod Growth
 pub mod Imports
+pub mod Libraries
 pub mod Opened
 pub mod Places
 pub mod Written

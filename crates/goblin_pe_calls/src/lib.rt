@@ -19,6 +19,7 @@ pub mod export_directory;
 pub mod forwarder;
 pub mod import;
 pub mod layout;
+pub mod library;
 pub mod next;
 pub mod open;
 pub mod places;

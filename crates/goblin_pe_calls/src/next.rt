@@ -82,7 +82,7 @@ fn cursor_said(position: &PeImportCursor) -> ImportCursor
 }
 
 // The numbers of a cursor.
-fn cursor_numbers(at: ImportCursor) -> PeImportCursor
+pub(crate) fn cursor_numbers(at: ImportCursor) -> PeImportCursor
     ensures { result ≡ cursor_numbers at }
 {
     PeImportCursor {
@@ -102,7 +102,10 @@ fn cursor_numbers(at: ImportCursor) -> PeImportCursor
 }
 
 // The cursor at a position.
-fn cursor_at<'e>(layout: &Layout, position: &PeImportCursor) -> ResultOf<'e, ImportCursor>
+pub(crate) fn cursor_at<'e>(
+    layout: &Layout,
+    position: &PeImportCursor,
+) -> ResultOf<'e, ImportCursor>
     ensures { let m = layout_map layout.now in
         Reads (λ c. c) result (import_cursor m (layout_places layout.now) position.now)
         (layout_bytes layout.now) }
