@@ -665,7 +665,7 @@ class Files(unittest.TestCase):
         for options, wanted in (Options(), [0, 0, 1, 1]), (Options(is_permissive=True), [0, 0, 0, 1, 1]):
             found, last = [], len(wanted) - 1
             for steps in range(len(wanted)):
-                rows = Layout(sample("imports_by_name_x64.dll"), options).walk_imports(steps)
+                rows = Layout(sample("imports_by_name_x64.dll"), options).walk_imports(steps=steps)
                 found.append(0)
                 with self.subTest(steps=steps), contextlib.nullcontext() if steps == last else self.assertRaisesRegex(
                         goblin_pe.OutOfSteps, "^the walk has taken its %d steps$" % steps):

@@ -585,7 +585,7 @@ class Layout(_File):
             return State.READ if table == DirectoryType.IMPORT_TABLE else State.REFUSED
         return State.READ
 
-    def walk_imports(self, library: _t.Optional[Library] = None, steps: _t.Optional[int] = None) -> _t.Iterator[Import]:
+    def walk_imports(self, library: _t.Optional[Library] = None, *, steps: _t.Optional[int] = None) -> _t.Iterator[Import]:
         """The imports one by one, of which none is kept: also where the options left them out; from the first one of a library
         on, where one is given, which walk_libraries of this file gave. With `steps` it raises OutOfSteps once it has looked at so
         many slots and records of its tables, whether or not these gave an import. In strict mode Refused is raised where it would
@@ -593,7 +593,7 @@ class Layout(_File):
         `damage`: `unmapped_entries` in either mode, the other two in permissive mode."""
         return self._walked(DirectoryType.IMPORT_TABLE, "imported", steps, library.cursor if library else ())
 
-    def walk_libraries(self, steps: _t.Optional[int] = None) -> _t.Iterator[Library]:
+    def walk_libraries(self, *, steps: _t.Optional[int] = None) -> _t.Iterator[Library]:
         """The libraries one by one, as walk_imports gives imports: one for each record of the import directory, in order, up to
         the first that has no name or no address table. Those that permissive mode leaves out of the imports come, too. With
         `steps` it raises OutOfSteps after so many. In strict mode Refused is raised where the directory reaches the end of the
@@ -603,7 +603,7 @@ class Layout(_File):
             address, length, _c.byref(asked), _c.byref(self._places), *to), records.ImportCursor(), self._batch(),
             None if steps is None else _size(steps))
 
-    def walk_exports(self, steps: _t.Optional[int] = None) -> _t.Iterator[Export]:
+    def walk_exports(self, *, steps: _t.Optional[int] = None) -> _t.Iterator[Export]:
         """The exports one by one, of which none is kept. With `steps` it raises OutOfSteps after so many."""
         return self._walked(DirectoryType.EXPORT_TABLE, "exported", steps)
 
@@ -656,7 +656,7 @@ class Layout(_File):
         for it in _itertools.chain.from_iterable(_laid_out.first_of(found, count) for _, count, found in batches):
             yield ExportEntry(next(ordinals), it.rva, it.forwards, self.forwarder_at(it.rva) if it.forwards else None)
 
-    def walk_blocks(self, steps: _t.Optional[int] = None) -> _t.Iterator[Block]:
+    def walk_blocks(self, *, steps: _t.Optional[int] = None) -> _t.Iterator[Block]:
         """The blocks of base relocations one by one, of which none is kept. With `steps` it raises OutOfSteps after so many. Where
         a rest of their directory is no block, Refused is raised in either mode, after what comes before, as block_rest of a Pe
         has it; and where strict mode refuses the directory."""
