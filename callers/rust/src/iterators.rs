@@ -555,7 +555,14 @@ impl<'a> WalkLibraries<'a> {
         let found = self.batches.next(|position, steps, records| {
             position.has_place = false;
             position.is_untested = false;
-            raw::next_imports(self.bytes, &self.options, &self.places, position, steps, records)
+            raw::next_imports(
+                self.bytes,
+                &self.options,
+                &self.places,
+                position,
+                steps,
+                records,
+            )
         })?;
         Some(found.copied())
     }
@@ -770,7 +777,11 @@ mod tests {
             let last = batches.next(|at, steps, to| read(total, false, at, steps, to));
             let error = last.unwrap().unwrap_err();
             assert_eq!(error.numbers(), (0, steps as u64, 0));
-            assert!(batches.next(|at, steps, to| read(total, false, at, steps, to)).is_none());
+            assert!(
+                batches
+                    .next(|at, steps, to| read(total, false, at, steps, to))
+                    .is_none()
+            );
         }
         let mut batches = Batches::new(0, BATCH).within(1001);
         assert_eq!(rest(0, &mut batches, 1000), 1000);
@@ -785,6 +796,10 @@ mod tests {
         }
         let refused = batches.next(|at, steps, to| read(128, true, at, steps, to));
         assert!(refused.unwrap().is_err());
-        assert!(batches.next(|at, steps, to| read(1000, false, at, steps, to)).is_none());
+        assert!(
+            batches
+                .next(|at, steps, to| read(1000, false, at, steps, to))
+                .is_none()
+        );
     }
 }
