@@ -20,8 +20,8 @@ ROWS = [
     ("damage of imports in one text", 120000, 0),
     ("exports in one text", 75000, 65465),
     ("imports that are all left out", 10000, 0),
-    ("imports that are all left out, within steps", 500, 0),
-    ("libraries that are all left out, within steps", 500, 0),
+    ("imports that are all left out, within steps", 50, 0),
+    ("libraries that are all left out, within steps", 50, 0),
     ("many batches of one library", 1000, 1048433),
     ("a batch of many sections", 250, 256),
 ]

@@ -345,7 +345,7 @@ def growing_batches(data: Kept, found: Any, call: Callable[..., records.Fault], 
             left -= steps if is_cursor else count.value
         if count.value:
             yield address, count.value, found
-        elif left is None or not is_cursor or _is_end(position):
+        if (_is_end(position) if is_cursor and left is not None else not count.value):
             return
         if count.value == len(found) - 1 < most:
             found = _larger(found, most)

@@ -25,7 +25,7 @@
 //! |---|---|---|
 //! | [`Pe::read`] | as long as the file and what it lists, some microseconds for a small one | a record for each row, of 8 to 96 bytes, and room for half as many more imports, exports and blocks; an index of more than 96 sections |
 //! | [`Layout::read`] | as long as the file, and the names of the sections | a record for each section, first for sixteen |
-//! | [`Layout::walk_imports`], [`Layout::walk_exports`], [`Layout::walk_blocks`] | as they go on; for each batch the name of the library that it is in, and of exports the image's own name once more | room for at most 256 rows; of more than 96 sections for 4,096 and up to 65,536, and an index |
+//! | [`Layout::walk_imports`], [`Layout::walk_exports`], [`Layout::walk_blocks`] | as they go on, at most as many steps as [`WalkImports::within`] says; for each batch the name of the library that it is in, and of exports the image's own name once more | room for at most 256 rows; of more than 96 sections for 4,096 and up to 65,536, and an index |
 //! | [`Layout::walk_libraries`] | as it goes on; for each library its address table, and its lookup table up to the first import | as the walks above |
 //! | [`Layout::walk_export_addresses`] | as it goes on, a walk over the sections for each forwarder, and for the first a [`Layout::read`] | as the walks above, and of forwarders a record for each section |
 //! | [`Layout::export_directory`], [`Layout::name`] | a walk over the sections, and a text | an index of more than 96 sections |

@@ -229,6 +229,21 @@ fn import_record(bytes: &[u8]) -> usize {
 }
 
 // The directory goes on after its only block with the head of one that has four bytes.
+// A record, the slot of its one import, and that of its address table are a step each.
+#[test]
+fn a_walk_ends_after_so_many_steps() {
+    let bytes = sample("imports_by_name_x64.dll");
+    let layout = Layout::read(&bytes, &Options::default()).unwrap();
+    for (steps, imports, ends) in [(0, 0, false), (1, 0, false), (2, 1, false), (3, 1, true)] {
+        let mut walk = layout.walk_imports().within(steps);
+        assert_eq!(walk.by_ref().take_while(Result::is_ok).count(), imports);
+        let last = layout.walk_imports().within(steps).last().unwrap();
+        let out = last.err().map(|it| (it.kind(), it.to_string()));
+        let text = format!("the walk has taken its {steps} steps");
+        assert_eq!(out, (!ends).then_some((ErrorKind::OutOfSteps, text)));
+    }
+}
+
 #[test]
 fn a_walk_over_blocks_ends_with_what_is_said_of_the_rest() {
     let mut bytes = sample("imports_by_name_x64.dll");

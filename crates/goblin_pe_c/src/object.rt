@@ -106,8 +106,8 @@ pub extern "C" fn goblin_pe_raw_next_symbols<'a>(
     ensures rest { let room = room_within steps (length records.old) in
         drop room records.new ≡ drop room records.old }
 {
-    let (front, _) = records.split_at_mut(room_within(steps, records.len()));
-    status_of(read_symbols(bytes, table, position, front, count))
+    let room = room_within(steps, records.len());
+    status_of(read_symbols(bytes, table, position, &mut records[..room], count))
 }
 
 /// Puts the symbol whose record has this index in a table into `symbol`, and answers whether there

@@ -77,9 +77,7 @@ pub extern "C" fn goblin_pe_raw_next_imports<'a>(
         old new count.old count.new) }
 {
     let opts = options_at(options, places.file_alignment);
-    status_of(give::<PeImport>(
-        alloc, bytes, &opts, places, cursor, steps, records, count,
-    ))
+    status_of(give::<PeImport>(alloc, bytes, &opts, places, cursor, steps, records, count))
 }
 
 /// Fills `records` with the exports of a file from a position on, as many as there is room for,
@@ -110,9 +108,7 @@ pub extern "C" fn goblin_pe_raw_next_exports<'a>(
         steps old new count.old count.new) }
 {
     let opts = options_at(options, places.file_alignment);
-    status_of(give::<PeExport>(
-        alloc, bytes, &opts, places, position, steps, records, count,
-    ))
+    status_of(give::<PeExport>(alloc, bytes, &opts, places, position, steps, records, count))
 }
 
 /// Puts into `directory` what the export directory of a file says, and lists no export: the record
@@ -169,9 +165,7 @@ pub extern "C" fn goblin_pe_raw_next_export_addresses(
         steps old new count.old count.new) }
 {
     let opts = options_at(options, places.file_alignment);
-    status_of(give::<PeExportAddress>(
-        alloc, bytes, &opts, places, position, steps, records, count,
-    ))
+    status_of(give::<PeExportAddress>(alloc, bytes, &opts, places, position, steps, records, count))
 }
 
 /// Fills `records` with the blocks of base relocations of a file from a position on, as many as
@@ -203,9 +197,7 @@ pub extern "C" fn goblin_pe_raw_next_blocks<'a>(
         new count.old count.new) }
 {
     let opts = options_at(options, places.file_alignment);
-    status_of(give::<PeBlock>(
-        alloc, bytes, &opts, places, position, steps, records, count,
-    ))
+    status_of(give::<PeBlock>(alloc, bytes, &opts, places, position, steps, records, count))
 }
 
 /// Fills `records` with all relocations of a section of an object from the index `position` on, as
@@ -235,8 +227,8 @@ pub extern "C" fn goblin_pe_raw_next_relocations(
     ensures rest { let room = room_within steps (length records.old) in
         drop room records.new ≡ drop room records.old }
 {
-    let (front, _) = records.split_at_mut(room_within(steps, records.len()));
-    status_of(next_relocations(bytes, section, position, front, count))
+    let room = room_within(steps, records.len());
+    status_of(next_relocations(bytes, section, position, &mut records[..room], count))
 }
 
 /// Fills `words` with those of a block of base relocations from the index `position` on, each with
@@ -255,6 +247,6 @@ pub extern "C" fn goblin_pe_raw_next_words(
     ensures rest { let room = room_within steps (length words.old) in
         drop room words.new ≡ drop room words.old }
 {
-    let (front, _) = words.split_at_mut(room_within(steps, words.len()));
-    next_words(block, position, front)
+    let room = room_within(steps, words.len());
+    next_words(block, position, &mut words[..room])
 }
