@@ -7,15 +7,15 @@ ghost use Rattle.std.specs.Prelude.{◌≡◌};
 /// The sum of this interface. A caller that declares another one has another number.
 #[unsafe(no_mangle)]
 pub extern "C" fn goblin_pe_interface() -> u32
-    ensures { result ≡ 3646346317 }
+    ensures { result ≡ 1932935360 }
 {
-    3_646_346_317
+    1_932_935_360
 }
 
 /// The same, by a name that no other interface has, with which programs in C are linked.
 #[unsafe(no_mangle)]
-pub extern "C" fn goblin_pe_interface_d956d44d() -> u32
-    ensures { result ≡ 3646346317 }
+pub extern "C" fn goblin_pe_interface_733640c0() -> u32
+    ensures { result ≡ 1932935360 }
 {
-    3_646_346_317
+    1_932_935_360
 }
