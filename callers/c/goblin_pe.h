@@ -47,8 +47,7 @@
 
    call                              memory at most                        time at most
    kind_of, read_section_data,
-     import_record_at, write_*,
-     set_*                           none                                  what the records say
+     write_*, set_*                  none                                  what the records say
    read_layout                       none                                  n, and a name for each section with room
    read_object, read_te              none                                  the sections, and a name for each with room
    read_symbol_table, checksum       none                                  n
@@ -283,17 +282,6 @@ static inline struct goblin_pe_fault goblin_pe_next_libraries(
     return goblin_pe_raw_next_libraries(
         GOBLIN_PE_BYTES(bytes, length), length, goblin_pe_options_or_default(options), places, cursor,
         GOBLIN_PE_SOME(struct goblin_pe_library, libraries, room), room, steps, count);
-}
-
-/* Reads the 20 bytes at this file offset as the record of a library in the import directory, puts it into `record`,
-   and answers whether the file has them; if not, nothing is changed. Whether they stand in the directory is not
-   tested. It has the library's time stamp, its forwarder chain, and the address of its name, at which
-   goblin_pe_bytes_at reads a name that is not UTF-8. The record of an import's library stands 20 times its `library`
-   after the file offset of the import directory. */
-static inline bool goblin_pe_import_record_at(
-    const uint8_t *bytes, size_t length, size_t offset, struct goblin_pe_import_directory_entry *record)
-{
-    return goblin_pe_raw_import_record_at(GOBLIN_PE_BYTES(bytes, length), length, offset, record);
 }
 
 /* Goes on with the walk over the exports of an image, as goblin_pe_next_imports does over imports, with no more of them

@@ -16,15 +16,15 @@ extern "C" {
 #define GOBLIN_PE_INTERFACE_VERSION 4
 
 /* The sum of the interface that is declared here. goblin_pe_interface answers that of the library. */
-#define GOBLIN_PE_INTERFACE 0xb6febbe9u
+#define GOBLIN_PE_INTERFACE 0x215dba31u
 
 /* What follows .so. in the name by which programs ask for the shared library. */
-#define GOBLIN_PE_SONAME "4.b6febbe9"
+#define GOBLIN_PE_SONAME "4.215dba31"
 
 /* Only a library of this very interface has this call, so that a program is linked with no other. */
-uint32_t goblin_pe_interface_b6febbe9(void);
+uint32_t goblin_pe_interface_215dba31(void);
 #ifdef __GNUC__
-__attribute__((used)) static uint32_t (*const goblin_pe_needs_interface)(void) = goblin_pe_interface_b6febbe9;
+__attribute__((used)) static uint32_t (*const goblin_pe_needs_interface)(void) = goblin_pe_interface_215dba31;
 #endif
 
 /* What a file is, by its first bytes. This does not tell whether it can be read, and no call reads
@@ -423,26 +423,6 @@ struct goblin_pe_section_data {
     size_t zeros;
 };
 
-/* A record of an import directory: where the imports from a library are.
-
-   Source: PE Format, "Import Directory Table". Numbers are as stored; the record has 20 bytes, and
-   `at` gives a field's offset in it. Addresses are relative to the image's base. */
-struct goblin_pe_import_directory_entry {
-    /* The address of the lookup table, which says what is imported, at 0. Where it has no file
-       offset, the address table is read instead, as images of some old linkers ask for. */
-    uint32_t import_lookup_table_rva;
-    /* 0 until the imports are bound, at 4; then the time stamp of the library to which they were
-       bound, or 2^32 - 1 if the bound imports say it. */
-    uint32_t time_date_stamp;
-    /* The index of the first forwarder, at 8. */
-    uint32_t forwarder_chain;
-    /* The address of the library's name, at 12. The record with 0 here is the directory's last. */
-    uint32_t name_rva;
-    /* The address of the address table, at 16: a copy of the lookup table, whose entries the loader
-       replaces with addresses. The record with 0 here is the directory's last. */
-    uint32_t import_address_table_rva;
-};
-
 /* Where a table of an image lies.
 
    Source: PE Format, "Optional Header Data Directories (Image Only)". Numbers are as stored; the
@@ -513,6 +493,26 @@ struct goblin_pe_import_cursor {
     bool has_place;
     /* Whether the address table is to be tested. */
     bool is_untested;
+};
+
+/* A record of an import directory: where the imports from a library are.
+
+   Source: PE Format, "Import Directory Table". Numbers are as stored; the record has 20 bytes, and
+   `at` gives a field's offset in it. Addresses are relative to the image's base. */
+struct goblin_pe_import_directory_entry {
+    /* The address of the lookup table, which says what is imported, at 0. Where it has no file
+       offset, the address table is read instead, as images of some old linkers ask for. */
+    uint32_t import_lookup_table_rva;
+    /* 0 until the imports are bound, at 4; then the time stamp of the library to which they were
+       bound, or 2^32 - 1 if the bound imports say it. */
+    uint32_t time_date_stamp;
+    /* The index of the first forwarder, at 8. */
+    uint32_t forwarder_chain;
+    /* The address of the library's name, at 12. The record with 0 here is the directory's last. */
+    uint32_t name_rva;
+    /* The address of the address table, at 16: a copy of the lookup table, whose entries the loader
+       replaces with addresses. The record with 0 here is the directory's last. */
+    uint32_t import_address_table_rva;
 };
 
 /* A library: a record of the import directory, and what it tells at once. One library may have
@@ -1155,9 +1155,6 @@ struct goblin_pe_fault goblin_pe_raw_bytes_at(
 struct goblin_pe_fault goblin_pe_raw_read_section_data(
     const struct goblin_pe_image *image, const struct goblin_pe_section *section,
     struct goblin_pe_section_data *contents);
-bool goblin_pe_raw_import_record_at(
-    const uint8_t *bytes, size_t byte_count, size_t offset,
-    struct goblin_pe_import_directory_entry *entry);
 struct goblin_pe_fault goblin_pe_raw_next_libraries(
     const uint8_t *bytes, size_t byte_count, const struct goblin_pe_options *options,
     const struct goblin_pe_places *places, struct goblin_pe_import_cursor *cursor,
@@ -1329,13 +1326,6 @@ GOBLIN_PE_HAS_SIZE(section_data, 24, 8);
 GOBLIN_PE_IS_AT(section_data, bytes, 0);
 GOBLIN_PE_IS_AT(section_data, zeros, 16);
 
-GOBLIN_PE_HAS_SIZE(import_directory_entry, 20, 4);
-GOBLIN_PE_IS_AT(import_directory_entry, import_lookup_table_rva, 0);
-GOBLIN_PE_IS_AT(import_directory_entry, time_date_stamp, 4);
-GOBLIN_PE_IS_AT(import_directory_entry, forwarder_chain, 8);
-GOBLIN_PE_IS_AT(import_directory_entry, name_rva, 12);
-GOBLIN_PE_IS_AT(import_directory_entry, import_address_table_rva, 16);
-
 GOBLIN_PE_HAS_SIZE(data_directory, 8, 4);
 GOBLIN_PE_IS_AT(data_directory, virtual_address, 0);
 GOBLIN_PE_IS_AT(data_directory, size, 4);
@@ -1365,6 +1355,13 @@ GOBLIN_PE_IS_AT(import_cursor, is_begun, 52);
 GOBLIN_PE_IS_AT(import_cursor, has_next, 53);
 GOBLIN_PE_IS_AT(import_cursor, has_place, 54);
 GOBLIN_PE_IS_AT(import_cursor, is_untested, 55);
+
+GOBLIN_PE_HAS_SIZE(import_directory_entry, 20, 4);
+GOBLIN_PE_IS_AT(import_directory_entry, import_lookup_table_rva, 0);
+GOBLIN_PE_IS_AT(import_directory_entry, time_date_stamp, 4);
+GOBLIN_PE_IS_AT(import_directory_entry, forwarder_chain, 8);
+GOBLIN_PE_IS_AT(import_directory_entry, name_rva, 12);
+GOBLIN_PE_IS_AT(import_directory_entry, import_address_table_rva, 16);
 
 GOBLIN_PE_HAS_SIZE(library, 136, 8);
 GOBLIN_PE_IS_AT(library, name, 0);

@@ -7,7 +7,7 @@ from typing import Annotated, Any, Dict, List, NamedTuple, Tuple
 from ._laid_out import Address, HandedOver, Record, header, record, tables, to
 
 # The sum of the interface that is declared here: of its records, the numbers in them, and its calls.
-INTERFACE = 0xb6febbe9
+INTERFACE = 0x215dba31
 
 
 @record
@@ -238,33 +238,6 @@ class SectionData(Record):
 
 
 @header
-class ImportDirectoryEntry(NamedTuple):
-    """A record of an import directory: where the imports from a library are.
-
-    Source: PE Format, "Import Directory Table". Numbers are as stored; the record has 20 bytes, and
-    `at` gives a field's offset in it. Addresses are relative to the image's base.
-
-    import_lookup_table_rva: The address of the lookup table, which says what is imported, at 0.
-        Where it has no file offset, the address table is read instead, as images of some old
-        linkers ask for.
-    time_date_stamp: 0 until the imports are bound, at 4; then the time stamp of the library to
-        which they were bound, or 2^32 - 1 if the bound imports say it.
-    forwarder_chain: The index of the first forwarder, at 8.
-    name_rva: The address of the library's name, at 12. The record with 0 here is the directory's
-        last.
-    import_address_table_rva: The address of the address table, at 16: a copy of the lookup table,
-        whose entries the loader replaces with addresses. The record with 0 here is the directory's
-        last.
-    """
-
-    import_lookup_table_rva: Annotated[int, c.c_uint32]
-    time_date_stamp: Annotated[int, c.c_uint32]
-    forwarder_chain: Annotated[int, c.c_uint32]
-    name_rva: Annotated[int, c.c_uint32]
-    import_address_table_rva: Annotated[int, c.c_uint32]
-
-
-@header
 class DataDirectory(NamedTuple):
     """Where a table of an image lies.
 
@@ -347,6 +320,33 @@ class ImportCursor(Record):
     has_next: Annotated[bool, c.c_bool]
     has_place: Annotated[bool, c.c_bool]
     is_untested: Annotated[bool, c.c_bool]
+
+
+@header
+class ImportDirectoryEntry(NamedTuple):
+    """A record of an import directory: where the imports from a library are.
+
+    Source: PE Format, "Import Directory Table". Numbers are as stored; the record has 20 bytes, and
+    `at` gives a field's offset in it. Addresses are relative to the image's base.
+
+    import_lookup_table_rva: The address of the lookup table, which says what is imported, at 0.
+        Where it has no file offset, the address table is read instead, as images of some old
+        linkers ask for.
+    time_date_stamp: 0 until the imports are bound, at 4; then the time stamp of the library to
+        which they were bound, or 2^32 - 1 if the bound imports say it.
+    forwarder_chain: The index of the first forwarder, at 8.
+    name_rva: The address of the library's name, at 12. The record with 0 here is the directory's
+        last.
+    import_address_table_rva: The address of the address table, at 16: a copy of the lookup table,
+        whose entries the loader replaces with addresses. The record with 0 here is the directory's
+        last.
+    """
+
+    import_lookup_table_rva: Annotated[int, c.c_uint32]
+    time_date_stamp: Annotated[int, c.c_uint32]
+    forwarder_chain: Annotated[int, c.c_uint32]
+    name_rva: Annotated[int, c.c_uint32]
+    import_address_table_rva: Annotated[int, c.c_uint32]
 
 
 @record
@@ -1115,8 +1115,6 @@ CALLS: Dict[str, Tuple[Any, List[Any]]] = {
         (Fault, [to(Image), c.c_size_t, c.c_size_t, to(Text)]),
     "goblin_pe_raw_read_section_data":
         (Fault, [to(Image), to(Section), to(SectionData)]),
-    "goblin_pe_raw_import_record_at":
-        (c.c_bool, [c.c_void_p, c.c_size_t, c.c_size_t, to(ImportDirectoryEntry)]),
     "goblin_pe_raw_next_libraries":
         (Fault, [c.c_void_p, c.c_size_t, to(Options), to(Places), to(ImportCursor), to(Library), c.c_size_t, c.c_size_t, to(c.c_size_t)]),
     "goblin_pe_raw_section_at":

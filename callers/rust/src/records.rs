@@ -5,7 +5,7 @@ use crate::raw::{List, Shared, Slice};
 use std::mem::offset_of;
 
 /// The sum of the interface that is declared here: of its records, the numbers in them, and its calls.
-pub const INTERFACE: u32 = 0xb6fe_bbe9;
+pub const INTERFACE: u32 = 0x215d_ba31;
 
 /// What follows a symbol that defines a function.
 ///
@@ -197,28 +197,6 @@ pub struct SectionData<'a> {
     pub zeros: usize,
 }
 
-/// A record of an import directory: where the imports from a library are.
-///
-/// Source: PE Format, "Import Directory Table". Numbers are as stored; the record has 20 bytes, and
-/// `at` gives a field's offset in it. Addresses are relative to the image's base.
-#[repr(C)]
-#[derive(Clone, Copy, Default, Debug, PartialEq, Eq, PartialOrd, Ord, Hash)]
-pub struct ImportDirectoryEntry {
-    /// The address of the lookup table, which says what is imported, at 0. Where it has no file
-    /// offset, the address table is read instead, as images of some old linkers ask for.
-    pub import_lookup_table_rva: u32,
-    /// 0 until the imports are bound, at 4; then the time stamp of the library to which they were
-    /// bound, or 2^32 - 1 if the bound imports say it.
-    pub time_date_stamp: u32,
-    /// The index of the first forwarder, at 8.
-    pub forwarder_chain: u32,
-    /// The address of the library's name, at 12. The record with 0 here is the directory's last.
-    pub name_rva: u32,
-    /// The address of the address table, at 16: a copy of the lookup table, whose entries the
-    /// loader replaces with addresses. The record with 0 here is the directory's last.
-    pub import_address_table_rva: u32,
-}
-
 /// Where a table of an image lies.
 ///
 /// Source: PE Format, "Optional Header Data Directories (Image Only)". Numbers are as stored; the
@@ -295,6 +273,28 @@ pub struct ImportCursor {
     pub has_place: bool,
     /// Whether the address table is to be tested.
     pub is_untested: bool,
+}
+
+/// A record of an import directory: where the imports from a library are.
+///
+/// Source: PE Format, "Import Directory Table". Numbers are as stored; the record has 20 bytes, and
+/// `at` gives a field's offset in it. Addresses are relative to the image's base.
+#[repr(C)]
+#[derive(Clone, Copy, Default, Debug, PartialEq, Eq, PartialOrd, Ord, Hash)]
+pub struct ImportDirectoryEntry {
+    /// The address of the lookup table, which says what is imported, at 0. Where it has no file
+    /// offset, the address table is read instead, as images of some old linkers ask for.
+    pub import_lookup_table_rva: u32,
+    /// 0 until the imports are bound, at 4; then the time stamp of the library to which they were
+    /// bound, or 2^32 - 1 if the bound imports say it.
+    pub time_date_stamp: u32,
+    /// The index of the first forwarder, at 8.
+    pub forwarder_chain: u32,
+    /// The address of the library's name, at 12. The record with 0 here is the directory's last.
+    pub name_rva: u32,
+    /// The address of the address table, at 16: a copy of the lookup table, whose entries the
+    /// loader replaces with addresses. The record with 0 here is the directory's last.
+    pub import_address_table_rva: u32,
 }
 
 /// A library: a record of the import directory, and what it tells at once. One library may have
@@ -1038,12 +1038,6 @@ const _: () = {
     assert!(size_of::<SectionData>() == 24 && align_of::<SectionData>() == 8);
     assert!(offset_of!(SectionData, bytes) == 0);
     assert!(offset_of!(SectionData, zeros) == 16);
-    assert!(size_of::<ImportDirectoryEntry>() == 20 && align_of::<ImportDirectoryEntry>() == 4);
-    assert!(offset_of!(ImportDirectoryEntry, import_lookup_table_rva) == 0);
-    assert!(offset_of!(ImportDirectoryEntry, time_date_stamp) == 4);
-    assert!(offset_of!(ImportDirectoryEntry, forwarder_chain) == 8);
-    assert!(offset_of!(ImportDirectoryEntry, name_rva) == 12);
-    assert!(offset_of!(ImportDirectoryEntry, import_address_table_rva) == 16);
     assert!(size_of::<DataDirectory>() == 8 && align_of::<DataDirectory>() == 4);
     assert!(offset_of!(DataDirectory, virtual_address) == 0);
     assert!(offset_of!(DataDirectory, size) == 4);
@@ -1071,6 +1065,12 @@ const _: () = {
     assert!(offset_of!(ImportCursor, has_next) == 53);
     assert!(offset_of!(ImportCursor, has_place) == 54);
     assert!(offset_of!(ImportCursor, is_untested) == 55);
+    assert!(size_of::<ImportDirectoryEntry>() == 20 && align_of::<ImportDirectoryEntry>() == 4);
+    assert!(offset_of!(ImportDirectoryEntry, import_lookup_table_rva) == 0);
+    assert!(offset_of!(ImportDirectoryEntry, time_date_stamp) == 4);
+    assert!(offset_of!(ImportDirectoryEntry, forwarder_chain) == 8);
+    assert!(offset_of!(ImportDirectoryEntry, name_rva) == 12);
+    assert!(offset_of!(ImportDirectoryEntry, import_address_table_rva) == 16);
     assert!(size_of::<Library>() == 136 && align_of::<Library>() == 8);
     assert!(offset_of!(Library, name) == 0);
     assert!(offset_of!(Library, index) == 16);
@@ -1368,13 +1368,6 @@ unsafe extern "C" {
         section: &Section<'_>,
         contents: &mut SectionData<'a>,
     ) -> Fault;
-
-    pub fn goblin_pe_raw_import_record_at(
-        bytes: *const u8,
-        byte_count: usize,
-        offset: usize,
-        entry: &mut ImportDirectoryEntry,
-    ) -> bool;
 
     pub fn goblin_pe_raw_next_libraries(
         bytes: *const u8,

@@ -7,15 +7,15 @@ ghost use Rattle.std.specs.Prelude.{◌≡◌};
 /// The sum of this interface. A caller that declares another one has another number.
 #[unsafe(no_mangle)]
 pub extern "C" fn goblin_pe_interface() -> u32
-    ensures { result ≡ 3070147561 }
+    ensures { result ≡ 559790641 }
 {
-    3_070_147_561
+    559_790_641
 }
 
 /// The same, by a name that no other interface has, with which programs in C are linked.
 #[unsafe(no_mangle)]
-pub extern "C" fn goblin_pe_interface_b6febbe9() -> u32
-    ensures { result ≡ 3070147561 }
+pub extern "C" fn goblin_pe_interface_215dba31() -> u32
+    ensures { result ≡ 559790641 }
 {
-    3_070_147_561
+    559_790_641
 }

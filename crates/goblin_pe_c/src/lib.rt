@@ -13,7 +13,6 @@ mod checksum;
 mod fault;
 mod forwarder;
 mod image;
-mod import;
 mod interface;
 mod library;
 mod look_up;

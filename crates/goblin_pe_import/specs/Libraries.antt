@@ -1,6 +1,6 @@
 -- The walk over the libraries of an import directory: what is still to come.
 use Rattle.std.specs.Prelude.{◌≡◌, ℕ, Bool, true, false, if◌then◌else◌, List, [], ◌∷◌, Option}
-use Rattle.std.specs.Prelude.{Some, None, unwrap_or, Result, Ok, Err, IfErr, IfSome}
+use Rattle.std.specs.Prelude.{Some, None, unwrap_or, Result, Err, IfErr, IfSome}
 use Rattle.std.specs.Option.{ok_or}
 use Rattle.std.specs.Result.{result_map_both}
 use Rattle.goblin_base.specs.declared.error.ErrorOf.{ErrorOf}
