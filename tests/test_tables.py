@@ -167,6 +167,33 @@ SEEN = [
     (0x2000, 4, (b"stor", 0)), (0x2000, 5, None), (0x2004, 1, None), (0x3000, 6, (b"stored", 0)), (0x3000, 7, None),
     (0x4000, 8, (b"", 8)), (0x5000, 6, (b"stored", 0)), (0x5000, 7, None), (0x5000, 8, None),
 ]
+# The first bytes that are seen there, of which fewer may be there: where the memory of the section ends, or the file.
+AVAILABLE = [
+    (0x1000, 3, (b"sto", 0)), (0x1000, 99, (b"stored", 10)), (0x1004, 99, (b"ed", 10)), (0x1006, 4, (b"", 4)), (0x100F, 2, (b"", 1)),
+    (0x1000, 0, (b"", 0)), (0x1010, 1, None), (0xFFF, 2, None), (0x2000, 99, (b"stor", 0)), (0x3000, 2 ** 64 - 1, (b"stored", 0)),
+    (0x4000, 99, (b"", 8)), (0x5000, 8, (b"stored", 0)), (0x5007, 1, (b"", 0)),
+]
+# Where addresses of such sections and of 0x200 bytes of headers lie, and in which section: among the zeros are those that the
+# windows do not hold, and no place is after a section's memory.
+REGIONS = [
+    (0, "HEADERS", None), (0x1FF, "HEADERS", None), (0x200, "NOWHERE", None), (0xFFF, "NOWHERE", None), (0x1000, "STORED", 0),
+    (0x1005, "STORED", 0), (0x1006, "ZEROS", 0), (0x100F, "ZEROS", 0), (0x1010, "NOWHERE", None), (0x3005, "STORED", 2),
+    (0x3006, "NOWHERE", None), (0x4000, "ZEROS", 3), (0x5007, "STORED", 4), (2 ** 64 - 1, "NOWHERE", None),
+]
+# Of a section the virtual size, the raw size, the raw pointer and the flags; and its data in a file of 0x300 bytes, by how many
+# bytes it has from where on and how many zeros follow, None where it is refused; and the data as far as the file has it.
+DATA = [
+    ("uninitialized data of an object", (0, 400000, 0, 0xC0000080), (0, 0, 400000), (0, 0, 400000)),
+    ("uninitialized data of an image", (0x80, 0, 0, 0xC0000080), (0, 0, 0x80), (0, 0, 0x80)),
+    ("such data with both sizes", (0x80, 0x200, 0, 0xC0000080), (0, 0, 0x80), (0, 0, 0x80)),
+    ("other data at the front", (0x80, 0x40, 0, 0xC0000040), (0, 0x40, 0x40), (0, 0x40, 0x40)),
+    ("uninitialized data with a raw pointer", (0x80, 0x40, 0x200, 0xC0000080), (0x200, 0x40, 0x40), (0x200, 0x40, 0x40)),
+    ("data that is not cut at the virtual size", (0x10, 0x40, 0x200, 0), (0x200, 0x40, 0), (0x200, 0x40, 0)),
+    ("data to the end", (0x180, 0x100, 0x200, 0), (0x200, 0x100, 0x80), (0x200, 0x100, 0x80)),
+    ("data that ends too late", (0x180, 0x101, 0x200, 0), None, (0x200, 0x100, 0)),
+    ("data that begins too late", (0x180, 0x10, 0x400, 0), None, (0x300, 0, 0)),
+    ("no data that begins too late", (0x80, 0, 0x400, 0), None, (0x300, 0, 0x80)),
+]
 # Bytes at the end of a file, at the address 0x1000 of a section of 16 bytes; an address; a size; and the text and so many bytes there.
 CONTENTS = [
     (b"one\0two", 0x1000, 3, b"one", b"one"),
@@ -347,6 +374,46 @@ class Tables(unittest.TestCase):
             with self.subTest(rva=hex(rva), size=size):
                 pe = package().Pe(with_sections(IN_MEMORY) + b"stored")
                 self.assertEqual(pe.memory_at(rva, size), wanted)
+
+    def test_the_first_bytes_that_a_loader_sees_at_an_address(self):
+        for rva, size, wanted in AVAILABLE:
+            with self.subTest(rva=hex(rva), size=size):
+                pe = package().Pe(with_sections(IN_MEMORY) + b"stored")
+                self.assertEqual(pe.available_at(rva, size), wanted)
+        file = with_sections(IN_MEMORY) + b"stored"
+        pe = package().Pe(file, options(resolve_rva=False))
+        self.assertEqual((pe.available_at(0x210, 99), pe.available_at(len(file), 1)), ((b"stored", 0), None))
+
+    def test_where_an_address_lies(self):
+        headers = with_sections(IN_MEMORY)
+        struct.pack_into("<I", headers, 0x94, 0x200)  # (size_of_headers)
+        pe = package().Pe(headers + b"stored")
+        for rva, region, section in REGIONS:
+            with self.subTest(rva=hex(rva)):
+                wanted = (package().Region[region], None if section is None else pe.sections[section])
+                self.assertEqual(pe.region_of(rva), wanted)
+
+    def test_the_data_of_sections(self):
+        file = bytes(range(256)) * 3
+        for name, (size, raw_size, pointer, flags), wanted, available in DATA:
+            with self.subTest(name):
+                section = package().Section(b"", size, 0, raw_size, pointer, 0, 0, 0, 0, flags, b"")
+                found = None if wanted is None else (file[wanted[0]:][:wanted[1]], wanted[2])
+                if found is None:
+                    self.assertEqual(refusal(section.data, file)[0], "READ")
+                else:
+                    self.assertEqual(section.data(file), found)
+                begin, length, zeros = available
+                self.assertEqual(section.available_data(file), (file[begin:][:length], zeros))
+
+    def test_uninitialized_data_is_zeros_in_memory(self):
+        file = with_sections([(0x1000, 16, 8, 0), (0x2000, 16, 8, 0x198)])
+        for index in range(2):
+            struct.pack_into("<I", file, 0x148 + 40 * index + 36, 0x80)
+        pe = package().Pe(file + b"stored" + bytes(2))
+        self.assertEqual(pe.memory_at(0x1000, 16), (b"", 16))
+        self.assertEqual(pe.region_of(0x1000), (package().Region.ZEROS, pe.sections[0]))
+        self.assertEqual(pe.memory_at(0x2000, 16), (b"stored\0\0", 8))
 
     def test_what_stands_at_an_address(self):
         for data, rva, size, text, wanted in CONTENTS:

@@ -358,6 +358,43 @@ static bool looks_up(void)
            forwarder.lib.length == 5;
 }
 
+/* Whether an address has its region and the first bytes that are there, and the data of a section is given as far as
+   the file has it, of sections whose records a caller made: one of uninitialized data is all zeros. */
+static bool tells_what_is_there(void)
+{
+    static uint8_t file[0x480];
+    struct goblin_pe_section sections[2];
+    struct goblin_pe_image image = { { file, sizeof file }, sections, 2, 0x200, GOBLIN_PE_DEFAULT_OPTIONS };
+    struct goblin_pe_section_data found = { { file, 77 }, 77 };
+    size_t index = 7;
+    memset(sections, 0, sizeof sections);
+    sections[0].virtual_address = 0x1000;
+    sections[0].virtual_size = 0x300;
+    sections[0].size_of_raw_data = 0x100;
+    sections[0].pointer_to_raw_data = 0x400;
+    sections[1].virtual_address = 0x2000;
+    sections[1].size_of_raw_data = 0x5000;
+    sections[1].characteristics = GOBLIN_PE_IMAGE_SCN_CNT_UNINITIALIZED_DATA;
+    if (goblin_pe_region_of(&image, 0x400, 0x3FF, &index) != GOBLIN_PE_REGION_HEADERS ||
+        goblin_pe_region_of(&image, 0x400, 0x400, &index) != GOBLIN_PE_REGION_NOWHERE || index != 7)
+        return false;
+    if (goblin_pe_region_of(&image, 0x400, 0x10FF, &index) != GOBLIN_PE_REGION_STORED || index != 0 ||
+        goblin_pe_region_of(&image, 0x400, 0x2000, &index) != GOBLIN_PE_REGION_ZEROS || index != 1)
+        return false;
+    if (!is_fault(goblin_pe_available_at(&image, 0x1300, 1, &found), GOBLIN_PE_STATUS_MALFORMED,
+                  GOBLIN_PE_CAUSE_UNMAPPED) ||
+        found.zeros != 77)
+        return false;
+    if (!is_ok(goblin_pe_available_at(&image, 0x1070, 0x20, &found)) || found.bytes.bytes != file + 0x470 ||
+        found.bytes.length != 0x10 || found.zeros)
+        return false;
+    if (goblin_pe_available_section_data(&image, &sections[0], &found) || found.bytes.length != 0x80 || found.zeros)
+        return false;
+    return goblin_pe_available_section_data(&image, &sections[1], &found) && !found.bytes.length &&
+           found.zeros == 0x5000 && is_ok(goblin_pe_read_section_data(&image, &sections[1], &found)) &&
+           !found.bytes.length && found.zeros == 0x5000;
+}
+
 /* Whether the words of a block and the relocations of a section are walked over in batches, and a checksum is added
    up. */
 static bool walks_and_adds(void)
@@ -390,6 +427,7 @@ static bool walks_and_adds(void)
 int main(int argc, char **argv)
 {
     if (!sets_names() || !is_told() || !maps_by_records_of_zeros() || !looks_up() || !walks_and_adds() ||
+        !tells_what_is_there() ||
         goblin_pe_kind_of(NULL, 0) != GOBLIN_PE_KIND_UNKNOWN)
         return 4;
     for (int i = 1; i < argc; i++) {

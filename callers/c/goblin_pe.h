@@ -41,6 +41,7 @@
 
    call                              memory at most                        time at most
    kind_of, read_section_data,
+     available_section_data,
      import_record_at, write_*,
      set_*                           none                                  what the records say
    read_layout                       none                                  n, and a name for each section with room
@@ -51,6 +52,7 @@
      next_relocations, read_aux_*    none                                  the records
    find_offset, section_at, text_at,
      bytes_at, memory_at,
+     available_at, region_of,
      forwarder_at                    none                                  the sections, and one text
    find_rva                          none                                  the sections, and these once more for each
                                                                            whose data holds the offset
@@ -495,7 +497,9 @@ static inline bool goblin_pe_find_offset(const struct goblin_pe_image *image, si
 }
 
 /* Puts the index of the section of an address into `index`, and answers whether it lies in one: the first
-   whose window holds it; none where the file alignment is no power of two. The options are not looked at. */
+   whose window holds it, which is what the file has of it in whole pages at most; goblin_pe_region_of also finds the
+   section of an address in the zeros after these. None where the file alignment is no power of two. The options are not
+   looked at. */
 static inline bool goblin_pe_section_at(const struct goblin_pe_image *image, size_t rva, size_t *index)
 {
     struct goblin_pe_image sound = goblin_pe_sound_image(image);
@@ -522,6 +526,28 @@ static inline struct goblin_pe_fault goblin_pe_memory_at(
 {
     struct goblin_pe_image sound = goblin_pe_sound_image(image);
     return goblin_pe_raw_memory_at(&sound, rva, size, contents);
+}
+
+/* The first of the bytes that a loader sees at an address, at most `size`: as goblin_pe_memory_at, but fewer where the
+   section's memory ends before, or the file does. No zeros follow bytes of which some are missing in the file, since it
+   is not known what they are. Refused is an address that no section's memory holds, and where the options say that
+   addresses are offsets, one at or past the end of the file. No memory is taken. */
+static inline struct goblin_pe_fault goblin_pe_available_at(
+    const struct goblin_pe_image *image, size_t rva, size_t size, struct goblin_pe_section_data *contents)
+{
+    struct goblin_pe_image sound = goblin_pe_sound_image(image);
+    return goblin_pe_raw_available_at(&sound, rva, size, contents);
+}
+
+/* Where an address lies, as an enum goblin_pe_region: in the bytes that the file has of a section or in the zeros after
+   them, by the first section whose memory holds it, whose index is then put into `section`; or else in the headers,
+   which have so many bytes (size_of_headers of the optional header), or nowhere. The options are not looked at, nor
+   whether the file has a section's bytes. */
+static inline uint32_t goblin_pe_region_of(
+    const struct goblin_pe_image *image, uint32_t size_of_headers, size_t rva, size_t *section)
+{
+    struct goblin_pe_image sound = goblin_pe_sound_image(image);
+    return goblin_pe_raw_region_of(&sound, size_of_headers, rva, section);
 }
 
 /* The text at an address, up to its NUL or the end of the file. Refused are an address without an offset in
@@ -560,7 +586,9 @@ static inline struct goblin_pe_fault goblin_pe_bytes_at(
 
 /* The data of a section: its bytes in the file, from its raw pointer, as stored or rounded down to 512 by the
    rule of the image's options, and how many zeros follow them up to the size in memory; none where the file has
-   at least as many bytes, which are not cut then. Of the image only the bytes, the options and the file
+   at least as many bytes, which are not cut then, as those of goblin_pe_memory_at are. A section of uninitialized data
+   (IMAGE_SCN_CNT_UNINITIALIZED_DATA) whose raw pointer is 0, as an object's .bss, has no bytes, and its size as zeros:
+   the virtual size, or the raw size where that is 0. Of the image only the bytes, the options and the file
    alignment are looked at, so for an object one with its bytes and else zeros will do. Refused is a file that is
    too short for it, and one in which it begins past the end, even where it has no bytes. No memory is taken. */
 static inline struct goblin_pe_fault goblin_pe_read_section_data(
@@ -569,6 +597,16 @@ static inline struct goblin_pe_fault goblin_pe_read_section_data(
     struct goblin_pe_image sound = goblin_pe_sound_image(image);
     struct goblin_pe_section sound_section = goblin_pe_sound_section(section);
     return goblin_pe_raw_read_section_data(&sound, &sound_section, data);
+}
+
+/* The same as far as the file has it: answers whether it has all of the bytes, and refuses nothing. The bytes end where
+   the file does, and no zeros follow bytes of which some are missing. */
+static inline bool goblin_pe_available_section_data(
+    const struct goblin_pe_image *image, const struct goblin_pe_section *section, struct goblin_pe_section_data *data)
+{
+    struct goblin_pe_image sound = goblin_pe_sound_image(image);
+    struct goblin_pe_section sound_section = goblin_pe_sound_section(section);
+    return goblin_pe_raw_available_section_data(&sound, &sound_section, data);
 }
 
 /* The checksum of an image, whose field, check_sum of the optional header, stands at the file offset `field`: 88

@@ -16,15 +16,15 @@ extern "C" {
 #define GOBLIN_PE_INTERFACE_VERSION 4
 
 /* The sum of the interface that is declared here. goblin_pe_interface answers that of the library. */
-#define GOBLIN_PE_INTERFACE 0x36b9b8fcu
+#define GOBLIN_PE_INTERFACE 0x6bb8d039u
 
 /* What follows .so. in the name by which programs ask for the shared library. */
-#define GOBLIN_PE_SONAME "4.36b9b8fc"
+#define GOBLIN_PE_SONAME "4.6bb8d039"
 
 /* Only a library of this very interface has this call, so that a program is linked with no other. */
-uint32_t goblin_pe_interface_36b9b8fc(void);
+uint32_t goblin_pe_interface_6bb8d039(void);
 #ifdef __GNUC__
-__attribute__((used)) static uint32_t (*const goblin_pe_needs_interface)(void) = goblin_pe_interface_36b9b8fc;
+__attribute__((used)) static uint32_t (*const goblin_pe_needs_interface)(void) = goblin_pe_interface_6bb8d039;
 #endif
 
 /* What a file is, by its first bytes. This does not tell whether it can be read, and no call reads
@@ -65,6 +65,18 @@ enum goblin_pe_raw_pointer_rule {
        a lawful image it is below 512 only where it equals a `section_alignment` below 4,096, so
        this is right for each such image, without a look at its header before. */
     GOBLIN_PE_RAW_POINTER_RULE_BY_FILE_ALIGNMENT = 2
+};
+
+/* Where an address of an image lies. */
+enum goblin_pe_region {
+    /* Neither in a section nor in the headers. */
+    GOBLIN_PE_REGION_NOWHERE = 0,
+    /* In the headers, which are at the front of the file and of the memory. */
+    GOBLIN_PE_REGION_HEADERS = 1,
+    /* In the bytes of a section that are stored in the file, at its raw pointer. */
+    GOBLIN_PE_REGION_STORED = 2,
+    /* In the zeros that follow these up to the section's size in memory. */
+    GOBLIN_PE_REGION_ZEROS = 3
 };
 
 /* How a table of the file stands. */
@@ -391,8 +403,9 @@ struct goblin_pe_image {
     /* The file's bytes. */
     struct goblin_pe_text bytes;
     /* The records of its sections, in the order of the section table. No call looks at more of them
-       than their `virtual_address`, `virtual_size`, `pointer_to_raw_data` and `size_of_raw_data`;
-       all else may be zeros, a null pointer of their texts, too. */
+       than their `virtual_address`, `virtual_size`, `pointer_to_raw_data` and `size_of_raw_data`,
+       and for what a loader sees at an address their `characteristics`; all else may be zeros, a
+       null pointer of their texts, too. */
     const struct goblin_pe_section *sections;
     size_t section_count;
     /* Its file alignment, in bytes. */
@@ -1130,6 +1143,9 @@ struct goblin_pe_fault goblin_pe_raw_bytes_at(
 struct goblin_pe_fault goblin_pe_raw_read_section_data(
     const struct goblin_pe_image *image, const struct goblin_pe_section *section,
     struct goblin_pe_section_data *contents);
+bool goblin_pe_raw_available_section_data(
+    const struct goblin_pe_image *image, const struct goblin_pe_section *section,
+    struct goblin_pe_section_data *contents);
 bool goblin_pe_raw_import_record_at(
     const uint8_t *bytes, size_t byte_count, size_t offset,
     struct goblin_pe_import_directory_entry *entry);
@@ -1138,6 +1154,11 @@ bool goblin_pe_raw_find_rva(const struct goblin_pe_image *image, size_t offset, 
 struct goblin_pe_fault goblin_pe_raw_memory_at(
     const struct goblin_pe_image *image, size_t rva, size_t size,
     struct goblin_pe_section_data *contents);
+struct goblin_pe_fault goblin_pe_raw_available_at(
+    const struct goblin_pe_image *image, size_t rva, size_t size,
+    struct goblin_pe_section_data *contents);
+uint32_t goblin_pe_raw_region_of(
+    const struct goblin_pe_image *image, uint32_t size_of_headers, size_t rva, size_t *section);
 struct goblin_pe_fault goblin_pe_raw_read_object(
     const uint8_t *bytes, size_t byte_count, const struct goblin_pe_options *options,
     struct goblin_pe_object *object, struct goblin_pe_section *sections, size_t section_room);

@@ -34,7 +34,7 @@ comes from Python alone, where there is no memory for what was read.
 
 The rows Section, Import, Export, Block, Symbol, Range and others are named tuples, and so are the headers, whose fields
 are those of the format: a changed copy is made by _replace, and Pe.write writes it. State, Status, Kind, Cause, Counted,
-ReadFault and DirectoryType name numbers. All of them can be imported from here, and help(goblin_pe.Section) explains one;
+ReadFault, Region and DirectoryType name numbers. All of them can be imported from here, and help(goblin_pe.Section) explains one;
 goblin_pe.constants has the numbers of the formats, such as IMAGE_FILE_DLL.
 
 The reader is the proved library goblin_pe. Its shared library stands beside an installed module; in the repository
@@ -57,7 +57,7 @@ from ._refused import Refused as Refused, named as _named, refusal as _refusal, 
 from .constants import IMAGE_FILE_DLL as _IMAGE_FILE_DLL, MAGIC_64 as _MAGIC_64
 from .numbers import (
     Cause as Cause, Counted as Counted, DirectoryType as DirectoryType, Kind as Kind,
-    RawPointerRule as RawPointerRule, ReadFault as ReadFault,
+    RawPointerRule as RawPointerRule, ReadFault as ReadFault, Region as Region,
     State as State, Status as Status)
 from .records import (
     AuxBeginAndEndFunction as AuxBeginAndEndFunction, AuxFunctionDefinition as AuxFunctionDefinition,
@@ -69,7 +69,7 @@ from .rows import (
     NO_TEXT as _NO_TEXT, Block as Block, Export as Export, ExportAddress as ExportAddress,
     ExportDirectory as ExportDirectory, ExportEntry as ExportEntry, Import as Import, Library as Library, Range as Range,
     RichHeader as RichHeader, Rows as _Rows,
-    Section as Section, SectionData as SectionData, Symbol as Symbol, batches as _batches, data_of as _data_of,
+    Section as Section, SectionData as SectionData, Symbol as Symbol, available_of as _available_of, batches as _batches, data_of as _data_of,
     growing_batches as _growing_batches, record_of as _section_record, room as _room)
 
 __version__ = "0.4.0"
@@ -427,6 +427,25 @@ class Layout:
             refused = _LIB.goblin_pe_raw_memory_at(_c.byref(image), _size(rva), _size(size), _c.byref(seen)).status
             return None if refused else SectionData(_Rows(data, address).text(seen.bytes), seen.zeros)
 
+    def available_at(self, rva: int, size: int) -> _t.Optional[SectionData]:
+        """The first of the bytes that a loader sees at an address, at most so many: as memory_at, but fewer where the section's
+        memory ends before, or the file does. No zeros follow bytes of which some are missing in the file, since it is not
+        known what they are. None where no section's memory holds the address; where the options say that addresses are
+        offsets, at or past the file's end."""
+        seen, data = records.SectionData(), self._bytes()
+        with _held(data) as (address, length):
+            image = self._image(address, length)
+            refused = _LIB.goblin_pe_raw_available_at(_c.byref(image), _size(rva), _size(size), _c.byref(seen)).status
+            return None if refused else SectionData(_Rows(data, address).text(seen.bytes), seen.zeros)
+
+    def region_of(self, rva: int) -> _t.Tuple[Region, _t.Optional[Section]]:
+        """Where an address lies, and its section, where it lies in the memory of one: the first that holds it, as for memory_at.
+        The options are not looked at, nor whether the file has the section's bytes."""
+        index, headers = _c.c_size_t(), self._header.windows_fields.size_of_headers
+        image = self._image(_laid_out.NOWHERE, 0)
+        region = Region(_LIB.goblin_pe_raw_region_of(_c.byref(image), headers, _size(rva), _c.byref(index)))
+        return region, self._section(index.value) if region in (Region.STORED, Region.ZEROS) else None
+
     def forwarder_at(self, rva: int) -> _t.Optional[_t.Tuple[bytes, _t.Union[bytes, int]]]:
         """The forwarder whose text is at an address, as an ExportAddress that forwards has it, also of an export without a name:
         the library without its ending, and the export's name or ordinal there. None where the address has no offset in the
@@ -437,7 +456,8 @@ class Layout:
             return None if refused else _Rows(data, address).forwarder(found)
 
     def section_at(self, rva: int) -> _t.Optional[Section]:
-        """The section of an address: the first whose window holds it; None where there is none."""
+        """The section of an address: the first whose window holds it; None where there is none. A window has what the file has
+        of the section, in whole pages at most: region_of also finds the section of an address in the zeros after that."""
         index = _c.c_size_t()
         is_found = _LIB.goblin_pe_raw_section_at(_c.byref(self._image(_laid_out.NOWHERE, 0)), _size(rva), _c.byref(index))
         return self._section(index.value) if is_found else None
@@ -459,8 +479,12 @@ class Layout:
 
     def section_data(self, section: Section) -> SectionData:
         """The data of one of its sections, and how many zeros follow it in memory. It begins at the raw pointer, which the
-        options may round down to 512, as they do for find_offset."""
+        options may round down to 512, as they do for find_offset; else it is as data of a Section has it."""
         return _data_of(section, self._bytes(), self._options, self._header.windows_fields.file_alignment)
+
+    def available_section_data(self, section: Section) -> SectionData:
+        """The same as far as the file has it, which is never refused; see available_data of a Section."""
+        return _available_of(section, self._bytes(), self._options, self._header.windows_fields.file_alignment)
 
     def _batch(self) -> int:
         # how many rows of a walk over imports or exports are read at once

@@ -44,6 +44,19 @@ class RawPointerRule(Number):
     BY_FILE_ALIGNMENT = 2
 
 
+class Region(Number):
+    """Where an address of an image lies."""
+
+    # Neither in a section nor in the headers.
+    NOWHERE = 0
+    # In the headers, which are at the front of the file and of the memory.
+    HEADERS = 1
+    # In the bytes of a section that are stored in the file, at its raw pointer.
+    STORED = 2
+    # In the zeros that follow these up to the section's size in memory.
+    ZEROS = 3
+
+
 class State(Number):
     """How a table of the file stands."""
 

@@ -7,7 +7,7 @@ from typing import Annotated, Any, Dict, List, NamedTuple, Tuple
 from ._laid_out import Address, HandedOver, Record, header, record, tables, to
 
 # The sum of the interface that is declared here: of its records, the numbers in them, and its calls.
-INTERFACE = 0x36b9b8fc
+INTERFACE = 0x6bb8d039
 
 
 @record
@@ -194,7 +194,8 @@ class Image(Record):
     bytes: The file's bytes.
     sections: The records of its sections, in the order of the section table. No call looks at more
         of them than their `virtual_address`, `virtual_size`, `pointer_to_raw_data` and
-        `size_of_raw_data`; all else may be zeros, a null pointer of their texts, too.
+        `size_of_raw_data`, and for what a loader sees at an address their `characteristics`; all
+        else may be zeros, a null pointer of their texts, too.
     file_alignment: Its file alignment, in bytes.
     options: Whether addresses are mapped, and by which rule for raw pointers; all else is not
         looked at.
@@ -1086,6 +1087,8 @@ CALLS: Dict[str, Tuple[Any, List[Any]]] = {
         (Fault, [to(Image), c.c_size_t, c.c_size_t, to(Text)]),
     "goblin_pe_raw_read_section_data":
         (Fault, [to(Image), to(Section), to(SectionData)]),
+    "goblin_pe_raw_available_section_data":
+        (c.c_bool, [to(Image), to(Section), to(SectionData)]),
     "goblin_pe_raw_import_record_at":
         (c.c_bool, [c.c_void_p, c.c_size_t, c.c_size_t, to(ImportDirectoryEntry)]),
     "goblin_pe_raw_section_at":
@@ -1094,6 +1097,10 @@ CALLS: Dict[str, Tuple[Any, List[Any]]] = {
         (c.c_bool, [to(Image), c.c_size_t, to(c.c_size_t)]),
     "goblin_pe_raw_memory_at":
         (Fault, [to(Image), c.c_size_t, c.c_size_t, to(SectionData)]),
+    "goblin_pe_raw_available_at":
+        (Fault, [to(Image), c.c_size_t, c.c_size_t, to(SectionData)]),
+    "goblin_pe_raw_region_of":
+        (c.c_uint32, [to(Image), c.c_uint32, c.c_size_t, to(c.c_size_t)]),
     "goblin_pe_raw_read_object":
         (Fault, [c.c_void_p, c.c_size_t, to(Options), to(Object), to(Section), c.c_size_t]),
     "goblin_pe_raw_read_symbol_table":

@@ -49,9 +49,17 @@ class Section(NamedTuple):
     raw_name: bytes
 
     def data(self, file: Data) -> SectionData:
-        """Its data in the file: the bytes from the raw pointer as stored, and how many zeros follow them in memory. Refused is
-        raised where the bytes pass the file, and where they begin past its end, even if there are none."""
+        """Its data in the file: the bytes from the raw pointer as stored, and how many zeros follow them in memory. The bytes are
+        not cut at the virtual size; those of memory_at of a Layout are. A section of uninitialized data
+        (IMAGE_SCN_CNT_UNINITIALIZED_DATA) whose raw pointer is 0, as an object's .bss, has no bytes, and its size as zeros:
+        the virtual size, or the raw size where that is 0. Refused is raised where the bytes pass the file, and where they
+        begin past its end, even if there are none."""
         return data_of(self, kept(file), records.Options(), 0)
+
+    def available_data(self, file: Data) -> SectionData:
+        """The same as far as the file has it, which is never refused: there are fewer bytes where the file ends before, and no
+        zeros follow bytes of which some are missing."""
+        return available_of(self, kept(file), records.Options(), 0)
 
     def walk_relocations(self, file: Data) -> Iterator[Relocation]:
         """All its relocations in the object, one by one, also where there are more than number_of_relocations can say: then
@@ -253,6 +261,15 @@ def data_of(s: Section, file: Kept, options: records.Options, file_alignment: in
     with held(file) as (address, length):
         image = records.Image(records.Text(address, length), _laid_out.NOWHERE, 0, file_alignment, options)
         test(LIB.goblin_pe_raw_read_section_data(c.byref(image), c.byref(record_of(s)), c.byref(found)))
+        return SectionData(Rows(file, address).text(found.bytes), found.zeros)
+
+
+def available_of(s: Section, file: Kept, options: records.Options, file_alignment: int) -> SectionData:
+    """The same as far as the file has it."""
+    found = records.SectionData()
+    with held(file) as (address, length):
+        image = records.Image(records.Text(address, length), _laid_out.NOWHERE, 0, file_alignment, options)
+        LIB.goblin_pe_raw_available_section_data(c.byref(image), c.byref(record_of(s)), c.byref(found))
         return SectionData(Rows(file, address).text(found.bytes), found.zeros)
 
 

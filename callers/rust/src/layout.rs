@@ -309,7 +309,8 @@ impl<'a> Layout<'a> {
     }
 
     /// The data of one of its sections, and how many zeros follow it in memory. It begins at the raw
-    /// pointer, which the options may round down to 512, as they do for [`find_offset`](Self::find_offset).
+    /// pointer, which the options may round down to 512, as they do for [`find_offset`](Self::find_offset); else it is
+    /// as [`Section::data`] has it.
     ///
     /// # Errors
     /// Where the data passes the file, and where it begins past the end, even if there is none.
@@ -322,6 +323,19 @@ impl<'a> Layout<'a> {
     /// ```
     pub fn section_data(&self, section: &Section) -> Result<(&'a [u8], usize), Error> {
         section.data_in(&self.image())
+    }
+
+    /// The same as far as the file has it; see [`Section::available_data`].
+    ///
+    /// ```no_run
+    /// # let bytes = [];
+    /// # let layout = goblin_pe::Layout::read(&bytes, &goblin_pe::Options::permissive())?;
+    /// let resources = layout.section_by_name(".rsrc").map(|s| layout.available_section_data(&s));
+    /// # Ok::<(), goblin_pe::Error>(())
+    /// ```
+    #[must_use]
+    pub fn available_section_data(&self, section: &Section) -> (&'a [u8], usize) {
+        section.available_in(&self.image())
     }
 
     /// A walk over the imports, in constant memory, which reads the file as it goes on: also where the

@@ -93,7 +93,7 @@ pub use iterators::{
 pub use layout::Layout;
 pub use names::{DllFlags, FileFlags, Machine, SectionFlags, Subsystem};
 pub use numbers::{
-    Cause, Counted, DirectoryType, ErrorKind, Kind, Part, RawPointerRule, ReadFault,
+    Cause, Counted, DirectoryType, ErrorKind, Kind, Part, RawPointerRule, ReadFault, Region,
 };
 pub use object::Object;
 pub use pe::Pe;

@@ -100,6 +100,46 @@ impl From<RawPointerRule> for u32 {
     }
 }
 
+/// Where an address of an image lies.
+#[repr(u32)]
+#[derive(Clone, Copy, Debug, PartialEq, Eq, PartialOrd, Ord, Hash)]
+#[non_exhaustive]
+pub enum Region {
+    /// Neither in a section nor in the headers.
+    Nowhere = 0,
+    /// In the headers, which are at the front of the file and of the memory.
+    Headers = 1,
+    /// In the bytes of a section that are stored in the file, at its raw pointer.
+    Stored = 2,
+    /// In the zeros that follow these up to the section's size in memory.
+    Zeros = 3,
+}
+
+impl TryFrom<u32> for Region {
+    type Error = u32;
+
+    /// What has this number.
+    ///
+    /// # Errors
+    /// The number, where nothing has it.
+    fn try_from(number: u32) -> Result<Region, u32> {
+        match number {
+            0 => Ok(Region::Nowhere),
+            1 => Ok(Region::Headers),
+            2 => Ok(Region::Stored),
+            3 => Ok(Region::Zeros),
+            _ => Err(number),
+        }
+    }
+}
+
+impl From<Region> for u32 {
+    /// Its number.
+    fn from(it: Region) -> u32 {
+        it as u32
+    }
+}
+
 /// How a table of the file stands.
 #[repr(u32)]
 #[derive(Clone, Copy, Debug, PartialEq, Eq, PartialOrd, Ord, Hash)]

@@ -589,6 +589,27 @@ pub fn memory_at<'a>(
     unsafe { goblin_pe_raw_memory_at(image, rva, size, data) }
 }
 
+/// The first of these, of which fewer may be there.
+pub fn available_at<'a>(
+    image: &Image<'_, 'a>,
+    rva: usize,
+    size: usize,
+    data: &mut SectionData<'a>,
+) -> Fault {
+    test_interface();
+    // SAFETY: as in `open`.
+    unsafe { goblin_pe_raw_available_at(image, rva, size, data) }
+}
+
+/// The number of the region of an address, and the index of its section.
+pub fn region_of(image: &Image<'_, '_>, size_of_headers: u32, rva: usize) -> (u32, usize) {
+    test_interface();
+    let mut section = usize::MAX;
+    // SAFETY: as in `kind`.
+    let region = unsafe { goblin_pe_raw_region_of(image, size_of_headers, rva, &mut section) };
+    (region, section)
+}
+
 /// The text at an address.
 pub fn text_at<'a>(image: &Image<'_, 'a>, rva: usize, text: &mut Slice<'a>) -> Fault {
     test_interface();
@@ -617,6 +638,17 @@ pub fn section_data<'a>(
     test_interface();
     // SAFETY: as in `open`.
     unsafe { goblin_pe_raw_read_section_data(image, section, data) }
+}
+
+/// The same as far as the file has it, and whether that is all.
+pub fn available_section_data<'a>(
+    image: &Image<'_, 'a>,
+    section: &Section<'_>,
+    data: &mut SectionData<'a>,
+) -> bool {
+    test_interface();
+    // SAFETY: as in `open`.
+    unsafe { goblin_pe_raw_available_section_data(image, section, data) }
 }
 
 /// The checksum of an image.

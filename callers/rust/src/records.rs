@@ -5,7 +5,7 @@ use crate::raw::{List, Shared, Slice};
 use std::mem::offset_of;
 
 /// The sum of the interface that is declared here: of its records, the numbers in them, and its calls.
-pub const INTERFACE: u32 = 0x36b9_b8fc;
+pub const INTERFACE: u32 = 0x6bb8_d039;
 
 /// What follows a symbol that defines a function.
 ///
@@ -163,7 +163,8 @@ pub struct Image<'p, 'a> {
     pub bytes: Slice<'a>,
     /// The records of its sections, in the order of the section table. No call looks at more of
     /// them than their `virtual_address`, `virtual_size`, `pointer_to_raw_data` and
-    /// `size_of_raw_data`; all else may be zeros, a null pointer of their texts, too.
+    /// `size_of_raw_data`, and for what a loader sees at an address their `characteristics`; all
+    /// else may be zeros, a null pointer of their texts, too.
     pub sections: Shared<'p, Section<'a>>,
     /// Its file alignment, in bytes.
     pub file_alignment: u32,
@@ -1332,6 +1333,12 @@ unsafe extern "C" {
         contents: &mut SectionData<'a>,
     ) -> Fault;
 
+    pub fn goblin_pe_raw_available_section_data<'a>(
+        image: &Image<'_, 'a>,
+        section: &Section<'_>,
+        contents: &mut SectionData<'a>,
+    ) -> bool;
+
     pub fn goblin_pe_raw_import_record_at(
         bytes: *const u8,
         byte_count: usize,
@@ -1349,6 +1356,20 @@ unsafe extern "C" {
         size: usize,
         contents: &mut SectionData<'a>,
     ) -> Fault;
+
+    pub fn goblin_pe_raw_available_at<'a>(
+        image: &Image<'_, 'a>,
+        rva: usize,
+        size: usize,
+        contents: &mut SectionData<'a>,
+    ) -> Fault;
+
+    pub fn goblin_pe_raw_region_of(
+        image: &Image<'_, '_>,
+        size_of_headers: u32,
+        rva: usize,
+        section: &mut usize,
+    ) -> u32;
 
     pub fn goblin_pe_raw_read_object(
         bytes: *const u8,

@@ -2,7 +2,7 @@
 use goblin_pe::constants::{COFF_MACHINE_X86_64, IMAGE_SCN_LNK_NRELOC_OVFL};
 use goblin_pe::{
     Cause, DirectoryType, Error, ErrorKind, Forwarder, Imported, Kind, Layout, Object, Options,
-    Part, Pe, RawPointerRule, ReadFault, Te, Text,
+    Part, Pe, RawPointerRule, ReadFault, Region, Te, Text,
 };
 
 fn sample(name: &str) -> Vec<u8> {
@@ -767,6 +767,26 @@ fn addresses_are_looked_up_both_ways() {
         assert!(pe.memory_at(rva, size + 1).is_err());
     }
     assert_eq!(pe.find_rva(bytes.len()), None);
+}
+
+#[test]
+fn an_address_has_a_region_and_the_first_bytes_there() {
+    let bytes = sample("forwarders_x64.dll");
+    let pe = Pe::read(&bytes, &Options::default()).unwrap();
+    assert_eq!(pe.region_of(0), (Region::Headers, None));
+    assert_eq!(pe.region_of(usize::MAX), (Region::Nowhere, None));
+    for s in pe.sections().filter(|s| s.size_of_raw_data != 0) {
+        let rva = s.virtual_address as usize;
+        let size = s.virtual_size as usize;
+        assert_eq!(pe.region_of(rva), (Region::Stored, Some(s)));
+        assert_eq!(pe.available_at(rva, size + 1), pe.memory_at(rva, size));
+        assert_eq!(pe.available_section_data(&s), pe.section_data(&s).unwrap());
+    }
+    let cut = &bytes[..bytes.len() - 1];
+    let pe = Pe::read(cut, &Options::permissive()).unwrap();
+    let last = pe.sections().next_back().unwrap();
+    let (data, zeros) = pe.available_section_data(&last);
+    assert_eq!((data.len() + 1, zeros), (last.size_of_raw_data as usize, 0));
 }
 
 #[test]

@@ -23,7 +23,8 @@ pub struct PeImage<'a> {
     pub bytes: &'a [u8],
     /// The records of its sections, in the order of the section table. No call looks at more of
     /// them than their `virtual_address`, `virtual_size`, `pointer_to_raw_data` and
-    /// `size_of_raw_data`; all else may be zeros, a null pointer of their texts, too.
+    /// `size_of_raw_data`, and for what a loader sees at an address their `characteristics`; all
+    /// else may be zeros, a null pointer of their texts, too.
     pub sections: &'a [PeSection<'a>],
     /// Its file alignment, in bytes.
     pub file_alignment: u32,
