@@ -217,10 +217,14 @@ def signed(parts):
     return images.with_parts(b"", *parts) + bytes(20)
 
 
+def object_of(records, strings):
+    """An object without sections that has these records of symbols and this string table."""
+    return struct.pack("<HHIIIHH", 0x8664, 0, 0, 20, len(records) // 18, 0, 0) + records + strings
+
+
 def symbols_of(records, strings):
     """The symbols of an object that has these records and this string table."""
-    header = struct.pack("<HHIIIHH", 0x8664, 0, 0, 20, len(records) // 18, 0, 0)
-    return package().ObjectFile(header + records + strings).symbols
+    return package().ObjectFile(object_of(records, strings)).symbols
 
 
 def symbol_record(name=bytes(8), auxiliary=0):
@@ -294,6 +298,25 @@ class Tables(unittest.TestCase):
                 self.assertEqual(found, wanted)
                 place = symbol.name.bytes - ctypes.cast(file, ctypes.c_void_p).value
                 self.assertEqual((place, symbol.name.length), (0, 0) if wanted is None else (19 + offset, len(wanted)))
+
+    def test_a_text_of_the_string_table_has_an_offset(self):
+        for name, strings, offset, wanted in UNTESTED:
+            with self.subTest(name):
+                table = struct.pack("<I", 4 + len(strings)) + strings
+                found = package().ObjectFile(object_of(symbol_record(), table), tests_texts=False)
+                self.assertEqual((found.string_at(offset + 4), found.string_at(3)), (wanted, None))
+                self.assertEqual(found.string_table_size, len(table))
+        without = package().ObjectFile(bytes(20))
+        self.assertEqual((without.string_at(4), without.string_table_size), (None, 0))
+
+    def test_symbols_are_read_where_a_name_is_no_text(self):
+        records = symbol_record(struct.pack("<II", 0, 4)) + symbol_record(struct.pack("<II", 0, 9)) + symbol_record(b"short")
+        file = object_of(records, b"\x0E\0\0\0d\xE9j\xE0\0last\0")
+        self.assertEqual(refusal(package().ObjectFile, file), ("READ", "BAD_INPUT", 0, 0))
+        found = package().ObjectFile(file, tests_texts=False)
+        self.assertEqual([(it.index, it.name) for it in found.symbols], [(0, None), (1, b"last"), (2, b"short")])
+        for cut, wanted in ((1, ("MALFORMED", "STRING_TABLE", 20 + 54 + 4, 10)), (14, ("READ", "BAD_OFFSET", 0, 0))):
+            self.assertEqual(refusal(package().ObjectFile, file[:-cut], None, False), wanted)
 
     def test_a_table_that_is_not_in_the_file_has_no_symbols(self):
         calls, records = package()._library.LIB, package().records

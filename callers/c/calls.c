@@ -395,6 +395,27 @@ static bool tells_what_is_there(void)
            !found.bytes.length && found.zeros == 0x5000;
 }
 
+/* Whether the symbols of an object are read of which one name is not UTF-8, and the texts of its string table. */
+static bool reads_odd_names(void)
+{
+    static const uint8_t file[] = "\0\0\0\0\0\0\0\0\x14\0\0\0\x01\0\0\0\0\0\0\0" /* a header */
+        "\0\0\0\0\x04\0\0\0\0\0\0\0\0\0\0\0\0\0" /* a symbol, whose name is at 4 */
+        "\x09\0\0\0\xE9\0ok"; /* (the last NUL is the literal's) */
+    struct goblin_pe_object object;
+    struct goblin_pe_symbol_table table;
+    struct goblin_pe_named_symbol symbol;
+    struct goblin_pe_text text = { file, 77 };
+    if (!is_ok(goblin_pe_read_object(file, sizeof file, NULL, &object, NULL, 0)) ||
+        !is_fault(goblin_pe_read_symbol_table(file, sizeof file, &object.coff_header, &table), GOBLIN_PE_STATUS_READ,
+                  GOBLIN_PE_READ_FAULT_BAD_INPUT))
+        return false;
+    return is_ok(goblin_pe_find_symbol_table(file, sizeof file, &object.coff_header, &table)) &&
+           table.strings_length == 5 && goblin_pe_symbol_at(file, sizeof file, &table, 0, &symbol) &&
+           !symbol.has_name && !goblin_pe_string_at(file, sizeof file, &table, 4, &text) && text.length == 77 &&
+           goblin_pe_string_at(file, sizeof file, &table, 6, &text) && text.length == 2 &&
+           !memcmp(text.bytes, "ok", 2);
+}
+
 /* Whether the words of a block and the relocations of a section are walked over in batches, and a checksum is added
    up. */
 static bool walks_and_adds(void)
@@ -427,7 +448,7 @@ static bool walks_and_adds(void)
 int main(int argc, char **argv)
 {
     if (!sets_names() || !is_told() || !maps_by_records_of_zeros() || !looks_up() || !walks_and_adds() ||
-        !tells_what_is_there() ||
+        !tells_what_is_there() || !reads_odd_names() ||
         goblin_pe_kind_of(NULL, 0) != GOBLIN_PE_KIND_UNKNOWN)
         return 4;
     for (int i = 1; i < argc; i++) {

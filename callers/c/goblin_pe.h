@@ -42,12 +42,14 @@
    call                              memory at most                        time at most
    kind_of, read_section_data,
      available_section_data,
+     find_symbol_table,
      import_record_at, write_*,
      set_*                           none                                  what the records say
    read_layout                       none                                  n, and a name for each section with room
    read_object, read_te              none                                  the sections, and a name for each with room
    read_symbol_table, checksum       none                                  n
-   next_symbols, symbol_at           none                                  a name for each record
+   next_symbols, symbol_at,
+     string_at                       none                                  a name for each record
    read_relocations, next_words,
      next_relocations, read_aux_*    none                                  the records
    find_offset, section_at, text_at,
@@ -343,6 +345,27 @@ static inline struct goblin_pe_fault goblin_pe_read_symbol_table(
     struct goblin_pe_symbol_table *table)
 {
     return goblin_pe_raw_read_symbol_table(GOBLIN_PE_BYTES(bytes, length), length, header, table);
+}
+
+/* Says in `table` where the symbol table and the string table of an image or an object lie, as
+   goblin_pe_read_symbol_table does, but whatever the texts are: so the symbols of a file can be read of which one name
+   is not UTF-8, and that one has no name. Refused is a file that is too short for its symbol table or the string table
+   after it, and a string table that says a length below 4. No memory is taken, and no text is read. */
+static inline struct goblin_pe_fault goblin_pe_find_symbol_table(
+    const uint8_t *bytes, size_t length, const struct goblin_pe_coff_header *header,
+    struct goblin_pe_symbol_table *table)
+{
+    return goblin_pe_raw_find_symbol_table(GOBLIN_PE_BYTES(bytes, length), length, header, table);
+}
+
+/* Puts the text at an offset of a string table into `text`, up to a NUL or the table's end, and answers whether there is
+   one that is UTF-8. The offset counts from the table's length of four bytes, as the numbers do that stand in place of
+   names; strings_length + 4 is the table's size. No memory is taken. */
+static inline bool goblin_pe_string_at(
+    const uint8_t *bytes, size_t length, const struct goblin_pe_symbol_table *table, size_t offset,
+    struct goblin_pe_text *text)
+{
+    return goblin_pe_raw_string_at(GOBLIN_PE_BYTES(bytes, length), length, table, offset, text);
 }
 
 /* Goes on with the walk over the symbols of a table, from the record at the index `position` on, 0 at the

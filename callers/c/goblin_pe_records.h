@@ -16,15 +16,15 @@ extern "C" {
 #define GOBLIN_PE_INTERFACE_VERSION 4
 
 /* The sum of the interface that is declared here. goblin_pe_interface answers that of the library. */
-#define GOBLIN_PE_INTERFACE 0x6bb8d039u
+#define GOBLIN_PE_INTERFACE 0xa68ae0b7u
 
 /* What follows .so. in the name by which programs ask for the shared library. */
-#define GOBLIN_PE_SONAME "4.6bb8d039"
+#define GOBLIN_PE_SONAME "4.a68ae0b7"
 
 /* Only a library of this very interface has this call, so that a program is linked with no other. */
-uint32_t goblin_pe_interface_6bb8d039(void);
+uint32_t goblin_pe_interface_a68ae0b7(void);
 #ifdef __GNUC__
-__attribute__((used)) static uint32_t (*const goblin_pe_needs_interface)(void) = goblin_pe_interface_6bb8d039;
+__attribute__((used)) static uint32_t (*const goblin_pe_needs_interface)(void) = goblin_pe_interface_a68ae0b7;
 #endif
 
 /* What a file is, by its first bytes. This does not tell whether it can be read, and no call reads
@@ -1165,6 +1165,12 @@ struct goblin_pe_fault goblin_pe_raw_read_object(
 struct goblin_pe_fault goblin_pe_raw_read_symbol_table(
     const uint8_t *bytes, size_t byte_count, const struct goblin_pe_coff_header *header,
     struct goblin_pe_symbol_table *table);
+struct goblin_pe_fault goblin_pe_raw_find_symbol_table(
+    const uint8_t *bytes, size_t byte_count, const struct goblin_pe_coff_header *header,
+    struct goblin_pe_symbol_table *table);
+bool goblin_pe_raw_string_at(
+    const uint8_t *bytes, size_t byte_count, const struct goblin_pe_symbol_table *table,
+    size_t offset, struct goblin_pe_text *text);
 struct goblin_pe_fault goblin_pe_raw_next_symbols(
     const uint8_t *bytes, size_t byte_count, const struct goblin_pe_symbol_table *table,
     size_t *position, struct goblin_pe_named_symbol *records, size_t record_room, size_t *count);

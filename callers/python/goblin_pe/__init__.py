@@ -120,11 +120,12 @@ def _walk(data: _Kept, kind: _t.Any, row: str, call: _t.Callable[..., records.Fa
         map(getattr(_Rows(data, address, _MOST_KEPT), row), _laid_out.first_of(found, count)) for address, count, found in batches)
 
 
-def _symbol_table(data: _Kept, header: CoffHeader) -> records.SymbolTable:
-    # where the symbols lie; the string table is read here alone
+def _symbol_table(data: _Kept, header: CoffHeader, tests_texts: bool = True) -> records.SymbolTable:
+    # where the symbols lie; the string table is read here alone, where its texts are tested
     coff, table = _laid_out.laid_out(CoffHeader)(*header), records.SymbolTable()
+    call = _LIB.goblin_pe_raw_read_symbol_table if tests_texts else _LIB.goblin_pe_raw_find_symbol_table
     with _held(data) as (address, length):
-        _test(_LIB.goblin_pe_raw_read_symbol_table(address, length, _c.byref(coff), _c.byref(table)))
+        _test(call(address, length, _c.byref(coff), _c.byref(table)))
     return table
 
 
@@ -138,6 +139,13 @@ def _symbol_at(data: _Kept, table: records.SymbolTable, index: int) -> _t.Option
     with _held(data) as (address, length):
         is_there = _LIB.goblin_pe_raw_symbol_at(address, length, _c.byref(table), _size(index), _c.byref(symbol))
         return _Rows(data, address).symbol(symbol) if is_there else None
+
+
+def _string_at(data: _Kept, table: records.SymbolTable, offset: int) -> _t.Optional[bytes]:
+    text = records.Text()
+    with _held(data) as (address, length):
+        is_there = _LIB.goblin_pe_raw_string_at(address, length, _c.byref(table), _size(offset), _c.byref(text))
+        return _Rows(data, address).text(text) if is_there else None
 
 
 def _here(data: _t.Optional[_Kept]) -> _Kept:
@@ -612,10 +620,18 @@ class Layout:
         table, and where the string table is not UTF-8, or says a length below 4."""
         return self._once("symbols", lambda: list(self.walk_symbols()))
 
-    def walk_symbols(self) -> _t.Iterator[Symbol]:
-        """The symbols one by one, of which none is kept. Refused is raised as by `symbols`."""
+    def walk_symbols(self, tests_texts: bool = True) -> _t.Iterator[Symbol]:
+        """The symbols one by one, of which none is kept. Refused is raised as by `symbols`; without tests_texts not where the
+        string table is not UTF-8: a symbol whose name is not has none."""
         data = self._bytes()
-        return _walk_symbols(data, self._found_symbols(data))
+        return _walk_symbols(data, self._found_symbols(data) if tests_texts else _symbol_table(data, self.coff_header, False))
+
+    def string_at(self, offset: int) -> _t.Optional[bytes]:
+        """The text at an offset of the string table, up to a NUL or the table's end; None where there is none that is UTF-8. The
+        offset counts from the four bytes of the table's length, as the numbers do that stand in place of names. Refused is
+        raised where a table does not lie in the file."""
+        data = self._bytes()
+        return _string_at(data, _symbol_table(data, self.coff_header, False), offset)
 
     def symbol_at(self, index: int) -> _t.Optional[Symbol]:
         """The symbol whose record has this index: relocations and weak externals name symbols so. None where the table ends
@@ -844,14 +860,14 @@ class Pe(Layout):
 
 class ObjectFile:
     """An object that was read: ObjectFile(data, options); of the Options only is_permissive counts. A file that is refused
-    raises Refused. No machine is tested, so a file that is no object may be read as one with sections that make no sense:
+    raises Refused, as one is whose string table is not UTF-8; without tests_texts a symbol whose name is not has none. No machine is tested, so a file that is no object may be read as one with sections that make no sense:
     ask `kind` before.
 
     It keeps `data`, or the copy of a buffer that could be written. A copy, as it is sent to another process, has all but `data`:
     its methods raise ValueError.
     """
 
-    def __init__(self, data: Data, options: _t.Optional[Options] = None):
+    def __init__(self, data: Data, options: _t.Optional[Options] = None, tests_texts: bool = True):
         asked, found = _record_of(options), records.Object()
         read = _kept(data)
         with _held(read) as (address, length):
@@ -859,7 +875,7 @@ class ObjectFile:
                 sections, count = _room(records.Section, found.sections), found.sections
                 _test(_LIB.goblin_pe_raw_read_object(address, length, _c.byref(asked), _c.byref(found), sections, count))
         self._coff_header: CoffHeader = found.coff_header
-        self._symbol_table = _symbol_table(read, found.coff_header)
+        self._symbol_table = _symbol_table(read, found.coff_header, tests_texts)
         self._data: _t.Optional[_Kept] = read
         self._sections, self._count, self._address = sections, found.sections, address
         self._made: _t.Dict[str, _t.List[_t.Any]] = {}
@@ -898,6 +914,16 @@ class ObjectFile:
         """The symbol whose record has this index: relocations and weak externals name symbols so. None where the table ends
         before it; an auxiliary record is read as a symbol, too."""
         return _symbol_at(_here(self._data), self._symbol_table, index)
+
+    def string_at(self, offset: int) -> _t.Optional[bytes]:
+        """The text at an offset of the string table, up to a NUL or the table's end; None where there is none that is UTF-8. The
+        offset counts from the four bytes of the table's length, as the numbers do that stand in place of names."""
+        return _string_at(_here(self._data), self._symbol_table, offset)
+
+    @property
+    def string_table_size(self) -> int:
+        """How many bytes the string table has, with the four of its length; 0 where there is none."""
+        return self._symbol_table.strings_length + 4 if self._symbol_table.offset else 0
 
     def __repr__(self) -> str:
         return "<ObjectFile machine=%#x sections=%d>" % (self.coff_header.machine, self._count)

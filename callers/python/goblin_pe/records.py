@@ -7,7 +7,7 @@ from typing import Annotated, Any, Dict, List, NamedTuple, Tuple
 from ._laid_out import Address, HandedOver, Record, header, record, tables, to
 
 # The sum of the interface that is declared here: of its records, the numbers in them, and its calls.
-INTERFACE = 0x6bb8d039
+INTERFACE = 0xa68ae0b7
 
 
 @record
@@ -1105,6 +1105,10 @@ CALLS: Dict[str, Tuple[Any, List[Any]]] = {
         (Fault, [c.c_void_p, c.c_size_t, to(Options), to(Object), to(Section), c.c_size_t]),
     "goblin_pe_raw_read_symbol_table":
         (Fault, [c.c_void_p, c.c_size_t, to(CoffHeader), to(SymbolTable)]),
+    "goblin_pe_raw_find_symbol_table":
+        (Fault, [c.c_void_p, c.c_size_t, to(CoffHeader), to(SymbolTable)]),
+    "goblin_pe_raw_string_at":
+        (c.c_bool, [c.c_void_p, c.c_size_t, to(SymbolTable), c.c_size_t, to(Text)]),
     "goblin_pe_raw_next_symbols":
         (Fault, [c.c_void_p, c.c_size_t, to(SymbolTable), to(c.c_size_t), to(NamedSymbol), c.c_size_t, to(c.c_size_t)]),
     "goblin_pe_raw_symbol_at":

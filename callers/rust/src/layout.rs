@@ -492,6 +492,23 @@ impl<'a> Layout<'a> {
         Symbols::of(self.bytes, self.coff_header())
     }
 
+    /// The same, whatever the texts of the string table are; see
+    /// [`Object::untested_symbols`](crate::Object::untested_symbols).
+    ///
+    /// # Errors
+    /// A file that is too short for the symbol table or its string table, and a string table that says a length
+    /// below 4.
+    ///
+    /// ```no_run
+    /// # let bytes = [];
+    /// # let layout = goblin_pe::Layout::read(&bytes, &goblin_pe::Options::permissive())?;
+    /// let named = layout.untested_symbols()?.filter(|it| it.name.is_some()).count();
+    /// # Ok::<(), goblin_pe::Error>(())
+    /// ```
+    pub fn untested_symbols(&self) -> Result<Symbols<'a>, Error> {
+        Symbols::untested(self.bytes, self.coff_header())
+    }
+
     /// Writes the text whose MD5 is the hash of the imports that analysts compare, as
     /// [`Pe::write_imphash_text`](crate::Pe::write_imphash_text) does, in constant memory: it walks over the imports,
     /// whether or not the options ask for them.

@@ -128,6 +128,23 @@ impl<'a> Object<'a> {
     pub fn symbols(&self) -> Result<Symbols<'a>, Error> {
         Symbols::of(self.bytes, self.coff_header())
     }
+
+    /// The same, whatever the texts of the string table are: also of a file of which one name is not UTF-8, which
+    /// [`symbols`](Self::symbols) refuses. That symbol has no name.
+    ///
+    /// # Errors
+    /// A file that is too short for the symbol table or its string table, and a string table that says a length
+    /// below 4.
+    ///
+    /// ```no_run
+    /// # let bytes = [];
+    /// let object = goblin_pe::Object::read(&bytes, &goblin_pe::Options::default())?;
+    /// let unnamed = object.untested_symbols()?.filter(|it| it.name.is_none()).count();
+    /// # Ok::<(), goblin_pe::Error>(())
+    /// ```
+    pub fn untested_symbols(&self) -> Result<Symbols<'a>, Error> {
+        Symbols::untested(self.bytes, self.coff_header())
+    }
 }
 
 impl fmt::Debug for Object<'_> {

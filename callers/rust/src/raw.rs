@@ -428,6 +428,23 @@ pub fn read_symbol_table(bytes: &[u8], header: &CoffHeader, table: &mut SymbolTa
     unsafe { goblin_pe_raw_read_symbol_table(bytes.as_ptr(), bytes.len(), header, table) }
 }
 
+/// Says where a symbol table and its string table lie, whatever the texts are.
+pub fn find_symbol_table(bytes: &[u8], header: &CoffHeader, table: &mut SymbolTable) -> Fault {
+    test_interface();
+    // SAFETY: as in `kind`.
+    unsafe { goblin_pe_raw_find_symbol_table(bytes.as_ptr(), bytes.len(), header, table) }
+}
+
+/// The text at an offset of a string table.
+pub fn string_at<'a>(bytes: &'a [u8], table: &SymbolTable, offset: usize) -> Option<&'a [u8]> {
+    test_interface();
+    let mut text = Slice::default();
+    // SAFETY: as in `open`.
+    let is_there =
+        unsafe { goblin_pe_raw_string_at(bytes.as_ptr(), bytes.len(), table, offset, &mut text) };
+    is_there.then(|| text.get())
+}
+
 /// Goes on with the walk over symbols; fills the vector as far as it has room.
 pub fn next_symbols<'a>(
     bytes: &'a [u8],

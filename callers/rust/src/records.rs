@@ -5,7 +5,7 @@ use crate::raw::{List, Shared, Slice};
 use std::mem::offset_of;
 
 /// The sum of the interface that is declared here: of its records, the numbers in them, and its calls.
-pub const INTERFACE: u32 = 0x6bb8_d039;
+pub const INTERFACE: u32 = 0xa68a_e0b7;
 
 /// What follows a symbol that defines a function.
 ///
@@ -1386,6 +1386,21 @@ unsafe extern "C" {
         header: &CoffHeader,
         table: &mut SymbolTable,
     ) -> Fault;
+
+    pub fn goblin_pe_raw_find_symbol_table(
+        bytes: *const u8,
+        byte_count: usize,
+        header: &CoffHeader,
+        table: &mut SymbolTable,
+    ) -> Fault;
+
+    pub fn goblin_pe_raw_string_at(
+        bytes: *const u8,
+        byte_count: usize,
+        table: &SymbolTable,
+        offset: usize,
+        text: &mut Slice<'_>,
+    ) -> bool;
 
     pub fn goblin_pe_raw_next_symbols(
         bytes: *const u8,

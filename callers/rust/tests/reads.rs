@@ -789,6 +789,37 @@ fn an_address_has_a_region_and_the_first_bytes_there() {
     assert_eq!((data.len() + 1, zeros), (last.size_of_raw_data as usize, 0));
 }
 
+// An object of one section of uninitialized data, larger than the file, and one symbol, whose name, at 4 in the string table,
+// is not UTF-8.
+fn odd_object() -> Vec<u8> {
+    let mut file = vec![
+        0x64, 0x86, 1, 0, 0, 0, 0, 0, 60, 0, 0, 0, 1, 0, 0, 0, 0, 0, 0, 0,
+    ];
+    file.extend(b".bss\0\0\0\0");
+    file.extend([0; 8]);
+    file.extend(400_000_u32.to_le_bytes());
+    file.extend([0; 16]);
+    file.extend(0xC000_0080_u32.to_le_bytes());
+    file.extend([0, 0, 0, 0, 4, 0, 0, 0, 0, 0, 0, 0, 0, 0, 0, 0, 2, 0]);
+    file.extend(b"\x09\0\0\0\xE9\0ok\0");
+    file
+}
+
+#[test]
+fn uninitialized_data_is_zeros_and_an_odd_name_is_none() {
+    let file = odd_object();
+    let object = Object::read(&file, &Options::default()).unwrap();
+    let bss = object.section_by_name(".bss").unwrap();
+    assert_eq!(object.section_data(&bss), Ok((&[][..], 400_000)));
+    let refused = object.symbols().unwrap_err();
+    assert_eq!(refused.read_fault(), Some(ReadFault::BadInput));
+    let symbols = object.untested_symbols().unwrap();
+    assert_eq!(symbols.string_table_size(), 9);
+    assert_eq!(symbols.text_at(4), None);
+    assert_eq!(symbols.text_at(6), Some(Text(b"ok")));
+    assert_eq!(symbols.map(|s| s.name).collect::<Vec<_>>(), [None]);
+}
+
 #[test]
 fn each_forwarder_is_at_its_address() {
     let bytes = sample("forwarders_x64.dll");
