@@ -47,7 +47,8 @@
      set_*                           none                                  what the records say
    read_layout                       none                                  n, and a name for each section with room
    read_object, read_te              none                                  the sections, and a name for each with room
-   read_symbol_table, checksum       none                                  n
+   read_symbol_table, checksum,
+     file_checksum                   none                                  n
    next_symbols, symbol_at,
      string_at                       none                                  a name for each record
    read_relocations, next_words,
@@ -641,12 +642,21 @@ static inline uint32_t goblin_pe_checksum(const uint8_t *bytes, size_t length, s
     return goblin_pe_raw_checksum(GOBLIN_PE_BYTES(bytes, length), length, field);
 }
 
+/* Puts the checksum of an image into `sum`, over the whole file, whose header says where the field is. Answers whether
+   there is one: not where the header can't be read in the mode of the options, or has no optional header. */
+static inline bool goblin_pe_file_checksum(
+    const uint8_t *bytes, size_t length, const struct goblin_pe_options *options, uint32_t *sum)
+{
+    return goblin_pe_raw_file_checksum(
+        GOBLIN_PE_BYTES(bytes, length), length, goblin_pe_options_or_default(options), sum);
+}
+
 /* The file offset of the section table of an image, which follows the optional header. */
 static inline size_t goblin_pe_section_table(const struct goblin_pe_file *file)
 {
     size_t signature = file->dos_header.pe_pointer;
-    /* (the signature and the COFF header have 24 bytes) */
-    return signature + 24 + file->coff_header.size_of_optional_header;
+    return signature + GOBLIN_PE_SIZEOF_PE_MAGIC + GOBLIN_PE_SIZEOF_COFF_HEADER +
+           file->coff_header.size_of_optional_header;
 }
 
 /* Writes the header of an image to the front of `out`, and says in `written` how many bytes it has: the DOS

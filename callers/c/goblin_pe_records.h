@@ -16,15 +16,15 @@ extern "C" {
 #define GOBLIN_PE_INTERFACE_VERSION 4
 
 /* The sum of the interface that is declared here. goblin_pe_interface answers that of the library. */
-#define GOBLIN_PE_INTERFACE 0xa68ae0b7u
+#define GOBLIN_PE_INTERFACE 0x885f3464u
 
 /* What follows .so. in the name by which programs ask for the shared library. */
-#define GOBLIN_PE_SONAME "4.a68ae0b7"
+#define GOBLIN_PE_SONAME "4.885f3464"
 
 /* Only a library of this very interface has this call, so that a program is linked with no other. */
-uint32_t goblin_pe_interface_a68ae0b7(void);
+uint32_t goblin_pe_interface_885f3464(void);
 #ifdef __GNUC__
-__attribute__((used)) static uint32_t (*const goblin_pe_needs_interface)(void) = goblin_pe_interface_a68ae0b7;
+__attribute__((used)) static uint32_t (*const goblin_pe_needs_interface)(void) = goblin_pe_interface_885f3464;
 #endif
 
 /* What a file is, by its first bytes. This does not tell whether it can be read, and no call reads
@@ -337,6 +337,22 @@ struct goblin_pe_aux_section_definition {
     uint8_t unused[3];
 };
 
+/* What a call does and leaves out. */
+struct goblin_pe_options {
+    /* Whether damaged parts are passed over, in permissive mode. An import directory at file offset
+       0 is an empty list there, whatever it holds; the damage of a file tells what strict mode
+       would refuse of it, and how much is left out. */
+    bool is_permissive;
+    /* Whether an address is mapped to a file offset by the sections; where not, it is the offset. */
+    bool resolve_rva;
+    /* Where the raw data of a section begins, for addresses, for the data of a section of an image
+       and for what a loader sees at an address: the number of a `goblin_pe_raw_pointer_rule`; any
+       other number is taken as 0. */
+    uint8_t raw_pointer_rule;
+    /* Whether the imports are read; where not, their table is absent. */
+    bool parse_imports;
+};
+
 /* Why a call gave no value, in numbers; the status 0 is that it gave one. */
 struct goblin_pe_fault {
     /* What kind of refusal it is, by the numbers of `goblin_pe_status`; 0 where nothing is refused. */
@@ -380,22 +396,6 @@ struct goblin_pe_section {
     uint32_t characteristics;
     /* Whether the section has a name from the string table. */
     bool has_real_name;
-};
-
-/* What a call does and leaves out. */
-struct goblin_pe_options {
-    /* Whether damaged parts are passed over, in permissive mode. An import directory at file offset
-       0 is an empty list there, whatever it holds; the damage of a file tells what strict mode
-       would refuse of it, and how much is left out. */
-    bool is_permissive;
-    /* Whether an address is mapped to a file offset by the sections; where not, it is the offset. */
-    bool resolve_rva;
-    /* Where the raw data of a section begins, for addresses, for the data of a section of an image
-       and for what a loader sees at an address: the number of a `goblin_pe_raw_pointer_rule`; any
-       other number is taken as 0. */
-    uint8_t raw_pointer_rule;
-    /* Whether the imports are read; where not, their table is absent. */
-    bool parse_imports;
 };
 
 /* An image, by what maps its addresses. */
@@ -1131,6 +1131,9 @@ bool goblin_pe_raw_read_aux_section_definition(
 bool goblin_pe_raw_read_aux_file(
     const uint8_t *bytes, size_t byte_count, struct goblin_pe_text *name);
 uint32_t goblin_pe_raw_checksum(const uint8_t *bytes, size_t byte_count, size_t field);
+bool goblin_pe_raw_file_checksum(
+    const uint8_t *bytes, size_t byte_count, const struct goblin_pe_options *options,
+    uint32_t *sum);
 size_t goblin_pe_raw_fault_text(
     const struct goblin_pe_fault *fault, uint8_t *text, size_t text_room);
 struct goblin_pe_fault goblin_pe_raw_forwarder_at(
@@ -1281,6 +1284,12 @@ GOBLIN_PE_IS_AT(aux_section_definition, number, 12);
 GOBLIN_PE_IS_AT(aux_section_definition, selection, 14);
 GOBLIN_PE_IS_AT(aux_section_definition, unused, 15);
 
+GOBLIN_PE_HAS_SIZE(options, 4, 1);
+GOBLIN_PE_IS_AT(options, is_permissive, 0);
+GOBLIN_PE_IS_AT(options, resolve_rva, 1);
+GOBLIN_PE_IS_AT(options, raw_pointer_rule, 2);
+GOBLIN_PE_IS_AT(options, parse_imports, 3);
+
 GOBLIN_PE_HAS_SIZE(fault, 24, 8);
 GOBLIN_PE_IS_AT(fault, status, 0);
 GOBLIN_PE_IS_AT(fault, cause, 4);
@@ -1300,12 +1309,6 @@ GOBLIN_PE_IS_AT(section, number_of_relocations, 48);
 GOBLIN_PE_IS_AT(section, number_of_linenumbers, 50);
 GOBLIN_PE_IS_AT(section, characteristics, 52);
 GOBLIN_PE_IS_AT(section, has_real_name, 56);
-
-GOBLIN_PE_HAS_SIZE(options, 4, 1);
-GOBLIN_PE_IS_AT(options, is_permissive, 0);
-GOBLIN_PE_IS_AT(options, resolve_rva, 1);
-GOBLIN_PE_IS_AT(options, raw_pointer_rule, 2);
-GOBLIN_PE_IS_AT(options, parse_imports, 3);
 
 GOBLIN_PE_HAS_SIZE(image, 40, 8);
 GOBLIN_PE_IS_AT(image, bytes, 0);

@@ -490,6 +490,15 @@ class Layout:
         options may round down to 512, as they do for find_offset; else it is as data of a Section has it."""
         return _data_of(section, self._bytes(), self._options, self._header.windows_fields.file_alignment)
 
+    def checksum(self) -> _t.Optional[int]:
+        """The checksum of the whole file, as the function `checksum` adds it up; None without an optional header, which has the
+        field check_sum for it. Windows tests that of drivers, and of libraries that it loads at boot or into critical
+        processes."""
+        found = _c.c_uint32()
+        with _held(self._bytes()) as (address, length):
+            is_there = _LIB.goblin_pe_raw_file_checksum(address, length, _c.byref(self._options), _c.byref(found))
+        return found.value if is_there else None
+
     def available_section_data(self, section: Section) -> SectionData:
         """The same as far as the file has it, which is never refused; see available_data of a Section."""
         return _available_of(section, self._bytes(), self._options, self._header.windows_fields.file_alignment)

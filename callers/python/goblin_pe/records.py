@@ -7,7 +7,7 @@ from typing import Annotated, Any, Dict, List, NamedTuple, Tuple
 from ._laid_out import Address, HandedOver, Record, header, record, tables, to
 
 # The sum of the interface that is declared here: of its records, the numbers in them, and its calls.
-INTERFACE = 0xa68ae0b7
+INTERFACE = 0x885f3464
 
 
 @record
@@ -114,6 +114,27 @@ class AuxSectionDefinition(NamedTuple):
 
 
 @record
+class Options(Record):
+    """What a call does and leaves out.
+
+    is_permissive: Whether damaged parts are passed over, in permissive mode. An import directory at
+        file offset 0 is an empty list there, whatever it holds; the damage of a file tells what
+        strict mode would refuse of it, and how much is left out.
+    resolve_rva: Whether an address is mapped to a file offset by the sections; where not, it is the
+        offset.
+    raw_pointer_rule: Where the raw data of a section begins, for addresses, for the data of a
+        section of an image and for what a loader sees at an address: the number of a
+        `RawPointerRule`; any other number is taken as 0.
+    parse_imports: Whether the imports are read; where not, their table is absent.
+    """
+
+    is_permissive: Annotated[bool, c.c_bool]
+    resolve_rva: Annotated[bool, c.c_bool]
+    raw_pointer_rule: Annotated[int, c.c_uint8]
+    parse_imports: Annotated[bool, c.c_bool]
+
+
+@record
 class Fault(Record):
     """Why a call gave no value, in numbers; the status 0 is that it gave one.
 
@@ -164,27 +185,6 @@ class Section(Record):
     number_of_linenumbers: Annotated[int, c.c_uint16]
     characteristics: Annotated[int, c.c_uint32]
     has_real_name: Annotated[bool, c.c_bool]
-
-
-@record
-class Options(Record):
-    """What a call does and leaves out.
-
-    is_permissive: Whether damaged parts are passed over, in permissive mode. An import directory at
-        file offset 0 is an empty list there, whatever it holds; the damage of a file tells what
-        strict mode would refuse of it, and how much is left out.
-    resolve_rva: Whether an address is mapped to a file offset by the sections; where not, it is the
-        offset.
-    raw_pointer_rule: Where the raw data of a section begins, for addresses, for the data of a
-        section of an image and for what a loader sees at an address: the number of a
-        `RawPointerRule`; any other number is taken as 0.
-    parse_imports: Whether the imports are read; where not, their table is absent.
-    """
-
-    is_permissive: Annotated[bool, c.c_bool]
-    resolve_rva: Annotated[bool, c.c_bool]
-    raw_pointer_rule: Annotated[int, c.c_uint8]
-    parse_imports: Annotated[bool, c.c_bool]
 
 
 @record
@@ -1075,6 +1075,8 @@ CALLS: Dict[str, Tuple[Any, List[Any]]] = {
         (c.c_bool, [c.c_void_p, c.c_size_t, to(Text)]),
     "goblin_pe_raw_checksum":
         (c.c_uint32, [c.c_void_p, c.c_size_t, c.c_size_t]),
+    "goblin_pe_raw_file_checksum":
+        (c.c_bool, [c.c_void_p, c.c_size_t, to(Options), to(c.c_uint32)]),
     "goblin_pe_raw_fault_text":
         (c.c_size_t, [to(Fault), c.c_void_p, c.c_size_t]),
     "goblin_pe_raw_forwarder_at":

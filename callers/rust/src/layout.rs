@@ -308,6 +308,22 @@ impl<'a> Layout<'a> {
         self.header().write(out)
     }
 
+    /// The checksum of the whole file, as [`checksum`](crate::checksum) adds it up; `None` without an optional
+    /// header, which has the field `check_sum` for it. Windows tests that of drivers, and of libraries that it loads at
+    /// boot or into critical processes.
+    ///
+    /// ```no_run
+    /// # let bytes = [];
+    /// # let layout = goblin_pe::Layout::read(&bytes, &goblin_pe::Options::permissive())?;
+    /// let stored = layout.optional_header().map(|it| it.windows_fields.check_sum);
+    /// let is_intact = stored == layout.checksum();
+    /// # Ok::<(), goblin_pe::Error>(())
+    /// ```
+    #[must_use]
+    pub fn checksum(&self) -> Option<u32> {
+        raw::file_checksum(self.bytes, &self.options)
+    }
+
     /// The data of one of its sections, and how many zeros follow it in memory. It begins at the raw
     /// pointer, which the options may round down to 512, as they do for [`find_offset`](Self::find_offset); else it is
     /// as [`Section::data`] has it.

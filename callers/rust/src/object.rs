@@ -2,14 +2,12 @@
 
 use std::fmt;
 
+use crate::constants::SIZEOF_COFF_HEADER;
 use crate::error::Error;
 use crate::iterators::{Sections, Symbols};
 use crate::memory::make_room;
 use crate::raw::{self, CoffHeader, Options};
 use crate::rows::Section;
-
-// The size of the COFF header, in bytes.
-const COFF_HEADER: usize = 20;
 
 /// An object that was read. A copy has records of its own; where memory for them is refused, the process ends as
 /// it does for a [`Vec`].
@@ -82,7 +80,7 @@ impl<'a> Object<'a> {
     #[must_use]
     pub fn sections(&self) -> Sections<'_, 'a> {
         let size = usize::from(self.found.coff_header.size_of_optional_header);
-        Sections::at(self.bytes, COFF_HEADER + size, &self.sections)
+        Sections::at(self.bytes, SIZEOF_COFF_HEADER + size, &self.sections)
     }
 
     /// The first section of this name; `None` where there is none.

@@ -675,6 +675,16 @@ pub fn checksum(bytes: &[u8], field: usize) -> u32 {
     unsafe { goblin_pe_raw_checksum(bytes.as_ptr(), bytes.len(), field) }
 }
 
+/// The same, where the header says that its field is.
+pub fn file_checksum(bytes: &[u8], options: &Options) -> Option<u32> {
+    test_interface();
+    let mut sum = 0;
+    // SAFETY: as in `kind`.
+    let is_there =
+        unsafe { goblin_pe_raw_file_checksum(bytes.as_ptr(), bytes.len(), options, &mut sum) };
+    is_there.then_some(sum)
+}
+
 /// Writes a header, and says how many bytes it has.
 pub fn write_header(
     file: &File,

@@ -5,7 +5,7 @@ use crate::raw::{List, Shared, Slice};
 use std::mem::offset_of;
 
 /// The sum of the interface that is declared here: of its records, the numbers in them, and its calls.
-pub const INTERFACE: u32 = 0xa68a_e0b7;
+pub const INTERFACE: u32 = 0x885f_3464;
 
 /// What follows a symbol that defines a function.
 ///
@@ -87,6 +87,25 @@ pub struct AuxSectionDefinition {
     pub unused: [u8; 3],
 }
 
+/// What a call does and leaves out.
+#[repr(C)]
+#[derive(Clone, Copy, Debug, PartialEq, Eq, PartialOrd, Ord, Hash)]
+#[non_exhaustive]
+pub struct Options {
+    /// Whether damaged parts are passed over, in permissive mode. An import directory at file
+    /// offset 0 is an empty list there, whatever it holds; the damage of a file tells what strict
+    /// mode would refuse of it, and how much is left out.
+    pub is_permissive: bool,
+    /// Whether an address is mapped to a file offset by the sections; where not, it is the offset.
+    pub resolve_rva: bool,
+    /// Where the raw data of a section begins, for addresses, for the data of a section of an image
+    /// and for what a loader sees at an address: the number of a `RawPointerRule`; any other number
+    /// is taken as 0.
+    pub raw_pointer_rule: u8,
+    /// Whether the imports are read; where not, their table is absent.
+    pub parse_imports: bool,
+}
+
 /// Why a call gave no value, in numbers; the status 0 is that it gave one.
 #[repr(C)]
 #[derive(Clone, Copy, Default, Debug, PartialEq, Eq, PartialOrd, Ord, Hash)]
@@ -134,25 +153,6 @@ pub struct Section<'a> {
     pub characteristics: u32,
     /// Whether the section has a name from the string table.
     pub has_real_name: bool,
-}
-
-/// What a call does and leaves out.
-#[repr(C)]
-#[derive(Clone, Copy, Debug, PartialEq, Eq, PartialOrd, Ord, Hash)]
-#[non_exhaustive]
-pub struct Options {
-    /// Whether damaged parts are passed over, in permissive mode. An import directory at file
-    /// offset 0 is an empty list there, whatever it holds; the damage of a file tells what strict
-    /// mode would refuse of it, and how much is left out.
-    pub is_permissive: bool,
-    /// Whether an address is mapped to a file offset by the sections; where not, it is the offset.
-    pub resolve_rva: bool,
-    /// Where the raw data of a section begins, for addresses, for the data of a section of an image
-    /// and for what a loader sees at an address: the number of a `RawPointerRule`; any other number
-    /// is taken as 0.
-    pub raw_pointer_rule: u8,
-    /// Whether the imports are read; where not, their table is absent.
-    pub parse_imports: bool,
 }
 
 /// An image, by what maps its addresses.
@@ -975,6 +975,11 @@ const _: () = {
     assert!(offset_of!(AuxSectionDefinition, number) == 12);
     assert!(offset_of!(AuxSectionDefinition, selection) == 14);
     assert!(offset_of!(AuxSectionDefinition, unused) == 15);
+    assert!(size_of::<Options>() == 4 && align_of::<Options>() == 1);
+    assert!(offset_of!(Options, is_permissive) == 0);
+    assert!(offset_of!(Options, resolve_rva) == 1);
+    assert!(offset_of!(Options, raw_pointer_rule) == 2);
+    assert!(offset_of!(Options, parse_imports) == 3);
     assert!(size_of::<Fault>() == 24 && align_of::<Fault>() == 8);
     assert!(offset_of!(Fault, status) == 0);
     assert!(offset_of!(Fault, cause) == 4);
@@ -993,11 +998,6 @@ const _: () = {
     assert!(offset_of!(Section, number_of_linenumbers) == 50);
     assert!(offset_of!(Section, characteristics) == 52);
     assert!(offset_of!(Section, has_real_name) == 56);
-    assert!(size_of::<Options>() == 4 && align_of::<Options>() == 1);
-    assert!(offset_of!(Options, is_permissive) == 0);
-    assert!(offset_of!(Options, resolve_rva) == 1);
-    assert!(offset_of!(Options, raw_pointer_rule) == 2);
-    assert!(offset_of!(Options, parse_imports) == 3);
     assert!(size_of::<Image>() == 40 && align_of::<Image>() == 8);
     assert!(offset_of!(Image, bytes) == 0);
     assert!(offset_of!(Image, sections) == 16);
@@ -1299,6 +1299,13 @@ unsafe extern "C" {
     ) -> bool;
 
     pub fn goblin_pe_raw_checksum(bytes: *const u8, byte_count: usize, field: usize) -> u32;
+
+    pub fn goblin_pe_raw_file_checksum(
+        bytes: *const u8,
+        byte_count: usize,
+        options: &Options,
+        sum: &mut u32,
+    ) -> bool;
 
     pub fn goblin_pe_raw_fault_text(fault: &Fault, text: *mut u8, text_room: usize) -> usize;
 
