@@ -21,7 +21,8 @@ LIBRARY = "goblin_pe_c"
 VERSION = "0.4.0"
 INTERFACE = 4
 # The enums of numbers, and the types that callers name otherwise than Rattle; the Pe before a record is always left out.
-ENUMS = ("Kind", "PeRawPointerRule", "Region", "State", "Forwards", "Status", "CauseNumber", "Counted", "ReadRefusal", "DataDirectoryType")
+ENUMS = ("Kind", "PeRawPointerRule", "Region", "State", "Forwards", "Status", "CauseNumber", "Counted", "ReadRefusal", "DataDirectoryType",
+         "RefusedPart")
 NAMES = {"CauseNumber": "Cause", "ReadRefusal": "ReadFault", "DataDirectoryType": "DirectoryType", "WindowsFields64": "WindowsFields"}
 CONSTANTS = ("goblin_pe_head/src/header/machine", "goblin_pe_head/src/characteristic", "goblin_pe_head/src/optional_header/magic",
              "goblin_pe_head/src/subsystem", "goblin_pe_head/src/dll_characteristic", "goblin_pe_sect/src/section_table/constants",

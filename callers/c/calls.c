@@ -238,6 +238,17 @@ static bool goes_by_places(const struct goblin_pe_places *own)
            is_ok(goblin_pe_read_export_directory(bytes, length, NULL, &places, &directory)) && !directory.is_read;
 }
 
+/* Whether an image that was opened is refused for no part, and has its checksum where its header says. */
+static bool has_checksum(const struct goblin_pe_file *file)
+{
+    size_t field = file->dos_header.pe_pointer + (size_t)88;
+    uint32_t part = 7, sum = 7;
+    return is_ok(goblin_pe_refused_part_of(bytes, length, NULL, &part)) && part == GOBLIN_PE_REFUSED_PART_NOTHING &&
+           is_ok(goblin_pe_refused_part_of(bytes, 2, NULL, &part)) && part == GOBLIN_PE_REFUSED_PART_HEADER &&
+           !goblin_pe_file_checksum(bytes, 2, NULL, &sum) && sum == 7 &&
+           goblin_pe_file_checksum(bytes, length, NULL, &sum) && sum == goblin_pe_checksum(bytes, length, field);
+}
+
 static bool is_image(void)
 {
     struct goblin_pe_file file;
@@ -246,8 +257,8 @@ static bool is_image(void)
     if (!is_sound() || !is_ok(goblin_pe_open(bytes, length, NULL, &file, directories, 16, &tables)))
         return false;
     struct goblin_pe_image image = goblin_pe_image_of(bytes, length, NULL, &file, &tables);
-    bool is_right = is_laid_out(&file, &tables) && has_symbols(&file.coff_header) && are_mapped(&image, 0) &&
-                    are_mapped(&image, SIZE_MAX) && goes_by_places(&file.places);
+    bool is_right = is_laid_out(&file, &tables) && has_symbols(&file.coff_header) && has_checksum(&file) &&
+                    are_mapped(&image, 0) && are_mapped(&image, SIZE_MAX) && goes_by_places(&file.places);
     for (size_t i = 0; i < tables.section_count; i++)
         is_right &= are_mapped(&image, tables.sections[i].virtual_address) &&
                     are_mapped(&image, tables.sections[i].virtual_address + tables.sections[i].virtual_size);

@@ -70,7 +70,7 @@
    next_exports                      the same                              the sections, the library's own name, and a name
                                                                            for each record and for what is passed over
                                                                            before it
-   read_damage                       the same                              n, a name for each import and each export, and
+   read_damage, refused_part_of      the same                              n, a name for each import and each export, and
                                                                            for what is left out of them, and the
                                                                            address table of each library
    open                              its tables, which no n bounds (see    the same, and a name for each section
@@ -206,6 +206,17 @@ static inline struct goblin_pe_fault goblin_pe_read_damage(
 {
     return goblin_pe_raw_read_damage(
         GOBLIN_PE_BYTES(bytes, length), length, goblin_pe_options_or_default(options), damage);
+}
+
+/* Puts into `part` the part for which a read by these options refuses a file, as an enum goblin_pe_refused_part: the
+   first that cannot be read, in the order of the header, the sections, the imports, the exports and the base
+   relocations; nothing where the file is read, and in permissive mode never a table. So ask it after a refusal. Refused
+   is memory alone, which is taken only for an index of more than 96 sections, and given back. */
+static inline struct goblin_pe_fault goblin_pe_refused_part_of(
+    const uint8_t *bytes, size_t length, const struct goblin_pe_options *options, uint32_t *part)
+{
+    return goblin_pe_raw_refused_part_of(
+        GOBLIN_PE_BYTES(bytes, length), length, goblin_pe_options_or_default(options), part);
 }
 
 /* Puts into `ranges` the bytes of a file on which goblin_pe_open by these options depends: of two files of

@@ -16,15 +16,15 @@ extern "C" {
 #define GOBLIN_PE_INTERFACE_VERSION 4
 
 /* The sum of the interface that is declared here. goblin_pe_interface answers that of the library. */
-#define GOBLIN_PE_INTERFACE 0x885f3464u
+#define GOBLIN_PE_INTERFACE 0xee4a4426u
 
 /* What follows .so. in the name by which programs ask for the shared library. */
-#define GOBLIN_PE_SONAME "4.885f3464"
+#define GOBLIN_PE_SONAME "4.ee4a4426"
 
 /* Only a library of this very interface has this call, so that a program is linked with no other. */
-uint32_t goblin_pe_interface_885f3464(void);
+uint32_t goblin_pe_interface_ee4a4426(void);
 #ifdef __GNUC__
-__attribute__((used)) static uint32_t (*const goblin_pe_needs_interface)(void) = goblin_pe_interface_885f3464;
+__attribute__((used)) static uint32_t (*const goblin_pe_needs_interface)(void) = goblin_pe_interface_ee4a4426;
 #endif
 
 /* What a file is, by its first bytes. This does not tell whether it can be read, and no call reads
@@ -256,6 +256,22 @@ enum goblin_pe_directory_type {
     GOBLIN_PE_DIRECTORY_TYPE_DELAY_IMPORT_DESCRIPTOR = 13,
     /* The header of the common language runtime, at index 14: an image with it has managed code. */
     GOBLIN_PE_DIRECTORY_TYPE_CLR_RUNTIME_HEADER = 14
+};
+
+/* The part of a file for which a read is refused: the first that cannot be read, in this order. */
+enum goblin_pe_refused_part {
+    /* Nothing is refused. */
+    GOBLIN_PE_REFUSED_PART_NOTHING = 0,
+    /* The header: all that stands before the section table. */
+    GOBLIN_PE_REFUSED_PART_HEADER = 1,
+    /* The sections: their records, or a name. */
+    GOBLIN_PE_REFUSED_PART_SECTIONS = 2,
+    /* The imports. */
+    GOBLIN_PE_REFUSED_PART_IMPORTS = 3,
+    /* The exports. */
+    GOBLIN_PE_REFUSED_PART_EXPORTS = 4,
+    /* The base relocations: their directory. */
+    GOBLIN_PE_REFUSED_PART_RELOCATIONS = 5
 };
 
 /* Bytes of the file; not ended by a NUL. */
@@ -1223,6 +1239,9 @@ struct goblin_pe_fault goblin_pe_raw_read_layout(
 struct goblin_pe_fault goblin_pe_raw_read_damage(
     const uint8_t *bytes, size_t byte_count, const struct goblin_pe_options *options,
     struct goblin_pe_damage *damage);
+struct goblin_pe_fault goblin_pe_raw_refused_part_of(
+    const uint8_t *bytes, size_t byte_count, const struct goblin_pe_options *options,
+    uint32_t *part);
 struct goblin_pe_fault goblin_pe_raw_footprint(
     const uint8_t *bytes, size_t byte_count, const struct goblin_pe_options *options,
     struct goblin_pe_ranges *ranges);

@@ -34,7 +34,7 @@ comes from Python alone, where there is no memory for what was read.
 
 The rows Section, Import, Export, Block, Symbol, Range and others are named tuples, and so are the headers, whose fields
 are those of the format: a changed copy is made by _replace, and Pe.write writes it. State, Status, Kind, Cause, Counted,
-ReadFault, Region and DirectoryType name numbers. All of them can be imported from here, and help(goblin_pe.Section) explains one;
+ReadFault, RefusedPart, Region and DirectoryType name numbers. All of them can be imported from here, and help(goblin_pe.Section) explains one;
 goblin_pe.constants has the numbers of the formats, such as IMAGE_FILE_DLL.
 
 The reader is the proved library goblin_pe. Its shared library stands beside an installed module; in the repository
@@ -57,8 +57,8 @@ from ._refused import Refused as Refused, named as _named, refusal as _refusal, 
 from .constants import IMAGE_FILE_DLL as _IMAGE_FILE_DLL, MAGIC_64 as _MAGIC_64
 from .numbers import (
     Cause as Cause, Counted as Counted, DirectoryType as DirectoryType, Kind as Kind,
-    RawPointerRule as RawPointerRule, ReadFault as ReadFault, Region as Region,
-    State as State, Status as Status)
+    RawPointerRule as RawPointerRule, ReadFault as ReadFault, RefusedPart as RefusedPart,
+    Region as Region, State as State, Status as Status)
 from .records import (
     AuxBeginAndEndFunction as AuxBeginAndEndFunction, AuxFunctionDefinition as AuxFunctionDefinition,
     AuxSectionDefinition as AuxSectionDefinition, AuxWeakExternal as AuxWeakExternal, CoffHeader as CoffHeader,
@@ -237,6 +237,16 @@ def _record_of(how: _t.Optional[Options]) -> records.Options:
     if not isinstance(how, Options):
         raise TypeError("options have to be Options, not %r" % (how,))
     return records.Options(how.is_permissive, how.resolve_rva, how.raw_pointer_rule, how.parse_imports)
+
+
+def refused_part(data: Data, options: _t.Optional[Options] = None) -> RefusedPart:
+    """The part for which a read of an image by these Options is refused: the first that cannot be read, in the order of the
+    header, the sections, the imports, the exports and the base relocations; RefusedPart.NOTHING where the file is read, and in
+    permissive mode never a table. So ask it after a refusal: it reads the file again. Refused is raised for memory alone."""
+    asked, part = _record_of(options), _c.c_uint32()
+    with _held(_kept(data)) as (address, length):
+        _test(_LIB.goblin_pe_raw_refused_part_of(address, length, _c.byref(asked), _c.byref(part)))
+    return RefusedPart(part.value)
 
 
 _L, _V = _t.TypeVar("_L", bound="Layout"), _t.TypeVar("_V")

@@ -240,3 +240,20 @@ class DirectoryType(Number):
     DELAY_IMPORT_DESCRIPTOR = 13
     # The header of the common language runtime, at index 14: an image with it has managed code.
     CLR_RUNTIME_HEADER = 14
+
+
+class RefusedPart(Number):
+    """The part of a file for which a read is refused: the first that cannot be read, in this order."""
+
+    # Nothing is refused.
+    NOTHING = 0
+    # The header: all that stands before the section table.
+    HEADER = 1
+    # The sections: their records, or a name.
+    SECTIONS = 2
+    # The imports.
+    IMPORTS = 3
+    # The exports.
+    EXPORTS = 4
+    # The base relocations: their directory.
+    RELOCATIONS = 5

@@ -7,7 +7,7 @@ from typing import Annotated, Any, Dict, List, NamedTuple, Tuple
 from ._laid_out import Address, HandedOver, Record, header, record, tables, to
 
 # The sum of the interface that is declared here: of its records, the numbers in them, and its calls.
-INTERFACE = 0x885f3464
+INTERFACE = 0xee4a4426
 
 
 @record
@@ -1141,6 +1141,8 @@ CALLS: Dict[str, Tuple[Any, List[Any]]] = {
         (Fault, [c.c_void_p, c.c_size_t, to(Options), to(Layout), to(Directory), c.c_size_t, to(Section), c.c_size_t]),
     "goblin_pe_raw_read_damage":
         (Fault, [c.c_void_p, c.c_size_t, to(Options), to(Damage)]),
+    "goblin_pe_raw_refused_part_of":
+        (Fault, [c.c_void_p, c.c_size_t, to(Options), to(c.c_uint32)]),
     "goblin_pe_raw_footprint":
         (Fault, [c.c_void_p, c.c_size_t, to(Options), to(Ranges)]),
     "goblin_pe_raw_write_header":

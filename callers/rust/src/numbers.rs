@@ -552,3 +552,49 @@ impl From<DirectoryType> for u32 {
         it as u32
     }
 }
+
+/// The part of a file for which a read is refused: the first that cannot be read, in this order.
+#[repr(u32)]
+#[derive(Clone, Copy, Debug, PartialEq, Eq, PartialOrd, Ord, Hash)]
+#[non_exhaustive]
+pub enum RefusedPart {
+    /// Nothing is refused.
+    Nothing = 0,
+    /// The header: all that stands before the section table.
+    Header = 1,
+    /// The sections: their records, or a name.
+    Sections = 2,
+    /// The imports.
+    Imports = 3,
+    /// The exports.
+    Exports = 4,
+    /// The base relocations: their directory.
+    Relocations = 5,
+}
+
+impl TryFrom<u32> for RefusedPart {
+    type Error = u32;
+
+    /// What has this number.
+    ///
+    /// # Errors
+    /// The number, where nothing has it.
+    fn try_from(number: u32) -> Result<RefusedPart, u32> {
+        match number {
+            0 => Ok(RefusedPart::Nothing),
+            1 => Ok(RefusedPart::Header),
+            2 => Ok(RefusedPart::Sections),
+            3 => Ok(RefusedPart::Imports),
+            4 => Ok(RefusedPart::Exports),
+            5 => Ok(RefusedPart::Relocations),
+            _ => Err(number),
+        }
+    }
+}
+
+impl From<RefusedPart> for u32 {
+    /// Its number.
+    fn from(it: RefusedPart) -> u32 {
+        it as u32
+    }
+}

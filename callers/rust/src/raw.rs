@@ -322,6 +322,13 @@ pub fn damage(bytes: &[u8], options: &Options, damage: &mut Damage) -> Fault {
     unsafe { goblin_pe_raw_read_damage(bytes.as_ptr(), bytes.len(), options, damage) }
 }
 
+/// The number of the part for which a file is refused.
+pub fn refused_part_of(bytes: &[u8], options: &Options, part: &mut u32) -> Fault {
+    test_interface();
+    // SAFETY: as in `kind`.
+    unsafe { goblin_pe_raw_refused_part_of(bytes.as_ptr(), bytes.len(), options, part) }
+}
+
 /// Lists the ranges on which a read depends. There were none before.
 pub fn footprint(bytes: &[u8], options: &Options, ranges: &mut Ranges<'_>) -> Fault {
     test_interface();

@@ -5,7 +5,7 @@ use crate::raw::{List, Shared, Slice};
 use std::mem::offset_of;
 
 /// The sum of the interface that is declared here: of its records, the numbers in them, and its calls.
-pub const INTERFACE: u32 = 0x885f_3464;
+pub const INTERFACE: u32 = 0xee4a_4426;
 
 /// What follows a symbol that defines a function.
 ///
@@ -1541,6 +1541,13 @@ unsafe extern "C" {
         byte_count: usize,
         options: &Options,
         damage: &mut Damage,
+    ) -> Fault;
+
+    pub fn goblin_pe_raw_refused_part_of(
+        bytes: *const u8,
+        byte_count: usize,
+        options: &Options,
+        part: &mut u32,
     ) -> Fault;
 
     pub fn goblin_pe_raw_footprint(

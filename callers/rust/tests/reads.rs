@@ -2,7 +2,7 @@
 use goblin_pe::constants::{COFF_MACHINE_X86_64, IMAGE_SCN_LNK_NRELOC_OVFL};
 use goblin_pe::{
     Cause, DirectoryType, Error, ErrorKind, Forwarder, Imported, Kind, Layout, Object, Options,
-    Part, Pe, RawPointerRule, ReadFault, Region, Te, Text,
+    Part, Pe, RawPointerRule, ReadFault, RefusedPart, Region, Te, Text,
 };
 
 fn sample(name: &str) -> Vec<u8> {
@@ -767,6 +767,34 @@ fn addresses_are_looked_up_both_ways() {
         assert!(pe.memory_at(rva, size + 1).is_err());
     }
     assert_eq!(pe.find_rva(bytes.len()), None);
+}
+
+#[test]
+fn a_refusal_is_of_a_part() {
+    let bytes = sample("forwarders_x64.dll");
+    for (options, wanted) in [
+        (Options::default(), RefusedPart::Exports),
+        (Options::permissive(), RefusedPart::Nothing),
+    ] {
+        let pe = Pe::read(&bytes, &Options::default()).unwrap();
+        let (_, exports) = pe.data_directories().next().unwrap();
+        let place = pe.find_offset(exports.virtual_address as usize).unwrap();
+        let mut cut = bytes.clone();
+        cut[place + 0x14..][..4].fill(0xFF); // (how many addresses there are)
+        assert_eq!(
+            Pe::read(&cut, &options).is_err(),
+            wanted != RefusedPart::Nothing
+        );
+        assert_eq!(goblin_pe::refused_part(&cut, &options), Ok(wanted));
+        assert_eq!(
+            goblin_pe::refused_part(&bytes, &options),
+            Ok(RefusedPart::Nothing)
+        );
+        assert_eq!(
+            goblin_pe::refused_part(b"MZ", &options),
+            Ok(RefusedPart::Header)
+        );
+    }
 }
 
 #[test]

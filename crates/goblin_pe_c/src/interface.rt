@@ -7,15 +7,15 @@ ghost use Rattle.std.specs.Prelude.{◌≡◌};
 /// The sum of this interface. A caller that declares another one has another number.
 #[unsafe(no_mangle)]
 pub extern "C" fn goblin_pe_interface() -> u32
-    ensures { result ≡ 2287940708 }
+    ensures { result ≡ 3997844518 }
 {
-    2_287_940_708
+    3_997_844_518
 }
 
 /// The same, by a name that no other interface has, with which programs in C are linked.
 #[unsafe(no_mangle)]
-pub extern "C" fn goblin_pe_interface_885f3464() -> u32
-    ensures { result ≡ 2287940708 }
+pub extern "C" fn goblin_pe_interface_ee4a4426() -> u32
+    ensures { result ≡ 3997844518 }
 {
-    2_287_940_708
+    3_997_844_518
 }
