@@ -21,11 +21,18 @@ LIBRARY = "goblin_pe_c"
 VERSION = "0.4.0"
 INTERFACE = 4
 # The enums of numbers, and the types that callers name otherwise than Rattle; the Pe before a record is always left out.
-ENUMS = ("Kind", "PeRawPointerRule", "State", "Forwards", "Status", "CauseNumber", "Counted", "ReadRefusal", "DataDirectoryType")
+ENUMS = ("Kind", "PeRawPointerRule", "Region", "State", "Forwards", "Status", "CauseNumber", "Counted", "ReadRefusal", "DataDirectoryType",
+         "RefusedPart")
 NAMES = {"CauseNumber": "Cause", "ReadRefusal": "ReadFault", "DataDirectoryType": "DirectoryType", "WindowsFields64": "WindowsFields"}
 CONSTANTS = ("goblin_pe_head/src/header/machine", "goblin_pe_head/src/characteristic", "goblin_pe_head/src/optional_header/magic",
              "goblin_pe_head/src/subsystem", "goblin_pe_head/src/dll_characteristic", "goblin_pe_sect/src/section_table/constants",
              "goblin_pe_symbol/src/symbol/constants", "goblin_pe_sect/src/relocation/constants")
+# The sizes of records and the offsets in them that are handed on, each proved to have its value where it is declared.
+SIZES = ("SIZEOF_COFF_HEADER", "SIZEOF_STANDARD_FIELDS_32", "SIZEOF_STANDARD_FIELDS_64", "SIZEOF_WINDOWS_FIELDS_32",
+         "SIZEOF_WINDOWS_FIELDS_64", "OFFSET_WINDOWS_FIELDS_32_CHECKSUM", "OFFSET_WINDOWS_FIELDS_64_CHECKSUM", "SIZEOF_PE_MAGIC",
+         "PE_POINTER_OFFSET", "DOS_STUB_OFFSET", "SIZEOF_DATA_DIRECTORY", "NUM_DATA_DIRECTORIES", "SIZEOF_SECTION_TABLE",
+         "COFF_SYMBOL_SIZE", "COFF_RELOCATION_SIZE", "SIZEOF_IMPORT_DIRECTORY_ENTRY", "SIZEOF_EXPORT_DIRECTORY_TABLE",
+         "SIZEOF_EXPORT_ADDRESS_TABLE_ENTRY", "RELOCATION_BLOCK_SIZE")
 # The numbers: the size of each, its type in C, and that in ctypes.
 NUMBERS = {"bool": (1, "bool", "c_bool"), "usize": (8, "size_t", "c_size_t"), "i16": (2, "int16_t", "c_int16"),
            **{"u%d" % bits: (bits // 8, "uint%d_t" % bits, "c_uint%d" % bits) for bits in (8, 16, 32, 64)}}
@@ -188,6 +195,23 @@ def constants_of(path: str) -> Declared:
     return Declared(path, "\n".join(re.findall("^//! ?(.*)$", source, re.M)), items)
 
 
+def sizes_of(crates: List[str]) -> Declared:
+    """The sizes of records, in the order of their names above."""
+    items: Dict[str, Item] = {}
+    for path in [it for crate in crates for it in sorted((CRATES / crate).glob("src/**/*.rt"))]:
+        source = path.read_text("utf-8")
+        for doc, _, text in declarations(source):
+            found = re.fullmatch(r"pub const (\w+): (\w+) = (\w+);", text)
+            if found and found[1] in SIZES:
+                proved = re.search(r"prove!\([^;]*\b%s == (\w+)" % found[1], source)
+                if found[1] in items or not proved or int(proved[1], 0) != int(found[3], 0):
+                    raise Refused("%s has %s" % (path, text))
+                items[found[1]] = Item(found[1], type_of(found[2]), doc, found[3])
+    if sorted(items) != sorted(SIZES):
+        raise Refused("the sizes %s" % sorted(set(SIZES) - set(items)))
+    return Declared("sizes", "The sizes of records, in bytes, and offsets in them.", [items[name] for name in SIZES])
+
+
 class Interface:
     """What the crates declare: calls; records, each after those that stand in it; enums; constants; and the default
     options."""
@@ -203,7 +227,7 @@ class Interface:
                 self.take(doc, marks, text)
         for item in [it for call in self.calls for it in [*call.items, Item("", call.answer, "")]]:
             self._reach(item.type)
-        self.constants = [constants_of(path) for path in CONSTANTS]
+        self.constants = [*map(constants_of, CONSTANTS), sizes_of(crates_of(LIBRARY))]
         written = {it.type.name for call in self.calls for it in call.items if it.type.form == "record" and it.type.is_written}
         self.handed_over = {name for name in written if any(it.type.form == "table" for it in self.records[name].items)}
         self.enums = {named(name): self.enums[named(name)] for name in ENUMS}

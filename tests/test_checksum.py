@@ -47,3 +47,4 @@ class Checksums(unittest.TestCase):
             if stored:
                 with self.subTest(file.name):
                     self.assertEqual(package().checksum(data, field), stored)
+                    self.assertEqual(package().Layout(data).checksum(), stored)

@@ -199,6 +199,20 @@ def terse(stripped_size):
                       (0x3D, b"\x02"))
 
 
+# Files, and the part for which each is refused in strict mode, and in permissive mode, which passes over tables and odd names.
+NO_IMPORTS, NO_EXPORTS, NO_RELOCATIONS = ((at, struct.pack("<2I", 0x9000, 0x28)) for at in (0xC0, 0xB8, 0xE0))
+REFUSED_PARTS = (
+    ("none", SAMPLE, "NOTHING", "NOTHING"),
+    ("the front of a header alone", SAMPLE[:0x80], "HEADER", "HEADER"),
+    ("more sections than the file has room for", with_parts(SAMPLE, (0x46, b"\xFF\xFF")), "SECTIONS", "SECTIONS"),
+    ("the name of a section", with_parts(SAMPLE, (TABLE, b"/\xFF\0\0\0\0\0\0")), "SECTIONS", "NOTHING"),
+    ("the imports", with_parts(SAMPLE, NO_IMPORTS), "IMPORTS", "NOTHING"),
+    ("the exports", with_parts(SAMPLE, NO_EXPORTS), "EXPORTS", "NOTHING"),
+    ("the base relocations", with_parts(SAMPLE, NO_RELOCATIONS), "RELOCATIONS", "NOTHING"),
+    ("all tables, of which the imports are first", with_parts(SAMPLE, NO_RELOCATIONS, NO_EXPORTS, NO_IMPORTS), "IMPORTS", "NOTHING"),
+    ("exports and base relocations", with_parts(SAMPLE, NO_RELOCATIONS, NO_EXPORTS), "EXPORTS", "NOTHING"),
+)
+
 # What reads a file, the file, and the sentence by which it is refused, as goblin says it, so that logs can be searched for it.
 SENTENCES = [
     ("Pe", with_parts(bytes(64), (0, b"MZ"), (0x3C, b"\x3C\xFF")), "cannot parse PE header signature (offset 0xff3c)"),
@@ -319,6 +333,16 @@ class Headers(unittest.TestCase):
         for name, file, wanted in ENTRIES:
             with self.subTest(name):
                 self.assertEqual(entries(opened(file, "permissive")), wanted)
+
+
+class RefusedParts(unittest.TestCase):
+    def test_a_file_is_refused_for_its_first_part(self):
+        for name, file, *wanted in REFUSED_PARTS:
+            for mode, part in zip(BOTH, wanted):
+                with self.subTest(name, mode=mode):
+                    how = package().Options(is_permissive=mode == "permissive")
+                    self.assertEqual(package().refused_part(file, how), package().RefusedPart[part])
+                    self.assertEqual(refusal(read, file, mode) is None, part == "NOTHING")
 
 
 class Written(unittest.TestCase):

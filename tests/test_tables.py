@@ -167,6 +167,33 @@ SEEN = [
     (0x2000, 4, (b"stor", 0)), (0x2000, 5, None), (0x2004, 1, None), (0x3000, 6, (b"stored", 0)), (0x3000, 7, None),
     (0x4000, 8, (b"", 8)), (0x5000, 6, (b"stored", 0)), (0x5000, 7, None), (0x5000, 8, None),
 ]
+# The first bytes that are seen there, of which fewer may be there: where the memory of the section ends, or the file.
+AVAILABLE = [
+    (0x1000, 3, (b"sto", 0)), (0x1000, 99, (b"stored", 10)), (0x1004, 99, (b"ed", 10)), (0x1006, 4, (b"", 4)), (0x100F, 2, (b"", 1)),
+    (0x1000, 0, (b"", 0)), (0x1010, 1, None), (0xFFF, 2, None), (0x2000, 99, (b"stor", 0)), (0x3000, 2 ** 64 - 1, (b"stored", 0)),
+    (0x4000, 99, (b"", 8)), (0x5000, 8, (b"stored", 0)), (0x5007, 1, (b"", 0)),
+]
+# Where addresses of such sections and of 0x200 bytes of headers lie, and in which section: among the zeros are those that the
+# windows do not hold, and no place is after a section's memory.
+REGIONS = [
+    (0, "HEADERS", None), (0x1FF, "HEADERS", None), (0x200, "NOWHERE", None), (0xFFF, "NOWHERE", None), (0x1000, "STORED", 0),
+    (0x1005, "STORED", 0), (0x1006, "ZEROS", 0), (0x100F, "ZEROS", 0), (0x1010, "NOWHERE", None), (0x3005, "STORED", 2),
+    (0x3006, "NOWHERE", None), (0x4000, "ZEROS", 3), (0x5007, "STORED", 4), (2 ** 64 - 1, "NOWHERE", None),
+]
+# Of a section the virtual size, the raw size, the raw pointer and the flags; and its data in a file of 0x300 bytes, by how many
+# bytes it has from where on and how many zeros follow, None where it is refused; and the data as far as the file has it.
+DATA = [
+    ("uninitialized data of an object", (0, 400000, 0, 0xC0000080), (0, 0, 400000), (0, 0, 400000)),
+    ("uninitialized data of an image", (0x80, 0, 0, 0xC0000080), (0, 0, 0x80), (0, 0, 0x80)),
+    ("such data with both sizes", (0x80, 0x200, 0, 0xC0000080), (0, 0, 0x80), (0, 0, 0x80)),
+    ("other data at the front", (0x80, 0x40, 0, 0xC0000040), (0, 0x40, 0x40), (0, 0x40, 0x40)),
+    ("uninitialized data with a raw pointer", (0x80, 0x40, 0x200, 0xC0000080), (0x200, 0x40, 0x40), (0x200, 0x40, 0x40)),
+    ("data that is not cut at the virtual size", (0x10, 0x40, 0x200, 0), (0x200, 0x40, 0), (0x200, 0x40, 0)),
+    ("data to the end", (0x180, 0x100, 0x200, 0), (0x200, 0x100, 0x80), (0x200, 0x100, 0x80)),
+    ("data that ends too late", (0x180, 0x101, 0x200, 0), None, (0x200, 0x100, 0)),
+    ("data that begins too late", (0x180, 0x10, 0x400, 0), None, (0x300, 0, 0)),
+    ("no data that begins too late", (0x80, 0, 0x400, 0), None, (0x300, 0, 0x80)),
+]
 # Bytes at the end of a file, at the address 0x1000 of a section of 16 bytes; an address; a size; and the text and so many bytes there.
 CONTENTS = [
     (b"one\0two", 0x1000, 3, b"one", b"one"),
@@ -190,10 +217,14 @@ def signed(parts):
     return images.with_parts(b"", *parts) + bytes(20)
 
 
+def object_of(records, strings):
+    """An object without sections that has these records of symbols and this string table."""
+    return struct.pack("<HHIIIHH", 0x8664, 0, 0, 20, len(records) // 18, 0, 0) + records + strings
+
+
 def symbols_of(records, strings):
     """The symbols of an object that has these records and this string table."""
-    header = struct.pack("<HHIIIHH", 0x8664, 0, 0, 20, len(records) // 18, 0, 0)
-    return package().ObjectFile(header + records + strings).symbols
+    return package().ObjectFile(object_of(records, strings)).symbols
 
 
 def symbol_record(name=bytes(8), auxiliary=0):
@@ -267,6 +298,25 @@ class Tables(unittest.TestCase):
                 self.assertEqual(found, wanted)
                 place = symbol.name.bytes - ctypes.cast(file, ctypes.c_void_p).value
                 self.assertEqual((place, symbol.name.length), (0, 0) if wanted is None else (19 + offset, len(wanted)))
+
+    def test_a_text_of_the_string_table_has_an_offset(self):
+        for name, strings, offset, wanted in UNTESTED:
+            with self.subTest(name):
+                table = struct.pack("<I", 4 + len(strings)) + strings
+                found = package().ObjectFile(object_of(symbol_record(), table), tests_texts=False)
+                self.assertEqual((found.string_at(offset + 4), found.string_at(3)), (wanted, None))
+                self.assertEqual(found.string_table_size, len(table))
+        without = package().ObjectFile(bytes(20))
+        self.assertEqual((without.string_at(4), without.string_table_size), (None, 0))
+
+    def test_symbols_are_read_where_a_name_is_no_text(self):
+        records = symbol_record(struct.pack("<II", 0, 4)) + symbol_record(struct.pack("<II", 0, 9)) + symbol_record(b"short")
+        file = object_of(records, b"\x0E\0\0\0d\xE9j\xE0\0last\0")
+        self.assertEqual(refusal(package().ObjectFile, file), ("READ", "BAD_INPUT", 0, 0))
+        found = package().ObjectFile(file, tests_texts=False)
+        self.assertEqual([(it.index, it.name) for it in found.symbols], [(0, None), (1, b"last"), (2, b"short")])
+        for cut, wanted in ((1, ("MALFORMED", "STRING_TABLE", 20 + 54 + 4, 10)), (14, ("READ", "BAD_OFFSET", 0, 0))):
+            self.assertEqual(refusal(package().ObjectFile, file[:-cut], None, False), wanted)
 
     def test_a_table_that_is_not_in_the_file_has_no_symbols(self):
         calls, records = package()._library.LIB, package().records
@@ -347,6 +397,46 @@ class Tables(unittest.TestCase):
             with self.subTest(rva=hex(rva), size=size):
                 pe = package().Pe(with_sections(IN_MEMORY) + b"stored")
                 self.assertEqual(pe.memory_at(rva, size), wanted)
+
+    def test_the_first_bytes_that_a_loader_sees_at_an_address(self):
+        for rva, size, wanted in AVAILABLE:
+            with self.subTest(rva=hex(rva), size=size):
+                pe = package().Pe(with_sections(IN_MEMORY) + b"stored")
+                self.assertEqual(pe.available_at(rva, size), wanted)
+        file = with_sections(IN_MEMORY) + b"stored"
+        pe = package().Pe(file, options(resolve_rva=False))
+        self.assertEqual((pe.available_at(0x210, 99), pe.available_at(len(file), 1)), ((b"stored", 0), None))
+
+    def test_where_an_address_lies(self):
+        headers = with_sections(IN_MEMORY)
+        struct.pack_into("<I", headers, 0x94, 0x200)  # (size_of_headers)
+        pe = package().Pe(headers + b"stored")
+        for rva, region, section in REGIONS:
+            with self.subTest(rva=hex(rva)):
+                wanted = (package().Region[region], None if section is None else pe.sections[section])
+                self.assertEqual(pe.region_of(rva), wanted)
+
+    def test_the_data_of_sections(self):
+        file = bytes(range(256)) * 3
+        for name, (size, raw_size, pointer, flags), wanted, available in DATA:
+            with self.subTest(name):
+                section = package().Section(b"", size, 0, raw_size, pointer, 0, 0, 0, 0, flags, b"")
+                found = None if wanted is None else (file[wanted[0]:][:wanted[1]], wanted[2])
+                if found is None:
+                    self.assertEqual(refusal(section.data, file)[0], "READ")
+                else:
+                    self.assertEqual(section.data(file), found)
+                begin, length, zeros = available
+                self.assertEqual(section.available_data(file), (file[begin:][:length], zeros))
+
+    def test_uninitialized_data_is_zeros_in_memory(self):
+        file = with_sections([(0x1000, 16, 8, 0), (0x2000, 16, 8, 0x198)])
+        for index in range(2):
+            struct.pack_into("<I", file, 0x148 + 40 * index + 36, 0x80)
+        pe = package().Pe(file + b"stored" + bytes(2))
+        self.assertEqual(pe.memory_at(0x1000, 16), (b"", 16))
+        self.assertEqual(pe.region_of(0x1000), (package().Region.ZEROS, pe.sections[0]))
+        self.assertEqual(pe.memory_at(0x2000, 16), (b"stored\0\0", 8))
 
     def test_what_stands_at_an_address(self):
         for data, rva, size, text, wanted in CONTENTS:

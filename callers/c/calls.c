@@ -238,6 +238,17 @@ static bool goes_by_places(const struct goblin_pe_places *own)
            is_ok(goblin_pe_read_export_directory(bytes, length, NULL, &places, &directory)) && !directory.is_read;
 }
 
+/* Whether an image that was opened is refused for no part, and has its checksum where its header says. */
+static bool has_checksum(const struct goblin_pe_file *file)
+{
+    size_t field = file->dos_header.pe_pointer + (size_t)88;
+    uint32_t part = 7, sum = 7;
+    return is_ok(goblin_pe_refused_part_of(bytes, length, NULL, &part)) && part == GOBLIN_PE_REFUSED_PART_NOTHING &&
+           is_ok(goblin_pe_refused_part_of(bytes, 2, NULL, &part)) && part == GOBLIN_PE_REFUSED_PART_HEADER &&
+           !goblin_pe_file_checksum(bytes, 2, NULL, &sum) && sum == 7 &&
+           goblin_pe_file_checksum(bytes, length, NULL, &sum) && sum == goblin_pe_checksum(bytes, length, field);
+}
+
 static bool is_image(void)
 {
     struct goblin_pe_file file;
@@ -246,8 +257,8 @@ static bool is_image(void)
     if (!is_sound() || !is_ok(goblin_pe_open(bytes, length, NULL, &file, directories, 16, &tables)))
         return false;
     struct goblin_pe_image image = goblin_pe_image_of(bytes, length, NULL, &file, &tables);
-    bool is_right = is_laid_out(&file, &tables) && has_symbols(&file.coff_header) && are_mapped(&image, 0) &&
-                    are_mapped(&image, SIZE_MAX) && goes_by_places(&file.places);
+    bool is_right = is_laid_out(&file, &tables) && has_symbols(&file.coff_header) && has_checksum(&file) &&
+                    are_mapped(&image, 0) && are_mapped(&image, SIZE_MAX) && goes_by_places(&file.places);
     for (size_t i = 0; i < tables.section_count; i++)
         is_right &= are_mapped(&image, tables.sections[i].virtual_address) &&
                     are_mapped(&image, tables.sections[i].virtual_address + tables.sections[i].virtual_size);
@@ -328,7 +339,8 @@ static bool is_in_memory(const struct goblin_pe_image *image)
     struct goblin_pe_section_data seen;
     for (size_t rva = 0xF00; rva < 0x1400; rva++) {
         size_t index = 7;
-        bool is_there = goblin_pe_memory_section_at(image, rva, &index);
+        uint32_t region = goblin_pe_region_of(image, 0x400, rva, &index);
+        bool is_there = region == GOBLIN_PE_REGION_STORED || region == GOBLIN_PE_REGION_ZEROS;
         if (is_there != (rva >= 0x1000 && rva < 0x1300) || index != (is_there ? 0 : 7) ||
             is_there != is_ok(goblin_pe_memory_at(image, rva, 1, &seen)))
             return false;
@@ -374,6 +386,64 @@ static bool looks_up(void)
            forwarder.lib.length == 5;
 }
 
+/* Whether an address has its region and the first bytes that are there, and the data of a section is given as far as
+   the file has it, of sections whose records a caller made: one of uninitialized data is all zeros. */
+static bool tells_what_is_there(void)
+{
+    static uint8_t file[0x480];
+    struct goblin_pe_section sections[2];
+    struct goblin_pe_image image = { { file, sizeof file }, sections, 2, 0x200, GOBLIN_PE_DEFAULT_OPTIONS };
+    struct goblin_pe_section_data found = { { file, 77 }, 77 };
+    size_t index = 7;
+    memset(sections, 0, sizeof sections);
+    sections[0].virtual_address = 0x1000;
+    sections[0].virtual_size = 0x300;
+    sections[0].size_of_raw_data = 0x100;
+    sections[0].pointer_to_raw_data = 0x400;
+    sections[1].virtual_address = 0x2000;
+    sections[1].size_of_raw_data = 0x5000;
+    sections[1].characteristics = GOBLIN_PE_IMAGE_SCN_CNT_UNINITIALIZED_DATA;
+    if (goblin_pe_region_of(&image, 0x400, 0x3FF, &index) != GOBLIN_PE_REGION_HEADERS ||
+        goblin_pe_region_of(&image, 0x400, 0x400, &index) != GOBLIN_PE_REGION_NOWHERE || index != 7)
+        return false;
+    if (goblin_pe_region_of(&image, 0x400, 0x10FF, &index) != GOBLIN_PE_REGION_STORED || index != 0 ||
+        goblin_pe_region_of(&image, 0x400, 0x2000, &index) != GOBLIN_PE_REGION_ZEROS || index != 1)
+        return false;
+    if (!is_fault(goblin_pe_available_at(&image, 0x1300, 1, &found), GOBLIN_PE_STATUS_MALFORMED,
+                  GOBLIN_PE_CAUSE_UNMAPPED) ||
+        found.zeros != 77)
+        return false;
+    if (!is_ok(goblin_pe_available_at(&image, 0x1070, 0x20, &found)) || found.bytes.bytes != file + 0x470 ||
+        found.bytes.length != 0x10 || found.zeros)
+        return false;
+    if (goblin_pe_available_section_data(&image, &sections[0], &found) || found.bytes.length != 0x80 || found.zeros)
+        return false;
+    return goblin_pe_available_section_data(&image, &sections[1], &found) && !found.bytes.length &&
+           found.zeros == 0x5000 && is_ok(goblin_pe_read_section_data(&image, &sections[1], &found)) &&
+           !found.bytes.length && found.zeros == 0x5000;
+}
+
+/* Whether the symbols of an object are read of which one name is not UTF-8, and the texts of its string table. */
+static bool reads_odd_names(void)
+{
+    static const uint8_t file[] = "\0\0\0\0\0\0\0\0\x14\0\0\0\x01\0\0\0\0\0\0\0" /* a header */
+        "\0\0\0\0\x04\0\0\0\0\0\0\0\0\0\0\0\0\0" /* a symbol, whose name is at 4 */
+        "\x09\0\0\0\xE9\0ok"; /* (the last NUL is the literal's) */
+    struct goblin_pe_object object;
+    struct goblin_pe_symbol_table table;
+    struct goblin_pe_named_symbol symbol;
+    struct goblin_pe_text text = { file, 77 };
+    if (!is_ok(goblin_pe_read_object(file, sizeof file, NULL, &object, NULL, 0)) ||
+        !is_fault(goblin_pe_read_symbol_table(file, sizeof file, &object.coff_header, &table), GOBLIN_PE_STATUS_READ,
+                  GOBLIN_PE_READ_FAULT_BAD_INPUT))
+        return false;
+    return is_ok(goblin_pe_find_symbol_table(file, sizeof file, &object.coff_header, &table)) &&
+           table.strings_length == 5 && goblin_pe_symbol_at(file, sizeof file, &table, 0, &symbol) &&
+           !symbol.has_name && !goblin_pe_string_at(file, sizeof file, &table, 4, &text) && text.length == 77 &&
+           goblin_pe_string_at(file, sizeof file, &table, 6, &text) && text.length == 2 &&
+           !memcmp(text.bytes, "ok", 2);
+}
+
 /* Whether the words of a block and the relocations of a section are walked over in batches, and a checksum is added
    up. */
 static bool walks_and_adds(void)
@@ -406,6 +476,7 @@ static bool walks_and_adds(void)
 int main(int argc, char **argv)
 {
     if (!sets_names() || !is_told() || !maps_by_records_of_zeros() || !looks_up() || !walks_and_adds() ||
+        !tells_what_is_there() || !reads_odd_names() ||
         goblin_pe_kind_of(NULL, 0) != GOBLIN_PE_KIND_UNKNOWN)
         return 4;
     for (int i = 1; i < argc; i++) {

@@ -47,16 +47,21 @@
 
    call                              memory at most                        time at most
    kind_of, read_section_data,
+     available_section_data,
+     find_symbol_table,
      write_*, set_*                  none                                  what the records say
    read_layout                       none                                  n, and a name for each section with room
    read_object, read_te              none                                  the sections, and a name for each with room
-   read_symbol_table, checksum       none                                  n
-   next_symbols, symbol_at           none                                  a name for each record
+   read_symbol_table, checksum,
+     file_checksum                   none                                  n
+   next_symbols, symbol_at,
+     string_at                       none                                  a name for each record
    read_relocations, next_words,
      next_relocations, read_aux_*    none                                  the records
    find_offset, section_at, text_at,
      bytes_at, memory_at,
-     memory_section_at, forwarder_at none                                  the sections, and one text
+     available_at, region_of,
+     forwarder_at                    none                                  the sections, and one text
    find_rva                          none                                  the sections, and these once more for each
                                                                            whose data holds the offset
    next_blocks                       none, or for more than 96 sections    the sections, and the records
@@ -73,7 +78,7 @@
    next_exports                      the same                              the sections, the library's own name, and a name
                                                                            for each record and for what is passed over
                                                                            before it
-   read_damage                       the same                              n, a name for each import and each export, and
+   read_damage, refused_part_of      the same                              n, a name for each import and each export, and
                                                                            for what is left out of them, and the
                                                                            address table of each library
    open                              its tables, which no n bounds (see    the same, and a name for each section
@@ -216,6 +221,17 @@ static inline struct goblin_pe_fault goblin_pe_read_damage(
 {
     return goblin_pe_raw_read_damage(
         GOBLIN_PE_BYTES(bytes, length), length, goblin_pe_options_or_default(options), damage);
+}
+
+/* Puts into `part` the part for which a read by these options refuses a file, as an enum goblin_pe_refused_part: the
+   first that cannot be read, in the order of the header, the sections, the imports, the exports and the base
+   relocations; nothing where the file is read, and in permissive mode never a table. So ask it after a refusal. Refused
+   is memory alone, which is taken only for an index of more than 96 sections, and given back. */
+static inline struct goblin_pe_fault goblin_pe_refused_part_of(
+    const uint8_t *bytes, size_t length, const struct goblin_pe_options *options, uint32_t *part)
+{
+    return goblin_pe_raw_refused_part_of(
+        GOBLIN_PE_BYTES(bytes, length), length, goblin_pe_options_or_default(options), part);
 }
 
 /* Puts into `ranges` the bytes of a file on which goblin_pe_open by these options depends: of two files of
@@ -376,6 +392,27 @@ static inline struct goblin_pe_fault goblin_pe_read_symbol_table(
     return goblin_pe_raw_read_symbol_table(GOBLIN_PE_BYTES(bytes, length), length, header, table);
 }
 
+/* Says in `table` where the symbol table and the string table of an image or an object lie, as
+   goblin_pe_read_symbol_table does, but whatever the texts are: so the symbols of a file can be read of which one name
+   is not UTF-8, and that one has no name. Refused is a file that is too short for its symbol table or the string table
+   after it, and a string table that says a length below 4. No memory is taken, and no text is read. */
+static inline struct goblin_pe_fault goblin_pe_find_symbol_table(
+    const uint8_t *bytes, size_t length, const struct goblin_pe_coff_header *header,
+    struct goblin_pe_symbol_table *table)
+{
+    return goblin_pe_raw_find_symbol_table(GOBLIN_PE_BYTES(bytes, length), length, header, table);
+}
+
+/* Puts the text at an offset of a string table into `text`, up to a NUL or the table's end, and answers whether there is
+   one that is UTF-8. The offset counts from the table's length of four bytes, as the numbers do that stand in place of
+   names; strings_length + 4 is the table's size. No memory is taken. */
+static inline bool goblin_pe_string_at(
+    const uint8_t *bytes, size_t length, const struct goblin_pe_symbol_table *table, size_t offset,
+    struct goblin_pe_text *text)
+{
+    return goblin_pe_raw_string_at(GOBLIN_PE_BYTES(bytes, length), length, table, offset, text);
+}
+
 /* Goes on with the walk over the symbols of a table, from the record at the index `position` on, 0 at the
    beginning: fills as many records as there is room for, but no more than `steps`, where these are not 0, says in
    `count` how many, and leaves in `position` the index of the record that is read next. The count 0 without a refusal is the end, where there is room; so it is
@@ -534,7 +571,7 @@ static inline bool goblin_pe_find_offset(const struct goblin_pe_image *image, si
    window begins at the section's address. It is empty where the raw size is 0, and else has the least of three sizes:
    that of the data in the file, from its start rounded down to 512 up to its end rounded up to the file alignment; the
    raw size; and the virtual size where that is not 0, these two rounded up to 4,096. So an address in the zeros that
-   follow the data may lie in none, as a TLS index does; goblin_pe_memory_section_at finds it. */
+   follow the data may lie in none, as a TLS index does; goblin_pe_region_of finds it. */
 static inline bool goblin_pe_section_at(const struct goblin_pe_image *image, size_t rva, size_t *index)
 {
     struct goblin_pe_image sound = goblin_pe_sound_image(image);
@@ -563,21 +600,26 @@ static inline struct goblin_pe_fault goblin_pe_memory_at(
     return goblin_pe_raw_memory_at(&sound, rva, size, contents);
 }
 
-/* Puts the index of the section in whose memory an address lies into `index`, also among the zeros that follow the data,
-   and answers whether there is one: the first whose virtual size, or raw size where that is 0, reaches it, as
-   goblin_pe_memory_at takes it; none, and nothing changed, where there is none, as in the headers. The options are not
-   looked at. */
-static inline bool goblin_pe_memory_section_at(const struct goblin_pe_image *image, size_t rva, size_t *index)
+/* The first of the bytes that a loader sees at an address, at most `size`: as goblin_pe_memory_at, but fewer where the
+   section's memory ends before, or the file does. No zeros follow bytes of which some are missing in the file, since it
+   is not known what they are. Refused is an address that no section's memory holds, and where the options say that
+   addresses are offsets, one at or past the end of the file. No memory is taken. */
+static inline struct goblin_pe_fault goblin_pe_available_at(
+    const struct goblin_pe_image *image, size_t rva, size_t size, struct goblin_pe_section_data *contents)
 {
-    for (size_t i = 0; i < image->section_count; i++) {
-        const struct goblin_pe_section *s = &image->sections[i];
-        size_t size = s->virtual_size ? s->virtual_size : s->size_of_raw_data;
-        if (rva >= s->virtual_address && rva - s->virtual_address < size) {
-            *index = i;
-            return true;
-        }
-    }
-    return false;
+    struct goblin_pe_image sound = goblin_pe_sound_image(image);
+    return goblin_pe_raw_available_at(&sound, rva, size, contents);
+}
+
+/* Where an address lies, as an enum goblin_pe_region: in the bytes that the file has of a section or in the zeros after
+   them, by the first section whose memory holds it, whose index is then put into `section`; or else in the headers,
+   which have so many bytes (size_of_headers of the optional header), or nowhere. The options are not looked at, nor
+   whether the file has a section's bytes. */
+static inline uint32_t goblin_pe_region_of(
+    const struct goblin_pe_image *image, uint32_t size_of_headers, size_t rva, size_t *section)
+{
+    struct goblin_pe_image sound = goblin_pe_sound_image(image);
+    return goblin_pe_raw_region_of(&sound, size_of_headers, rva, section);
 }
 
 /* The text at an address, up to its NUL or the end of the file. Refused are an address without an offset in
@@ -616,7 +658,9 @@ static inline struct goblin_pe_fault goblin_pe_bytes_at(
 
 /* The data of a section: its bytes in the file, from its raw pointer, as stored or rounded down to 512 by the
    rule of the image's options, and how many zeros follow them up to the size in memory; none where the file has
-   at least as many bytes, which are not cut at that size then, as goblin_pe_memory_at cuts them. Of the image only the bytes, the options and the file
+   at least as many bytes, which are not cut at that size then, as goblin_pe_memory_at cuts them. A section of
+   uninitialized data (IMAGE_SCN_CNT_UNINITIALIZED_DATA) whose raw pointer is 0, as an object's .bss, has no bytes, and its
+   size as zeros: the virtual size, or the raw size where that is 0. Of the image only the bytes, the options and the file
    alignment are looked at, so for an object one with its bytes and else zeros will do. Refused is a file that is
    too short for it, and one in which it begins past the end, even where it has no bytes. No memory is taken. */
 static inline struct goblin_pe_fault goblin_pe_read_section_data(
@@ -625,6 +669,16 @@ static inline struct goblin_pe_fault goblin_pe_read_section_data(
     struct goblin_pe_image sound = goblin_pe_sound_image(image);
     struct goblin_pe_section sound_section = goblin_pe_sound_section(section);
     return goblin_pe_raw_read_section_data(&sound, &sound_section, data);
+}
+
+/* The same as far as the file has it: answers whether it has all of the bytes, and refuses nothing. The bytes end where
+   the file does, and no zeros follow bytes of which some are missing. */
+static inline bool goblin_pe_available_section_data(
+    const struct goblin_pe_image *image, const struct goblin_pe_section *section, struct goblin_pe_section_data *data)
+{
+    struct goblin_pe_image sound = goblin_pe_sound_image(image);
+    struct goblin_pe_section sound_section = goblin_pe_sound_section(section);
+    return goblin_pe_raw_available_section_data(&sound, &sound_section, data);
 }
 
 /* The checksum of an image, whose field, check_sum of the optional header, stands at the file offset `field`: 88
@@ -636,12 +690,21 @@ static inline uint32_t goblin_pe_checksum(const uint8_t *bytes, size_t length, s
     return goblin_pe_raw_checksum(GOBLIN_PE_BYTES(bytes, length), length, field);
 }
 
+/* Puts the checksum of an image into `sum`, over the whole file, whose header says where the field is. Answers whether
+   there is one: not where the header can't be read in the mode of the options, or has no optional header. */
+static inline bool goblin_pe_file_checksum(
+    const uint8_t *bytes, size_t length, const struct goblin_pe_options *options, uint32_t *sum)
+{
+    return goblin_pe_raw_file_checksum(
+        GOBLIN_PE_BYTES(bytes, length), length, goblin_pe_options_or_default(options), sum);
+}
+
 /* The file offset of the section table of an image, which follows the optional header. */
 static inline size_t goblin_pe_section_table(const struct goblin_pe_file *file)
 {
     size_t signature = file->dos_header.pe_pointer;
-    /* (the signature and the COFF header have 24 bytes) */
-    return signature + 24 + file->coff_header.size_of_optional_header;
+    return signature + GOBLIN_PE_SIZEOF_PE_MAGIC + GOBLIN_PE_SIZEOF_COFF_HEADER +
+           file->coff_header.size_of_optional_header;
 }
 
 /* Writes the header of an image to the front of `out`, and says in `written` how many bytes it has: the DOS

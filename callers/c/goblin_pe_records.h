@@ -16,15 +16,15 @@ extern "C" {
 #define GOBLIN_PE_INTERFACE_VERSION 4
 
 /* The sum of the interface that is declared here. goblin_pe_interface answers that of the library. */
-#define GOBLIN_PE_INTERFACE 0x215dba31u
+#define GOBLIN_PE_INTERFACE 0x726f9829u
 
 /* What follows .so. in the name by which programs ask for the shared library. */
-#define GOBLIN_PE_SONAME "4.215dba31"
+#define GOBLIN_PE_SONAME "4.726f9829"
 
 /* Only a library of this very interface has this call, so that a program is linked with no other. */
-uint32_t goblin_pe_interface_215dba31(void);
+uint32_t goblin_pe_interface_726f9829(void);
 #ifdef __GNUC__
-__attribute__((used)) static uint32_t (*const goblin_pe_needs_interface)(void) = goblin_pe_interface_215dba31;
+__attribute__((used)) static uint32_t (*const goblin_pe_needs_interface)(void) = goblin_pe_interface_726f9829;
 #endif
 
 /* What a file is, by its first bytes. This does not tell whether it can be read, and no call reads
@@ -65,6 +65,18 @@ enum goblin_pe_raw_pointer_rule {
        a lawful image it is below 512 only where it equals a `section_alignment` below 4,096, so
        this is right for each such image, without a look at its header before. */
     GOBLIN_PE_RAW_POINTER_RULE_BY_FILE_ALIGNMENT = 2
+};
+
+/* Where an address of an image lies. */
+enum goblin_pe_region {
+    /* Neither in a section nor in the headers. */
+    GOBLIN_PE_REGION_NOWHERE = 0,
+    /* In the headers, which are at the front of the file and of the memory. */
+    GOBLIN_PE_REGION_HEADERS = 1,
+    /* In the bytes of a section that are stored in the file, at its raw pointer. */
+    GOBLIN_PE_REGION_STORED = 2,
+    /* In the zeros that follow these up to the section's size in memory. */
+    GOBLIN_PE_REGION_ZEROS = 3
 };
 
 /* How a table of the file stands. */
@@ -246,6 +258,22 @@ enum goblin_pe_directory_type {
     GOBLIN_PE_DIRECTORY_TYPE_CLR_RUNTIME_HEADER = 14
 };
 
+/* The part of a file for which a read is refused: the first that cannot be read, in this order. */
+enum goblin_pe_refused_part {
+    /* Nothing is refused. */
+    GOBLIN_PE_REFUSED_PART_NOTHING = 0,
+    /* The header: all that stands before the section table. */
+    GOBLIN_PE_REFUSED_PART_HEADER = 1,
+    /* The sections: their records, or a name. */
+    GOBLIN_PE_REFUSED_PART_SECTIONS = 2,
+    /* The imports. */
+    GOBLIN_PE_REFUSED_PART_IMPORTS = 3,
+    /* The exports. */
+    GOBLIN_PE_REFUSED_PART_EXPORTS = 4,
+    /* The base relocations: their directory. */
+    GOBLIN_PE_REFUSED_PART_RELOCATIONS = 5
+};
+
 /* Bytes of the file; not ended by a NUL. */
 struct goblin_pe_text {
     /* The first of them. */
@@ -325,6 +353,22 @@ struct goblin_pe_aux_section_definition {
     uint8_t unused[3];
 };
 
+/* What a call does and leaves out. */
+struct goblin_pe_options {
+    /* Whether damaged parts are passed over, in permissive mode. An import directory at file offset
+       0 is an empty list there, whatever it holds; the damage of a file tells what strict mode
+       would refuse of it, and how much is left out. */
+    bool is_permissive;
+    /* Whether an address is mapped to a file offset by the sections; where not, it is the offset. */
+    bool resolve_rva;
+    /* Where the raw data of a section begins, for addresses, for the data of a section of an image
+       and for what a loader sees at an address: the number of a `goblin_pe_raw_pointer_rule`; any
+       other number is taken as 0. */
+    uint8_t raw_pointer_rule;
+    /* Whether the imports are read; where not, their table is absent. */
+    bool parse_imports;
+};
+
 /* Why a call gave no value, in numbers; the status 0 is that it gave one. */
 struct goblin_pe_fault {
     /* What kind of refusal it is, by the numbers of `goblin_pe_status`; 0 where nothing is refused. */
@@ -370,29 +414,14 @@ struct goblin_pe_section {
     bool has_real_name;
 };
 
-/* What a call does and leaves out. */
-struct goblin_pe_options {
-    /* Whether damaged parts are passed over, in permissive mode. An import directory at file offset
-       0 is an empty list there, whatever it holds; the damage of a file tells what strict mode
-       would refuse of it, and how much is left out. */
-    bool is_permissive;
-    /* Whether an address is mapped to a file offset by the sections; where not, it is the offset. */
-    bool resolve_rva;
-    /* Where the raw data of a section begins, for addresses, for the data of a section of an image
-       and for what a loader sees at an address: the number of a `goblin_pe_raw_pointer_rule`; any
-       other number is taken as 0. */
-    uint8_t raw_pointer_rule;
-    /* Whether the imports are read; where not, their table is absent. */
-    bool parse_imports;
-};
-
 /* An image, by what maps its addresses. */
 struct goblin_pe_image {
     /* The file's bytes. */
     struct goblin_pe_text bytes;
     /* The records of its sections, in the order of the section table. No call looks at more of them
-       than their `virtual_address`, `virtual_size`, `pointer_to_raw_data` and `size_of_raw_data`;
-       all else may be zeros, a null pointer of their texts, too. */
+       than their `virtual_address`, `virtual_size`, `pointer_to_raw_data` and `size_of_raw_data`,
+       and for what a loader sees at an address their `characteristics`; all else may be zeros, a
+       null pointer of their texts, too. */
     const struct goblin_pe_section *sections;
     size_t section_count;
     /* Its file alignment, in bytes. */
@@ -1143,6 +1172,9 @@ bool goblin_pe_raw_read_aux_section_definition(
 bool goblin_pe_raw_read_aux_file(
     const uint8_t *bytes, size_t byte_count, struct goblin_pe_text *name);
 uint32_t goblin_pe_raw_checksum(const uint8_t *bytes, size_t byte_count, size_t field);
+bool goblin_pe_raw_file_checksum(
+    const uint8_t *bytes, size_t byte_count, const struct goblin_pe_options *options,
+    uint32_t *sum);
 size_t goblin_pe_raw_fault_text(
     const struct goblin_pe_fault *fault, uint8_t *text, size_t text_room);
 struct goblin_pe_fault goblin_pe_raw_forwarder_at(
@@ -1155,6 +1187,9 @@ struct goblin_pe_fault goblin_pe_raw_bytes_at(
 struct goblin_pe_fault goblin_pe_raw_read_section_data(
     const struct goblin_pe_image *image, const struct goblin_pe_section *section,
     struct goblin_pe_section_data *contents);
+bool goblin_pe_raw_available_section_data(
+    const struct goblin_pe_image *image, const struct goblin_pe_section *section,
+    struct goblin_pe_section_data *contents);
 struct goblin_pe_fault goblin_pe_raw_next_libraries(
     const uint8_t *bytes, size_t byte_count, const struct goblin_pe_options *options,
     const struct goblin_pe_places *places, struct goblin_pe_import_cursor *cursor,
@@ -1164,12 +1199,23 @@ bool goblin_pe_raw_find_rva(const struct goblin_pe_image *image, size_t offset, 
 struct goblin_pe_fault goblin_pe_raw_memory_at(
     const struct goblin_pe_image *image, size_t rva, size_t size,
     struct goblin_pe_section_data *contents);
+struct goblin_pe_fault goblin_pe_raw_available_at(
+    const struct goblin_pe_image *image, size_t rva, size_t size,
+    struct goblin_pe_section_data *contents);
+uint32_t goblin_pe_raw_region_of(
+    const struct goblin_pe_image *image, uint32_t size_of_headers, size_t rva, size_t *section);
 struct goblin_pe_fault goblin_pe_raw_read_object(
     const uint8_t *bytes, size_t byte_count, const struct goblin_pe_options *options,
     struct goblin_pe_object *object, struct goblin_pe_section *sections, size_t section_room);
 struct goblin_pe_fault goblin_pe_raw_read_symbol_table(
     const uint8_t *bytes, size_t byte_count, const struct goblin_pe_coff_header *header,
     struct goblin_pe_symbol_table *table);
+struct goblin_pe_fault goblin_pe_raw_find_symbol_table(
+    const uint8_t *bytes, size_t byte_count, const struct goblin_pe_coff_header *header,
+    struct goblin_pe_symbol_table *table);
+bool goblin_pe_raw_string_at(
+    const uint8_t *bytes, size_t byte_count, const struct goblin_pe_symbol_table *table,
+    size_t offset, struct goblin_pe_text *text);
 struct goblin_pe_fault goblin_pe_raw_next_symbols(
     const uint8_t *bytes, size_t byte_count, const struct goblin_pe_symbol_table *table,
     size_t *position, struct goblin_pe_named_symbol *records, size_t record_room, size_t steps,
@@ -1221,6 +1267,9 @@ struct goblin_pe_fault goblin_pe_raw_read_layout(
 struct goblin_pe_fault goblin_pe_raw_read_damage(
     const uint8_t *bytes, size_t byte_count, const struct goblin_pe_options *options,
     struct goblin_pe_damage *damage);
+struct goblin_pe_fault goblin_pe_raw_refused_part_of(
+    const uint8_t *bytes, size_t byte_count, const struct goblin_pe_options *options,
+    uint32_t *part);
 struct goblin_pe_fault goblin_pe_raw_footprint(
     const uint8_t *bytes, size_t byte_count, const struct goblin_pe_options *options,
     struct goblin_pe_ranges *ranges);
@@ -1282,6 +1331,12 @@ GOBLIN_PE_IS_AT(aux_section_definition, number, 12);
 GOBLIN_PE_IS_AT(aux_section_definition, selection, 14);
 GOBLIN_PE_IS_AT(aux_section_definition, unused, 15);
 
+GOBLIN_PE_HAS_SIZE(options, 4, 1);
+GOBLIN_PE_IS_AT(options, is_permissive, 0);
+GOBLIN_PE_IS_AT(options, resolve_rva, 1);
+GOBLIN_PE_IS_AT(options, raw_pointer_rule, 2);
+GOBLIN_PE_IS_AT(options, parse_imports, 3);
+
 GOBLIN_PE_HAS_SIZE(fault, 24, 8);
 GOBLIN_PE_IS_AT(fault, status, 0);
 GOBLIN_PE_IS_AT(fault, cause, 4);
@@ -1301,12 +1356,6 @@ GOBLIN_PE_IS_AT(section, number_of_relocations, 48);
 GOBLIN_PE_IS_AT(section, number_of_linenumbers, 50);
 GOBLIN_PE_IS_AT(section, characteristics, 52);
 GOBLIN_PE_IS_AT(section, has_real_name, 56);
-
-GOBLIN_PE_HAS_SIZE(options, 4, 1);
-GOBLIN_PE_IS_AT(options, is_permissive, 0);
-GOBLIN_PE_IS_AT(options, resolve_rva, 1);
-GOBLIN_PE_IS_AT(options, raw_pointer_rule, 2);
-GOBLIN_PE_IS_AT(options, parse_imports, 3);
 
 GOBLIN_PE_HAS_SIZE(image, 40, 8);
 GOBLIN_PE_IS_AT(image, bytes, 0);

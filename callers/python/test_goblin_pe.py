@@ -881,14 +881,14 @@ class Files(unittest.TestCase):
         section = pe.sections[1]
         for distance, is_mapped, is_there in ((0, True, True), (0x2FFF, False, True), (0x3000, False, False)):
             rva = 0x10000 + distance
-            self.assertEqual((pe.section_at(rva), pe.memory_section_at(rva)), (section if is_mapped else None, section if is_there else None))
+            self.assertEqual((pe.section_at(rva), pe.region_of(rva)[1]), (section if is_mapped else None, section if is_there else None))
             self.assertEqual(pe.memory_at(rva, 1) is not None, is_there)
-        self.assertEqual((pe.memory_section_at(0), pe.memory_section_at(-1), pe.memory_section_at(2**70)), (None,) * 3)
+        self.assertEqual([pe.region_of(rva)[1] for rva in (0, -1, 2**70)], [None] * 3)
         for name in os.listdir(SAMPLES):
             if name.endswith((".dll", ".exe", ".efi")):
                 pe = Pe(sample(name))
                 for rva in range(0, 0x6000, 0x10):
-                    self.assertEqual(pe.memory_section_at(rva) is None, pe.memory_at(rva, 1) is None, (name, rva))
+                    self.assertEqual(pe.region_of(rva)[1] is None, pe.memory_at(rva, 1) is None, (name, rva))
 
     def test_data_without_a_copy(self):
         data = sample("imports_by_name_x64.dll")

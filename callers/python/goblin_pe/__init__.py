@@ -34,8 +34,8 @@ comes from Python alone, where there is no memory for what was read.
 
 The rows Section, Import, Export, Block, Symbol, Range and others are named tuples, and so are the headers, whose fields
 are those of the format: a changed copy is made by _replace, and Pe.write writes it. What lists rows is a tuple, which nobody
-changes. State, Status, Kind, Cause, Counted,
-ReadFault and DirectoryType name numbers. All of them can be imported from here, and help(goblin_pe.Section) explains one;
+changes. State, Status, Kind, Cause, Counted, ReadFault, RefusedPart, Region and DirectoryType name numbers. All of them can be
+imported from here, and help(goblin_pe.Section) explains one;
 goblin_pe.constants has the numbers of the formats, such as IMAGE_FILE_DLL.
 
 The reader is the proved library goblin_pe. Its shared library stands beside an installed module; in the repository
@@ -58,8 +58,8 @@ from ._refused import Refused as Refused, named as _named, refusal as _refusal, 
 from .constants import IMAGE_FILE_DLL as _IMAGE_FILE_DLL, MAGIC_64 as _MAGIC_64
 from .numbers import (
     Cause as Cause, Counted as Counted, DirectoryType as DirectoryType, Kind as Kind,
-    RawPointerRule as RawPointerRule, ReadFault as ReadFault,
-    State as State, Status as Status)
+    RawPointerRule as RawPointerRule, ReadFault as ReadFault, RefusedPart as RefusedPart,
+    Region as Region, State as State, Status as Status)
 from .records import (
     AuxBeginAndEndFunction as AuxBeginAndEndFunction, AuxFunctionDefinition as AuxFunctionDefinition,
     AuxSectionDefinition as AuxSectionDefinition, AuxWeakExternal as AuxWeakExternal, CoffHeader as CoffHeader,
@@ -70,8 +70,8 @@ from .rows import (
     NO_TEXT as _NO_TEXT, Block as Block, Export as Export, ExportAddress as ExportAddress,
     ExportDirectory as ExportDirectory, ExportEntry as ExportEntry, Import as Import, Library as Library, Range as Range,
     OutOfSteps as OutOfSteps, RichHeader as RichHeader, Rows as _Rows,
-    Section as Section, SectionData as SectionData, SectionView as SectionView, Symbol as Symbol, batches as _batches,
-    data_of as _data_of, growing_batches as _growing_batches, record_of as _section_record, room as _room, view_of as _view_of)
+    Section as Section, SectionData as SectionData, SectionView as SectionView, Symbol as Symbol,
+    available_of as _available_of, batches as _batches, data_of as _data_of, growing_batches as _growing_batches, record_of as _section_record, room as _room, view_of as _view_of)
 
 __version__ = "0.4.0"
 
@@ -121,11 +121,12 @@ def _walk(data: _Kept, kind: _t.Any, row: str, call: _t.Callable[..., records.Fa
         map(getattr(_Rows(data, address, _MOST_KEPT), row), _laid_out.first_of(found, count)) for address, count, found in batches)
 
 
-def _symbol_table(data: _Kept, header: CoffHeader) -> records.SymbolTable:
-    # where the symbols lie; the string table is read here alone
+def _symbol_table(data: _Kept, header: CoffHeader, tests_texts: bool = True) -> records.SymbolTable:
+    # where the symbols lie; the string table is read here alone, where its texts are tested
     coff, table = _laid_out.laid_out(CoffHeader)(*header), records.SymbolTable()
+    call = _LIB.goblin_pe_raw_read_symbol_table if tests_texts else _LIB.goblin_pe_raw_find_symbol_table
     with _held(data) as (address, length):
-        _test(_LIB.goblin_pe_raw_read_symbol_table(address, length, _c.byref(coff), _c.byref(table)))
+        _test(call(address, length, _c.byref(coff), _c.byref(table)))
     return table
 
 
@@ -139,6 +140,13 @@ def _symbol_at(data: _Kept, table: records.SymbolTable, index: int) -> _t.Option
     with _held(data) as (address, length):
         is_there = _LIB.goblin_pe_raw_symbol_at(address, length, _c.byref(table), _size(index), _c.byref(symbol))
         return _Rows(data, address).symbol(symbol) if is_there else None
+
+
+def _string_at(data: _Kept, table: records.SymbolTable, offset: int) -> _t.Optional[bytes]:
+    text = records.Text()
+    with _held(data) as (address, length):
+        is_there = _LIB.goblin_pe_raw_string_at(address, length, _c.byref(table), _size(offset), _c.byref(text))
+        return _Rows(data, address).text(text) if is_there else None
 
 
 def _here(data: _t.Optional[_Kept]) -> _Kept:
@@ -236,6 +244,16 @@ def _record_of(how: _t.Optional[Options]) -> records.Options:
     if not isinstance(how, Options):
         raise TypeError("options have to be Options, not %r" % (how,))
     return records.Options(how.is_permissive, how.resolve_rva, how.raw_pointer_rule, how.parse_imports)
+
+
+def refused_part(data: Data, options: _t.Optional[Options] = None) -> RefusedPart:
+    """The part for which a read of an image by these Options is refused: the first that cannot be read, in the order of the
+    header, the sections, the imports, the exports and the base relocations; RefusedPart.NOTHING where the file is read, and in
+    permissive mode never a table. So ask it after a refusal: it reads the file again. Refused is raised for memory alone."""
+    asked, part = _record_of(options), _c.c_uint32()
+    with _held(_kept(data)) as (address, length):
+        _test(_LIB.goblin_pe_raw_refused_part_of(address, length, _c.byref(asked), _c.byref(part)))
+    return RefusedPart(part.value)
 
 
 _V = _t.TypeVar("_V")
@@ -499,6 +517,25 @@ class Layout(_File):
             refused = _LIB.goblin_pe_raw_memory_at(_c.byref(image), _size(rva), _size(size), _c.byref(seen)).status
             return None if refused else SectionData(_Rows(data, address).text(seen.bytes), seen.zeros)
 
+    def available_at(self, rva: int, size: int) -> _t.Optional[SectionData]:
+        """The first of the bytes that a loader sees at an address, at most so many: as memory_at, but fewer where the section's
+        memory ends before, or the file does. No zeros follow bytes of which some are missing in the file, since it is not
+        known what they are. None where no section's memory holds the address; where the options say that addresses are
+        offsets, at or past the file's end."""
+        seen, data = records.SectionData(), self._bytes()
+        with _held(data) as (address, length):
+            image = self._image(address, length)
+            refused = _LIB.goblin_pe_raw_available_at(_c.byref(image), _size(rva), _size(size), _c.byref(seen)).status
+            return None if refused else SectionData(_Rows(data, address).text(seen.bytes), seen.zeros)
+
+    def region_of(self, rva: int) -> _t.Tuple[Region, _t.Optional[Section]]:
+        """Where an address lies, and its section, where it lies in the memory of one: the first that holds it, as for memory_at.
+        The options are not looked at, nor whether the file has the section's bytes."""
+        index, headers = _c.c_size_t(), self._header.windows_fields.size_of_headers
+        image = self._image(_laid_out.NOWHERE, 0)
+        region = Region(_LIB.goblin_pe_raw_region_of(_c.byref(image), headers, _size(rva), _c.byref(index)))
+        return region, self._section(index.value) if region in (Region.STORED, Region.ZEROS) else None
+
     def forwarder_at(self, rva: int) -> _t.Optional[_t.Tuple[bytes, _t.Union[bytes, int]]]:
         """The forwarder whose text is at an address, as an ExportAddress that forwards has it, also of an export without a name:
         the library without its ending, and the export's name or ordinal there. None where the address has no offset in the
@@ -513,20 +550,10 @@ class Layout(_File):
         the section's address. It is empty where the raw size is 0, and else has the least of three sizes: that of the data in the
         file, from its start rounded down to 512 up to its end rounded up to the file alignment; the raw size; and the virtual
         size where that is not 0, these two rounded up to 4,096. So an address in the zeros that follow the data may lie in none,
-        as a TLS index does; memory_section_at finds it."""
+        as a TLS index does; region_of finds it."""
         index = _c.c_size_t()
         is_found = _LIB.goblin_pe_raw_section_at(_c.byref(self._image(_laid_out.NOWHERE, 0)), _size(rva), _c.byref(index))
         return self._section(index.value) if is_found else None
-
-    def memory_section_at(self, rva: int) -> _t.Optional[Section]:
-        """The section in whose memory an address lies, with the zeros that follow its data: the first whose virtual size, or raw
-        size where that is 0, reaches it, as memory_at takes it; None where there is none, as in the headers. The options are not
-        looked at."""
-        for index in range(len(self._mapping) - 1):
-            s = self._mapping[index]
-            if s.virtual_address <= rva < s.virtual_address + (s.virtual_size or s.size_of_raw_data):
-                return self._section(index)
-        return None
 
     def find_rva(self, offset: int) -> _t.Optional[int]:
         """The address of a file offset, which find_offset maps to it: that in the first section that has one; None where
@@ -537,6 +564,19 @@ class Layout(_File):
 
     def _mapped_by(self) -> _t.Tuple[records.Options, int]:
         return self._options, self._header.windows_fields.file_alignment
+
+    def checksum(self) -> _t.Optional[int]:
+        """The checksum of the whole file, as the function `checksum` adds it up; None without an optional header, which has the
+        field check_sum for it. Windows tests that of drivers, and of libraries that it loads at boot or into critical
+        processes."""
+        found = _c.c_uint32()
+        with _held(self._bytes()) as (address, length):
+            is_there = _LIB.goblin_pe_raw_file_checksum(address, length, _c.byref(self._options), _c.byref(found))
+        return found.value if is_there else None
+
+    def available_section_data(self, section: Section) -> SectionData:
+        """The same as far as the file has it, which is never refused; see available_data of a Section."""
+        return _available_of(section, self._bytes(), self._options, self._header.windows_fields.file_alignment)
 
     def _batch(self) -> int:
         # how many rows of a walk over imports or exports are read at once
@@ -668,10 +708,18 @@ class Layout(_File):
         table, and where the string table is not UTF-8, or says a length below 4."""
         return self._once("symbols", lambda: tuple(self.walk_symbols()))
 
-    def walk_symbols(self) -> _t.Iterator[Symbol]:
-        """The symbols one by one, of which none is kept. Refused is raised as by `symbols`."""
+    def walk_symbols(self, tests_texts: bool = True) -> _t.Iterator[Symbol]:
+        """The symbols one by one, of which none is kept. Refused is raised as by `symbols`; without tests_texts not where the
+        string table is not UTF-8: a symbol whose name is not has none."""
         data = self._bytes()
-        return _walk_symbols(data, self._found_symbols(data))
+        return _walk_symbols(data, self._found_symbols(data) if tests_texts else _symbol_table(data, self.coff_header, False))
+
+    def string_at(self, offset: int) -> _t.Optional[bytes]:
+        """The text at an offset of the string table, up to a NUL or the table's end; None where there is none that is UTF-8. The
+        offset counts from the four bytes of the table's length, as the numbers do that stand in place of names. Refused is
+        raised where a table does not lie in the file."""
+        data = self._bytes()
+        return _string_at(data, _symbol_table(data, self.coff_header, False), offset)
 
     def symbol_at(self, index: int) -> _t.Optional[Symbol]:
         """The symbol whose record has this index: relocations and weak externals name symbols so. None where the table ends
@@ -915,14 +963,16 @@ class Pe(Layout):
 
 class ObjectFile(_File):
     """An object that was read: ObjectFile(data, options); of the Options only is_permissive counts. A file that is refused
-    raises Refused, and so does one whose symbol table or string table is. No machine is tested, so a file that is no object may be read as one with sections that make no sense:
+    raises Refused, and so does one whose symbol table or string table is, as where that is not UTF-8; without tests_texts a
+    symbol whose name is not has none. No machine is tested, so a file that is no object may be read as one with sections that
+    make no sense:
     ask `kind` before.
 
     It keeps `data`, or the copy of a buffer that could be written, until close() or the end of a `with`. A copy, as it is sent to
     another process, has all but `data`: its methods raise ValueError.
     """
 
-    def __init__(self, data: Data, options: _t.Optional[Options] = None):
+    def __init__(self, data: Data, options: _t.Optional[Options] = None, tests_texts: bool = True):
         asked, found = _record_of(options), records.Object()
         self._data = read = _kept(data)
         with _held(read) as (address, length):
@@ -930,7 +980,7 @@ class ObjectFile(_File):
                 sections, count = _room(records.Section, found.sections), found.sections
                 _test(_LIB.goblin_pe_raw_read_object(address, length, _c.byref(asked), _c.byref(found), sections, count))
         self._coff_header: CoffHeader = found.coff_header
-        self._symbol_table = _symbol_table(read, found.coff_header)
+        self._symbol_table = _symbol_table(read, found.coff_header, tests_texts)
         self._sections, self._counts, self._address = sections, {"sections": count}, address
         self._made = {}
 
@@ -971,6 +1021,16 @@ class ObjectFile(_File):
         """The symbol whose record has this index: relocations and weak externals name symbols so. None where the table ends
         before it; an auxiliary record is read as a symbol, too."""
         return _symbol_at(self._bytes(), self._symbol_table, index)
+
+    def string_at(self, offset: int) -> _t.Optional[bytes]:
+        """The text at an offset of the string table, up to a NUL or the table's end; None where there is none that is UTF-8. The
+        offset counts from the four bytes of the table's length, as the numbers do that stand in place of names."""
+        return _string_at(_here(self._data), self._symbol_table, offset)
+
+    @property
+    def string_table_size(self) -> int:
+        """How many bytes the string table has, with the four of its length; 0 where there is none."""
+        return self._symbol_table.strings_length + 4 if self._symbol_table.offset else 0
 
     def __repr__(self) -> str:
         return "<ObjectFile machine=%#x sections=%d>" % (self.coff_header.machine, self._counts["sections"])

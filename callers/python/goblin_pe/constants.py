@@ -596,3 +596,44 @@ IMAGE_REL_BASED_IA64_IMM64 = 0x09
 IMAGE_REL_BASED_DIR64 = 0x0A
 # Base relocation: the top 16 bits of a 48-bit address.
 IMAGE_REL_BASED_HIGH3ADJ = 0x0B
+
+# The sizes of records, in bytes, and offsets in them.
+
+# The size of a COFF header, in bytes.
+SIZEOF_COFF_HEADER = 20
+# The size of the standard fields for 32 bits, in bytes.
+SIZEOF_STANDARD_FIELDS_32 = 28
+# The size of the standard fields for 64 bits, in bytes.
+SIZEOF_STANDARD_FIELDS_64 = 24
+# The size of the Windows fields for 32 bits, in bytes.
+SIZEOF_WINDOWS_FIELDS_32 = 68
+# The size of the Windows fields for 64 bits, in bytes.
+SIZEOF_WINDOWS_FIELDS_64 = 88
+# The offset of the checksum in the Windows fields for 32 bits, in bytes from their front.
+OFFSET_WINDOWS_FIELDS_32_CHECKSUM = 36
+# The offset of the checksum in the Windows fields for 64 bits, in bytes from their front.
+OFFSET_WINDOWS_FIELDS_64_CHECKSUM = 40
+# The size of the signature of a PE header, in bytes.
+SIZEOF_PE_MAGIC = 4
+# The offset in the DOS header of the file offset of the PE signature.
+PE_POINTER_OFFSET = 0x3C
+# The file offset at which the DOS stub begins, just past the DOS header.
+DOS_STUB_OFFSET = 0x40
+# The size of a directory's record, in bytes.
+SIZEOF_DATA_DIRECTORY = 8
+# How many entries the table has.
+NUM_DATA_DIRECTORIES = 16
+# The size of a section record, in bytes.
+SIZEOF_SECTION_TABLE = 40
+# The size of a record of the symbol table, in bytes.
+COFF_SYMBOL_SIZE = 18
+# The size of a relocation of a COFF object, in bytes.
+COFF_RELOCATION_SIZE = 10
+# The size of an import directory record, in bytes.
+SIZEOF_IMPORT_DIRECTORY_ENTRY = 20
+# The size of an export directory's record, in bytes.
+SIZEOF_EXPORT_DIRECTORY_TABLE = 40
+# The size of an entry of the export address table, in bytes.
+SIZEOF_EXPORT_ADDRESS_TABLE_ENTRY = 4
+# The size of the head of a base relocation block, in bytes.
+RELOCATION_BLOCK_SIZE = 8

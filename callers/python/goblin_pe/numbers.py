@@ -44,6 +44,19 @@ class RawPointerRule(Number):
     BY_FILE_ALIGNMENT = 2
 
 
+class Region(Number):
+    """Where an address of an image lies."""
+
+    # Neither in a section nor in the headers.
+    NOWHERE = 0
+    # In the headers, which are at the front of the file and of the memory.
+    HEADERS = 1
+    # In the bytes of a section that are stored in the file, at its raw pointer.
+    STORED = 2
+    # In the zeros that follow these up to the section's size in memory.
+    ZEROS = 3
+
+
 class State(Number):
     """How a table of the file stands."""
 
@@ -227,3 +240,20 @@ class DirectoryType(Number):
     DELAY_IMPORT_DESCRIPTOR = 13
     # The header of the common language runtime, at index 14: an image with it has managed code.
     CLR_RUNTIME_HEADER = 14
+
+
+class RefusedPart(Number):
+    """The part of a file for which a read is refused: the first that cannot be read, in this order."""
+
+    # Nothing is refused.
+    NOTHING = 0
+    # The header: all that stands before the section table.
+    HEADER = 1
+    # The sections: their records, or a name.
+    SECTIONS = 2
+    # The imports.
+    IMPORTS = 3
+    # The exports.
+    EXPORTS = 4
+    # The base relocations: their directory.
+    RELOCATIONS = 5

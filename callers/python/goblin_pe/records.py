@@ -7,7 +7,7 @@ from typing import Annotated, Any, Dict, List, NamedTuple, Tuple
 from ._laid_out import Address, HandedOver, Record, header, record, tables, to
 
 # The sum of the interface that is declared here: of its records, the numbers in them, and its calls.
-INTERFACE = 0x215dba31
+INTERFACE = 0x726f9829
 
 
 @record
@@ -114,6 +114,27 @@ class AuxSectionDefinition(NamedTuple):
 
 
 @record
+class Options(Record):
+    """What a call does and leaves out.
+
+    is_permissive: Whether damaged parts are passed over, in permissive mode. An import directory at
+        file offset 0 is an empty list there, whatever it holds; the damage of a file tells what
+        strict mode would refuse of it, and how much is left out.
+    resolve_rva: Whether an address is mapped to a file offset by the sections; where not, it is the
+        offset.
+    raw_pointer_rule: Where the raw data of a section begins, for addresses, for the data of a
+        section of an image and for what a loader sees at an address: the number of a
+        `RawPointerRule`; any other number is taken as 0.
+    parse_imports: Whether the imports are read; where not, their table is absent.
+    """
+
+    is_permissive: Annotated[bool, c.c_bool]
+    resolve_rva: Annotated[bool, c.c_bool]
+    raw_pointer_rule: Annotated[int, c.c_uint8]
+    parse_imports: Annotated[bool, c.c_bool]
+
+
+@record
 class Fault(Record):
     """Why a call gave no value, in numbers; the status 0 is that it gave one.
 
@@ -167,34 +188,14 @@ class Section(Record):
 
 
 @record
-class Options(Record):
-    """What a call does and leaves out.
-
-    is_permissive: Whether damaged parts are passed over, in permissive mode. An import directory at
-        file offset 0 is an empty list there, whatever it holds; the damage of a file tells what
-        strict mode would refuse of it, and how much is left out.
-    resolve_rva: Whether an address is mapped to a file offset by the sections; where not, it is the
-        offset.
-    raw_pointer_rule: Where the raw data of a section begins, for addresses, for the data of a
-        section of an image and for what a loader sees at an address: the number of a
-        `RawPointerRule`; any other number is taken as 0.
-    parse_imports: Whether the imports are read; where not, their table is absent.
-    """
-
-    is_permissive: Annotated[bool, c.c_bool]
-    resolve_rva: Annotated[bool, c.c_bool]
-    raw_pointer_rule: Annotated[int, c.c_uint8]
-    parse_imports: Annotated[bool, c.c_bool]
-
-
-@record
 class Image(Record):
     """An image, by what maps its addresses.
 
     bytes: The file's bytes.
     sections: The records of its sections, in the order of the section table. No call looks at more
         of them than their `virtual_address`, `virtual_size`, `pointer_to_raw_data` and
-        `size_of_raw_data`; all else may be zeros, a null pointer of their texts, too.
+        `size_of_raw_data`, and for what a loader sees at an address their `characteristics`; all
+        else may be zeros, a null pointer of their texts, too.
     file_alignment: Its file alignment, in bytes.
     options: Whether addresses are mapped, and by which rule for raw pointers; all else is not
         looked at.
@@ -1103,6 +1104,8 @@ CALLS: Dict[str, Tuple[Any, List[Any]]] = {
         (c.c_bool, [c.c_void_p, c.c_size_t, to(Text)]),
     "goblin_pe_raw_checksum":
         (c.c_uint32, [c.c_void_p, c.c_size_t, c.c_size_t]),
+    "goblin_pe_raw_file_checksum":
+        (c.c_bool, [c.c_void_p, c.c_size_t, to(Options), to(c.c_uint32)]),
     "goblin_pe_raw_fault_text":
         (c.c_size_t, [to(Fault), c.c_void_p, c.c_size_t]),
     "goblin_pe_raw_forwarder_at":
@@ -1115,6 +1118,8 @@ CALLS: Dict[str, Tuple[Any, List[Any]]] = {
         (Fault, [to(Image), c.c_size_t, c.c_size_t, to(Text)]),
     "goblin_pe_raw_read_section_data":
         (Fault, [to(Image), to(Section), to(SectionData)]),
+    "goblin_pe_raw_available_section_data":
+        (c.c_bool, [to(Image), to(Section), to(SectionData)]),
     "goblin_pe_raw_next_libraries":
         (Fault, [c.c_void_p, c.c_size_t, to(Options), to(Places), to(ImportCursor), to(Library), c.c_size_t, c.c_size_t, to(c.c_size_t)]),
     "goblin_pe_raw_section_at":
@@ -1123,10 +1128,18 @@ CALLS: Dict[str, Tuple[Any, List[Any]]] = {
         (c.c_bool, [to(Image), c.c_size_t, to(c.c_size_t)]),
     "goblin_pe_raw_memory_at":
         (Fault, [to(Image), c.c_size_t, c.c_size_t, to(SectionData)]),
+    "goblin_pe_raw_available_at":
+        (Fault, [to(Image), c.c_size_t, c.c_size_t, to(SectionData)]),
+    "goblin_pe_raw_region_of":
+        (c.c_uint32, [to(Image), c.c_uint32, c.c_size_t, to(c.c_size_t)]),
     "goblin_pe_raw_read_object":
         (Fault, [c.c_void_p, c.c_size_t, to(Options), to(Object), to(Section), c.c_size_t]),
     "goblin_pe_raw_read_symbol_table":
         (Fault, [c.c_void_p, c.c_size_t, to(CoffHeader), to(SymbolTable)]),
+    "goblin_pe_raw_find_symbol_table":
+        (Fault, [c.c_void_p, c.c_size_t, to(CoffHeader), to(SymbolTable)]),
+    "goblin_pe_raw_string_at":
+        (c.c_bool, [c.c_void_p, c.c_size_t, to(SymbolTable), c.c_size_t, to(Text)]),
     "goblin_pe_raw_next_symbols":
         (Fault, [c.c_void_p, c.c_size_t, to(SymbolTable), to(c.c_size_t), to(NamedSymbol), c.c_size_t, c.c_size_t, to(c.c_size_t)]),
     "goblin_pe_raw_symbol_at":
@@ -1157,6 +1170,8 @@ CALLS: Dict[str, Tuple[Any, List[Any]]] = {
         (Fault, [c.c_void_p, c.c_size_t, to(Options), to(Layout), to(Directory), c.c_size_t, to(Section), c.c_size_t]),
     "goblin_pe_raw_read_damage":
         (Fault, [c.c_void_p, c.c_size_t, to(Options), to(Damage)]),
+    "goblin_pe_raw_refused_part_of":
+        (Fault, [c.c_void_p, c.c_size_t, to(Options), to(c.c_uint32)]),
     "goblin_pe_raw_footprint":
         (Fault, [c.c_void_p, c.c_size_t, to(Options), to(Ranges)]),
     "goblin_pe_raw_write_header":

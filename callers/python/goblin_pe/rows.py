@@ -59,11 +59,18 @@ class Section(NamedTuple):
 
     def data(self, file: Data) -> SectionData:
         """Its data in the file: the bytes from the raw pointer as stored, and how many zeros follow them in memory. There are as
-        many as its raw size says: they are not cut at its virtual size, as memory_at of an image cuts them. Refused is raised
-        where they pass the file, and where they begin past its end, even if there are none."""
+        many as its raw size says: they are not cut at its virtual size, as memory_at of an image cuts them. A section of
+        uninitialized data (IMAGE_SCN_CNT_UNINITIALIZED_DATA) whose raw pointer is 0, as an object's .bss, has no bytes, and its
+        size as zeros: the virtual size, or the raw size where that is 0. Refused is raised where the bytes pass the file, and
+        where they begin past its end, even if there are none."""
         with viewed(file) as view:
             begin, length, zeros = place_of(self, view, records.Options(), 0)
             return SectionData(bytes(view[begin: begin + length]), zeros)
+
+    def available_data(self, file: Data) -> SectionData:
+        """The same as far as the file has it, which is never refused: there are fewer bytes where the file ends before, and no
+        zeros follow bytes of which some are missing."""
+        return available_of(self, kept(file), records.Options(), 0)
 
     def walk_relocations(self, file: Data) -> Iterator[Relocation]:
         """All its relocations in the object, one by one, also where there are more than number_of_relocations can say: then
@@ -302,6 +309,15 @@ def view_of(s: Section, file: Kept, options: records.Options, file_alignment: in
     """The same without a copy."""
     begin, length, zeros = place_of(s, file, options, file_alignment)
     return SectionView(memoryview(file)[begin: begin + length], zeros)
+
+
+def available_of(s: Section, file: Kept, options: records.Options, file_alignment: int) -> SectionData:
+    """The same as far as the file has it."""
+    found = records.SectionData()
+    with held(file) as (address, length):
+        image = records.Image(records.Text(address, length), _laid_out.NOWHERE, 0, file_alignment, options)
+        LIB.goblin_pe_raw_available_section_data(c.byref(image), c.byref(record_of(s)), c.byref(found))
+        return SectionData(Rows(file, address).text(found.bytes), found.zeros)
 
 
 def room(kind: Any, count: int) -> Any:

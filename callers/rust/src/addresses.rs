@@ -2,6 +2,7 @@
 
 use crate::error::Error;
 use crate::layout::Layout;
+use crate::numbers::Region;
 use crate::raw;
 use crate::rows::{Forwarder, Section};
 use crate::text::Text;
@@ -90,6 +91,47 @@ impl<'a> Layout<'a> {
         Ok((data.bytes.get(), data.zeros))
     }
 
+    /// The first of the bytes that a loader sees at an address, at most `size`: the pair of
+    /// [`memory_at`](Self::memory_at), but with fewer where the section's memory ends before, or the file does.
+    /// No zeros follow bytes of which some are missing in the file, since it is not known what they are.
+    ///
+    /// # Errors
+    /// Where no section's memory holds the address, and where the options say that addresses are offsets, at or
+    /// past the file's end.
+    ///
+    /// ```no_run
+    /// # let bytes = [];
+    /// # let layout = goblin_pe::Layout::read(&bytes, &goblin_pe::Options::permissive())?;
+    /// let entry = layout.optional_header().map(|it| it.standard_fields.address_of_entry_point as usize);
+    /// let code = entry.and_then(|rva| layout.available_at(rva, 16).ok()).map(|(code, _)| code);
+    /// # Ok::<(), goblin_pe::Error>(())
+    /// ```
+    pub fn available_at(&self, rva: usize, size: usize) -> Result<(&'a [u8], usize), Error> {
+        let mut data = raw::SectionData::default();
+        Error::test(raw::available_at(&self.image(), rva, size, &mut data))?;
+        Ok((data.bytes.get(), data.zeros))
+    }
+
+    /// Where an address lies, and its section, where it lies in the memory of one: the first that holds it, as for
+    /// [`memory_at`](Self::memory_at). The options are not looked at, nor whether the file has the section's bytes.
+    ///
+    /// ```no_run
+    /// # use goblin_pe::Region;
+    /// # let bytes = [];
+    /// # let layout = goblin_pe::Layout::read(&bytes, &goblin_pe::Options::permissive())?;
+    /// let entry = layout.optional_header().map(|it| it.standard_fields.address_of_entry_point as usize);
+    /// let is_odd = entry.is_some_and(|rva| layout.region_of(rva).0 != Region::Stored);
+    /// # Ok::<(), goblin_pe::Error>(())
+    /// ```
+    #[must_use]
+    pub fn region_of(&self, rva: usize) -> (Region, Option<Section<'a>>) {
+        let headers = self.file.optional_header.windows_fields.size_of_headers;
+        let (number, index) = raw::region_of(&self.image(), headers, rva);
+        // (the library knows no other number)
+        let region = Region::try_from(number).unwrap_or(Region::Nowhere);
+        (region, self.sections().nth(index))
+    }
+
     /// The forwarder whose text is at an address, as an [`ExportAddress`](crate::ExportAddress) that
     /// forwards has it, also of an export without a name.
     ///
@@ -113,7 +155,7 @@ impl<'a> Layout<'a> {
     /// begins at the section's address. It is empty where the raw size is 0, and else has the least of three sizes: that
     /// of the data in the file, from its start rounded down to 512 up to its end rounded up to the file alignment; the raw
     /// size; and the virtual size where that is not 0, these two rounded up to 4,096. So an address in the zeros that
-    /// follow the data may lie in none, as a TLS index does: [`memory_section_at`](Self::memory_section_at) finds it.
+    /// follow the data may lie in none, as a TLS index does: [`region_of`](Self::region_of) finds it.
     ///
     /// ```no_run
     /// # let bytes = [];
@@ -125,29 +167,6 @@ impl<'a> Layout<'a> {
     #[must_use]
     pub fn section_at(&self, rva: usize) -> Option<Section<'a>> {
         let index = raw::section_at(&self.image(), rva)?;
-        self.sections().nth(index)
-    }
-
-    /// The section in whose memory an address lies, also among the zeros that follow its data: the first whose virtual
-    /// size, or raw size where that is 0, reaches it, as [`memory_at`](Self::memory_at) takes it; `None` where there is
-    /// none, as in the headers. The options are not looked at.
-    ///
-    /// ```no_run
-    /// # let bytes = [];
-    /// # let layout = goblin_pe::Layout::read(&bytes, &goblin_pe::Options::permissive())?;
-    /// let is_outside = layout.memory_section_at(layout.entry() as usize).is_none();
-    /// # Ok::<(), goblin_pe::Error>(())
-    /// ```
-    #[must_use]
-    pub fn memory_section_at(&self, rva: usize) -> Option<Section<'a>> {
-        let reaches = |s: &raw::Section| match s.virtual_size {
-            0 => s.size_of_raw_data as usize,
-            size => size as usize,
-        };
-        let index = self.sections.get().iter().position(|s| {
-            let distance = rva.checked_sub(s.virtual_address as usize);
-            distance.is_some_and(|it| it < reaches(s))
-        })?;
         self.sections().nth(index)
     }
 

@@ -596,3 +596,44 @@ pub const IMAGE_REL_BASED_IA64_IMM64: u16 = 0x09;
 pub const IMAGE_REL_BASED_DIR64: u16 = 0x0A;
 /// Base relocation: the top 16 bits of a 48-bit address.
 pub const IMAGE_REL_BASED_HIGH3ADJ: u16 = 0x0B;
+
+// The sizes of records, in bytes, and offsets in them.
+
+/// The size of a COFF header, in bytes.
+pub const SIZEOF_COFF_HEADER: usize = 20;
+/// The size of the standard fields for 32 bits, in bytes.
+pub const SIZEOF_STANDARD_FIELDS_32: usize = 28;
+/// The size of the standard fields for 64 bits, in bytes.
+pub const SIZEOF_STANDARD_FIELDS_64: usize = 24;
+/// The size of the Windows fields for 32 bits, in bytes.
+pub const SIZEOF_WINDOWS_FIELDS_32: usize = 68;
+/// The size of the Windows fields for 64 bits, in bytes.
+pub const SIZEOF_WINDOWS_FIELDS_64: usize = 88;
+/// The offset of the checksum in the Windows fields for 32 bits, in bytes from their front.
+pub const OFFSET_WINDOWS_FIELDS_32_CHECKSUM: usize = 36;
+/// The offset of the checksum in the Windows fields for 64 bits, in bytes from their front.
+pub const OFFSET_WINDOWS_FIELDS_64_CHECKSUM: usize = 40;
+/// The size of the signature of a PE header, in bytes.
+pub const SIZEOF_PE_MAGIC: usize = 4;
+/// The offset in the DOS header of the file offset of the PE signature.
+pub const PE_POINTER_OFFSET: u32 = 0x3C;
+/// The file offset at which the DOS stub begins, just past the DOS header.
+pub const DOS_STUB_OFFSET: u32 = 0x40;
+/// The size of a directory's record, in bytes.
+pub const SIZEOF_DATA_DIRECTORY: usize = 8;
+/// How many entries the table has.
+pub const NUM_DATA_DIRECTORIES: usize = 16;
+/// The size of a section record, in bytes.
+pub const SIZEOF_SECTION_TABLE: usize = 40;
+/// The size of a record of the symbol table, in bytes.
+pub const COFF_SYMBOL_SIZE: usize = 18;
+/// The size of a relocation of a COFF object, in bytes.
+pub const COFF_RELOCATION_SIZE: usize = 10;
+/// The size of an import directory record, in bytes.
+pub const SIZEOF_IMPORT_DIRECTORY_ENTRY: usize = 20;
+/// The size of an export directory's record, in bytes.
+pub const SIZEOF_EXPORT_DIRECTORY_TABLE: usize = 40;
+/// The size of an entry of the export address table, in bytes.
+pub const SIZEOF_EXPORT_ADDRESS_TABLE_ENTRY: usize = 4;
+/// The size of the head of a base relocation block, in bytes.
+pub const RELOCATION_BLOCK_SIZE: usize = 8;

@@ -562,6 +562,9 @@ impl fmt::Debug for WalkRelocations<'_> {
     }
 }
 
+// The size of a string table's length, in bytes.
+const TABLE_LENGTH: usize = 4;
+
 /// A walk over the symbols of an image or an object, in constant memory. A copy is as that of [`WalkImports`].
 #[derive(Clone)]
 pub struct Symbols<'a> {
@@ -575,6 +578,18 @@ impl<'a> Symbols<'a> {
     pub(crate) fn of(bytes: &'a [u8], header: &CoffHeader) -> Result<Self, Error> {
         let mut table = raw::SymbolTable::default();
         Error::test(raw::read_symbol_table(bytes, header, &mut table))?;
+        Symbols::by(bytes, table)
+    }
+
+    // The same, whatever the texts of the string table are.
+    pub(crate) fn untested(bytes: &'a [u8], header: &CoffHeader) -> Result<Self, Error> {
+        let mut table = raw::SymbolTable::default();
+        Error::test(raw::find_symbol_table(bytes, header, &mut table))?;
+        Symbols::by(bytes, table)
+    }
+
+    // Those of a table, the first of them read.
+    fn by(bytes: &'a [u8], table: raw::SymbolTable) -> Result<Self, Error> {
         let mut batches = Batches::new(0, BATCH);
         batches.fill(|position, steps, records| {
             raw::next_symbols(bytes, &table, position, steps, records)
@@ -621,6 +636,37 @@ impl<'a> Symbols<'a> {
     #[must_use]
     pub fn symbol_at(&self, index: usize) -> Option<Symbol<'a>> {
         raw::symbol_at(self.bytes, &self.table, index).map(|it| Symbol::from(&it))
+    }
+
+    /// The text at an offset of the string table, up to a NUL or the table's end; `None` where there is none that is
+    /// UTF-8. The offset counts from the four bytes of the table's length, as the numbers do that stand in place of
+    /// names, so that a text is at 4 or more.
+    ///
+    /// ```no_run
+    /// # let bytes = [];
+    /// let object = goblin_pe::Object::read(&bytes, &goblin_pe::Options::default())?;
+    /// let first = object.symbols()?.text_at(4);
+    /// # Ok::<(), goblin_pe::Error>(())
+    /// ```
+    #[must_use]
+    pub fn text_at(&self, offset: usize) -> Option<Text<'a>> {
+        raw::string_at(self.bytes, &self.table, offset).map(Text)
+    }
+
+    /// How many bytes the string table has, with the four of its length; 0 where there is none.
+    ///
+    /// ```no_run
+    /// # let bytes = [];
+    /// let object = goblin_pe::Object::read(&bytes, &goblin_pe::Options::default())?;
+    /// println!("{} bytes of names", object.symbols()?.string_table_size());
+    /// # Ok::<(), goblin_pe::Error>(())
+    /// ```
+    #[must_use]
+    pub fn string_table_size(&self) -> usize {
+        match self.table.offset {
+            0 => 0,
+            _ => self.table.strings_length + TABLE_LENGTH,
+        }
     }
 }
 

@@ -357,6 +357,22 @@ impl<'a> Layout<'a> {
         self.header().write(out)
     }
 
+    /// The checksum of the whole file, as [`checksum`](crate::checksum) adds it up; `None` without an optional
+    /// header, which has the field `check_sum` for it. Windows tests that of drivers, and of libraries that it loads at
+    /// boot or into critical processes.
+    ///
+    /// ```no_run
+    /// # let bytes = [];
+    /// # let layout = goblin_pe::Layout::read(&bytes, &goblin_pe::Options::permissive())?;
+    /// let stored = layout.optional_header().map(|it| it.windows_fields.check_sum);
+    /// let is_intact = stored == layout.checksum();
+    /// # Ok::<(), goblin_pe::Error>(())
+    /// ```
+    #[must_use]
+    pub fn checksum(&self) -> Option<u32> {
+        raw::file_checksum(self.bytes, &self.options)
+    }
+
     /// The data of one of its sections, and how many zeros follow it in memory. It begins at the raw
     /// pointer, which the options may round down to 512, as they do for [`find_offset`](Self::find_offset).
     /// There is as much as the raw size says: it is not cut at the virtual size, as
@@ -373,6 +389,19 @@ impl<'a> Layout<'a> {
     /// ```
     pub fn section_data(&self, section: &Section) -> Result<(&'a [u8], usize), Error> {
         section.data_in(&self.image())
+    }
+
+    /// The same as far as the file has it; see [`Section::available_data`].
+    ///
+    /// ```no_run
+    /// # let bytes = [];
+    /// # let layout = goblin_pe::Layout::read(&bytes, &goblin_pe::Options::permissive())?;
+    /// let resources = layout.section_by_name(".rsrc").map(|s| layout.available_section_data(&s));
+    /// # Ok::<(), goblin_pe::Error>(())
+    /// ```
+    #[must_use]
+    pub fn available_section_data(&self, section: &Section) -> (&'a [u8], usize) {
+        section.available_in(&self.image())
     }
 
     /// A walk over the imports, in constant memory, which reads the file as it goes on: also where the
@@ -543,6 +572,23 @@ impl<'a> Layout<'a> {
     /// ```
     pub fn symbols(&self) -> Result<Symbols<'a>, Error> {
         Symbols::of(self.bytes, self.coff_header())
+    }
+
+    /// The same, whatever the texts of the string table are; see
+    /// [`Object::untested_symbols`](crate::Object::untested_symbols).
+    ///
+    /// # Errors
+    /// A file that is too short for the symbol table or its string table, and a string table that says a length
+    /// below 4.
+    ///
+    /// ```no_run
+    /// # let bytes = [];
+    /// # let layout = goblin_pe::Layout::read(&bytes, &goblin_pe::Options::permissive())?;
+    /// let named = layout.untested_symbols()?.filter(|it| it.name.is_some()).count();
+    /// # Ok::<(), goblin_pe::Error>(())
+    /// ```
+    pub fn untested_symbols(&self) -> Result<Symbols<'a>, Error> {
+        Symbols::untested(self.bytes, self.coff_header())
     }
 
     /// Writes the text whose MD5 is the hash of the imports that analysts compare, as

@@ -99,7 +99,8 @@ pub use names::{
     Subsystem, WeakExternalSearch, relocation_name,
 };
 pub use numbers::{
-    Cause, Counted, DirectoryType, ErrorKind, Kind, Part, RawPointerRule, ReadFault,
+    Cause, Counted, DirectoryType, ErrorKind, Kind, Part, RawPointerRule, ReadFault, RefusedPart,
+    Region,
 };
 pub use object::Object;
 pub use pe::Pe;
@@ -152,6 +153,29 @@ pub fn kind(bytes: &[u8]) -> Kind {
 #[must_use]
 pub fn checksum(bytes: &[u8], field: usize) -> u32 {
     raw::checksum(bytes, field)
+}
+
+/// The part for which a read of an image by these options is refused: the first that cannot be read, in the order
+/// of the header, the sections, the imports, the exports and the base relocations. It is
+/// [`RefusedPart::Nothing`] where the file is read, and in permissive mode never a table. So ask it after a
+/// refusal: it reads the file again.
+///
+/// # Errors
+/// Memory alone, which is taken only for an index of more than 96 sections.
+///
+/// ```no_run
+/// # use goblin_pe::{Options, Pe};
+/// let (bytes, options) = (std::fs::read("some.exe")?, Options::default());
+/// if let Err(error) = Pe::read(&bytes, &options) {
+///     println!("{:?}: {error}", goblin_pe::refused_part(&bytes, &options)?);
+/// }
+/// # Ok::<(), std::io::Error>(())
+/// ```
+pub fn refused_part(bytes: &[u8], options: &Options) -> Result<RefusedPart, Error> {
+    let mut part = 0;
+    Error::test(raw::refused_part_of(bytes, options, &mut part))?;
+    // (the library knows no other number)
+    Ok(RefusedPart::try_from(part).unwrap_or(RefusedPart::Nothing))
 }
 
 /// Whether the library that is linked has the interface that this crate declares. Each read asks so, and

@@ -102,6 +102,46 @@ impl From<RawPointerRule> for u32 {
     }
 }
 
+/// Where an address of an image lies.
+#[repr(u32)]
+#[derive(Clone, Copy, Debug, PartialEq, Eq, PartialOrd, Ord, Hash)]
+#[non_exhaustive]
+pub enum Region {
+    /// Neither in a section nor in the headers.
+    Nowhere = 0,
+    /// In the headers, which are at the front of the file and of the memory.
+    Headers = 1,
+    /// In the bytes of a section that are stored in the file, at its raw pointer.
+    Stored = 2,
+    /// In the zeros that follow these up to the section's size in memory.
+    Zeros = 3,
+}
+
+impl TryFrom<u32> for Region {
+    type Error = UnknownNumber;
+
+    /// What has this number.
+    ///
+    /// # Errors
+    /// The number, where nothing has it.
+    fn try_from(number: u32) -> Result<Region, UnknownNumber> {
+        match number {
+            0 => Ok(Region::Nowhere),
+            1 => Ok(Region::Headers),
+            2 => Ok(Region::Stored),
+            3 => Ok(Region::Zeros),
+            _ => Err(UnknownNumber(number as usize)),
+        }
+    }
+}
+
+impl From<Region> for u32 {
+    /// Its number.
+    fn from(it: Region) -> u32 {
+        it as u32
+    }
+}
+
 /// How a table of the file stands.
 #[repr(u32)]
 #[derive(Clone, Copy, Debug, PartialEq, Eq, PartialOrd, Ord, Hash)]
@@ -514,6 +554,52 @@ impl TryFrom<u32> for DirectoryType {
 impl From<DirectoryType> for u32 {
     /// Its number.
     fn from(it: DirectoryType) -> u32 {
+        it as u32
+    }
+}
+
+/// The part of a file for which a read is refused: the first that cannot be read, in this order.
+#[repr(u32)]
+#[derive(Clone, Copy, Debug, PartialEq, Eq, PartialOrd, Ord, Hash)]
+#[non_exhaustive]
+pub enum RefusedPart {
+    /// Nothing is refused.
+    Nothing = 0,
+    /// The header: all that stands before the section table.
+    Header = 1,
+    /// The sections: their records, or a name.
+    Sections = 2,
+    /// The imports.
+    Imports = 3,
+    /// The exports.
+    Exports = 4,
+    /// The base relocations: their directory.
+    Relocations = 5,
+}
+
+impl TryFrom<u32> for RefusedPart {
+    type Error = UnknownNumber;
+
+    /// What has this number.
+    ///
+    /// # Errors
+    /// The number, where nothing has it.
+    fn try_from(number: u32) -> Result<RefusedPart, UnknownNumber> {
+        match number {
+            0 => Ok(RefusedPart::Nothing),
+            1 => Ok(RefusedPart::Header),
+            2 => Ok(RefusedPart::Sections),
+            3 => Ok(RefusedPart::Imports),
+            4 => Ok(RefusedPart::Exports),
+            5 => Ok(RefusedPart::Relocations),
+            _ => Err(UnknownNumber(number as usize)),
+        }
+    }
+}
+
+impl From<RefusedPart> for u32 {
+    /// Its number.
+    fn from(it: RefusedPart) -> u32 {
         it as u32
     }
 }

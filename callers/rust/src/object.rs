@@ -2,14 +2,12 @@
 
 use std::fmt;
 
+use crate::constants::SIZEOF_COFF_HEADER;
 use crate::error::Error;
 use crate::iterators::{Sections, Symbols};
 use crate::memory::make_room;
 use crate::raw::{self, CoffHeader, Options};
 use crate::rows::{Section, section_index};
-
-// The size of the COFF header, in bytes.
-const COFF_HEADER: usize = 20;
 
 /// An object that was read. A copy has records of its own; where memory for them is refused, the process ends as
 /// it does for a [`Vec`].
@@ -112,7 +110,7 @@ impl<'a> Object<'a> {
     #[must_use]
     pub fn sections(&self) -> Sections<'_, 'a> {
         let size = usize::from(self.found.coff_header.size_of_optional_header);
-        Sections::at(self.bytes, COFF_HEADER + size, &self.sections)
+        Sections::at(self.bytes, SIZEOF_COFF_HEADER + size, &self.sections)
     }
 
     /// The first section of this name; `None` where there is none.
@@ -178,6 +176,23 @@ impl<'a> Object<'a> {
     /// ```
     pub fn symbols(&self) -> Result<Symbols<'a>, Error> {
         Symbols::of(self.bytes, self.coff_header())
+    }
+
+    /// The same, whatever the texts of the string table are: also of a file of which one name is not UTF-8, which
+    /// [`symbols`](Self::symbols) refuses. That symbol has no name.
+    ///
+    /// # Errors
+    /// A file that is too short for the symbol table or its string table, and a string table that says a length
+    /// below 4.
+    ///
+    /// ```no_run
+    /// # let bytes = [];
+    /// let object = goblin_pe::Object::read(&bytes, &goblin_pe::Options::default())?;
+    /// let unnamed = object.untested_symbols()?.filter(|it| it.name.is_none()).count();
+    /// # Ok::<(), goblin_pe::Error>(())
+    /// ```
+    pub fn untested_symbols(&self) -> Result<Symbols<'a>, Error> {
+        Symbols::untested(self.bytes, self.coff_header())
     }
 }
 

@@ -326,6 +326,13 @@ pub fn damage(bytes: &[u8], options: &Options, damage: &mut Damage) -> Fault {
     unsafe { goblin_pe_raw_read_damage(bytes.as_ptr(), bytes.len(), options, damage) }
 }
 
+/// The number of the part for which a file is refused.
+pub fn refused_part_of(bytes: &[u8], options: &Options, part: &mut u32) -> Fault {
+    test_interface();
+    // SAFETY: as in `kind`.
+    unsafe { goblin_pe_raw_refused_part_of(bytes.as_ptr(), bytes.len(), options, part) }
+}
+
 /// Lists the ranges on which a read depends. There were none before.
 pub fn footprint(bytes: &[u8], options: &Options, ranges: &mut Ranges<'_>) -> Fault {
     test_interface();
@@ -424,6 +431,23 @@ pub fn read_symbol_table(bytes: &[u8], header: &CoffHeader, table: &mut SymbolTa
     test_interface();
     // SAFETY: as in `kind`.
     unsafe { goblin_pe_raw_read_symbol_table(bytes.as_ptr(), bytes.len(), header, table) }
+}
+
+/// Says where a symbol table and its string table lie, whatever the texts are.
+pub fn find_symbol_table(bytes: &[u8], header: &CoffHeader, table: &mut SymbolTable) -> Fault {
+    test_interface();
+    // SAFETY: as in `kind`.
+    unsafe { goblin_pe_raw_find_symbol_table(bytes.as_ptr(), bytes.len(), header, table) }
+}
+
+/// The text at an offset of a string table.
+pub fn string_at<'a>(bytes: &'a [u8], table: &SymbolTable, offset: usize) -> Option<&'a [u8]> {
+    test_interface();
+    let mut text = Slice::default();
+    // SAFETY: as in `open`.
+    let is_there =
+        unsafe { goblin_pe_raw_string_at(bytes.as_ptr(), bytes.len(), table, offset, &mut text) };
+    is_there.then(|| text.get())
 }
 
 /// Goes on with the walk over symbols; fills the vector as far as it has room.
@@ -591,6 +615,27 @@ pub fn memory_at<'a>(
     unsafe { goblin_pe_raw_memory_at(image, rva, size, data) }
 }
 
+/// The first of these, of which fewer may be there.
+pub fn available_at<'a>(
+    image: &Image<'_, 'a>,
+    rva: usize,
+    size: usize,
+    data: &mut SectionData<'a>,
+) -> Fault {
+    test_interface();
+    // SAFETY: as in `open`.
+    unsafe { goblin_pe_raw_available_at(image, rva, size, data) }
+}
+
+/// The number of the region of an address, and the index of its section.
+pub fn region_of(image: &Image<'_, '_>, size_of_headers: u32, rva: usize) -> (u32, usize) {
+    test_interface();
+    let mut section = usize::MAX;
+    // SAFETY: as in `kind`.
+    let region = unsafe { goblin_pe_raw_region_of(image, size_of_headers, rva, &mut section) };
+    (region, section)
+}
+
 /// The text at an address.
 pub fn text_at<'a>(image: &Image<'_, 'a>, rva: usize, text: &mut Slice<'a>) -> Fault {
     test_interface();
@@ -621,11 +666,32 @@ pub fn section_data<'a>(
     unsafe { goblin_pe_raw_read_section_data(image, section, data) }
 }
 
+/// The same as far as the file has it, and whether that is all.
+pub fn available_section_data<'a>(
+    image: &Image<'_, 'a>,
+    section: &Section<'_>,
+    data: &mut SectionData<'a>,
+) -> bool {
+    test_interface();
+    // SAFETY: as in `open`.
+    unsafe { goblin_pe_raw_available_section_data(image, section, data) }
+}
+
 /// The checksum of an image.
 pub fn checksum(bytes: &[u8], field: usize) -> u32 {
     test_interface();
     // SAFETY: as in `kind`.
     unsafe { goblin_pe_raw_checksum(bytes.as_ptr(), bytes.len(), field) }
+}
+
+/// The same, where the header says that its field is.
+pub fn file_checksum(bytes: &[u8], options: &Options) -> Option<u32> {
+    test_interface();
+    let mut sum = 0;
+    // SAFETY: as in `kind`.
+    let is_there =
+        unsafe { goblin_pe_raw_file_checksum(bytes.as_ptr(), bytes.len(), options, &mut sum) };
+    is_there.then_some(sum)
 }
 
 /// Writes a header, and says how many bytes it has.

@@ -5,7 +5,7 @@ use crate::raw::{List, Shared, Slice};
 use std::mem::offset_of;
 
 /// The sum of the interface that is declared here: of its records, the numbers in them, and its calls.
-pub const INTERFACE: u32 = 0x215d_ba31;
+pub const INTERFACE: u32 = 0x726f_9829;
 
 /// What follows a symbol that defines a function.
 ///
@@ -87,6 +87,25 @@ pub struct AuxSectionDefinition {
     pub unused: [u8; 3],
 }
 
+/// What a call does and leaves out.
+#[repr(C)]
+#[derive(Clone, Copy, Debug, PartialEq, Eq, PartialOrd, Ord, Hash)]
+#[non_exhaustive]
+pub struct Options {
+    /// Whether damaged parts are passed over, in permissive mode. An import directory at file
+    /// offset 0 is an empty list there, whatever it holds; the damage of a file tells what strict
+    /// mode would refuse of it, and how much is left out.
+    pub is_permissive: bool,
+    /// Whether an address is mapped to a file offset by the sections; where not, it is the offset.
+    pub resolve_rva: bool,
+    /// Where the raw data of a section begins, for addresses, for the data of a section of an image
+    /// and for what a loader sees at an address: the number of a `RawPointerRule`; any other number
+    /// is taken as 0.
+    pub raw_pointer_rule: u8,
+    /// Whether the imports are read; where not, their table is absent.
+    pub parse_imports: bool,
+}
+
 /// Why a call gave no value, in numbers; the status 0 is that it gave one.
 #[repr(C)]
 #[derive(Clone, Copy, Default, Debug, PartialEq, Eq, PartialOrd, Ord, Hash)]
@@ -136,25 +155,6 @@ pub struct Section<'a> {
     pub has_real_name: bool,
 }
 
-/// What a call does and leaves out.
-#[repr(C)]
-#[derive(Clone, Copy, Debug, PartialEq, Eq, PartialOrd, Ord, Hash)]
-#[non_exhaustive]
-pub struct Options {
-    /// Whether damaged parts are passed over, in permissive mode. An import directory at file
-    /// offset 0 is an empty list there, whatever it holds; the damage of a file tells what strict
-    /// mode would refuse of it, and how much is left out.
-    pub is_permissive: bool,
-    /// Whether an address is mapped to a file offset by the sections; where not, it is the offset.
-    pub resolve_rva: bool,
-    /// Where the raw data of a section begins, for addresses, for the data of a section of an image
-    /// and for what a loader sees at an address: the number of a `RawPointerRule`; any other number
-    /// is taken as 0.
-    pub raw_pointer_rule: u8,
-    /// Whether the imports are read; where not, their table is absent.
-    pub parse_imports: bool,
-}
-
 /// An image, by what maps its addresses.
 #[repr(C)]
 #[derive(Clone, Copy, Default)]
@@ -163,7 +163,8 @@ pub struct Image<'p, 'a> {
     pub bytes: Slice<'a>,
     /// The records of its sections, in the order of the section table. No call looks at more of
     /// them than their `virtual_address`, `virtual_size`, `pointer_to_raw_data` and
-    /// `size_of_raw_data`; all else may be zeros, a null pointer of their texts, too.
+    /// `size_of_raw_data`, and for what a loader sees at an address their `characteristics`; all
+    /// else may be zeros, a null pointer of their texts, too.
     pub sections: Shared<'p, Section<'a>>,
     /// Its file alignment, in bytes.
     pub file_alignment: u32,
@@ -1001,6 +1002,11 @@ const _: () = {
     assert!(offset_of!(AuxSectionDefinition, number) == 12);
     assert!(offset_of!(AuxSectionDefinition, selection) == 14);
     assert!(offset_of!(AuxSectionDefinition, unused) == 15);
+    assert!(size_of::<Options>() == 4 && align_of::<Options>() == 1);
+    assert!(offset_of!(Options, is_permissive) == 0);
+    assert!(offset_of!(Options, resolve_rva) == 1);
+    assert!(offset_of!(Options, raw_pointer_rule) == 2);
+    assert!(offset_of!(Options, parse_imports) == 3);
     assert!(size_of::<Fault>() == 24 && align_of::<Fault>() == 8);
     assert!(offset_of!(Fault, status) == 0);
     assert!(offset_of!(Fault, cause) == 4);
@@ -1019,11 +1025,6 @@ const _: () = {
     assert!(offset_of!(Section, number_of_linenumbers) == 50);
     assert!(offset_of!(Section, characteristics) == 52);
     assert!(offset_of!(Section, has_real_name) == 56);
-    assert!(size_of::<Options>() == 4 && align_of::<Options>() == 1);
-    assert!(offset_of!(Options, is_permissive) == 0);
-    assert!(offset_of!(Options, resolve_rva) == 1);
-    assert!(offset_of!(Options, raw_pointer_rule) == 2);
-    assert!(offset_of!(Options, parse_imports) == 3);
     assert!(size_of::<Image>() == 40 && align_of::<Image>() == 8);
     assert!(offset_of!(Image, bytes) == 0);
     assert!(offset_of!(Image, sections) == 16);
@@ -1336,6 +1337,13 @@ unsafe extern "C" {
 
     pub fn goblin_pe_raw_checksum(bytes: *const u8, byte_count: usize, field: usize) -> u32;
 
+    pub fn goblin_pe_raw_file_checksum(
+        bytes: *const u8,
+        byte_count: usize,
+        options: &Options,
+        sum: &mut u32,
+    ) -> bool;
+
     pub fn goblin_pe_raw_fault_text(fault: &Fault, text: *mut u8, text_room: usize) -> usize;
 
     pub fn goblin_pe_raw_forwarder_at<'a>(
@@ -1369,6 +1377,12 @@ unsafe extern "C" {
         contents: &mut SectionData<'a>,
     ) -> Fault;
 
+    pub fn goblin_pe_raw_available_section_data<'a>(
+        image: &Image<'_, 'a>,
+        section: &Section<'_>,
+        contents: &mut SectionData<'a>,
+    ) -> bool;
+
     pub fn goblin_pe_raw_next_libraries(
         bytes: *const u8,
         byte_count: usize,
@@ -1392,6 +1406,20 @@ unsafe extern "C" {
         contents: &mut SectionData<'a>,
     ) -> Fault;
 
+    pub fn goblin_pe_raw_available_at<'a>(
+        image: &Image<'_, 'a>,
+        rva: usize,
+        size: usize,
+        contents: &mut SectionData<'a>,
+    ) -> Fault;
+
+    pub fn goblin_pe_raw_region_of(
+        image: &Image<'_, '_>,
+        size_of_headers: u32,
+        rva: usize,
+        section: &mut usize,
+    ) -> u32;
+
     pub fn goblin_pe_raw_read_object(
         bytes: *const u8,
         byte_count: usize,
@@ -1407,6 +1435,21 @@ unsafe extern "C" {
         header: &CoffHeader,
         table: &mut SymbolTable,
     ) -> Fault;
+
+    pub fn goblin_pe_raw_find_symbol_table(
+        bytes: *const u8,
+        byte_count: usize,
+        header: &CoffHeader,
+        table: &mut SymbolTable,
+    ) -> Fault;
+
+    pub fn goblin_pe_raw_string_at(
+        bytes: *const u8,
+        byte_count: usize,
+        table: &SymbolTable,
+        offset: usize,
+        text: &mut Slice<'_>,
+    ) -> bool;
 
     pub fn goblin_pe_raw_next_symbols(
         bytes: *const u8,
@@ -1547,6 +1590,13 @@ unsafe extern "C" {
         byte_count: usize,
         options: &Options,
         damage: &mut Damage,
+    ) -> Fault;
+
+    pub fn goblin_pe_raw_refused_part_of(
+        bytes: *const u8,
+        byte_count: usize,
+        options: &Options,
+        part: &mut u32,
     ) -> Fault;
 
     pub fn goblin_pe_raw_footprint(

@@ -278,7 +278,9 @@ impl<'a> Section<'a> {
     /// The pair (data in the file `bytes`, how many zeros follow it in memory). The data begins at the
     /// raw pointer as stored. [`Layout::section_data`](crate::Layout::section_data) takes the bytes that were read,
     /// and begins where the options say. There is as much as the raw size says: it is not cut at the virtual size, as
-    /// [`Layout::memory_at`](crate::Layout::memory_at) cuts it.
+    /// [`Layout::memory_at`](crate::Layout::memory_at) cuts it. A section of uninitialized data
+    /// ([`IMAGE_SCN_CNT_UNINITIALIZED_DATA`](crate::constants::IMAGE_SCN_CNT_UNINITIALIZED_DATA)) whose raw pointer is 0,
+    /// as an object's `.bss`, has no bytes, and its size as zeros: the virtual size, or the raw size where that is 0.
     ///
     /// # Errors
     /// [`ErrorKind::Read`](crate::ErrorKind::Read) where the data passes the file, and where it begins
@@ -305,6 +307,28 @@ impl<'a> Section<'a> {
         let mut data = raw::SectionData::default();
         Error::test(raw::section_data(image, &self.record(), &mut data))?;
         Ok((data.bytes.get(), data.zeros))
+    }
+
+    /// The data as far as the file `bytes` has it, which is never refused: the pair of [`data`](Self::data), but with
+    /// fewer bytes where the file ends before. No zeros follow bytes of which some are missing.
+    ///
+    /// ```no_run
+    /// # let bytes = [];
+    /// let pe = goblin_pe::Pe::read(&bytes, &goblin_pe::Options::permissive())?;
+    /// let is_cut = |s: &goblin_pe::Section| s.available_data(&bytes).0.len() < s.size_of_raw_data as usize;
+    /// let cut: Vec<_> = pe.sections().filter(is_cut).collect();
+    /// # Ok::<(), goblin_pe::Error>(())
+    /// ```
+    #[must_use]
+    pub fn available_data<'b>(&self, bytes: &'b [u8]) -> (&'b [u8], usize) {
+        self.available_in(&raw::Image::of(bytes))
+    }
+
+    /// The same in an image, from where its options say.
+    pub(crate) fn available_in<'b>(&self, image: &raw::Image<'_, 'b>) -> (&'b [u8], usize) {
+        let mut data = raw::SectionData::default();
+        raw::available_section_data(image, &self.record(), &mut data);
+        (data.bytes.get(), data.zeros)
     }
 
     /// The relocations of a section of the object `bytes`: as many as `number_of_relocations` says, so at

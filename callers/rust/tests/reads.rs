@@ -2,7 +2,7 @@
 use goblin_pe::constants::{COFF_MACHINE_X86_64, IMAGE_SCN_LNK_NRELOC_OVFL};
 use goblin_pe::{
     Cause, DirectoryType, Error, ErrorKind, Forwarder, Imported, Kind, Layout, Object, Options,
-    Part, Pe, RawPointerRule, ReadFault, Te, Text, UnknownNumber,
+    Part, Pe, RawPointerRule, ReadFault, RefusedPart, Region, Te, Text, UnknownNumber,
 };
 
 fn sample(name: &str) -> Vec<u8> {
@@ -812,6 +812,85 @@ fn addresses_are_looked_up_both_ways() {
 }
 
 #[test]
+fn a_refusal_is_of_a_part() {
+    let bytes = sample("forwarders_x64.dll");
+    for (options, wanted) in [
+        (Options::default(), RefusedPart::Exports),
+        (Options::permissive(), RefusedPart::Nothing),
+    ] {
+        let pe = Pe::read(&bytes, &Options::default()).unwrap();
+        let (_, exports) = pe.data_directories().next().unwrap();
+        let place = pe.find_offset(exports.virtual_address as usize).unwrap();
+        let mut cut = bytes.clone();
+        cut[place + 0x14..][..4].fill(0xFF); // (how many addresses there are)
+        assert_eq!(
+            Pe::read(&cut, &options).is_err(),
+            wanted != RefusedPart::Nothing
+        );
+        assert_eq!(goblin_pe::refused_part(&cut, &options), Ok(wanted));
+        assert_eq!(
+            goblin_pe::refused_part(&bytes, &options),
+            Ok(RefusedPart::Nothing)
+        );
+        assert_eq!(
+            goblin_pe::refused_part(b"MZ", &options),
+            Ok(RefusedPart::Header)
+        );
+    }
+}
+
+#[test]
+fn an_address_has_a_region_and_the_first_bytes_there() {
+    let bytes = sample("forwarders_x64.dll");
+    let pe = Pe::read(&bytes, &Options::default()).unwrap();
+    assert_eq!(pe.region_of(0), (Region::Headers, None));
+    assert_eq!(pe.region_of(usize::MAX), (Region::Nowhere, None));
+    for s in pe.sections().filter(|s| s.size_of_raw_data != 0) {
+        let rva = s.virtual_address as usize;
+        let size = s.virtual_size as usize;
+        assert_eq!(pe.region_of(rva), (Region::Stored, Some(s)));
+        assert_eq!(pe.available_at(rva, size + 1), pe.memory_at(rva, size));
+        assert_eq!(pe.available_section_data(&s), pe.section_data(&s).unwrap());
+    }
+    let cut = &bytes[..bytes.len() - 1];
+    let pe = Pe::read(cut, &Options::permissive()).unwrap();
+    let last = pe.sections().next_back().unwrap();
+    let (data, zeros) = pe.available_section_data(&last);
+    assert_eq!((data.len() + 1, zeros), (last.size_of_raw_data as usize, 0));
+}
+
+// An object of one section of uninitialized data, larger than the file, and one symbol, whose name, at 4 in the string table,
+// is not UTF-8.
+fn odd_object() -> Vec<u8> {
+    let mut file = vec![
+        0x64, 0x86, 1, 0, 0, 0, 0, 0, 60, 0, 0, 0, 1, 0, 0, 0, 0, 0, 0, 0,
+    ];
+    file.extend(b".bss\0\0\0\0");
+    file.extend([0; 8]);
+    file.extend(400_000_u32.to_le_bytes());
+    file.extend([0; 16]);
+    file.extend(0xC000_0080_u32.to_le_bytes());
+    file.extend([0, 0, 0, 0, 4, 0, 0, 0, 0, 0, 0, 0, 0, 0, 0, 0, 2, 0]);
+    file.extend(b"\x09\0\0\0\xE9\0ok\0");
+    file
+}
+
+#[test]
+fn uninitialized_data_is_zeros_and_an_odd_name_is_none() {
+    let file = odd_object();
+    let object = Object::read(&file, &Options::default()).unwrap();
+    let bss = object.section_by_name(".bss").unwrap();
+    assert_eq!(object.section_data(&bss), Ok((&[][..], 400_000)));
+    let refused = object.symbols().unwrap_err();
+    assert_eq!(refused.read_fault(), Some(ReadFault::BadInput));
+    let symbols = object.untested_symbols().unwrap();
+    assert_eq!(symbols.string_table_size(), 9);
+    assert_eq!(symbols.text_at(4), None);
+    assert_eq!(symbols.text_at(6), Some(Text(b"ok")));
+    assert_eq!(symbols.map(|s| s.name).collect::<Vec<_>>(), [None]);
+}
+
+#[test]
 fn each_forwarder_is_at_its_address() {
     let bytes = sample("forwarders_x64.dll");
     let pe = Pe::read(&bytes, &Options::default()).unwrap();
@@ -1062,14 +1141,14 @@ fn the_memory_of_a_section_holds_what_follows_its_data() {
         let name = |it: Option<goblin_pe::Section>| it.map(|s| s.name.to_string());
         let wanted = |is: bool| is.then(|| String::from(".rdata"));
         assert_eq!(name(layout.section_at(rva)), wanted(is_mapped));
-        assert_eq!(name(layout.memory_section_at(rva)), wanted(is_there));
+        assert_eq!(name(layout.region_of(rva).1), wanted(is_there));
         assert_eq!(layout.memory_at(rva, 1).is_ok(), is_there);
     }
-    assert_eq!(layout.memory_section_at(0), None);
-    assert_eq!(layout.memory_section_at(usize::MAX), None);
+    assert_eq!(layout.region_of(0).1, None);
+    assert_eq!(layout.region_of(usize::MAX).1, None);
     for rva in 0..0x20000 {
         assert_eq!(
-            layout.memory_section_at(rva).is_some(),
+            layout.region_of(rva).1.is_some(),
             layout.memory_at(rva, 1).is_ok()
         );
     }

@@ -24,6 +24,7 @@ pub mod ListedReach
 pub mod NumberedFootprints
 pub mod Parts
 pub mod PermissiveReads
+pub mod RefusedParts
 pub mod SectionNames
 pub mod SectionRoom
 pub mod SoundFiles

@@ -28,7 +28,7 @@ there : {A : Type 0} (reading : Reading A) (bytes : List ℕ) (damage : Option E
 there reading bytes None is h = h
 there reading bytes (Some e) is h = absurd cc
 
-unmapped-there : {A B : Type 0} (f : A → B) (o : Option A) (made : Option B) → made ≡ option_map f o → IsSome made → IsSome o
+pub unmapped-there : {A B : Type 0} (f : A → B) (o : Option A) (made : Option B) → made ≡ option_map f o → IsSome made → IsSome o
 unmapped-there f None made is some = let none = subst IsSome is some in absurd cc
 unmapped-there f (Some x) made is some = refl
 
@@ -63,7 +63,7 @@ module _ (bytes : List ℕ) where
 
 -- ---- the tables
 
-mapped-there : {A B : Type 0} (f : A → B) (o : Option A) → IsSome o → IsSome (option_map f o)
+pub mapped-there : {A B : Type 0} (f : A → B) (o : Option A) → IsSome o → IsSome (option_map f o)
 mapped-there f None some = absurd cc
 mapped-there f (Some x) some = refl
 
@@ -72,7 +72,7 @@ both-there None b first second = absurd cc
 both-there (Some x) None first second = absurd cc
 both-there (Some x) (Some y) first second = refl
 
-all-there : {A B C : Type 0} (a : Reading A) (b : Reading B) (c : Reading C) (bytes : List ℕ) → IsSome (a.value bytes) → IsSome (b.value bytes) → IsSome (c.value bytes) → IsSome ((a beside b beside c).value bytes)
+pub all-there : {A B C : Type 0} (a : Reading A) (b : Reading B) (c : Reading C) (bytes : List ℕ) → IsSome (a.value bytes) → IsSome (b.value bytes) → IsSome (c.value bytes) → IsSome ((a beside b beside c).value bytes)
 all-there a b c bytes first second third = both-there (pair_of (a.value bytes) (b.value bytes)) (c.value bytes) (both-there (a.value bytes) (b.value bytes) first second) third
 
 module _ (opts : ParseOptions) (bytes : List ℕ) (short : length bytes < 2 ^ 63) (fit : IsBytes bytes) where

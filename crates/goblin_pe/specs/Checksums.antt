@@ -2,7 +2,10 @@
 -- leaves the algorithm to the Windows library IMAGEHLP. That adds the field, too, and takes it off
 -- again, which differs where the other words add up to 0xFFFF.
 use Rattle.std.specs.Prelude.{ℕ, zero, suc, ◌+◌, ◌*◌, ◌/◌, ◌%◌, ◌^◌, ◌&&◌, nat_le, nat_lt}
-use Rattle.std.specs.Prelude.{if◌then◌else◌, List, length, slice_index_or}
+use Rattle.std.specs.Prelude.{Bool, if◌then◌else◌, List, length, slice_index_or, Option, option_map}
+use Rattle.goblin_base.specs.Answers.{◌>>=◌}
+use Rattle.goblin_pe_head.specs.HeaderReadings.{pe_header}
+use Rattle.goblin_pe_head.specs.PeHeader.{PeHeader}
 
 -- the byte at an offset; 0 in the four bytes of the field, and past the end
 abbrev pub summed_byte : List ℕ → ℕ → ℕ → ℕ
@@ -29,3 +32,13 @@ sum_of_words bytes field (suc n) =
 abbrev pub image_checksum : List ℕ → ℕ → ℕ
 image_checksum bytes field =
     (sum_of_words bytes field ((length bytes + 1) / 2) + length bytes) % 2 ^ 32
+
+-- the file offset of the field, if there is an optional header: 64 bytes after that begins in both
+-- of its forms, which is 24 bytes after the signature
+abbrev pub checksum_field : PeHeader → Option ℕ
+checksum_field h = option_map (λ optional. h.dos_header.pe_pointer + 88) h.optional_header
+
+-- the checksum of a file whose header says where the field is, if it can be read and has one
+abbrev pub file_checksum : Bool → List ℕ → Option ℕ
+file_checksum strict bytes =
+    (pe_header strict).value bytes >>= λ h. option_map (image_checksum bytes) (checksum_field h)

@@ -5,6 +5,7 @@ pub mod Keys
 pub mod LayoutCursors
 pub mod Layouts
 pub mod Modes
+pub mod RefusedParts
 pub mod TableRuns
 pub mod TakenMemory
 pub mod TwinParts

@@ -2,7 +2,16 @@
 
 ghost use Rattle.std.specs.Prelude.{◌≡◌, ◌+◌, ◌*◌, ◌/◌, ◌<◌, length};
 ghost use Rattle.goblin_pe.specs.Checksums.{image_checksum, sum_of_words, summed_byte, summed_word};
-ghost use Rattle.goblin_pe.specs.Checksums.{with_carry};
+ghost use Rattle.goblin_pe.specs.Checksums.{checksum_field, file_checksum, with_carry};
+ghost use Rattle.goblin_pe_head.specs.PeHeader.{header_value};
+ghost use Rattle.goblin_pe_sect.specs.Options.{is_strict};
+
+use goblin_pe_head::header::{Header, SIZEOF_COFF_HEADER, SIZEOF_PE_MAGIC};
+use goblin_pe_head::optional_header::{
+    OFFSET_WINDOWS_FIELDS_32_CHECKSUM, OFFSET_WINDOWS_FIELDS_64_CHECKSUM,
+    SIZEOF_STANDARD_FIELDS_32, SIZEOF_STANDARD_FIELDS_64,
+};
+use goblin_pe_sect::options::ParseOptions;
 
 // The byte at an offset; 0 in the four bytes of the field, and past the end.
 fn summed_byte(bytes: &[u8], field: usize, offset: usize) -> u32
@@ -65,4 +74,42 @@ pub fn checksum(bytes: &[u8], field: usize) -> u32
 {
     let length = (bytes.len() % (1 << 32)) as u32;
     sum_of_words(bytes, field).wrapping_add(length)
+}
+
+// How far after the signature the field is: that and the COFF header stand before the optional
+// header, in which the standard fields stand before the others.
+const FIELD_OFFSET: usize = 88;
+
+const _: () = prove!(
+    FIELD_OFFSET
+        == SIZEOF_PE_MAGIC
+            + SIZEOF_COFF_HEADER
+            + SIZEOF_STANDARD_FIELDS_32
+            + OFFSET_WINDOWS_FIELDS_32_CHECKSUM
+        && FIELD_OFFSET
+            == SIZEOF_PE_MAGIC
+                + SIZEOF_COFF_HEADER
+                + SIZEOF_STANDARD_FIELDS_64
+                + OFFSET_WINDOWS_FIELDS_64_CHECKSUM
+);
+
+/// The file offset of the checksum field of an image with this header; `None` without an optional
+/// header.
+pub fn checksum_field(header: &Header) -> Option<usize>
+    ensures { result ≡ checksum_field (header_value header.now) }
+{
+    match &header.optional_header {
+        Some(_) => Some(header.dos_header.pe_pointer as usize + FIELD_OFFSET),
+        None => None,
+    }
+}
+
+/// The checksum of the image `bytes`, as [`checksum`], whose header says where its field is. `None`
+/// where the header cannot be read by these options, or has no optional header.
+pub fn file_checksum(bytes: &[u8], opts: &ParseOptions) -> Option<u32>
+    ensures { result ≡ file_checksum (is_strict opts.now.parse_mode) bytes.now }
+{
+    let header = Header::parse_with_opts(bytes, opts).ok()?;
+    let field = checksum_field(&header)?;
+    Some(checksum(bytes, field))
 }

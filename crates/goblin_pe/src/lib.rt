@@ -19,8 +19,8 @@ pub use goblin_pe_sect::{
     address_map, data_directories, options, relocation, section_table, table, utils, windows,
 };
 pub use goblin_pe_symbol::symbol;
-pub use image_checksum::checksum;
+pub use image_checksum::{checksum, checksum_field, file_checksum};
 pub use whole::{
-    Damage, FileImports, Layout, Part, Places, Whole, section_records_of, section_table_offset,
-    sections_of,
+    Damage, FileImports, Layout, Part, Places, RefusedPart, Whole, section_records_of,
+    section_table_offset, sections_of,
 };

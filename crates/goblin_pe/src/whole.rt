@@ -29,12 +29,14 @@ mod libraries;
 mod listed;
 mod places;
 mod reached;
+mod refused;
 
 pub use damage::Damage;
 pub use imports::FileImports;
 pub use layout::{Layout, section_records_of, section_table_offset, sections_of};
 use listed::{ListedTables, export_parts};
 pub use places::Places;
+pub use refused::RefusedPart;
 
 /// A table of a file, as [`Whole::read`] found it.
 #[derive(Debug, Drop)]

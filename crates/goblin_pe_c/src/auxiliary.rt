@@ -1,7 +1,7 @@
 //! The calls that read the auxiliary records of a symbol. Each takes the records' bytes, as
 //! `goblin_pe_raw_next_symbols` gives them, and no memory; which record it is says the symbol.
 
-ghost use Rattle.std.specs.Prelude.{◌≡◌, length, option_map};
+ghost use Rattle.std.specs.Prelude.{◌≡◌, length};
 ghost use Rattle.goblin_base.specs.Bytes.{bounded_text_at};
 ghost use Rattle.goblin_base.specs.Record.{record_at};
 ghost use Rattle.goblin_base.specs.declared.endian.Endian.{Endian};
@@ -17,7 +17,7 @@ use goblin_pe::symbol::{
     AuxBeginAndEndFunction, AuxFunctionDefinition, AuxSectionDefinition, AuxWeakExternal,
 };
 use goblin_pe_records::found::{put_found, put_front};
-use goblin_pe_records::image::PeText;
+use goblin_pe_records::image::{PeText, text_record};
 
 /// Puts what the first record says of a function's definition into `definition`, and answers
 /// whether there is a record: 18 bytes. If not, nothing is changed.
@@ -72,15 +72,6 @@ pub extern "C" fn goblin_pe_raw_read_aux_section_definition(
         definition.new }
 {
     put_front(bytes, definition)
-}
-
-// The record of a text, where there is one.
-fn text_record<'a>(text: Option<&'a str>) -> Option<PeText<'a>>
-    ensures { option_map text_view result ≡ option_map (λ s. s.now) text.entry }
-{
-    Some(PeText {
-        bytes: text?.as_bytes(),
-    })
 }
 
 /// Puts the name of a source file, which all its auxiliary records hold, into `name`: the bytes up

@@ -4,21 +4,21 @@
 //! Addresses are relative to the image's base; offsets are file offsets. Both are in bytes. No call
 //! takes memory. After a refusal, or where there is no offset, nothing is changed.
 
-ghost use Rattle.std.specs.Prelude.{◌≡◌};
+ghost use Rattle.std.specs.Prelude.{◌≡◌, ◌==◌, Some, length};
 ghost use Rattle.goblin_pe_sect.specs.AddressReadings.{text_at_address};
-ghost use Rattle.goblin_pe_sect.specs.SectionReadings.{section_data};
 ghost use Rattle.goblin_pe_records.specs.Calls.{ReadsWithout, Reported};
 ghost use Rattle.goblin_pe_records.specs.Found.{Puts};
 ghost use Rattle.goblin_pe_records.specs.Images.{bytes_at_address, image_map, text_view};
 ghost use Rattle.goblin_pe_records.specs.Options.{options_at};
-ghost use Rattle.goblin_pe_records.specs.SectionData.{SaysData, placed};
+ghost use Rattle.goblin_pe_records.specs.SectionData.{available_data, data_of, data_view};
+ghost use Rattle.goblin_pe_records.specs.SectionData.{stored_size};
 ghost use Rattle.goblin_pe_records.specs.Sections.{section_view};
 
 use goblin_pe_records::fault::{PeFault, status_of};
 use goblin_pe_records::found::put_found;
 use goblin_pe_records::image::{PeImage, PeText};
 use goblin_pe_records::section::PeSection;
-use goblin_pe_records::section_data::{PeSectionData, read_data};
+use goblin_pe_records::section_data::{self, PeSectionData, read_data, stored_size};
 
 /// Puts the file offset of the address `rva` into `offset`, and answers whether it has one: that of
 /// the first section whose window holds the address, as the file's readers map it. It has none
@@ -71,9 +71,12 @@ pub extern "C" fn goblin_pe_raw_bytes_at<'a>(
 
 /// Reads the data of a section in memory: the bytes at its raw pointer, as many as its raw size
 /// says, and how many zeros follow them up to the virtual size. There are none where the raw size
-/// is at least that; the bytes are then not cut. The raw pointer is taken as stored or rounded down
-/// to 512, by the rule of the image's options and its file alignment; its sections are not looked
-/// at.
+/// is at least that; the bytes are then not cut at the virtual size, as those of
+/// [`goblin_pe_raw_memory_at`](crate::look_up::goblin_pe_raw_memory_at) are. The raw pointer is
+/// taken as stored or rounded down to 512, by the rule of the image's options and its file
+/// alignment; its sections are not looked at. A section of uninitialized data
+/// (`IMAGE_SCN_CNT_UNINITIALIZED_DATA`) whose raw pointer is 0, as an object's `.bss`, has no
+/// bytes, and its size as zeros: the virtual size, or the raw size where that is 0.
 ///
 /// A read is refused (the status 4) where the bytes run past the end of the file, or begin past it,
 /// even where there are none: by the cause 1 if they begin at or past it, else by 2.
@@ -84,10 +87,28 @@ pub extern "C" fn goblin_pe_raw_read_section_data<'a>(
     contents: &mut PeSectionData<'a>,
 ) -> PeFault
     ensures { let opts = options_at image.now.options image.now.file_alignment in
-        let s = placed opts (section_view section.now) in
         Reported result
-        (ReadsWithout (section_data s) image.now.bytes.now
-        (λ whole. SaysData s whole contents.new) (contents.new ≡ contents.old)) }
+        (ReadsWithout (data_of opts (section_view section.now)) image.now.bytes.now
+        (λ whole. data_view contents.new ≡ whole) (contents.new ≡ contents.old)) }
 {
     status_of(read_data(image, section, contents))
+}
+
+/// Gives the data of a section in memory as far as the file has it, and answers whether it has all
+/// of its bytes. As [`goblin_pe_raw_read_section_data`] otherwise, but nothing is refused: the
+/// bytes end where the file does, and no zeros follow bytes of which some are missing.
+#[unsafe(no_mangle)]
+pub extern "C" fn goblin_pe_raw_available_section_data<'a>(
+    image: &PeImage<'a>,
+    section: &PeSection,
+    contents: &mut PeSectionData<'a>,
+) -> bool
+    ensures bytes { let opts = options_at image.now.options image.now.file_alignment in
+        (available_data opts (section_view section.now)).value image.now.bytes.now
+        ≡ Some (data_view contents.new) }
+    ensures all { result
+        ≡ (length contents.new.bytes.now == stored_size (section_view section.now)) }
+{
+    *contents = section_data::available_data(image, section);
+    contents.bytes.len() == stored_size(section) as usize
 }

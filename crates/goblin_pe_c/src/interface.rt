@@ -7,15 +7,15 @@ ghost use Rattle.std.specs.Prelude.{◌≡◌};
 /// The sum of this interface. A caller that declares another one has another number.
 #[unsafe(no_mangle)]
 pub extern "C" fn goblin_pe_interface() -> u32
-    ensures { result ≡ 559790641 }
+    ensures { result ≡ 1919916073 }
 {
-    559_790_641
+    1_919_916_073
 }
 
 /// The same, by a name that no other interface has, with which programs in C are linked.
 #[unsafe(no_mangle)]
-pub extern "C" fn goblin_pe_interface_215dba31() -> u32
-    ensures { result ≡ 559790641 }
+pub extern "C" fn goblin_pe_interface_726f9829() -> u32
+    ensures { result ≡ 1919916073 }
 {
-    559_790_641
+    1_919_916_073
 }

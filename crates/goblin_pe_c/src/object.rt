@@ -10,21 +10,25 @@ ghost use Rattle.goblin_pe_records.specs.Options.{header_options};
 ghost use Rattle.goblin_pe_records.specs.Relocations.{RelocationRecords, SaysRelocations};
 ghost use Rattle.goblin_pe_records.specs.Relocations.{relocations_of};
 ghost use Rattle.goblin_pe_records.specs.Sections.{section_view};
-ghost use Rattle.goblin_pe_records.specs.Symbols.{NamesOfText, SaysSymbols, SaysTable};
-ghost use Rattle.goblin_pe_records.specs.Symbols.{SymbolRecords, named_symbol_view, symbol_said};
-ghost use Rattle.goblin_pe_records.specs.Symbols.{symbol_tables, tables_said};
+ghost use Rattle.goblin_pe_records.specs.Images.{text_view};
+ghost use Rattle.goblin_pe_records.specs.Symbols.{FindsTables, NamesOfText, SaysSymbols};
+ghost use Rattle.goblin_pe_records.specs.Symbols.{SaysTable, SymbolRecords, found_table};
+ghost use Rattle.goblin_pe_records.specs.Symbols.{named_symbol_view, symbol_said, symbol_tables};
+ghost use Rattle.goblin_pe_records.specs.Symbols.{tables_said, text_said};
 
 use goblin_pe::header::CoffHeader;
 use goblin_pe::relocation::Relocation;
 use goblin_pe_calls::batch::room_within;
 use goblin_pe_records::fault::{PeFault, status_of};
 use goblin_pe_records::found::put_found;
+use goblin_pe_records::image::{PeText, text_record};
 use goblin_pe_records::object::{self, PeObject};
 use goblin_pe_records::options::{PeOptions, header_options};
 use goblin_pe_records::relocation::read_relocations;
 use goblin_pe_records::section::PeSection;
 use goblin_pe_records::symbol::{
-    PeNamedSymbol, PeSymbolTable, find_symbol, read_symbol_table, read_symbols,
+    PeNamedSymbol, PeSymbolTable, find_symbol, find_symbol_table, read_symbol_table, read_symbols,
+    text_at,
 };
 use std::alloc::Global;
 
@@ -72,6 +76,45 @@ pub extern "C" fn goblin_pe_raw_read_symbol_table(
     ensures names { NamesOfText }
 {
     status_of(read_symbol_table(alloc, bytes, header, table))
+}
+
+/// Finds the symbol table and the string table of an image or an object, and says in `table` where
+/// they lie, as [`goblin_pe_raw_read_symbol_table`] does, but without a look at the texts: so the
+/// symbols of a file can be read of which one name is not UTF-8. Such a symbol has no name. It
+/// takes no memory, and little time.
+///
+/// It is refused where one of the two tables does not lie in the file, or the string table has no
+/// length of four bytes, or one below 4 (the cause 12). Nothing is then changed.
+#[unsafe(no_mangle)]
+pub extern "C" fn goblin_pe_raw_find_symbol_table(
+    bytes: &[u8],
+    header: &CoffHeader,
+    table: &mut PeSymbolTable,
+) -> PeFault
+    ensures tables { Reported result
+        (ReadsWithout (found_table header.now) bytes.now (λ found. table.new ≡ found)
+        (table.new ≡ table.old)) }
+    ensures same { FindsTables }
+{
+    status_of(find_symbol_table(bytes, header, table))
+}
+
+/// Puts the text at an offset of a string table into `text`, and answers whether there is one: what
+/// stands there up to a NUL or the table's end. The offset counts from the table's length of four
+/// bytes, as the numbers do that stand in place of names. Where the table does not lie in the file,
+/// the offset does not lie in its texts, or the bytes are not UTF-8, there is none, and nothing is
+/// changed.
+#[unsafe(no_mangle)]
+#[tactic(auto, using(goblin_pe_records::proofs::Puts::puts_view))]
+pub extern "C" fn goblin_pe_raw_string_at<'a>(
+    bytes: &'a [u8],
+    table: &PeSymbolTable,
+    offset: usize,
+    text: &mut PeText<'a>,
+) -> bool
+    ensures { Puts text_view result (text_said table.now bytes.now offset) text.old text.new }
+{
+    put_found(text, text_record(text_at(bytes, table, offset)))
 }
 
 /// Fills records of the symbols of a table that

@@ -3,6 +3,8 @@
 ghost use Rattle.std.specs.Prelude.{◌≡◌, length};
 ghost use Rattle.goblin_pe_sect.specs.Options.{is_strict};
 ghost use Rattle.goblin_pe_head.specs.HeaderReadings.{pe_header};
+ghost use Rattle.goblin_pe.specs.Reads.{given};
+ghost use Rattle.goblin_pe.specs.RefusedParts.{refused_number, refused_part};
 ghost use Rattle.goblin_pe.specs.Whole.{layout as file_layout};
 ghost use Rattle.goblin_pe_records.specs.Calls.{ReadsInto, ReadsWithout, Reported};
 ghost use Rattle.goblin_pe_calls.specs.FileLayouts.{LayoutRecords, SaysLayout};
@@ -120,6 +122,29 @@ pub extern "C" fn goblin_pe_raw_read_damage(
         (λ l. RecordsDamage opts l.0 l.1 bytes.now damage.new) (damage.new ≡ damage.old)) }
 {
     status_of(damage::tell(alloc, bytes, &options_in(bytes, options), damage))
+}
+
+/// Puts into `part` the part for which a read by these options refuses a file, as a
+/// [`RefusedPart`](goblin_pe::RefusedPart): the first that cannot be read, in the order of the
+/// header, the sections, the imports, the exports and the base relocations. It is 0 where nothing
+/// is refused, and in permissive mode never a table.
+///
+/// Each part is read up to the refusal, and no table is listed. Refused is memory alone (the status
+/// 5), as of [`goblin_pe_raw_read_damage`]; nothing is then changed.
+#[unsafe(no_mangle)]
+pub extern "C" fn goblin_pe_raw_refused_part_of(
+    alloc: Global,
+    bytes: &[u8],
+    options: &PeOptions,
+    part: &mut u32,
+) -> PeFault
+    ensures { let opts = options_in options.now bytes.now in
+        Reported result
+        (ReadsInto (pe_header (is_strict opts.parse_mode)) (TakesIndex opts bytes.now)
+        (given (refused_part opts bytes.now)) bytes.now
+        (λ p. part.new ≡ refused_number p) (part.new ≡ part.old)) }
+{
+    status_of(damage::tell_refused(alloc, bytes, &options_in(bytes, options), part))
 }
 
 /// Puts into `ranges` the positions of a file on which all that

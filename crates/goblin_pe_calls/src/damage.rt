@@ -3,6 +3,8 @@
 ghost use Rattle.std.specs.Prelude.{◌≡◌};
 ghost use Rattle.goblin_pe_sect.specs.Options.{is_strict};
 ghost use Rattle.goblin_pe_head.specs.HeaderReadings.{pe_header};
+ghost use Rattle.goblin_pe.specs.Reads.{given};
+ghost use Rattle.goblin_pe.specs.RefusedParts.{refused_number, refused_part};
 ghost use Rattle.goblin_pe.specs.Whole.{layout};
 ghost use Rattle.goblin_pe_records.specs.Calls.{ReadsInto};
 ghost use Rattle.goblin_pe.specs.TakenMemory.{TakesIndex};
@@ -84,5 +86,20 @@ pub fn tell(alloc: Global, bytes: &[u8], opts: &ParseOptions, damage: &mut PeDam
 {
     let told = Whole::damage(alloc, bytes, opts)?;
     *damage = damage_record(&told);
+    Ok(())
+}
+
+/// Puts into `part` the number of the part for which these options refuse a file: the first that
+/// cannot be read. It is 0 where the file is read.
+///
+/// # Errors
+/// Memory; nothing is then changed.
+pub fn tell_refused(alloc: Global, bytes: &[u8], opts: &ParseOptions, part: &mut u32) -> Result<()>
+    ensures { ReadsInto (pe_header (is_strict opts.now.parse_mode)) (TakesIndex opts.now bytes.now)
+        (given (refused_part opts.now bytes.now)) bytes.now
+        (λ p. part.new ≡ refused_number p) (part.new ≡ part.old) result }
+{
+    let refused = Whole::refused_part(alloc, bytes, opts)?;
+    *part = refused as u32;
     Ok(())
 }

@@ -10,7 +10,7 @@ use Rattle.goblin_pe_head.specs.declared.header.coff.CoffHeader.{CoffHeader}
 use Rattle.goblin_pe_head.specs.CoffHeader.{string_table_offset, symbols_end}
 use Rattle.goblin_pe_head.specs.CoffReadings.{strings_at, strings_of, symbols_of}
 use Rattle.goblin_pe_records.specs.declared.symbol.PeSymbolTable.{PeSymbolTable}
-use Rattle.goblin_pe_records.specs.Symbols.{SaysTable, symbol_tables, table_record, tables_said}
+use Rattle.goblin_pe_records.specs.Symbols.{FindsTables, SaysTable, symbol_tables, table_record, tables_said, texts_at, texts_of}
 
 -- the texts of a string table are the bytes where they lie
 texts_inside : (inside : Bool) (text : Option (List ℕ)) (s : List ℕ) → cond inside text None ≡ Some s → (inside ≡ true) × (text ≡ Some s)
@@ -21,12 +21,18 @@ texts_same : (is_text : Bool) (xs s : List ℕ) → cond is_text (Some xs) None 
 texts_same true xs s is = sym (same_value xs s is)
 texts_same false xs s is = absurd (cc is)
 
+texts_long : (bytes : List ℕ) (p n : ℕ) (s : List ℕ) → string_table bytes p n ≡ Some s → length s ≡ n
+texts_long bytes p n s is =
+    let table = texts_inside (nat_le (p + n) (length bytes)) (text_of (slice_range bytes p (p + n))) s is in
+    let same : s ≡ slice_range bytes p (p + n) = texts_same _ _ s table.1 in
+    let le = leb-true (p + n) (length bytes) table.0 in
+    ap length same ∙ omega (arith, length-take (p + n - p) (drop p bytes), length-drop p bytes, le)
+
 texts_there : (bytes : List ℕ) (p n : ℕ) (s : List ℕ) → string_table bytes p n ≡ Some s → bytes_between bytes p (p + length s) ≡ Some s
 texts_there bytes p n s is =
     let table = texts_inside (nat_le (p + n) (length bytes)) (text_of (slice_range bytes p (p + n))) s is in
     let same : s ≡ slice_range bytes p (p + n) = texts_same _ _ s table.1 in
-    let le = leb-true (p + n) (length bytes) table.0 in
-    let long : length s ≡ n = ap length same ∙ omega (arith, length-take (p + n - p) (drop p bytes), length-drop p bytes, le) in
+    let long = texts_long bytes p n s is in
     let begins : nat_le p (p + n) ≡ true = le-leb p (p + n) (omega arith) in
     rw (long, begins, table.0) (ap (λ (xs : List ℕ). Some xs) (sym same))
 
@@ -96,3 +102,52 @@ pub says_table : (header : CoffHeader) (bytes : List ℕ) (symbols strings : Opt
 says_table header bytes symbols strings table placed ended is =
     let read : (symbol_tables header).value bytes ≡ Some (symbols, strings) = rw (placed, ended) refl in
     rw read (record { is = is; leads = subst (λ (t : PeSymbolTable). (tables_said t).value bytes ≡ Some (pair_of symbols strings)) (sym is) (leads header bytes (symbols, strings) read) })
+
+-- ---- tables that are found
+
+not_few : (few : Bool) (table : Option (List ℕ)) (s : List ℕ) → cond few None table ≡ Some s → few ≡ false
+not_few true table s is = absurd (cc is)
+not_few false table s is = refl
+
+-- the length of a string table that was read says how many bytes its texts have
+texts_length : (bytes : List ℕ) (p : ℕ) (s : List ℕ) → (strings_at p).value bytes ≡ Some s → (texts_at p).value bytes ≡ Some (Some (length s))
+texts_length bytes p s is =
+    let size = step (number_at Little 4 bytes p) _ s is in
+    let table = string_table bytes (p + 4) (size.value - 4) in
+    let few = not_few (nat_lt size.value 4) table s size.then in
+    let long = texts_long bytes (p + 4) (size.value - 4) s (by_size (nat_lt size.value 4) table s size.then) in
+    rw (size.is, few, long) refl
+
+texts_placed : (header : CoffHeader) (bytes : List ℕ) → (header.pointer_to_symbol_table == 0) ≡ false → (texts_of header).value bytes ≡ (texts_at (symbols_end header)).value bytes
+unfolding texts_of string_table_offset
+texts_placed header bytes some = rw some refl
+
+-- how many bytes the texts have is what a header leads to
+abbrev HasTexts : CoffHeader → List ℕ → Option (List ℕ) → Type 0
+HasTexts header bytes strings = (texts_of header).value bytes ≡ Some (option_map (λ s. length s) strings)
+
+no_texts : (header : CoffHeader) (bytes : List ℕ) (strings : Option (List ℕ)) → (header.pointer_to_symbol_table == 0) ≡ true → (strings_of header).value bytes ≡ Some strings → HasTexts header bytes strings
+unfolding strings_of string_table_offset texts_of
+no_texts header bytes strings none is =
+    let made : (strings_of header).value bytes ≡ Some None = rw none refl in
+    subst (HasTexts header bytes) (same_value _ _ (sym made ∙ is)) (rw none refl)
+
+some_texts : (header : CoffHeader) (bytes : List ℕ) (strings : Option (List ℕ)) → (header.pointer_to_symbol_table == 0) ≡ false → (strings_of header).value bytes ≡ Some strings → HasTexts header bytes strings
+some_texts header bytes strings some is =
+    let there = mapped ((strings_at (symbols_end header)).value bytes) (λ (t : List ℕ). Some t) strings (sym (strings_placed header bytes some) ∙ is) in
+    subst (HasTexts header bytes) there.made (texts_placed header bytes some ∙ texts_length bytes (symbols_end header) there.value there.is)
+
+has_texts : (header : CoffHeader) (bytes : List ℕ) (strings : Option (List ℕ)) → (strings_of header).value bytes ≡ Some strings → HasTexts header bytes strings
+has_texts header bytes strings is =
+    elim (either (header.pointer_to_symbol_table == 0)) [
+      | inl none ↦ no_texts header bytes strings none is
+      | inr some ↦ some_texts header bytes strings some is
+    ]
+
+-- tables that are read are found
+pub finds_tables : FindsTables
+finds_tables header bytes x is =
+    let read = step ((symbols_of header).value bytes) _ x is in
+    let both = mapped ((strings_of header).value bytes) (λ (strings : Option (List ℕ)). (read.value, strings)) x read.then in
+    let texts : HasTexts header bytes x.1 = subst (λ (y : Option (List ℕ) × Option (List ℕ)). HasTexts header bytes y.1) both.made (has_texts header bytes both.value both.is) in
+    rw (texts, leads header bytes x is) refl

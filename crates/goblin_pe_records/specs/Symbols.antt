@@ -3,18 +3,20 @@ use Rattle.std.specs.Prelude.{◌≡◌, ℕ, zero, suc, ◌+◌, ◌-◌, ◌*�
 use Rattle.std.specs.Prelude.{List, [], length, map, nat_lt, take, drop, slice_index, true}
 use Rattle.std.specs.Prelude.{Option, Some, None, option_map}
 use Rattle.std.specs.Str.{is_utf8}
-use Rattle.goblin_base.specs.declared.error.CauseOf.TheVariants.{StringTable}
+use Rattle.goblin_base.specs.declared.endian.Endian.TheVariants.{Little}
+use Rattle.goblin_base.specs.declared.error.CauseOf.TheVariants.{CoffLength, StringTable}
 use Rattle.goblin_base.specs.Answers.{◌>>=◌}
 use Rattle.goblin_base.specs.Bytes.{stretch, text_of}
 use Rattle.goblin_base.specs.Reading.{Reading}
 use Rattle.goblin_base.specs.Strtab.{is_in_piece, rest_at}
 use Rattle.readings.specs.Reads as reads
-use Rattle.readings.specs.Reads.{because, bytes_between, given, mapped, pair_of, pick, slice_at}
-use Rattle.readings.specs.Reads.{◌beside◌}
+use Rattle.readings.specs.Reads.{because, bytes_between, given, mapped, needs, number_at, pair_of}
+use Rattle.readings.specs.Reads.{◌beside◌, pick, slice_at}
 use Rattle.goblin_pe_symbol.specs.declared.symbol.Symbol.{Symbol}
-use Rattle.goblin_pe_symbol.specs.Symbols.{SymbolItem, aux, name_offset_of, symbol_of, symbols_from}
+use Rattle.goblin_pe_symbol.specs.Symbols.{SymbolItem, aux, name_offset_of, stored_offset}
+use Rattle.goblin_pe_symbol.specs.Symbols.{symbol_of, symbols_from}
 use Rattle.goblin_pe_head.specs.declared.header.coff.CoffHeader.{CoffHeader}
-use Rattle.goblin_pe_head.specs.CoffHeader.{symbols_end}
+use Rattle.goblin_pe_head.specs.CoffHeader.{string_table_offset, symbols_end}
 use Rattle.goblin_pe_head.specs.CoffReadings.{strings_of, symbols_of}
 use Rattle.goblin_pe_records.specs.declared.symbol.PeNamedSymbol.{PeNamedSymbol}
 use Rattle.goblin_pe_records.specs.declared.symbol.PeSymbolTable.{PeSymbolTable}
@@ -150,6 +152,34 @@ pub record SaysTable (header : CoffHeader) (bytes : List ℕ)
   pub is : table ≡ table_record header (option_map (λ s. length s) tables.1)
   pub leads : (tables_said table).value bytes ≡ Some (pair_of tables.0 tables.1)
 
+-- how many bytes the texts of the string table that a header leads to have, by its length, which
+-- includes the four bytes that say it; none where there is no such table
+abbrev pub texts_at : ℕ → Reading (Option ℕ)
+texts_at p =
+    reads.◌>>=◌ (number_at Little 4 p)
+    (λ n. pick (nat_lt n 4) (needs None CoffLength) (given (Some (n - 4))))
+
+abbrev pub texts_where : Option ℕ → Reading (Option ℕ)
+texts_where None = given None
+texts_where (Some p) = texts_at p
+
+unfoldable pub texts_of : CoffHeader → Reading (Option ℕ)
+texts_of header = texts_where (string_table_offset header)
+
+-- the record of the tables that a header leads to, whatever their bytes are
+abbrev pub found_table : CoffHeader → Reading PeSymbolTable
+found_table header =
+    reads.◌>>=◌ (texts_of header)
+    (λ n. mapped (λ tables. table_record header n) (tables_said (table_record header n)))
+
+-- Where the tables are read whose texts are tested, those are found that they are.
+abbrev pub FindsTables : Type 0
+FindsTables =
+    (header : CoffHeader) (bytes : List ℕ) (tables : Option (List ℕ) × Option (List ℕ))
+    → (symbol_tables header).value bytes ≡ Some tables
+    → (found_table header).value bytes
+    ≡ Some (table_record header (option_map (λ s. length s) tables.1))
+
 -- what a call gives of these tables; where there are none, only that there are no symbols
 abbrev pub SaysSymbols : Option (List ℕ × List ℕ) → SymbolRecords → SymbolRecords → Type 0
 SaysSymbols (Some tables) old new = GivesSymbols tables.0 tables.1 old new
@@ -159,3 +189,10 @@ SaysSymbols None old new = new ≡ record old { count = 0 }
 abbrev pub symbol_said : PeSymbolTable → List ℕ → ℕ → Option (NamedSymbol × List ℕ)
 symbol_said table bytes i =
     (tables_said table).value bytes >>= λ both. both >>= λ t. symbol_in t.0 t.1 i
+
+-- the text at an offset of the string table that a record says, whose first four bytes are its
+-- length: what is left of the piece there, where that is UTF-8
+abbrev pub text_said : PeSymbolTable → List ℕ → ℕ → Option (List ℕ)
+text_said table bytes o =
+    (strings_said table.strings_offset table.strings_length).value bytes
+    >>= λ strings. stored_offset o >>= name_in_piece strings

@@ -2,7 +2,7 @@
 //!
 //! Addresses are relative to the image's base; offsets are file offsets. Both are in bytes.
 
-ghost use Rattle.std.specs.Prelude.{◌≡◌};
+ghost use Rattle.std.specs.Prelude.{◌≡◌, option_map};
 ghost use Rattle.goblin_base.specs.declared.error.CauseOf.TheVariants.{Unmapped};
 ghost use Rattle.goblin_base.specs.declared.error.ErrorOf.TheVariants.{Malformed};
 ghost use Rattle.goblin_base.specs.Answers.{Answers};
@@ -23,7 +23,8 @@ pub struct PeImage<'a> {
     pub bytes: &'a [u8],
     /// The records of its sections, in the order of the section table. No call looks at more of
     /// them than their `virtual_address`, `virtual_size`, `pointer_to_raw_data` and
-    /// `size_of_raw_data`; all else may be zeros, a null pointer of their texts, too.
+    /// `size_of_raw_data`, and for what a loader sees at an address their `characteristics`; all
+    /// else may be zeros, a null pointer of their texts, too.
     pub sections: &'a [PeSection<'a>],
     /// Its file alignment, in bytes.
     pub file_alignment: u32,
@@ -37,6 +38,15 @@ pub struct PeImage<'a> {
 pub struct PeText<'a> {
     /// The first of them.
     pub bytes: &'a [u8],
+}
+
+/// The record of a text, where there is one.
+pub fn text_record<'a>(text: Option<&'a str>) -> Option<PeText<'a>>
+    ensures { option_map text_view result ≡ option_map (λ s. s.now) text.entry }
+{
+    Some(PeText {
+        bytes: text?.as_bytes(),
+    })
 }
 
 impl<'a> PeImage<'a> {

@@ -1,16 +1,20 @@
 //! The data of a section.
 
-ghost use Rattle.std.specs.Prelude.{◌≡◌};
-ghost use Rattle.goblin_pe_sect.specs.SectionReadings.{section_data};
+ghost use Rattle.std.specs.Prelude.{◌≡◌, Some};
+ghost use Rattle.goblin_base.specs.Reading.{Reads};
 ghost use Rattle.goblin_pe_records.specs.Calls.{ReadsWithout};
 ghost use Rattle.goblin_pe_records.specs.Options.{options_at};
-ghost use Rattle.goblin_pe_records.specs.SectionData.{SaysData, placed};
+ghost use Rattle.goblin_pe_records.specs.SectionData.{available, available_data, data_of};
+ghost use Rattle.goblin_pe_records.specs.SectionData.{data_view, front_at, is_unstored};
+ghost use Rattle.goblin_pe_records.specs.SectionData.{memory_size, stored_data, stored_size};
+ghost use Rattle.goblin_pe_records.specs.SectionData.{zeros_after};
 ghost use Rattle.goblin_pe_records.specs.Sections.{section_view};
 
 use crate::image::PeImage;
 use crate::options::options_at;
 use crate::section::{PeSection, section_of};
 use goblin_base::Result;
+use goblin_pe_sect::section_table::IMAGE_SCN_CNT_UNINITIALIZED_DATA;
 use goblin_pe_sect::utils::raw_begin;
 
 /// The data of a section, as it is in memory.
@@ -23,9 +27,62 @@ pub struct PeSectionData<'a> {
     pub zeros: usize,
 }
 
+/// The size of a section in memory: its virtual size, and its raw size where that is 0.
+pub(crate) fn memory_size(section: &PeSection) -> u32
+    ensures { result ≡ memory_size (section_view section.now) }
+{
+    if section.virtual_size == 0 {
+        section.size_of_raw_data
+    } else {
+        section.virtual_size
+    }
+}
+
+// Whether a section is one of uninitialized data that has no place in the file.
+fn is_unstored(section: &PeSection) -> bool
+    ensures { result ≡ is_unstored (section_view section.now) }
+{
+    section.characteristics & IMAGE_SCN_CNT_UNINITIALIZED_DATA != 0
+        && section.pointer_to_raw_data == 0
+}
+
+/// How many bytes the file has of a section.
+pub fn stored_size(section: &PeSection) -> u32
+    ensures { result ≡ stored_size (section_view section.now) }
+{
+    if is_unstored(section) {
+        0
+    } else {
+        section.size_of_raw_data
+    }
+}
+
+// How many zeros follow these.
+fn zeros_after(section: &PeSection) -> usize
+    ensures { result ≡ zeros_after (section_view section.now) }
+{
+    memory_size(section).saturating_sub(stored_size(section)) as usize
+}
+
+// The bytes that the file has of a section.
+fn stored_data<'a>(image: &PeImage<'a>, section: &PeSection) -> Result<&'a [u8]>
+    ensures { let opts = options_at image.now.options image.now.file_alignment in
+        Reads (λ s. s.now) result (stored_data opts (section_view section.now))
+        image.now.bytes.now }
+{
+    if is_unstored(section) {
+        return Ok(&image.bytes[..0]);
+    }
+    let opts = options_at(&image.options, image.file_alignment);
+    let mut placed = section_of(section);
+    placed.pointer_to_raw_data = raw_begin(&placed, &opts);
+    placed.raw_data(image.bytes)
+}
+
 /// Reads the data of a section of an image in memory: the bytes that the file has of it, and how
 /// many zeros follow them. The bytes begin at its raw pointer, as stored or rounded down to 512 by
-/// the rule of the image's options.
+/// the rule of the image's options. A section of uninitialized data whose raw pointer is 0 has none
+/// in the file.
 ///
 /// # Errors
 /// Bytes that do not lie in the file; nothing is then changed.
@@ -35,20 +92,46 @@ pub fn read_data<'a>(
     contents: &mut PeSectionData<'a>,
 ) -> Result<()>
     ensures { let opts = options_at image.now.options image.now.file_alignment in
-        let s = placed opts (section_view section.now) in
-        ReadsWithout (section_data s) image.now.bytes.now
-        (λ whole. SaysData s whole contents.new) (contents.new ≡ contents.old) result }
+        ReadsWithout (data_of opts (section_view section.now)) image.now.bytes.now
+        (λ whole. data_view contents.new ≡ whole) (contents.new ≡ contents.old) result }
 {
-    let opts = options_at(&image.options, image.file_alignment);
-    let mut placed = section_of(section);
-    placed.pointer_to_raw_data = raw_begin(&placed, &opts);
-    let raw_data = placed.raw_data(image.bytes)?;
-    let zeros = section
-        .virtual_size
-        .saturating_sub(section.size_of_raw_data);
+    let bytes = stored_data(image, section)?;
     *contents = PeSectionData {
-        bytes: raw_data,
-        zeros: zeros as usize,
+        bytes,
+        zeros: zeros_after(section),
     };
     Ok(())
+}
+
+// The first bytes from an offset on, at most so many, of which the file may have fewer.
+fn front_at(bytes: &[u8], offset: usize, size: usize) -> &[u8]
+    ensures { (front_at offset size).value bytes.now ≡ Some result.now }
+{
+    let end = bytes.len().min(offset.saturating_add(size));
+    &bytes[offset.min(bytes.len())..end]
+}
+
+/// The first bytes from an offset on as far as the file has them, at most so many, and the zeros
+/// that follow where the file has all of them.
+pub(crate) fn available(bytes: &[u8], offset: usize, size: usize, zeros: usize) -> PeSectionData<'_>
+    ensures { (available offset size zeros).value bytes.now ≡ Some (data_view result) }
+{
+    let found = front_at(bytes, offset, size);
+    PeSectionData {
+        bytes: found,
+        zeros: if found.len() == size { zeros } else { 0 },
+    }
+}
+
+/// The data of a section of an image as far as the file has it: its bytes from its raw pointer on,
+/// which begins as for [`read_data`], and the zeros that follow where the file has all of these.
+pub fn available_data<'a>(image: &PeImage<'a>, section: &PeSection) -> PeSectionData<'a>
+    ensures { let opts = options_at image.now.options image.now.file_alignment in
+        (available_data opts (section_view section.now)).value image.now.bytes.now
+        ≡ Some (data_view result) }
+{
+    let opts = options_at(&image.options, image.file_alignment);
+    let begin = raw_begin(&section_of(section), &opts) as usize;
+    let size = stored_size(section) as usize;
+    available(image.bytes, begin, size, zeros_after(section))
 }

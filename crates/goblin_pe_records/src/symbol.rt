@@ -11,9 +11,10 @@ ghost use Rattle.goblin_pe_records.specs.Symbols.{symbol_tables, GivesSymbols, a
 ghost use Rattle.goblin_pe_records.specs.Symbols.{named_symbol, strings_said, symbol_named};
 ghost use Rattle.goblin_pe_records.specs.Symbols.{table_record, NamesOfText, SaysSymbols, name_in};
 ghost use Rattle.goblin_pe_records.specs.Symbols.{symbol_said, tables_said, SaysTable, symbol_in};
+ghost use Rattle.goblin_pe_records.specs.Symbols.{FindsTables, found_table, text_said, texts_of};
 
-use goblin_base::read::{pread_slice, pread_str};
-use goblin_base::{Cause, Error, Result, Strtab};
+use goblin_base::read::{pread_slice, pread_str, pread_u32};
+use goblin_base::{Cause, Endian, Error, Result, Strtab};
 use goblin_pe_head::header::CoffHeader;
 use goblin_pe_symbol::symbol::{COFF_SYMBOL_SIZE, Symbol};
 use std::alloc::Global;
@@ -221,11 +222,21 @@ fn table_record(header: &CoffHeader, strings: &Option<Strtab>) -> PeSymbolTable
     ensures { result ≡ table_record header.now (option_map (λ s. length s) strings.now) }
 {
     match strings {
-        Some(strings) => PeSymbolTable {
+        Some(strings) => table_with(header, Some(strings.len())),
+        None => table_with(header, None),
+    }
+}
+
+// The same, by how many bytes the texts of the string table have, if there is one.
+fn table_with(header: &CoffHeader, texts: Option<usize>) -> PeSymbolTable
+    ensures { result ≡ table_record header.now texts }
+{
+    match texts {
+        Some(strings_length) => PeSymbolTable {
             offset: header.pointer_to_symbol_table,
             record_count: header.number_of_symbol_table,
             strings_offset: header.symbols_end() + LENGTH_FIELD_SIZE,
-            strings_length: strings.len(),
+            strings_length,
         },
         None => PeSymbolTable {
             offset: 0,
@@ -268,6 +279,41 @@ fn tables_said<'a>(bytes: &'a [u8], table: &PeSymbolTable) -> Result<Option<Tabl
     Ok(Some(Tables { records, strings }))
 }
 
+// How many bytes the texts of the string table that a header leads to have, if there is one.
+#[tactic(auto, unfolding(crate::specs::Symbols::texts_of))]
+fn texts_of(bytes: &[u8], header: &CoffHeader) -> Result<Option<usize>>
+    ensures { Reads (λ n. n) result (texts_of header.now) bytes.now }
+{
+    let Some(offset) = header.string_table_offset() else {
+        return Ok(None);
+    };
+    let length = pread_u32(bytes, offset, Endian::Little)? as usize;
+    if length < LENGTH_FIELD_SIZE {
+        return Err(Error::Malformed(Cause::CoffLength));
+    }
+    Ok(Some(length - LENGTH_FIELD_SIZE))
+}
+
+/// Finds the symbol table and the string table that a COFF header leads to, and says in `table`
+/// where they lie, as [`read_symbol_table`] does, but whatever their bytes are: of the string table
+/// only its length is read.
+///
+/// # Errors
+/// A string table whose length cannot be read or is below 4, and one of the two that does not lie
+/// in the file; nothing is then changed.
+#[tactic(auto, using(crate::proofs::SymbolTables::finds_tables))]
+pub fn find_symbol_table(bytes: &[u8], header: &CoffHeader, table: &mut PeSymbolTable) -> Result<()>
+    ensures tables { ReadsWithout (found_table header.now) bytes.now (λ found. table.new ≡ found)
+        (table.new ≡ table.old) result }
+    ensures same { FindsTables }
+{
+    let texts = texts_of(bytes, header)?;
+    let found = table_with(header, texts);
+    tables_said(bytes, &found)?;
+    *table = found;
+    Ok(())
+}
+
 /// Fills records of the symbols of a table from the record at the index `position` on, as far as
 /// there is room, says in `count` how many these are, and moves `position` past them.
 ///
@@ -305,4 +351,13 @@ pub fn find_symbol<'a>(
 {
     let tables = tables_said(bytes, table).ok()??;
     symbol_at(bytes, tables.records, tables.strings, index)
+}
+
+/// The text at an offset of the string table that a record says, whose first four bytes are its
+/// length; `None` where there is none, it is not UTF-8, or the table does not lie in the file.
+pub fn text_at<'a>(bytes: &'a [u8], table: &PeSymbolTable, offset: usize) -> Option<&'a str>
+    ensures { option_map (λ s. s.now) result ≡ text_said table.now bytes.now offset }
+{
+    let strings = strings_said(bytes, table.strings_offset, table.strings_length).ok()?;
+    name_in_piece(strings, offset.checked_sub(LENGTH_FIELD_SIZE)?)
 }

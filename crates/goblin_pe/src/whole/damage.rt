@@ -74,7 +74,7 @@ fn file_refusal_of<'a, 'm, 'e>(imports: FileImports<'a, 'm, 'e>) -> Option<Error
 }
 
 // What is refused of the imports.
-fn import_damage(layout: &Layout) -> Option<Error>
+pub(super) fn import_damage(layout: &Layout) -> Option<Error>
     ensures { IsDamage (layout_table import_list layout.now) (layout_bytes layout.now) result }
 {
     match layout.imports() {

@@ -1,0 +1,100 @@
+-- No part of a file is refused exactly where the file is read.
+use Rattle.std.proofs.Common.{◌≡◌, ℕ, ◌<◌, ◌^◌, List, length, Bool, true, false, cond, Option, Some, None, IsSome, refl, sym, subst}
+use Rattle.std.specs.Option.{is_some}
+use Rattle.goblin_base.specs.Bytes.{IsBytes}
+use Rattle.goblin_base.proofs.Steps.{mapped, step}
+use Rattle.readings.specs.Reads.{pair_of}
+use Rattle.goblin_pe_sect.specs.declared.options.ParseOptions.{ParseOptions}
+use Rattle.goblin_pe_sect.specs.Options.{is_strict}
+use Rattle.goblin_pe_sect.specs.SectionTable.{Section}
+use Rattle.goblin_pe_head.specs.HeaderReadings.{pe_header}
+use Rattle.goblin_pe_head.specs.PeHeader.{PeHeader}
+use Rattle.goblin_pe.specs.declared.whole.refused.RefusedPart.{RefusedPart}
+use Rattle.goblin_pe.specs.declared.whole.refused.RefusedPart.TheVariants.{Exports, Imports, Nothing, Relocations}
+use Rattle.goblin_pe.specs.RefusedParts.{IsReadWithout, IsWithoutRead, refused_by, refused_part, refused_table, refused_with}
+use Rattle.goblin_pe.specs.Whole.{TablePlaces, WholeFile, both_import_parts, export_part, import_list, offset_by, places_in}
+use Rattle.goblin_pe.specs.Whole.{relocation_part, sections_after, table_parts, whole_after, whole_file, whole_of, whole_with}
+use Rattle.goblin_pe.proofs.ImportParts.{list_value}
+use Rattle.goblin_pe.proofs.SoundFiles.{all-there, mapped-there, unmapped-there}
+
+-- ---- values that are there
+
+first-there : {A B : Type 0} (a : Option A) (b : Option B) → IsSome (pair_of a b) → IsSome a
+first-there None b some = absurd cc
+first-there (Some x) b some = refl
+
+second-there : {A B : Type 0} (a : Option A) (b : Option B) → IsSome (pair_of a b) → IsSome b
+second-there None b some = absurd cc
+second-there (Some x) None some = absurd cc
+second-there (Some x) (Some y) some = refl
+
+is-there : {A : Type 0} (o : Option A) (x : A) → o ≡ Some x → IsSome o
+is-there o x is = subst IsSome (sym is) refl
+
+-- the part by three tests
+abbrev by_tests : Bool → Bool → Bool → RefusedPart
+by_tests imports exports relocations = cond imports (cond exports (cond relocations Nothing Relocations) Exports) Imports
+
+pub record AllPass (first second third : Bool) : Type 0 where
+  pub imports : first ≡ true
+  pub exports : second ≡ true
+  pub relocations : third ≡ true
+
+all-pass : (imports exports relocations : Bool) → by_tests imports exports relocations ≡ Nothing → AllPass imports exports relocations
+all-pass false exports relocations none = absurd cc
+all-pass true false relocations none = absurd cc
+all-pass true true false none = absurd cc
+all-pass true true true none = record { imports = refl; exports = refl; relocations = refl }
+
+module _ (opts : ParseOptions) (bytes : List ℕ) (short : length bytes < 2 ^ 63) (fit : IsBytes bytes) where
+  -- ---- the tables
+
+  tables-read : (offset_of : ℕ → Option ℕ) (places : TablePlaces) → refused_table opts offset_of places bytes ≡ Nothing → IsSome ((table_parts opts offset_of places).value bytes)
+  unfolding table_parts
+  tables-read offset_of places none =
+      let pass = all-pass (is_some ((import_list opts offset_of places).value bytes)) (is_some ((export_part opts offset_of places).value bytes)) (is_some ((relocation_part opts offset_of places).value bytes)) none in
+      let parts = unmapped-there _ ((both_import_parts opts offset_of places).value bytes) _ (list_value opts offset_of places bytes short fit) (mapped-there _ _ pass.imports) in
+      mapped-there _ _ (all-there (both_import_parts opts offset_of places) (export_part opts offset_of places) (relocation_part opts offset_of places) bytes parts pass.exports pass.relocations)
+
+  no-table : (offset_of : ℕ → Option ℕ) (places : TablePlaces) → IsSome ((table_parts opts offset_of places).value bytes) → refused_table opts offset_of places bytes ≡ Nothing
+  unfolding table_parts
+  no-table offset_of places some =
+      let imports = (both_import_parts opts offset_of places).value bytes in
+      let exports = (export_part opts offset_of places).value bytes in
+      let relocations = (relocation_part opts offset_of places).value bytes in
+      let all = unmapped-there _ (pair_of (pair_of imports exports) relocations) _ refl some in
+      let both = first-there (pair_of imports exports) relocations all in
+      let listed = unmapped-there _ ((import_list opts offset_of places).value bytes) _ (sym (list_value opts offset_of places bytes short fit)) (mapped-there _ imports (first-there imports exports both)) in
+      rw (listed, second-there imports exports both, second-there (pair_of imports exports) relocations all) refl
+
+  -- ---- the file
+
+  with-read : (h : PeHeader) (sections : Option (List Section)) → (sections_after (is_strict opts.parse_mode) h).value bytes ≡ sections → refused_with opts h bytes sections ≡ Nothing → IsSome ((whole_after opts h).value bytes)
+  unfolding whole_with
+  with-read h None is none = absurd cc
+  with-read h (Some s) is none =
+      let places = places_in h.optional_header in
+      rw is (mapped-there (whole_of h s) _ (tables-read (offset_by opts s places) places none))
+
+  by-read : (header : Option PeHeader) → (pe_header (is_strict opts.parse_mode)).value bytes ≡ header → refused_by opts bytes header ≡ Nothing → IsSome ((whole_file opts).value bytes)
+  unfolding whole_file
+  by-read None is none = absurd cc
+  by-read (Some h) is none = rw is (with-read h _ refl none)
+
+  pub read_without : IsReadWithout opts bytes
+  unfolding refused_part
+  read_without none = by-read _ refl none
+
+  read-some : (w : Option WholeFile) → (whole_file opts).value bytes ≡ w → IsSome w → refused_part opts bytes ≡ Nothing
+  unfolding refused_part whole_file whole_with
+  read-some None is some = absurd cc
+  read-some (Some w) is some =
+      let header = step ((pe_header (is_strict opts.parse_mode)).value bytes) (λ h. (whole_after opts h).value bytes) w is in
+      let sections = step ((sections_after (is_strict opts.parse_mode) header.value).value bytes) (λ s. (whole_with opts header.value s).value bytes) w header.then in
+      let places = places_in header.value.optional_header in
+      let offset_of = offset_by opts sections.value places in
+      let tables = mapped ((table_parts opts offset_of places).value bytes) (whole_of header.value sections.value) w sections.then in
+      rw (header.is, sections.is) (no-table offset_of places (is-there _ tables.value tables.is))
+
+  pub without_read : IsWithoutRead opts bytes
+  without_read some = read-some _ refl some

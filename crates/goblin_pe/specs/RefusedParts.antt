@@ -1,0 +1,62 @@
+-- Which part of a file is refused: the first that cannot be read, in the order of a whole file.
+use Rattle.std.specs.Prelude.{◌≡◌, ℕ, if◌then◌else◌, List, Option, None, Some, IsSome}
+use Rattle.std.specs.Option.{is_some}
+use Rattle.goblin_pe_sect.specs.declared.options.ParseOptions.{ParseOptions}
+use Rattle.goblin_pe_sect.specs.Options.{is_strict}
+use Rattle.goblin_pe_sect.specs.SectionTable.{Section}
+use Rattle.goblin_pe_head.specs.HeaderReadings.{pe_header}
+use Rattle.goblin_pe_head.specs.PeHeader.{PeHeader}
+use Rattle.goblin_pe.specs.declared.whole.refused.RefusedPart.{RefusedPart}
+use Rattle.goblin_pe.specs.declared.whole.refused.RefusedPart.TheVariants as refused
+use Rattle.goblin_pe.specs.Whole.{TablePlaces, export_part, import_list, offset_by, places_in}
+use Rattle.goblin_pe.specs.Whole.{relocation_part, sections_after, whole_file}
+
+-- the number of a part
+abbrev pub refused_number : RefusedPart → ℕ
+refused_number refused.Nothing = 0
+refused_number refused.Header = 1
+refused_number refused.Sections = 2
+refused_number refused.Imports = 3
+refused_number refused.Exports = 4
+refused_number refused.Relocations = 5
+
+-- the first of the tables that has no value; permissive mode has one for each
+abbrev pub refused_table : ParseOptions → (ℕ → Option ℕ) → TablePlaces → List ℕ → RefusedPart
+refused_table opts offset_of places bytes =
+    if is_some ((import_list opts offset_of places).value bytes)
+    then (if is_some ((export_part opts offset_of places).value bytes)
+    then (if is_some ((relocation_part opts offset_of places).value bytes)
+    then refused.Nothing
+    else refused.Relocations)
+    else refused.Exports)
+    else refused.Imports
+
+-- of a file with this header, by its sections, if they have a value
+abbrev pub refused_with : ParseOptions → PeHeader → List ℕ → Option (List Section) → RefusedPart
+refused_with opts h bytes None = refused.Sections
+refused_with opts h bytes (Some sections) =
+    let places = places_in h.optional_header in
+    refused_table opts (offset_by opts sections places) places bytes
+
+abbrev pub refused_after : ParseOptions → List ℕ → PeHeader → RefusedPart
+refused_after opts bytes h =
+    refused_with opts h bytes ((sections_after (is_strict opts.parse_mode) h).value bytes)
+
+-- of a file, by its header, if it has a value
+abbrev pub refused_by : ParseOptions → List ℕ → Option PeHeader → RefusedPart
+refused_by opts bytes None = refused.Header
+refused_by opts bytes (Some h) = refused_after opts bytes h
+
+unfoldable pub refused_part : ParseOptions → List ℕ → RefusedPart
+refused_part opts bytes =
+    refused_by opts bytes ((pe_header (is_strict opts.parse_mode)).value bytes)
+
+-- a file of which no part is refused is read
+abbrev pub IsReadWithout : ParseOptions → List ℕ → Type 0
+IsReadWithout opts bytes =
+    refused_part opts bytes ≡ refused.Nothing → IsSome ((whole_file opts).value bytes)
+
+-- of a file that is read no part is refused
+abbrev pub IsWithoutRead : ParseOptions → List ℕ → Type 0
+IsWithoutRead opts bytes =
+    IsSome ((whole_file opts).value bytes) → refused_part opts bytes ≡ refused.Nothing

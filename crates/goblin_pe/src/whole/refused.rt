@@ -1,0 +1,107 @@
+//! Which part of a file is refused.
+
+ghost use Rattle.std.specs.Prelude.{◌≡◌, IfErr, IsSomeAnd};
+ghost use Rattle.goblin_base.specs.Answers.{GivesOrMemory};
+ghost use Rattle.goblin_pe_sect.specs.Addresses.{offset_of};
+ghost use Rattle.goblin_pe_sect.specs.Options.{is_strict};
+ghost use Rattle.goblin_pe_head.specs.HeaderReadings.{pe_header};
+ghost use Rattle.goblin_pe_head.specs.PeHeader.{header_value};
+ghost use Rattle.goblin_pe.specs.Layouts.{layout_bytes, layout_map, layout_places};
+ghost use Rattle.goblin_pe.specs.RefusedParts.{IsReadWithout, IsWithoutRead, refused_after};
+ghost use Rattle.goblin_pe.specs.RefusedParts.{refused_part, refused_table};
+ghost use Rattle.goblin_pe.specs.TakenMemory.{TakesIndex};
+
+use crate::whole::damage::import_damage;
+use crate::whole::{Layout, Whole};
+use goblin_base::Result;
+use goblin_base::permissive::is_passed_over;
+use goblin_pe_head::header::Header;
+use goblin_pe_sect::options::ParseOptions;
+use std::alloc::Global;
+
+/// The part of a file for which a read is refused: the first that cannot be read, in this order.
+#[derive(Debug, PartialEq, Copy, Clone)]
+pub enum RefusedPart {
+    /// Nothing is refused.
+    Nothing = 0,
+    /// The header: all that stands before the section table.
+    Header = 1,
+    /// The sections: their records, or a name.
+    Sections = 2,
+    /// The imports.
+    Imports = 3,
+    /// The exports.
+    Exports = 4,
+    /// The base relocations: their directory.
+    Relocations = 5,
+}
+
+const _: () = prove!(
+    RefusedPart::Nothing as u32 == 0
+        && RefusedPart::Header as u32 == 1
+        && RefusedPart::Sections as u32 == 2
+        && RefusedPart::Imports as u32 == 3
+        && RefusedPart::Exports as u32 == 4
+        && RefusedPart::Relocations as u32 == 5
+);
+
+// The first of the tables that is refused.
+fn refused_table(layout: &Layout) -> RefusedPart
+    ensures { let m = layout_map layout.now in
+        result ≡ refused_table m.opts (offset_of m) (layout_places layout.now)
+        (layout_bytes layout.now) }
+{
+    if import_damage(layout).is_some() {
+        RefusedPart::Imports
+    } else if layout.exports().is_err() {
+        RefusedPart::Exports
+    } else if layout.relocations().is_err() {
+        RefusedPart::Relocations
+    } else {
+        RefusedPart::Nothing
+    }
+}
+
+// The part that is refused of a file with this header.
+fn refused_after(
+    alloc: Global,
+    bytes: &[u8],
+    header: &Header,
+    opts: &ParseOptions,
+) -> Result<RefusedPart>
+    ensures value { GivesOrMemory (λ p. p) result
+        (refused_after opts.now bytes.now (header_value header.now)) }
+    ensures grown { IfErr result (λ e. TakesIndex opts.now bytes.now (header_value header.now)) }
+{
+    match Layout::of(alloc, bytes, header, opts) {
+        Ok(layout) => Ok(refused_table(&layout)),
+        Err(error) if is_passed_over(&error, true) => Ok(RefusedPart::Sections),
+        Err(error) => Err(error),
+    }
+}
+
+impl Whole<'_> {
+    /// Tells for which part these options refuse a file: the first that cannot be read, in the
+    /// order of [`Whole::read`]. Of a file that is read it is [`RefusedPart::Nothing`]. In
+    /// permissive mode it is no table. No table is listed, and memory is taken as for
+    /// [`Whole::damage`].
+    ///
+    /// # Errors
+    /// [`Error::Memory`](goblin_base::Error::Memory) if memory is refused, and only of a file that
+    /// has more than 96 sections, by whose windows addresses are mapped, and room for as many as
+    /// its header says.
+    #[tactic(auto, unfolding(crate::specs::RefusedParts::refused_part))]
+    pub fn refused_part(alloc: Global, bytes: &[u8], opts: &ParseOptions) -> Result<RefusedPart>
+        ensures value { GivesOrMemory (λ p. p) result (refused_part opts.now bytes.now) }
+        ensures read { IsReadWithout opts.now bytes.now }
+        ensures refused { IsWithoutRead opts.now bytes.now }
+        ensures grown { IfErr result
+            (λ e. IsSomeAnd ((pe_header (is_strict opts.now.parse_mode)).value bytes.now)
+            (TakesIndex opts.now bytes.now)) }
+    {
+        match Header::parse_with_opts(bytes, opts) {
+            Ok(header) => refused_after(alloc, bytes, &header, opts),
+            Err(_) => Ok(RefusedPart::Header),
+        }
+    }
+}
