@@ -14,8 +14,13 @@ use crate::iterators::{
 use crate::memory::{make_room, room};
 use crate::numbers::DirectoryType;
 use crate::pe::Pe;
-use crate::raw::{self, CoffHeader, DataDirectory, DosHeader, OptionalHeader, Options};
-use crate::rows::{Damage, ExportDirectory, Header, Section, section_index, section_table};
+use crate::raw::{
+    self, CoffHeader, DataDirectory, DosHeader, OptionalHeader, Options, RichMetadata,
+};
+use crate::rows::{
+    DOS_HEADER, Damage, ExportDirectory, Header, RichHeader, SIGNATURE_AND_COFF_HEADER, Section,
+    section_index, section_table,
+};
 use crate::text::Text;
 
 /// An image by its header and its sections. Nothing of it is listed, so it takes memory for its sections alone,
@@ -49,7 +54,6 @@ use crate::text::Text;
 /// # Ok::<(), std::io::Error>(())
 /// ```
 ///
-/// The Rich header is no part of a layout: [`Pe::rich_header`] has it.
 #[derive(Clone)]
 pub struct Layout<'a> {
     pub(crate) bytes: &'a [u8],
@@ -472,6 +476,62 @@ impl<'a> Layout<'a> {
     /// ```
     pub fn name(&self) -> Result<Option<Text<'a>>, Error> {
         Ok(self.export_directory()?.and_then(|it| it.name))
+    }
+
+    /// The Rich header, read anew by each call; `None` where the file has none. [`Pe::rich_header`] has it from the read.
+    ///
+    /// # Errors
+    /// [`ErrorKind::Memory`](crate::ErrorKind::Memory) alone.
+    ///
+    /// ```no_run
+    /// # let bytes = [];
+    /// # let layout = goblin_pe::Layout::read(&bytes, &goblin_pe::Options::permissive())?;
+    /// let key = layout.rich_header()?.map(|it| it.key);
+    /// # Ok::<(), goblin_pe::Error>(())
+    /// ```
+    pub fn rich_header(&self) -> Result<Option<RichHeader>, Error> {
+        let front = self.front()?;
+        let read = |it: &Vec<u8>| Pe::read(it, &Options::permissive()).map(|pe| pe.rich_header());
+        front.as_ref().map_or(Ok(None), read)
+    }
+
+    /// The entries of the Rich header, read anew by each call. [`Pe::rich_entries`] has them from the read.
+    ///
+    /// # Errors
+    /// [`ErrorKind::Memory`](crate::ErrorKind::Memory) alone.
+    ///
+    /// ```no_run
+    /// # let bytes = [];
+    /// # let layout = goblin_pe::Layout::read(&bytes, &goblin_pe::Options::permissive())?;
+    /// for entry in layout.rich_entries()? {
+    ///     println!("tool {}, build {}, {} times", entry.product, entry.build, entry.use_count);
+    /// }
+    /// # Ok::<(), goblin_pe::Error>(())
+    /// ```
+    pub fn rich_entries(&self) -> Result<Vec<RichMetadata>, Error> {
+        let mut entries = Vec::new();
+        if let Some(front) = self.front()? {
+            let pe = Pe::read(&front, &Options::permissive())?;
+            make_room(&mut entries, pe.rich_entries().len())?;
+            entries.extend_from_slice(pe.rich_entries());
+        }
+        Ok(entries)
+    }
+
+    // What stands before the PE signature, where there is room for a Rich header, as of an image without sections and
+    // without an optional header.
+    fn front(&self) -> Result<Option<Vec<u8>>, Error> {
+        let signature = self.file.dos_header.pe_pointer as usize;
+        let stored = self.bytes.get(..signature + SIGNATURE_AND_COFF_HEADER);
+        let Some(stored) = stored.filter(|_| signature >= DOS_HEADER) else {
+            return Ok(None);
+        };
+        let mut front = room(stored.len())?;
+        front.extend_from_slice(stored);
+        for counted in [6, 20] {
+            front[signature + counted..][..2].fill(0);
+        }
+        Ok(Some(front))
     }
 
     /// A walk over the entries of the export address table, by rising ordinals, also those without a name, each with its

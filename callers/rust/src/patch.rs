@@ -4,10 +4,9 @@ use std::io;
 
 use crate::layout::Layout;
 use crate::memory::room;
-use crate::rows::{Header, Section};
+use crate::rows::{DOS_HEADER, Header, Section};
 
-// The size of the DOS header, which the stub follows, and that of a section's record, in bytes.
-const DOS_HEADER: usize = 64;
+// The size of a section's record, in bytes.
 const SECTION_RECORD: usize = 40;
 
 // A file has sixteen data directories at most, of eight bytes each.
