@@ -927,8 +927,8 @@ class Pe(Layout):
     def _test_room(self, file: bytearray, table: int, size: int) -> None:
         # whether so many bytes of records have room in the section table: past those of the file's own, zeros before all data
         own, end = table + 40 * self._counts["sections"], table + size
-        data = min((s.pointer_to_raw_data for s in self._mapping if s.size_of_raw_data), default=len(file))
-        if end > own and (end > min(data, len(file)) or any(file[own: end])):
+        is_before_data = all(end <= s.pointer_to_raw_data for s in self._mapping if s.size_of_raw_data)
+        if end > own and not (is_before_data and end <= len(file) and not any(file[own: end])):
             raise ValueError("there is no room for so many sections")
 
     def _written_header(self, dos: DosHeader, coff: CoffHeader, optional: OptionalHeader, given: _t.Mapping[int, DataDirectory]) -> bytes:
