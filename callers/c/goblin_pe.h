@@ -593,9 +593,10 @@ static inline struct goblin_pe_fault goblin_pe_bytes_at(
 
 /* The data of a section: its bytes in the file, from its raw pointer, as stored or rounded down to 512 by the
    rule of the image's options, and how many zeros follow them up to the size in memory; none where the file has
-   at least as many bytes, which are not cut at that size then, as goblin_pe_memory_at cuts them. Of the image only the bytes, the options and the file
-   alignment are looked at, so for an object one with its bytes and else zeros will do. Refused is a file that is
-   too short for it, and one in which it begins past the end, even where it has no bytes. No memory is taken. */
+   at least as many bytes, which are not cut at that size then, as goblin_pe_memory_at cuts them. Of the image
+   only the bytes, the options and the file alignment are looked at, so for an object one with its bytes and else
+   zeros will do. Refused is a file that is too short for it, and one in which it begins past the end, even where it
+   has no bytes. No memory is taken. */
 static inline struct goblin_pe_fault goblin_pe_read_section_data(
     const struct goblin_pe_image *image, const struct goblin_pe_section *section, struct goblin_pe_section_data *data)
 {
