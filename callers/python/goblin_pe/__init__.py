@@ -958,7 +958,7 @@ class Pe(Layout):
 
 class ObjectFile(_File):
     """An object that was read: ObjectFile(data, options); of the Options only is_permissive counts. A file that is refused
-    raises Refused. No machine is tested, so a file that is no object may be read as one with sections that make no sense:
+    raises Refused, and so does one whose symbol table or string table is. No machine is tested, so a file that is no object may be read as one with sections that make no sense:
     ask `kind` before.
 
     It keeps `data`, or the copy of a buffer that could be written, until close() or the end of a `with`. A copy, as it is sent to

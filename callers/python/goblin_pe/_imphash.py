@@ -1,6 +1,6 @@
-"""The hash of the imports of an image by which analysts find files that were made alike: the MD5 of all imports in their
-order, each as library.name in lower case, joined by commas. An import by ordinal has the name `ord` and the number; but
-for those libraries that programs import by ordinal everywhere, it has the name that the ordinal has there."""
+"""The hash of the imports of an image by which analysts find files that were made alike, as pefile makes it: the MD5 of all
+imports in their order, each as library.name in lower case, joined by commas. An import by ordinal has the name `ord` and the
+number; but for those libraries that programs import by ordinal everywhere, it has the name that the ordinal has there."""
 import hashlib
 from typing import Dict, Iterable, Optional
 

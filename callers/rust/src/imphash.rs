@@ -1,6 +1,6 @@
-//! The text by whose hash analysts find files that were made alike: all imports of an image in their order, each as
-//! library.name in lower case, joined by commas. An import by ordinal has the name `ord` and the number; but for those
-//! libraries that programs import by ordinal everywhere, the name that it has there.
+//! The text by whose hash analysts find files that were made alike, as pefile makes it: all imports of an image in their
+//! order, each as library.name in lower case, joined by commas. An import by ordinal has the name `ord` and the number; but
+//! for those libraries that programs import by ordinal everywhere, the name that it has there.
 
 use std::io::{self, Write};
 

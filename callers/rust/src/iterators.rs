@@ -406,7 +406,7 @@ pub struct WalkExportAddresses<'a> {
     // The ordinal of the next entry, once one was read.
     ordinal: usize,
     batches: Batches<raw::ExportAddress, usize>,
-    // By which forwarders are read, once there is one.
+    // By which forwarders are read, once there is one. It is read anew, so that the walk owns what it needs.
     layout: Option<Layout<'a>>,
 }
 

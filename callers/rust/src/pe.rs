@@ -421,7 +421,8 @@ impl<'a> Pe<'a> {
 impl<'a> Deref for Pe<'a> {
     type Target = Layout<'a>;
 
-    /// The image without its lists.
+    /// The image without its lists: what takes a layout takes an image, and no method stands twice. Only what the export
+    /// directory says an image has from its read, so that it is not refused then.
     fn deref(&self) -> &Layout<'a> {
         &self.layout
     }

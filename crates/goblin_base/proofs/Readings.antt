@@ -11,7 +11,7 @@ use Rattle.goblin_base.specs.declared.error.ErrorOf.TheVariants.{BadMagic, Buffe
 use Rattle.goblin_base.specs.declared.error.ErrorOf.TheVariants.{Malformed, Memory, Read}
 use Rattle.goblin_base.specs.Answers.{◌>>=◌, FirstFault, IsMemory, IsSliceFault, IsTextFault}
 use Rattle.goblin_base.specs.Footprints.{Agree, led_to, rest_footprint, slot_footprint}
-use Rattle.goblin_base.specs.Reading.{Reading, Reads, ReadsOrMemory, Twins, TwinsOrMemory}
+use Rattle.goblin_base.specs.Reading.{IsRefused, Reading, Reads, ReadsOrMemory, Twins, TwinsOrMemory}
 use Rattle.goblin_base.specs.Tables.{IsTableFault, SlotFormat, kept_slots, slot_at}
 use Rattle.goblin_base.specs.Tables.{slot_place, slot_table, stop}
 use Rattle.goblin_base.specs.Values.{value_at}
@@ -148,7 +148,7 @@ module _ {V A : Type 0} (slots : SlotFormat V) (piece : V → Reading (List A)) 
       slots-in bytes slots o (λ v. (piece v).reaches bytes) (λ v. (piece v).is_inside bytes)
 
   some_no_memory : (bytes : List ℕ) (slot : Option V) (e : ErrorOf)
-      → IsSomeAnd slot (λ v. ((piece v).value bytes ≡ None) × (piece v).IsCause bytes e)
+      → IsSomeAnd slot (λ v. IsRefused (piece v) bytes e)
       → ¬ IsMemory e
   some_no_memory bytes None e h = absurd h
   some_no_memory bytes (Some v) e h = (piece v).not_memory bytes e h.1

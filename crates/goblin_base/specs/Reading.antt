@@ -1,6 +1,6 @@
 -- The result of a read of a file, in one definition: its value, if it has one; which cause is true,
 -- if it has none; and which positions of the file it reaches.
-use Rattle.std.specs.Prelude.{◌≡◌, ◌<◌, ◌≤◌, ℕ, List, Option, Some, Result, length, All}
+use Rattle.std.specs.Prelude.{◌≡◌, ◌<◌, ◌≤◌, ℕ, List, Option, Some, None, Result, length, All}
 use Rattle.goblin_base.specs.declared.error.ErrorOf.{ErrorOf}
 use Rattle.goblin_base.specs.Answers.{Answers, AnswersOrMemory, IsMemory}
 use Rattle.goblin_base.specs.Footprints.{Agree, Alike, AlikeOrMemory, Range}
@@ -31,6 +31,10 @@ abbrev pub ReadsOrMemory : {X Y : Type 0} → (X → Y) → Result X ErrorOf
     → Reading Y → List ℕ → Type 0
 ReadsOrMemory view result reading bytes =
     AnswersOrMemory view result (reading.value bytes) (reading.IsCause bytes)
+
+-- The file is refused by this reading, and this cause is true.
+abbrev pub IsRefused : {A : Type 0} → Reading A → List ℕ → ErrorOf → Type 0
+IsRefused reading bytes e = (reading.value bytes ≡ None) × reading.IsCause bytes e
 
 -- A reader on two files. Each answer is the reader's for its file. Where the files agree on what is
 -- reached in the first, the values are the same, and the answers are alike.

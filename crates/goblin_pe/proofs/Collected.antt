@@ -2,7 +2,7 @@
 use Rattle.std.proofs.Common.{◌≡◌, ◌∙◌, ℕ, List, Bool, true, false, Option, Some, None, refl, ap}
 use Rattle.std.proofs.Common.{inl, inr, ◌⊎◌, option_map}
 use Rattle.goblin_base.specs.declared.error.ErrorOf.{ErrorOf}
-use Rattle.goblin_base.specs.Reading.{Reading}
+use Rattle.goblin_base.specs.Reading.{IsRefused, Reading}
 use Rattle.goblin_base.proofs.Steps as steps
 use Rattle.readings.specs.Reads.{given, mapped, pick}
 use Rattle.goblin_pe_sect.specs.declared.data_directories.DataDirectory.{DataDirectory}
@@ -33,9 +33,6 @@ unasked_mapped view f strict true read directory bytes (inr is) = rw is refl
 
 -- ---- the tables, of whose imports and exports something is made
 
-abbrev pub IsRefused : {Z : Type 0} → List ℕ → Reading Z → ErrorOf → Type 0
-IsRefused bytes r e = (r.value bytes ≡ None) × r.IsCause bytes e
-
 module _ {X Y : Type 0} (imports_of : Part (List ImportValue) → X) (exports_of : Part ExportTables → Y)
     (opts : ParseOptions) (offset_of : ℕ → Option ℕ) (places : TablePlaces) (bytes : List ℕ) where
   abbrev imports_made : Reading (X)
@@ -47,19 +44,19 @@ module _ {X Y : Type 0} (imports_of : Part (List ImportValue) → X) (exports_of
   abbrev all_made : Reading (CollectedParts X Y)
   all_made = mapped (collected_tables imports_of exports_of) (table_parts opts offset_of places)
 
-  pub first-refused : (e : ErrorOf) → IsRefused bytes imports_made e → IsRefused bytes all_made e
+  pub first-refused : (e : ErrorOf) → IsRefused imports_made bytes e → IsRefused all_made bytes e
   unfolding table_parts
   first-refused e h = rw (steps.unmapped _ _ h.0) (refl, h.1)
 
   pub second-refused : (x : X) (e : ErrorOf) → imports_made.value bytes ≡ Some x
-      → IsRefused bytes exports_made e → IsRefused bytes all_made e
+      → IsRefused exports_made bytes e → IsRefused all_made bytes e
   unfolding table_parts
   second-refused x e made h =
       rw ((steps.mapped _ _ x made).is, steps.unmapped _ _ h.0) (refl, h.1)
 
   pub third-refused : (x : X) (y : Y) (e : ErrorOf)
       → imports_made.value bytes ≡ Some x → exports_made.value bytes ≡ Some y
-      → IsRefused bytes (relocation_part opts offset_of places) e → IsRefused bytes all_made e
+      → IsRefused (relocation_part opts offset_of places) bytes e → IsRefused all_made bytes e
   unfolding table_parts
   third-refused x y e first second h =
       rw ((steps.mapped _ _ x first).is, (steps.mapped _ _ y second).is, h.0) (refl, h.1)

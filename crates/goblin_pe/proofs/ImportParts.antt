@@ -5,7 +5,7 @@ use Rattle.std.proofs.lemmas.Simd.{map-map}
 use Rattle.goblin_base.specs.declared.error.ErrorOf.{ErrorOf}
 use Rattle.goblin_base.specs.Answers.{◌>>=◌, all_of}
 use Rattle.goblin_base.specs.Bytes.{IsBytes}
-use Rattle.goblin_base.specs.Reading.{Reading, ReadsOrMemory}
+use Rattle.goblin_base.specs.Reading.{IsRefused, Reading, ReadsOrMemory}
 use Rattle.goblin_base.specs.Tables as tables
 use Rattle.goblin_base.specs.Tables.{Format, ends_table, made_of, slot_at, slot_table, stop}
 use Rattle.goblin_base.proofs.Below.{each_below-there, least-before}
@@ -110,7 +110,7 @@ module _ (opts : ParseOptions) (offset_of : ℕ → Option ℕ) (places : TableP
       (data-there format offset_of bytes strict d.virtual_address permissive))
 
   -- a walk that is refused before its first import
-  pub list-refused : (result : Result FileImports ErrorOf) (e : ErrorOf) → Walks file_imports_left IsFileImportsCause (λ xs. xs) result (mapped kept libraries) bytes → result ≡ Err e → ((import_list opts offset_of places).value bytes ≡ None) × (import_list opts offset_of places).IsCause bytes e
+  pub list-refused : (result : Result FileImports ErrorOf) (e : ErrorOf) → Walks file_imports_left IsFileImportsCause (λ xs. xs) result (mapped kept libraries) bytes → result ≡ Err e → IsRefused (import_list opts offset_of places) bytes e
   unfolding import_list numbered_data_part
   list-refused result e walks is =
       let h = subst (λ (r : Result FileImports ErrorOf). Walks file_imports_left IsFileImportsCause (λ xs. xs) r (mapped kept libraries) bytes) is walks in

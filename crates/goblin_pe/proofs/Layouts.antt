@@ -1,5 +1,6 @@
 -- A whole file, by its header and its sections.
-use Rattle.std.proofs.Common.{◌≡◌, ℕ, List, None, Some, refl}
+use Rattle.std.proofs.Common.{◌≡◌, ℕ, List, Some, refl}
+use Rattle.goblin_base.specs.Reading.{IsRefused}
 use Rattle.goblin_base.specs.declared.error.ErrorOf.{ErrorOf}
 use Rattle.goblin_pe_sect.specs.declared.options.ParseOptions.{ParseOptions}
 use Rattle.goblin_pe_sect.specs.Options.{is_strict}
@@ -10,18 +11,16 @@ use Rattle.goblin_pe.specs.Whole.{sections_after, whole_file, whole_with}
 
 module _ (opts : ParseOptions) (bytes : List ℕ) where
   pub header-refused : (e : ErrorOf)
-      → ((pe_header (is_strict opts.parse_mode)).value bytes ≡ None)
-      × (pe_header (is_strict opts.parse_mode)).IsCause bytes e
-      → ((whole_file opts).value bytes ≡ None) × (whole_file opts).IsCause bytes e
+      → IsRefused (pe_header (is_strict opts.parse_mode)) bytes e
+      → IsRefused (whole_file opts) bytes e
   unfolding whole_file
   header-refused e h = rw h.0 (refl, h.1)
 
   module _ (h : PeHeader) (header : (pe_header (is_strict opts.parse_mode)).value bytes ≡ Some h)
     where
       pub sections-refused : (e : ErrorOf)
-          → ((sections_after (is_strict opts.parse_mode) h).value bytes ≡ None)
-          × (sections_after (is_strict opts.parse_mode) h).IsCause bytes e
-          → ((whole_file opts).value bytes ≡ None) × (whole_file opts).IsCause bytes e
+          → IsRefused (sections_after (is_strict opts.parse_mode) h) bytes e
+          → IsRefused (whole_file opts) bytes e
       unfolding whole_file
       sections-refused e none = rw (header, none.0) (refl, none.1)
 

@@ -1,9 +1,7 @@
--- Lemmas that callers may cite: loops over walks, ranges of a footprint, that all true causes have one
--- text, and of the crates below the parts of a header, what reads back, and steps of readings and walks.
+-- Lemmas that callers may cite: loops over walks, ranges of a footprint, and of the crates below the parts
+-- of a header, what reads back, and steps of readings and walks.
 pub mod Covered
 pub mod Folds
-pub mod OneCause
-pub mod OneCauseOfParts
 pub mod Walked
 pub use Rattle.goblin_base.proofs.Footprints
 pub use Rattle.goblin_base.proofs.Fronts

@@ -6,7 +6,7 @@ use Rattle.std.proofs.lemmas.List.FromFn.{length-map-range_with_len}
 use Rattle.std.proofs.lemmas.List.{length-map}
 use Rattle.goblin_base.specs.declared.error.ErrorOf.{ErrorOf}
 use Rattle.goblin_base.specs.Answers.{all_at}
-use Rattle.goblin_base.specs.Reading.{Reading, Reads}
+use Rattle.goblin_base.specs.Reading.{IsRefused, Reading, Reads}
 use Rattle.goblin_base.proofs.Steps as steps
 use Rattle.readings.specs.Reads.{each, mapped}
 use Rattle.goblin_pe_sect.specs.declared.options.ParseOptions.{ParseOptions}
@@ -38,7 +38,7 @@ some_made f (Some a) b made = refl
 -- what is refused is refused whatever would be made of it
 pub refused_made : {A B : Type 0} (f : A → B) (reading : Reading A) (bytes : List ℕ) (e : ErrorOf)
     → ((mapped f reading).value bytes ≡ None) × reading.IsCause bytes e
-    → (reading.value bytes ≡ None) × reading.IsCause bytes e
+    → IsRefused reading bytes e
 refused_made f reading bytes e refused = (steps.unmapped f (reading.value bytes) refused.0, refused.1)
 
 -- a refusal tells the damage

@@ -1,9 +1,10 @@
 -- The readers of headers and of single tables have the same values, and answer alike, for files
 -- that agree on what each reaches.
-use Rattle.std.proofs.Common.{◌≡◌, ℕ, Bool, List, None, Option, IsSomeAnd, option_map}
+use Rattle.std.proofs.Common.{ℕ, Bool, List, Option, IsSomeAnd, option_map}
 use Rattle.goblin_base.specs.declared.endian.Endian.{Endian}
 use Rattle.goblin_base.specs.declared.error.ErrorOf.{ErrorOf}
 use Rattle.goblin_base.specs.Answers.{IsMemory}
+use Rattle.goblin_base.specs.Reading.{IsRefused}
 use Rattle.goblin_base.proofs.Readings.{twins, twins_or_memory}
 use Rattle.goblin_pe_sect.specs.AddressReadings.{data_at, relocation_data}
 use Rattle.goblin_pe_sect.specs.BaseRelocations.{relocation_bytes}
@@ -18,7 +19,7 @@ use Rattle.goblin_pe.specs.TwinParts.{AreParts, AreTwinParts, PartsAsked, sectio
 
 -- a Terse Executable's header is never refused for want of memory
 pub te_there : (bytes : List ℕ) (p : ℕ) (e : ErrorOf)
-    → ((te_header p).value bytes ≡ None) × (te_header p).IsCause bytes e → IsMemory e
+    → IsRefused (te_header p) bytes e → IsMemory e
     → IsSomeAnd ((te_header p).value bytes)
     (λ header. TakesSections header.number_of_sections bytes)
 te_there bytes p e refused memory = absurd ((te_header p).not_memory bytes e refused.1 memory)

@@ -1,7 +1,5 @@
--- Words for callers: one table of a file, and a refusal.
-use Rattle.std.specs.Prelude.{◌≡◌, ℕ, List, Option, None}
-use Rattle.goblin_base.specs.declared.error.ErrorOf.{ErrorOf}
-use Rattle.goblin_base.specs.ErrorText.{error_text}
+-- Words for callers: one table of a file, and what is made of it.
+use Rattle.std.specs.Prelude.{ℕ, List, Option}
 use Rattle.goblin_base.specs.Reading.{Reading}
 use Rattle.readings.specs.Reads.{◌>>=◌}
 use Rattle.goblin_pe_sect.specs.declared.options.ParseOptions.{ParseOptions}
@@ -43,12 +41,3 @@ abbrev pub read_or : {A B : Type 0} → B → (A → B) → Part A → B
 read_or default f Absent = default
 read_or default f (part.Read table) = f table
 read_or default f Refused = default
-
--- the file is refused by this reading, and this cause is true
-abbrev pub IsRefused : {A : Type 0} → Reading A → List ℕ → ErrorOf → Type 0
-IsRefused reading bytes e = (reading.value bytes ≡ None) × reading.IsCause bytes e
-
--- each true cause of a refusal has the text of this one
-abbrev pub IsOnlyCause : {A : Type 0} → Reading A → List ℕ → ErrorOf → Type 0
-IsOnlyCause reading bytes e =
-    (f : ErrorOf) → reading.IsCause bytes f → error_text f ≡ error_text e

@@ -4,7 +4,7 @@ use Rattle.std.specs.Prelude.{Err, if◌then◌else◌, min, ◌^◌, ◌-◌}
 use Rattle.goblin_base.specs.declared.error.ErrorOf.{ErrorOf}
 use Rattle.goblin_base.specs.declared.permissive.ParseMode.TheVariants.{Permissive, Strict}
 use Rattle.goblin_base.specs.Answers.{◌>>=◌, IsMemory}
-use Rattle.goblin_base.specs.Reading.{Reading}
+use Rattle.goblin_base.specs.Reading.{IsRefused, Reading}
 use Rattle.goblin_base.specs.Tables.{Format}
 use Rattle.goblin_pe_sect.specs.declared.data_directories.DataDirectory.{DataDirectory}
 use Rattle.goblin_pe_sect.specs.declared.options.ParseOptions.{ParseOptions}
@@ -87,7 +87,7 @@ abbrev pub TellsDamage : ParseOptions → List ℕ → Result Damage ErrorOf →
 TellsDamage opts bytes (Ok d) =
     IsSomeAnd ((layout opts).value bytes) (λ l. IsDamaged opts l.0 l.1 bytes d)
 TellsDamage opts bytes (Err e) =
-    ¬ IsMemory e → ((layout opts).value bytes ≡ None) × (layout opts).IsCause bytes e
+    ¬ IsMemory e → IsRefused (layout opts) bytes e
 
 -- nothing is damaged, and no library is left out
 pub record IsSound (d : Damage) : Type 0 where

@@ -3,7 +3,7 @@ use Rattle.std.specs.Prelude.{◌≡◌, ℕ, Bool, List, Option, Some, None, Re
 use Rattle.std.specs.Prelude.{IfErr, IfSome, IsSomeAnd, MatchOption}
 use Rattle.goblin_base.specs.declared.error.ErrorOf.{ErrorOf}
 use Rattle.goblin_base.specs.Answers.{IsMemory}
-use Rattle.goblin_base.specs.Reading.{Reading}
+use Rattle.goblin_base.specs.Reading.{IsRefused, Reading}
 use Rattle.readings.specs.Walks.{GivesNext}
 use Rattle.readings.specs.Reads.{given, pick}
 use Rattle.goblin_pe_sect.specs.declared.data_directories.DataDirectory.{DataDirectory}
@@ -87,7 +87,7 @@ abbrev pub GivesFirst : MapOfAddresses → ℕ → List ℕ → Reading ImportCu
     → Result FileImports ErrorOf → Type 0
 GivesFirst m magic bytes first (Ok imports) =
     IsSomeAnd (first.value bytes) (λ c. IsImportWalkAt m magic bytes c imports)
-GivesFirst m magic bytes first (Err e) = (first.value bytes ≡ None) × first.IsCause bytes e
+GivesFirst m magic bytes first (Err e) = IsRefused first bytes e
 
 -- ---- where a file's imports begin
 
@@ -114,4 +114,4 @@ abbrev pub StartsAt : MapOfAddresses → ℕ → List ℕ → Reading ImportCurs
     → Result (Part FileImports) ErrorOf → Type 0
 StartsAt m magic bytes begin (Ok result) =
     IsSomeAnd (begin.value bytes) (λ c. PartBegins m magic bytes c result)
-StartsAt m magic bytes begin (Err e) = (begin.value bytes ≡ None) × begin.IsCause bytes e
+StartsAt m magic bytes begin (Err e) = IsRefused begin bytes e

@@ -1,7 +1,7 @@
 -- What all tables of a file are read by, and the tables as walks.
-use Rattle.std.specs.Prelude.{◌≡◌, ℕ, List, Option, None, Some, Result, Ok, Err, map}
+use Rattle.std.specs.Prelude.{◌≡◌, ℕ, List, Option, Some, Result, Ok, Err, map}
 use Rattle.goblin_base.specs.declared.error.ErrorOf.{ErrorOf}
-use Rattle.goblin_base.specs.Reading.{Reading}
+use Rattle.goblin_base.specs.Reading.{IsRefused, Reading}
 use Rattle.readings.specs.Walks.{IsWalkOf}
 use Rattle.goblin_pe_sect.specs.declared.options.ParseOptions.{ParseOptions}
 use Rattle.goblin_pe_head.specs.declared.header.pe_header.Header.{Header}
@@ -65,7 +65,7 @@ PartWalks left IsCause gather (Ok (part.Read walk)) reading bytes =
     IsWalkOf (λ xs. part.Read (gather xs)) reading bytes (left walk) (IsCause walk)
 PartWalks left IsCause gather (Ok Refused) reading bytes = reading.value bytes ≡ Some Refused
 PartWalks left IsCause gather (Err e) reading bytes =
-    (reading.value bytes ≡ None) × reading.IsCause bytes e
+    IsRefused reading bytes e
 
 -- ---- the walk over the imports, whose entries have four bytes or eight
 

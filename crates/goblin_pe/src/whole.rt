@@ -8,7 +8,6 @@ ghost use Rattle.goblin_pe_sect.specs.Options.{is_strict};
 ghost use Rattle.goblin_pe_head.specs.HeaderReadings.{pe_header};
 ghost use Rattle.goblin_pe_head.specs.CoffHeader.{IsTooManySections};
 ghost use Rattle.goblin_pe_sect.specs.Addresses.{map_by, offset_of};
-ghost use Rattle.goblin_pe.specs.Callers.{IsOnlyCause};
 ghost use Rattle.goblin_pe.specs.TakenMemory.{TakesLists};
 ghost use Rattle.goblin_pe.specs.Whole.{places_in, whole_file};
 
@@ -106,13 +105,10 @@ impl<'a> Whole<'a> {
     /// As [`Header::parse_with_opts`]; as
     /// [`CoffHeader::sections_with_opts`](goblin_pe_head::CoffHeader::sections_with_opts); in
     /// strict mode as the readers of the tables; [`Error::Memory`] if memory is refused, in both
-    /// modes, and only of a file that has sections, or a table of which something is kept. All
-    /// causes that are true of the first missing part have one text.
-    #[tactic(auto, unfolding(crate::specs::Whole::whole_file, crate::specs::Whole::whole_with), using(goblin_pe_head::proofs::HeaderFaults::header_there, crate::proofs::OneCauseOfParts::only_cause))]
+    /// modes, and only of a file that has sections, or a table of which something is kept.
+    #[tactic(auto, unfolding(crate::specs::Whole::whole_file, crate::specs::Whole::whole_with), using(goblin_pe_head::proofs::HeaderFaults::header_there))]
     pub fn read(alloc: Global, bytes: &'a [u8], opts: &ParseOptions) -> Result<Whole<'a>>
         ensures value { ReadsOrMemory (λ x. x) result (whole_file opts.now) bytes.now }
-        ensures only { IfErr result
-            (λ e. ¬ IsMemory e → IsOnlyCause (whole_file opts.now) bytes.now e) }
         ensures first { let found = (pe_header (is_strict opts.now.parse_mode)).value bytes.now in
             IfSome found (λ header.
             let count = header.coff_header.number_of_sections in

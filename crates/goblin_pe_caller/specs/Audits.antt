@@ -6,14 +6,14 @@ use Rattle.std.specs.Str.{bytes_eq}
 use Rattle.goblin_pe.specs.declared.error.ErrorOf.{ErrorOf}
 use Rattle.goblin_pe.specs.declared.optional_header.OptionalHeader.{OptionalHeader}
 use Rattle.goblin_pe.specs.declared.options.ParseOptions.{ParseOptions}
-use Rattle.goblin_pe.specs.Callers.{IsRefused, file_table, read_or}
+use Rattle.goblin_pe.specs.Callers.{file_table, read_or}
 use Rattle.goblin_pe.specs.ErrorText.{error_text}
 use Rattle.goblin_pe.specs.ExportRecords.{ExportRow, ExportTables}
 use Rattle.goblin_pe.specs.Imports.{NumberedImport}
 use Rattle.goblin_pe.specs.Mapping.{section_at}
 use Rattle.goblin_pe.specs.Options.{default_options}
 use Rattle.goblin_pe.specs.PeHeader.{PeHeader}
-use Rattle.goblin_pe.specs.Reading.{Reading}
+use Rattle.goblin_pe.specs.Reading.{IsRefused, Reading}
 use Rattle.goblin_pe.specs.Reads.{mapped}
 use Rattle.goblin_pe.specs.SectionTable.{Section}
 use Rattle.goblin_pe.specs.Tests.{has_any}

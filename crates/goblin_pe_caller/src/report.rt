@@ -3,7 +3,7 @@
 ghost use Rattle.std.specs.Prelude.{◌≡◌, ◌++◌, ◌⊎◌, IfErr, IfOk, IsSome, IsSomeAnd, MatchOption};
 ghost use Rattle.std.specs.Prelude.{None, OnErr, codes, option_map, string_bytes, true};
 ghost use Rattle.goblin_pe.specs.Answers.{IsMemory};
-ghost use Rattle.goblin_pe.specs.Callers.{IsRefused};
+ghost use Rattle.goblin_pe.specs.Reading.{IsRefused};
 ghost use Rattle.goblin_pe.specs.ErrorText.{error_text};
 ghost use Rattle.goblin_pe.specs.HeaderReadings.{pe_header};
 ghost use Rattle.goblin_pe.specs.Options.{default_options};

@@ -4,9 +4,9 @@ ghost use Rattle.std.specs.Prelude.{◌≡◌, ◌⊎◌, IfErr, IfOk, IsSomeAnd
 ghost use Rattle.std.specs.Prelude.{length, option_and_then, true};
 ghost use Rattle.goblin_pe.specs.Answers.{FirstFault, IsSliceFault};
 ghost use Rattle.goblin_pe.specs.Bytes.{overwritten};
-ghost use Rattle.goblin_pe.specs.Callers.{IsRefused};
 ghost use Rattle.goblin_pe.specs.HeaderReadings.{pe_header};
 ghost use Rattle.goblin_pe.specs.PeHeader.{IsUnwrittenPart, header_bytes};
+ghost use Rattle.goblin_pe.specs.Reading.{IsRefused};
 ghost use Rattle.goblin_pe_caller.specs.Audits.{stamped};
 
 use goblin_pe::header::Header;

@@ -1,7 +1,8 @@
 -- What is read of a file by the places that a caller says.
-use Rattle.std.proofs.Common.{◌≡◌, ℕ, List, None, Some, subst, IsSomeAnd}
+use Rattle.std.proofs.Common.{◌≡◌, ℕ, List, Some, subst, IsSomeAnd}
 use Rattle.goblin_base.specs.declared.error.ErrorOf.{ErrorOf}
 use Rattle.goblin_base.specs.Answers.{FirstFault}
+use Rattle.goblin_base.specs.Reading.{IsRefused}
 use Rattle.goblin_pe_sect.specs.declared.options.ParseOptions.{ParseOptions}
 use Rattle.goblin_pe_sect.specs.SectionTable.{Section}
 use Rattle.goblin_pe.specs.declared.whole.layout.Layout.{Layout}
@@ -45,6 +46,6 @@ fault-at opts p bytes l at IsFault e fault =
 -- where the records of the sections are not there, nothing is read
 pub nothing-at : (p : PePlaces) (bytes : List ℕ)
     (IsFault : List Section → ErrorOf → Type 0) (e : ErrorOf)
-    → ((placed_sections p).value bytes ≡ None) × (placed_sections p).IsCause bytes e
+    → IsRefused (placed_sections p) bytes e
     → FirstFault ((placed_sections p).value bytes) ((placed_sections p).IsCause bytes) IsFault e
 nothing-at p bytes IsFault e refused = rw refused.0 refused.1

@@ -3,7 +3,7 @@ use Rattle.std.proofs.Common.{◌≡◌, ◌∙◌, ℕ, List, map, Option, Some
 use Rattle.std.proofs.lemmas.List.{length-map}
 use Rattle.goblin_base.specs.declared.error.ErrorOf.{ErrorOf}
 use Rattle.goblin_base.specs.Answers.{IsMemory}
-use Rattle.goblin_base.specs.Reading.{ReadsOrMemory}
+use Rattle.goblin_base.specs.Reading.{IsRefused, ReadsOrMemory}
 use Rattle.goblin_base.proofs.Steps as steps
 use Rattle.readings.specs.Reads.{mapped}
 use Rattle.goblin_pe_sect.specs.declared.options.ParseOptions.{ParseOptions}
@@ -126,8 +126,8 @@ file-of-records opts bytes v is =
 
 -- a file that is refused is not opened, for the same cause
 pub unopened : (opts : ParseOptions) (bytes : List ℕ) (e : ErrorOf)
-    → ((whole_file opts).value bytes ≡ None) × (whole_file opts).IsCause bytes e
-    → ((opened_file opts).value bytes ≡ None) × (opened_file opts).IsCause bytes e
+    → IsRefused (whole_file opts) bytes e
+    → IsRefused (opened_file opts) bytes e
 unopened opts bytes e refused =
     (ap (option_map (opened_of opts bytes)) refused.0, refused.1)
 
@@ -206,7 +206,7 @@ module _ (opts : ParseOptions) (bytes : List ℕ) (h : Header)
   -- and a file is refused as they are
   pub records-refused : (e : ErrorOf)
       → MakesTables (Err e) (layout_map l) (layout_places l) l.bytes.now → ¬ IsMemory e
-      → ((whole_file opts).value bytes ≡ None) × (whole_file opts).IsCause bytes e
+      → IsRefused (whole_file opts) bytes e
   unfolding whole_with
   records-refused e made other =
       let none = makes (Err e) made other in (

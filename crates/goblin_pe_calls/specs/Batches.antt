@@ -4,7 +4,7 @@ use Rattle.std.specs.Prelude.{◌+◌, ◌++◌, map, drop, take, length, min, O
 use Rattle.std.specs.Prelude.{Bool, is_some, option_map, Result, Ok, Err, IsSomeAnd, sum_by, unwrap_or}
 use Rattle.goblin_base.specs.declared.error.ErrorOf.{ErrorOf}
 use Rattle.goblin_base.specs.Answers.{FirstFault, IsMemory}
-use Rattle.goblin_base.specs.Reading.{Reading}
+use Rattle.goblin_base.specs.Reading.{IsRefused, Reading}
 use Rattle.goblin_pe_sect.specs.declared.options.ParseOptions.{ParseOptions}
 use Rattle.goblin_pe_sect.specs.BaseRelocations.{Block, block_items}
 use Rattle.goblin_pe_import.specs.ImportLookup.{entries_32, entries_64}
@@ -194,7 +194,7 @@ GivesExports m places bytes old new count =
 abbrev pub IsExportsFault : MapOfAddresses → TablePlaces → List ℕ → ErrorOf → Type 0
 IsExportsFault m places bytes e =
     let read = export_part m.opts (offset_of m) places in
-    (read.value bytes ≡ None) × read.IsCause bytes e
+    IsRefused read bytes e
 
 -- why a batch of exports or of entries is refused, wherever it begins
 abbrev pub IsExportBatchFault : {R : Type 0} → MapOfAddresses → TablePlaces → List ℕ → Batch ℕ R

@@ -9,7 +9,8 @@ ghost use Rattle.goblin_pe.specs.Reads.{mapped};
 ghost use Rattle.goblin_pe_sect.specs.Addresses.{map_of, offset_of};
 ghost use Rattle.goblin_pe_export.specs.ExportWalks.{exports_left, walked_export, walked_tables};
 ghost use Rattle.goblin_pe_export.specs.Forwarders.{forwarder_value};
-ghost use Rattle.goblin_pe.specs.Layouts.{layout_bytes, layout_map, layout_places};
+ghost use Rattle.goblin_pe.specs.Callers.{layout_table};
+ghost use Rattle.goblin_pe.specs.Layouts.{layout_bytes, layout_map};
 ghost use Rattle.goblin_pe.specs.Whole.{collected_exports, export_part, part_map};
 ghost use Rattle.goblin_pe_records.specs.Blocked.{HasLittleRoom};
 ghost use Rattle.goblin_pe_calls.specs.Blocked.{HasLittleRoomIn, HaveLittleRoom};
@@ -290,14 +291,12 @@ pub fn export_records<'a, 'm>(
     ensures value { let m = layout_map layout.now in
         ReadsOrMemory exports_view result
         (mapped (collected_exports (exports_said (offset_of m) (layout_bytes layout.now)))
-        (export_part m.opts (offset_of m) (layout_places layout.now)))
+        (layout_table export_part layout.now))
         (layout_bytes layout.now) }
     ensures none { IfOk result HaveLittleRoom }
-    ensures grown { let m = layout_map layout.now in
-        let read = export_part m.opts (offset_of m) (layout_places layout.now) in
+    ensures grown { let read = layout_table export_part layout.now in
         OnErr result (IfSome (read.value (layout_bytes layout.now)) HasExports) }
-    ensures begun { let m = layout_map layout.now in
-        let read = export_part m.opts (offset_of m) (layout_places layout.now) in
+    ensures begun { let read = layout_table export_part layout.now in
         IfErr result
         (λ e. IsMemory e → IsSomeAnd (read.value (layout_bytes layout.now)) HasExports) }
 {

@@ -10,6 +10,7 @@ ghost use Rattle.goblin_pe.specs.Reads.{mapped};
 ghost use Rattle.goblin_pe_sect.specs.Addresses.{map_of, offset_of};
 ghost use Rattle.goblin_pe_import.specs.ImportWalks.{IsImportsCause, imports_left};
 ghost use Rattle.goblin_pe_import.specs.ImportWalks.{imports_map, walked_value};
+ghost use Rattle.goblin_pe.specs.Callers.{layout_table};
 ghost use Rattle.goblin_pe.specs.Layouts.{IsFileImportsCause, file_imports_left, layout_map};
 ghost use Rattle.goblin_pe.specs.Layouts.{layout_bytes, layout_places};
 ghost use Rattle.goblin_pe.specs.LayoutCursors.{file_map};
@@ -232,16 +233,13 @@ fn listed_records<'a, 'm>(
     finder: &mut Finder<'m>,
 ) -> Result<Part<Vec<PeImport<'a>>>>
     requires { map_of finder.old ≡ layout_map layout.now }
-    ensures value { let m = layout_map layout.now in
-        ReadsOrMemory (part_map import_views) result
-        (mapped (part_map (map import_said))
-        (import_list m.opts (offset_of m) (layout_places layout.now)))
+    ensures value { ReadsOrMemory (part_map import_views) result
+        (mapped (part_map (map import_said)) (layout_table import_list layout.now))
         (layout_bytes layout.now) }
     ensures listed { let m = layout_map layout.now in
         AreListed m.opts (offset_of m) (layout_places layout.now) (layout_bytes layout.now) }
     ensures none { IfOk result HasLittleRoomIn }
-    ensures grown { let m = layout_map layout.now in
-        let list = import_list m.opts (offset_of m) (layout_places layout.now) in
+    ensures grown { let list = layout_table import_list layout.now in
         OnErr result (IfSome (list.value (layout_bytes layout.now)) HasEntries) }
     ensures begun { let m = layout_map layout.now in
         IfErr result
@@ -271,13 +269,12 @@ pub fn import_records<'a, 'm>(
         ReadsOrMemory (part_map import_views) result
         (mapped (collected_imports (λ _. imports_said m.opts (offset_of m)
         (layout_places layout.now) (layout_bytes layout.now)))
-        (both_import_parts m.opts (offset_of m) (layout_places layout.now)))
+        (layout_table both_import_parts layout.now))
         (layout_bytes layout.now) }
     ensures listed { let m = layout_map layout.now in
         AreListed m.opts (offset_of m) (layout_places layout.now) (layout_bytes layout.now) }
     ensures none { IfOk result HasLittleRoomIn }
-    ensures grown { let m = layout_map layout.now in
-        let parts = both_import_parts m.opts (offset_of m) (layout_places layout.now) in
+    ensures grown { let parts = layout_table both_import_parts layout.now in
         OnErr result (IfSome (parts.value (layout_bytes layout.now)) (λ read. HasEntries read.1)) }
     ensures begun { let m = layout_map layout.now in
         IfErr result

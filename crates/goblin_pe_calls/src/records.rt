@@ -5,6 +5,7 @@ ghost use Rattle.goblin_base.specs.Answers.{IsMemory};
 ghost use Rattle.goblin_base.specs.Reading.{ReadsOrMemory};
 ghost use Rattle.goblin_pe.specs.Reads.{mapped};
 ghost use Rattle.goblin_pe_sect.specs.Addresses.{offset_of};
+ghost use Rattle.goblin_pe.specs.Callers.{layout_table};
 ghost use Rattle.goblin_pe.specs.Layouts.{layout_bytes, layout_map, layout_places};
 ghost use Rattle.goblin_pe.specs.Whole.{AreListed, collected_tables, table_parts};
 ghost use Rattle.goblin_pe_calls.specs.Blocked.{HasLittleRoomIn, HaveLittleRoom};
@@ -37,15 +38,14 @@ pub fn file_records<'a>(alloc: Global, layout: &Layout<'a>) -> Result<FileRecord
         (mapped (collected_tables (λ _. imports_said m.opts (offset_of m)
         (layout_places layout.now) (layout_bytes layout.now))
         (exports_said (offset_of m) (layout_bytes layout.now)))
-        (table_parts m.opts (offset_of m) (layout_places layout.now)))
+        (layout_table table_parts layout.now))
         (layout_bytes layout.now) }
     ensures listed { let m = layout_map layout.now in
         IfOk result (λ _.
         AreListed m.opts (offset_of m) (layout_places layout.now) (layout_bytes layout.now)) }
     ensures none { IfOk result
         (λ r. HasLittleRoomIn r.imports × HaveLittleRoom r.exports) }
-    ensures grown { let m = layout_map layout.now in
-        let parts = table_parts m.opts (offset_of m) (layout_places layout.now) in
+    ensures grown { let parts = layout_table table_parts layout.now in
         OnErr result (IfSome (parts.value (layout_bytes layout.now)) HasTables) }
     ensures begun { let m = layout_map layout.now in
         IfErr result

@@ -5,7 +5,7 @@ use Rattle.std.proofs.Common.{append_assoc, lit≤, arith, Err, IfOk, MatchResul
 use Rattle.std.proofs.Common.{Result, option_map, unwrap_or, mul-le-mul_left, is_some}
 use Rattle.goblin_base.specs.declared.error.ErrorOf.{ErrorOf}
 use Rattle.goblin_base.specs.Answers.{FirstFault, all_of}
-use Rattle.goblin_base.specs.Reading.{Reading}
+use Rattle.goblin_base.specs.Reading.{IsRefused, Reading}
 use Rattle.goblin_base.specs.Tables.{Format, ends_table, or_left_out}
 use Rattle.goblin_base.proofs.SlotTables.{reads}
 use Rattle.goblin_base.proofs.Steps.{unmapped}
@@ -224,14 +224,13 @@ module _ (strict : Bool) (format : Format EntryValue) (offset_of : ℕ → Optio
 
   pub walk-unnamed : (e : ErrorOf) → name.value bytes ≡ None → name.IsCause bytes e
       → (library_items strict format offset_of bytes index r ≡ None ∷ []) × (strict ≡ true)
-      × (name.value bytes ≡ None) × name.IsCause bytes e
+      × IsRefused name bytes e
   unfolding library_items
   walk-unnamed e none fault =
       let is = name_strict strict _ none in (
         rw (none, is) refl,
         is,
-        none,
-        fault,
+        (none, fault),
       )
 
   abbrev at : Option ℕ
@@ -367,8 +366,7 @@ module _ (strict : Bool) (format : Format EntryValue) (offset_of : ℕ → Optio
           → (strict ≡ true) × IsWholeCause strict format offset_of bytes first index v (p + 20) e))
           (λ e. (library_items strict format offset_of bytes index v ≡ None ∷ [])
           × (strict ≡ true)
-          × ((library_name strict offset_of v).value bytes ≡ None)
-          × (library_name strict offset_of v).IsCause bytes e)
+          × IsRefused (library_name strict offset_of v) bytes e)
           → GivesLibrary left IsLeft
           (later_items strict format offset_of bytes untested first (Some p))
           (λ e. (strict ≡ true) × IsCause (Some p) e) (Some result)
@@ -384,7 +382,7 @@ module _ (strict : Bool) (format : Format EntryValue) (offset_of : ℕ → Optio
             (λ (xs : List (Option NumberedImport)). until_refused
             (xs ++ imports_from_record strict format offset_of bytes first (p + 20)))
             h.0,
-        (h.1, by_cause (Some v) r h.1 e (going, rw (h.2) (h.3))),
+        (h.1, by_cause (Some v) r h.1 e (going, rw (h.2.0) (h.2.1))),
       )
 
 -- ---- how many may come

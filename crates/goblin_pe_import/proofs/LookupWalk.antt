@@ -4,6 +4,7 @@ use Rattle.std.proofs.lemmas.List.{length-map, map-append}
 use Rattle.std.proofs.Math.Nat.{mul-div_cancel_left}
 use Rattle.goblin_base.specs.declared.error.ErrorOf.{ErrorOf}
 use Rattle.goblin_base.specs.Answers.{◌>>=◌, all_of}
+use Rattle.goblin_base.specs.Reading.{IsRefused}
 use Rattle.goblin_base.specs.Tables.{Format, SlotFormat, concat_below, kept_slots, made_of, slot_at, slot_place, slot_table}
 use Rattle.goblin_base.specs.Tables.{ends_table, is_kept, stop}
 use Rattle.goblin_base.proofs.SlotTables.{reads}
@@ -121,8 +122,7 @@ module _ (strict : Bool) (format : Format EntryValue) (offset_of : ℕ → Optio
           is
 
       pub rest-refused : (e : ErrorOf)
-          → ((kept_entry strict offset_of v).value bytes ≡ None)
-          × (kept_entry strict offset_of v).IsCause bytes e
+          → IsRefused (kept_entry strict offset_of v) bytes e
           → (comes start ≡ None ∷ []) × HasEnded × IsCause start e
       unfolding entries_from
       rest-refused e k =
@@ -297,8 +297,7 @@ module _ (strict : Bool) (format : Format EntryValue) (offset_of : ℕ → Optio
     module _ (r : Result KeptEntry ErrorOf) (given : Steps (Some r)) where
       -- one is refused
       pub entries-fault : (e : ErrorOf) → r ≡ Err e
-          → ((lookup_with_slots strict format offset_of o).value bytes ≡ None)
-          × (lookup_with_slots strict format offset_of o).IsCause bytes e
+          → IsRefused (lookup_with_slots strict format offset_of o) bytes e
       entries-fault e is =
           let fault =
           walk-fault comes IsCause (Some o) place h.kept h.at kept_value (place_after format.width (Some r)) r given e is in

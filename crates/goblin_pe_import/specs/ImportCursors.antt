@@ -1,7 +1,7 @@
 -- Where the imports of an image begin.
 use Rattle.std.specs.Prelude.{◌≡◌, ℕ, Bool, List, Option, Some, None, IsSomeAnd, Result, Ok, Err}
 use Rattle.goblin_base.specs.declared.error.ErrorOf.{ErrorOf}
-use Rattle.goblin_base.specs.Reading.{Reading}
+use Rattle.goblin_base.specs.Reading.{IsRefused, Reading}
 use Rattle.readings.specs.Reads.{mapped, or_else}
 use Rattle.goblin_pe_sect.specs.AddressReadings.{offset_at}
 use Rattle.goblin_pe_sect.specs.Addresses.{MapOfAddresses}
@@ -30,4 +30,4 @@ first_import strict offset_of rva =
 abbrev pub BeginsAt : {T : Type 0} → MapOfAddresses → List ℕ → Reading ImportCursor
     → Result (Imports T) ErrorOf → Type 0
 BeginsAt m bytes first (Ok it) = IsSomeAnd (first.value bytes) (λ c. IsWalkAt m bytes c it)
-BeginsAt m bytes first (Err e) = (first.value bytes ≡ None) × first.IsCause bytes e
+BeginsAt m bytes first (Err e) = IsRefused first bytes e

@@ -2,7 +2,7 @@
 use Rattle.std.specs.Prelude.{◌≡◌, List, ℕ, None, IsSomeAnd, Result, Ok, Err}
 use Rattle.goblin_base.specs.declared.error.ErrorOf.{ErrorOf}
 use Rattle.goblin_base.specs.Answers.{IsMemory}
-use Rattle.goblin_base.specs.Reading.{Reading}
+use Rattle.goblin_base.specs.Reading.{IsRefused, Reading}
 use Rattle.goblin_pe_records.specs.declared.fault.PeFault.{PeFault}
 use Rattle.goblin_pe_records.specs.Faults.{status_of}
 
@@ -13,7 +13,7 @@ abbrev pub ReadsInto : {A H : Type 0} → Reading H → (H → Type 0) → Readi
     → (A → Type 0) → Type 0 → Result Unit ErrorOf → Type 0
 ReadsInto header MayGrow reading bytes Says Left (Ok x) = IsSomeAnd (reading.value bytes) Says
 ReadsInto header MayGrow reading bytes Says Left (Err e) =
-    (¬ IsMemory e → (reading.value bytes ≡ None) × reading.IsCause bytes e)
+    (¬ IsMemory e → IsRefused reading bytes e)
     × (IsMemory e → IsSomeAnd (header.value bytes) MayGrow)
     × Left
 

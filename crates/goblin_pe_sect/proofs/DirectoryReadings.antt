@@ -12,6 +12,7 @@ use Rattle.goblin_base.specs.declared.error.ErrorOf.TheVariants.{Malformed, Read
 use Rattle.goblin_base.specs.declared.error.ReadFault.TheVariants.{BadOffset, TooBig}
 use Rattle.goblin_base.specs.Answers.{IsFirstMissing, IsSliceFault, all_at, all_of}
 use Rattle.goblin_base.specs.Bytes.{slice_at}
+use Rattle.goblin_base.specs.Reading.{IsRefused}
 use Rattle.goblin_base.specs.Record.{record_at}
 use Rattle.goblin_base.proofs.Footprints.{same-all_at, same_map}
 use Rattle.goblin_base.proofs.Numbers.{slice-of_slice, slice_at-inside, slice_at-past}
@@ -142,7 +143,7 @@ from_records count bytes p e (i, below, earlier, none, cause) = (
 pub missing_refused : (count i : ℕ) (bytes : List ℕ) (p at : ℕ)
     (entries : List (Option (ℕ × DataDirectory))) (e : ErrorOf) → i < count → count ≤ 16
     → at ≡ p + 8 * i → (directories_at i p).value bytes ≡ Some entries → IsSliceFault bytes at 8 e
-    → ((directories_at count p).value bytes ≡ None) × (directories_at count p).IsCause bytes e
+    → IsRefused (directories_at count p) bytes e
 unfolding directories_at
 missing_refused count i bytes p at entries e lt most is so_far h =
     let before = sym (value-directories_at i bytes p) ∙ so_far in
@@ -165,7 +166,7 @@ there_so_far i bytes p most room =
 cut_refused : (count : ℕ) (bytes : List ℕ) (p : ℕ) (e : ErrorOf) → count ≤ 16
     → length bytes - p < 8 * count
     → IsSliceFault bytes (p + 8 * ((length bytes - p) / 8)) 8 e
-    → ((directories_at count p).value bytes ≡ None) × (directories_at count p).IsCause bytes e
+    → IsRefused (directories_at count p) bytes e
 cut_refused count bytes p e most short fault =
     let i = (length bytes - p) / 8 in
     missing_refused count i bytes p (p + 8 * i)

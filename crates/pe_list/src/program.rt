@@ -1,8 +1,9 @@
 //! A run of the program: the whole input is read, listed, and the listing is written.
 
 ghost use Rattle.std.specs.Prelude.{◌≡◌, ◌≢◌, ◌<◌, length, string_bytes, Err, IfErr, IfOk, IfSome};
-ghost use Rattle.std.specs.Prelude.{IsSomeAnd, IsTrue, None, OnErr, OnOk, Some};
+ghost use Rattle.std.specs.Prelude.{IsSomeAnd, IsTrue, OnErr, OnOk, Some};
 ghost use Rattle.std.specs.Io.KnownBytes.{Appends, Keeps};
+ghost use Rattle.goblin_pe.specs.Reading.{IsRefused};
 ghost use Rattle.goblin_pe.specs.Answers.{IsMemory};
 ghost use Rattle.pe_listing.specs.Listing.{listing_of};
 ghost use Rattle.pe_list.specs.Run.{AppendsPart, IfRefused};
@@ -28,7 +29,7 @@ fn read_listing<R: Read>(
         (λ file. (listing_of mode).value file ≡ Some (string_bytes text))) }
     ensures refused { IfRefused result (λ cause. ¬ IsMemory cause
         → IfSome (R.remaining reader.old.inner) (λ file.
-        ((listing_of mode).value file ≡ None) × (listing_of mode).IsCause file cause)) }
+        IsRefused (listing_of mode) file cause)) }
     ensures grown { IfRefused result
         (λ cause.
         IsMemory cause → IfSome (R.remaining reader.old.inner) (λ file. 0 < length file)) }
@@ -66,7 +67,7 @@ pub fn run<R: Read, W: Write>(
         (AppendsPart (W.contents writer.old.inner) (W.contents writer.new.inner))) }
     ensures refused { IfRefused result (λ cause. ¬ IsMemory cause
         → IfSome (R.remaining reader.old.inner) (λ file.
-        ((listing_of mode).value file ≡ None) × (listing_of mode).IsCause file cause)) }
+        IsRefused (listing_of mode) file cause)) }
 
     // Memory is refused only where the input has a byte.
     ensures grown { IfRefused result

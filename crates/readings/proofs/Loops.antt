@@ -3,7 +3,7 @@ use Rattle.std.proofs.Common.{IsSomeAnd, is_some, Option, false, subst, Bool, tr
 use Rattle.std.proofs.Common.{List, ◌++◌, ◌&&◌, ◌<◌, ◌≤◌, ◌+◌, ◌∙◌, inl, inr, sym, not, [], ap, ℕ}
 use Rattle.goblin_base.specs.declared.error.ErrorOf.{ErrorOf}
 use Rattle.goblin_base.specs.Footprints.{Range}
-use Rattle.goblin_base.specs.Reading.{Reading}
+use Rattle.goblin_base.specs.Reading.{IsRefused, Reading}
 use Rattle.goblin_base.specs.Tables.{SlotFormat, ends_table, slot_at, stop}
 use Rattle.goblin_base.proofs.SlotTables.{AtSlot, at-end, at-missing, at-missing_first, at-next}
 use Rattle.goblin_base.proofs.SlotTables.{at-refused, at-start, at-refused_cause, reads, stop-after}
@@ -28,10 +28,6 @@ module _ {V A : Type 0} (slots : SlotFormat V) (piece : V → Reading (List A)) 
   abbrev made : V → Option (List A)
   made = value_of piece bytes
 
-  -- a reading has no value, and this is its cause
-  abbrev IsRefused : {B : Type 0} → Reading B → ErrorOf → Type 0
-  IsRefused reading e = (reading.value bytes ≡ None) × reading.IsCause bytes e
-
   pub read-start : 1 ≤ slots.entry.width → AtRead slots piece bytes o o []
   read-start wide = record { wide = wide; at = at-start slots made bytes o }
 
@@ -54,7 +50,7 @@ module _ {V A : Type 0} (slots : SlotFormat V) (piece : V → Reading (List A)) 
     -- an end is needed that is not in the file
     pub read-missing : (needs_end : Bool) (missing : ℕ → Reading V) (e : ErrorOf)
         → reads slots bytes place ≡ None → needs_end ≡ true → (missing place).IsCause bytes e
-        → IsRefused (table slots needs_end missing piece o) e
+        → IsRefused (table slots needs_end missing piece o) bytes e
     read-missing needs_end missing e r m fault = (
       at-missing slots needs_end made bytes o place xs h.wide h.at r m,
       inl
@@ -64,8 +60,8 @@ module _ {V A : Type 0} (slots : SlotFormat V) (piece : V → Reading (List A)) 
 
     -- the entry of the slot that is reached is refused
     pub read-refused : (needs_end : Bool) (missing : ℕ → Reading V) (v : V) (e : ErrorOf)
-        → reads slots bytes place ≡ Some v → slots.is_last v ≡ false → IsRefused (piece v) e
-        → IsRefused (table slots needs_end missing piece o) e
+        → reads slots bytes place ≡ Some v → slots.is_last v ≡ false → IsRefused (piece v) bytes e
+        → IsRefused (table slots needs_end missing piece o) bytes e
     read-refused needs_end missing v e r z k = (
       at-refused slots needs_end made bytes o place xs v h.wide h.at r z k.0,
       inr

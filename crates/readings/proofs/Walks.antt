@@ -3,7 +3,7 @@ use Rattle.std.proofs.Common.{◌≡◌, ◌<◌, ◌≤◌, ◌+◌, ◌*◌, �
 use Rattle.std.proofs.lemmas.Bool.{cases_Bool}
 use Rattle.goblin_base.specs.declared.error.ErrorOf.{ErrorOf}
 use Rattle.goblin_base.specs.Answers.{FirstFault, ◌>>=◌}
-use Rattle.goblin_base.specs.Reading.{Reading}
+use Rattle.goblin_base.specs.Reading.{IsRefused, Reading}
 use Rattle.goblin_base.specs.Tables.{AreMade, IsTableFault, SlotFormat, concat_below, ends_table, slot_at}
 use Rattle.goblin_base.specs.Tables.{slot_place, stop}
 use Rattle.goblin_base.proofs.Below.{least-before}
@@ -249,7 +249,7 @@ module _ {V A : Type 0} (slots : SlotFormat V) (piece : V → Reading (List A)) 
 
   module _ (v : V) (r : reads slots bytes o ≡ Some v) (going : slots.is_last v ≡ false) where
     cause-refused : (e : ErrorOf)
-        → ((piece v).value bytes ≡ None) × (piece v).IsCause bytes e → (rest o).IsCause bytes e
+        → IsRefused (piece v) bytes e → (rest o).IsCause bytes e
     cause-refused e k =
         (read-refused slots piece bytes o o [] (read-start slots piece bytes o wide) needs_end
         missing v e r going k).1

@@ -3,7 +3,7 @@ use Rattle.std.specs.Prelude.{◌≡◌, ℕ, Bool, ◌&&◌, not, if◌then◌e
 use Rattle.std.specs.Prelude.{Option, Some, None, Result, Ok, Err, option_map, is_some}
 use Rattle.goblin_base.specs.declared.error.ErrorOf.{ErrorOf}
 use Rattle.goblin_base.specs.Answers.{all_of}
-use Rattle.goblin_base.specs.Reading.{Reading}
+use Rattle.goblin_base.specs.Reading.{IsRefused, Reading}
 use Rattle.goblin_base.specs.Tables.{SlotFormat, concat_below, slot_at, slot_place, stop}
 
 -- ---- what is still to come
@@ -83,4 +83,4 @@ abbrev pub Walks : {S A B : Type 0} → (S → List (Option A)) → (S → Error
 Walks left IsCause gather (Ok walk) reading bytes =
     IsWalkOf gather reading bytes (left walk) (IsCause walk)
 Walks left IsCause gather (Err e) reading bytes =
-    (reading.value bytes ≡ None) × reading.IsCause bytes e
+    IsRefused reading bytes e

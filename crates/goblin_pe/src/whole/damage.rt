@@ -7,6 +7,7 @@ ghost use Rattle.goblin_pe_head.specs.HeaderReadings.{pe_header};
 ghost use Rattle.goblin_pe_head.specs.PeHeader.{header_value};
 ghost use Rattle.goblin_pe_sect.specs.Addresses.{offset_of};
 ghost use Rattle.goblin_pe_import.specs.ImportWalks.{IsImportsCause, imports_left};
+ghost use Rattle.goblin_pe.specs.Callers.{layout_table};
 ghost use Rattle.goblin_pe.specs.Damages.{AreDamaged, IsDamage, IsDamageOf, IsReadByBoth, IsSound};
 ghost use Rattle.goblin_pe.specs.Damages.{TellsDamage};
 ghost use Rattle.goblin_pe.specs.Layouts.{IsFileImportsCause, file_imports_left, layout_map};
@@ -74,10 +75,7 @@ fn file_refusal_of<'a, 'm, 'e>(imports: FileImports<'a, 'm, 'e>) -> Option<Error
 
 // What is refused of the imports.
 fn import_damage(layout: &Layout) -> Option<Error>
-    ensures { let m = layout_map layout.now in
-        IsDamage (import_list m.opts (offset_of m) (layout_places layout.now))
-        (layout_bytes layout.now)
-        result }
+    ensures { IsDamage (layout_table import_list layout.now) (layout_bytes layout.now) result }
 {
     match layout.imports() {
         Ok(Part::Read(imports)) => file_refusal_of(imports),

@@ -20,6 +20,7 @@ ghost use Rattle.goblin_pe_head.specs.PeHeader.{header_value};
 ghost use Rattle.goblin_pe_import.specs.ImportCursors.{first_import};
 ghost use Rattle.goblin_pe_import.specs.ImportReadings.{numbered_data};
 ghost use Rattle.goblin_pe_import.specs.Imports.{numbered_imports};
+ghost use Rattle.goblin_pe.specs.Callers.{layout_table};
 ghost use Rattle.goblin_pe.specs.Damages.{exports_left_out, imports_left_out_at, left_out_of};
 ghost use Rattle.goblin_pe.specs.LayoutCursors.{GivesFirst, IsFileCursorCause, IsImportWalkAt, StartsAt};
 ghost use Rattle.goblin_pe.specs.LayoutCursors.{file_cursor_left, file_map, import_begin};
@@ -255,9 +256,8 @@ impl<'a> Layout<'a> {
     #[inline(always)]
     #[tactic(auto, unfolding(crate::specs::LayoutCursors::import_begin))]
     pub fn imports<'m, 'e>(&'m self) -> ResultOf<'e, Part<FileImports<'a, 'm, 'e>>>
-        ensures walks { let m = layout_map self.now in
-            PartWalks file_imports_left IsFileImportsCause (λ xs. xs) result
-            (import_list m.opts (offset_of m) (layout_places self.now)) (layout_bytes self.now) }
+        ensures walks { PartWalks file_imports_left IsFileImportsCause (λ xs. xs) result
+            (layout_table import_list self.now) (layout_bytes self.now) }
         ensures listed { let m = layout_map self.now in
             AreListed m.opts (offset_of m) (layout_places self.now) (layout_bytes self.now) }
         ensures starts { let m = layout_map self.now in
@@ -321,9 +321,8 @@ impl<'a> Layout<'a> {
     /// In strict mode as [`Exports::of`](crate::export::Exports::of).
     #[inline(always)]
     pub fn exports<'m>(&'m self) -> Result<Part<Exports<'a, 'm>>>
-        ensures value { let m = layout_map self.now in
-            Reads (part_map walked_exports) result
-            (export_part m.opts (offset_of m) (layout_places self.now)) (layout_bytes self.now) }
+        ensures value { Reads (part_map walked_exports) result
+            (layout_table export_part self.now) (layout_bytes self.now) }
         ensures walk { IfOk result
             (IfRead (IsExportWalk (layout_map self.now) (layout_bytes self.now))) }
     {
@@ -339,9 +338,8 @@ impl<'a> Layout<'a> {
     #[tactic(auto, unfolding(crate::specs::Whole::export_part))]
     pub fn exports_by<'m>(&self, finder: Finder<'m>) -> Result<Part<Exports<'a, 'm>>>
         requires { map_of finder ≡ layout_map self.now }
-        ensures value { let m = layout_map self.now in
-            Reads (part_map walked_exports) result
-            (export_part m.opts (offset_of m) (layout_places self.now)) (layout_bytes self.now) }
+        ensures value { Reads (part_map walked_exports) result
+            (layout_table export_part self.now) (layout_bytes self.now) }
         ensures walk { IfOk result
             (IfRead (IsExportWalk (layout_map self.now) (layout_bytes self.now))) }
     {
@@ -365,10 +363,8 @@ impl<'a> Layout<'a> {
     /// # Errors
     /// In strict mode as [`RelocationData::parse_at`].
     pub fn relocations(&self) -> Result<Part<RelocationData<'a>>>
-        ensures { let m = layout_map self.now in
-            Reads (part_map relocation_bytes) result
-            (relocation_part m.opts (offset_of m) (layout_places self.now))
-            (layout_bytes self.now) }
+        ensures { Reads (part_map relocation_bytes) result
+            (layout_table relocation_part self.now) (layout_bytes self.now) }
     {
         self.places.relocations(self.bytes, &self.address_map)
     }

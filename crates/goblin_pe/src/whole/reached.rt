@@ -4,6 +4,7 @@ ghost use Rattle.std.specs.Prelude.{◌≡◌};
 ghost use Rattle.goblin_base.specs.Marks.{marked};
 ghost use Rattle.goblin_pe_sect.specs.Addresses.{offset_of, reads_strictly};
 ghost use Rattle.goblin_pe_import.specs.ImportReadings.{import_data};
+ghost use Rattle.goblin_pe.specs.Callers.{layout_table};
 ghost use Rattle.goblin_pe.specs.Layouts.{layout_bytes, layout_map, layout_places};
 ghost use Rattle.goblin_pe.specs.Whole.{both_import_parts, entry_format, export_part};
 ghost use Rattle.goblin_pe.specs.Whole.{relocation_part, table_parts};
@@ -32,8 +33,7 @@ impl Layout<'_> {
     // Marks what the imports reach, if they are asked for and there is a directory for them.
     #[tactic(auto, unfolding(crate::specs::Whole::both_import_parts, crate::specs::Whole::import_data_part), using(goblin_base::proofs::Marks::marking))]
     fn mark_imports(&self, marks: &mut Marks)
-        ensures { let m = layout_map self.now in
-            let read = both_import_parts m.opts (offset_of m) (layout_places self.now) in
+        ensures { let read = layout_table both_import_parts self.now in
             marks.new ≡ marked marks.old (read.reaches (layout_bytes self.now)) }
     {
         match self.places.imports {
@@ -47,8 +47,7 @@ impl Layout<'_> {
     // Marks what the exports reach, if there is a directory for them.
     #[tactic(auto, unfolding(crate::specs::Whole::export_part), using(goblin_base::proofs::Marks::marking))]
     fn mark_exports(&self, marks: &mut Marks)
-        ensures { let m = layout_map self.now in
-            let read = export_part m.opts (offset_of m) (layout_places self.now) in
+        ensures { let read = layout_table export_part self.now in
             marks.new ≡ marked marks.old (read.reaches (layout_bytes self.now)) }
     {
         match self.places.exports {
@@ -60,8 +59,7 @@ impl Layout<'_> {
     // Marks the bytes of the base relocations, if there is a directory for them.
     #[tactic(auto, unfolding(crate::specs::Whole::relocation_part, goblin_pe_sect::specs::AddressReadings::relocation_data), using(goblin_base::proofs::Marks::marking))]
     fn mark_relocations(&self, marks: &mut Marks)
-        ensures { let m = layout_map self.now in
-            let read = relocation_part m.opts (offset_of m) (layout_places self.now) in
+        ensures { let read = layout_table relocation_part self.now in
             marks.new ≡ marked marks.old (read.reaches (layout_bytes self.now)) }
     {
         let Some(directory) = self.places.relocations else {
@@ -76,8 +74,7 @@ impl Layout<'_> {
     // Marks what all tables reach: the positions on which they depend.
     #[tactic(auto, unfolding(crate::specs::Whole::table_parts), using(goblin_base::proofs::Marks::marking))]
     pub(crate) fn mark_tables(&self, marks: &mut Marks)
-        ensures { let m = layout_map self.now in
-            let read = table_parts m.opts (offset_of m) (layout_places self.now) in
+        ensures { let read = layout_table table_parts self.now in
             marks.new ≡ marked marks.old (read.reaches (layout_bytes self.now)) }
     {
         self.mark_imports(marks);

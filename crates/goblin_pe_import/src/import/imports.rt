@@ -10,7 +10,7 @@ ghost use Rattle.std.specs.Iterator.SizeHint.{IsWithinCount};
 ghost use Rattle.std.specs.List.{flat_map};
 ghost use Rattle.goblin_base.specs.declared.error.ErrorOf.{ErrorOf};
 ghost use Rattle.goblin_base.specs.Answers.{FirstFault};
-ghost use Rattle.goblin_base.specs.Reading.{Reads};
+ghost use Rattle.goblin_base.specs.Reading.{IsRefused, Reads};
 ghost use Rattle.readings.specs.Reads.{mapped};
 ghost use Rattle.readings.specs.Walks.{GivesNext, IsWalkOf, Walks, until_refused};
 ghost use Rattle.goblin_pe_sect.specs.Addresses.{map_of, offset_of, reads_strictly};
@@ -295,7 +295,7 @@ impl<'a, 'm> Walk<'a, 'm> {
             (λ _. IsNamedCause strict T.format (offset_of m) bytes entry.now
             (IsRecordsCause strict T.format (offset_of m) bytes next)) e))
             (λ e. (items ≡ None ∷ [])
-            × (strict ≡ true) × (name.value bytes ≡ None) × name.IsCause bytes e) }
+            × (strict ≡ true) × IsRefused name bytes e) }
         ensures named { IfOk (walk_answer self.new result) IsNamed }
         ensures bytes { self.new.bytes.now ≡ self.old.bytes.now }
         ensures finder { self.new.finder ≡ self.old.finder }

@@ -17,11 +17,8 @@ use std::alloc::Global;
 /// Positions, by where they begin and where they end.
 type Span = (usize, usize);
 
-/// What the readers reach in the sample file: of its header, its lookup table, its imports and its
-/// exports.
+/// What the readers reach in the sample file: of its header, its imports and its exports.
 const OF_HEADER: &[Span] = &[(0x000, 0x138)];
-
-const OF_LOOKUP: &[Span] = &[(0x240, 0x24C), (0x290, 0x295)];
 
 const OF_IMPORTS: &[Span] = &[
     (0x200, 0x228),
@@ -73,124 +70,10 @@ fn are_the_same(spans: &[Span], want: &[Span]) -> bool {
     true
 }
 
-fn flip(file: &mut [u8], place: usize) {
-    if let Some(byte) = file.get_mut(place) {
-        *byte ^= 0xFF;
-    }
-}
-
-/// Changes every byte outside of these positions.
-fn flip_outside(file: &mut [u8], spans: &[Span]) {
-    for place in 0..file.len() {
-        if !is_in(spans, place) {
-            flip(file, place);
-        }
-    }
-}
-
-/// Whether what is read is the same where the byte at this place is changed.
-fn is_the_same_but_at<F: Fn(Global, &[u8]) -> bool>(
-    alloc: Global,
-    file: &mut [u8],
-    place: usize,
-    is_the_same: &F,
-) -> bool
-    requires { F.IsAlwaysCallable is_the_same.now }
-{
-    flip(file, place);
-    let is_the_same = is_the_same(alloc, file);
-    flip(file, place);
-    is_the_same
-}
-
-/// Whether what is read is the same where any one byte outside of these positions is changed.
-fn ignores_each_outside<F: Fn(Global, &[u8]) -> bool>(
-    alloc: Global,
-    spans: &[Span],
-    is_the_same: &F,
-) -> bool
-    requires { F.IsAlwaysCallable is_the_same.now }
-{
-    let mut file = sample();
-    for place in 0..SAMPLE_LEN {
-        if !is_in(spans, place) && !is_the_same_but_at(alloc, &mut file, place, is_the_same) {
-            return false;
-        }
-    }
-    true
-}
-
-/// Whether what is read is the same where all bytes outside of these positions are changed.
-fn ignores_all_outside<F: Fn(Global, &[u8]) -> bool>(
-    alloc: Global,
-    spans: &[Span],
-    is_the_same: &F,
-) -> bool
-    requires { F.IsAlwaysCallable is_the_same.now }
-{
-    let mut file = sample();
-    flip_outside(&mut file, spans);
-    is_the_same(alloc, &file)
-}
-
-/// Whether what is read is another where some byte of this span is changed.
-fn is_read<F: Fn(Global, &[u8]) -> bool>(alloc: Global, span: &Span, is_the_same: &F) -> bool
-    requires { F.IsAlwaysCallable is_the_same.now }
-{
-    let mut file = sample();
-    for place in span.0..span.1 {
-        if !is_the_same_but_at(alloc, &mut file, place, is_the_same) {
-            return true;
-        }
-    }
-    false
-}
-
-/// Whether a test passes for the sample file, and for each file that differs from it outside of
-/// these positions, at one place or at all of them.
-fn ignores_outside<F: Fn(Global, &[u8]) -> bool>(
-    alloc: Global,
-    spans: &[Span],
-    is_the_same: &F,
-) -> bool
-    requires { F.IsAlwaysCallable is_the_same.now }
-{
-    is_the_same(alloc, &sample())
-        && ignores_each_outside(alloc, spans, is_the_same)
-        && ignores_all_outside(alloc, spans, is_the_same)
-}
-
-/// Whether that is so, and the test fails where a byte of each span is changed.
-fn depends_on<F: Fn(Global, &[u8]) -> bool>(alloc: Global, spans: &[Span], is_the_same: F) -> bool
-    requires { F.IsAlwaysCallable is_the_same }
-{
-    for span in spans {
-        if !is_read(alloc, span, &is_the_same) {
-            return false;
-        }
-    }
-    ignores_outside(alloc, spans, &is_the_same)
-}
-
-/// Whether a file and the sample file both have the sample's lookup table, whichever is the first.
-fn have_lookups(alloc: Global, file: &[u8]) -> bool {
-    are_lookups(alloc, &sample(), file) && are_lookups(alloc, file, &sample())
-}
-
 fn are_lookups<'a>(alloc: Global, a: &'a [u8], b: &'a [u8]) -> bool {
     let sections = [sample_section()];
     let opts = ParseOptions::default();
     are_samples(twin_lookup::<u32>(alloc, a, b, LOOKUP, &sections, ALIGNMENT, &opts))
-}
-
-#[test]
-fn a_lookup_table_depends_on_its_footprint_alone(rt: HostRuntime) {
-    assert!(rt; depends_on(rt.alloc(), OF_LOOKUP, have_lookups));
-}
-
-/// Whether both have its import data.
-fn have_imports(alloc: Global, file: &[u8]) -> bool {
-    are_imports(alloc, &sample(), file) && are_imports(alloc, file, &sample())
 }
 
 fn are_imports<'a>(alloc: Global, a: &'a [u8], b: &'a [u8]) -> bool {
@@ -199,30 +82,10 @@ fn are_imports<'a>(alloc: Global, a: &'a [u8], b: &'a [u8]) -> bool {
     are_samples(twin_imports::<u32>(alloc, a, b, IMPORTS, &sections, ALIGNMENT, &opts))
 }
 
-#[test]
-fn imports_depend_on_their_footprint_alone(rt: HostRuntime) {
-    assert!(rt; depends_on(rt.alloc(), OF_IMPORTS, have_imports));
-}
-
-/// Whether both have its export data and exports.
-fn have_exports(alloc: Global, file: &[u8]) -> bool {
-    are_exports(alloc, &sample(), file) && are_exports(alloc, file, &sample())
-}
-
 fn are_exports<'a>(alloc: Global, a: &'a [u8], b: &'a [u8]) -> bool {
     let sections = [sample_section()];
     let opts = ParseOptions::default();
     are_samples(twin_exports(alloc, a, b, EXPORTS, &sections, ALIGNMENT, &opts))
-}
-
-#[test]
-fn exports_depend_on_their_footprint_alone(rt: HostRuntime) {
-    assert!(rt; depends_on(rt.alloc(), OF_EXPORTS, have_exports));
-}
-
-/// Whether both have its header.
-fn have_headers(_alloc: Global, file: &[u8]) -> bool {
-    are_headers(&sample(), file) && are_headers(file, &sample())
 }
 
 fn are_headers(a: &[u8], b: &[u8]) -> bool {
@@ -230,23 +93,19 @@ fn are_headers(a: &[u8], b: &[u8]) -> bool {
     matches!(&headers, (Ok(first), Ok(second)) if first == second && is_header(first))
 }
 
-#[test]
-fn a_header_depends_on_its_footprint_alone(rt: HostRuntime) {
-    assert!(rt; depends_on(rt.alloc(), OF_HEADER, have_headers));
-}
-
-/// Whether both have its header, sections and tables.
-fn have_all(alloc: Global, file: &[u8]) -> bool {
-    are_whole(alloc, &sample(), file) && are_whole(alloc, file, &sample())
-}
-
 fn are_whole<'a>(alloc: Global, a: &'a [u8], b: &'a [u8]) -> bool {
     are_samples(twin_whole(alloc, a, b, &ParseOptions::default()))
 }
 
 #[test]
-fn a_whole_file_depends_on_its_footprint_alone(rt: HostRuntime) {
-    assert!(rt; depends_on(rt.alloc(), OF_WHOLE, have_all));
+fn files_that_agree_where_it_counts_are_read_alike(rt: HostRuntime) {
+    // No reader depends on the last byte.
+    let (a, b) = (sample(), sample_with(SAMPLE_LEN - 1, b"\xFF"));
+    assert!(rt; are_lookups(rt.alloc(), &a, &b));
+    assert!(rt; are_imports(rt.alloc(), &a, &b));
+    assert!(rt; are_exports(rt.alloc(), &a, &b));
+    assert!(rt; are_headers(&a, &b));
+    assert!(rt; are_whole(rt.alloc(), &a, &b));
 }
 
 /// Whether a call lists these positions.
@@ -303,22 +162,22 @@ fn is_whole_listed(alloc: Global, file: &[u8]) -> bool {
 
 #[test]
 fn the_footprint_of_a_header_is_listed(rt: HostRuntime) {
-    assert!(rt; ignores_outside(rt.alloc(), OF_HEADER, &is_header_listed));
+    assert!(rt; is_header_listed(rt.alloc(), &sample()));
 }
 
 #[test]
 fn the_footprint_of_imports_is_listed(rt: HostRuntime) {
-    assert!(rt; ignores_outside(rt.alloc(), OF_IMPORTS, &are_imports_listed));
+    assert!(rt; are_imports_listed(rt.alloc(), &sample()));
 }
 
 #[test]
 fn the_footprint_of_exports_is_listed(rt: HostRuntime) {
-    assert!(rt; ignores_outside(rt.alloc(), OF_EXPORTS, &are_exports_listed));
+    assert!(rt; are_exports_listed(rt.alloc(), &sample()));
 }
 
 #[test]
 fn the_footprint_of_a_whole_file_is_listed(rt: HostRuntime) {
-    assert!(rt; ignores_outside(rt.alloc(), OF_WHOLE, &is_whole_listed));
+    assert!(rt; is_whole_listed(rt.alloc(), &sample()));
 }
 
 /// What bytes at an offset make of the sample file, whose parts are then reached as far as the
