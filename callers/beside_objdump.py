@@ -15,7 +15,7 @@ import struct
 import subprocess
 import sys
 import tempfile
-from typing import Iterator, List, NamedTuple, Optional, Tuple
+from typing import Iterator, List, NamedTuple, Optional, Sequence, Tuple
 
 from goblin_pe import Cause, DirectoryType, Pe, Status
 
@@ -95,7 +95,7 @@ def listed(names: List[str], folder: str) -> Iterator[List[Block]]:
         yield blocks
 
 
-def seen(words: List[int], theirs: List[Tuple[Optional[str], int]]) -> bool:
+def seen(words: Sequence[int], theirs: List[Tuple[Optional[str], int]]) -> bool:
     """Whether objdump shows these words."""
     if len(words) != len(theirs):
         return False

@@ -38,7 +38,10 @@ NUMBERS = {"bool": (1, "bool", "c_bool"), "usize": (8, "size_t", "c_size_t"), "i
            **{"u%d" % bits: (bits // 8, "uint%d_t" % bits, "c_uint%d" % bits) for bits in (8, 16, 32, 64)}}
 # Constants whose names are shown, by their beginning: those of numbers, and of flags.
 SHOWN = {"machines": "COFF_MACHINE_", "subsystems": "IMAGE_SUBSYSTEM_", "file_flags": "IMAGE_FILE_",
-         "dll_flags": "IMAGE_DLLCHARACTERISTICS_", "section_flags": "IMAGE_SCN_"}
+         "dll_flags": "IMAGE_DLLCHARACTERISTICS_", "section_flags": "IMAGE_SCN_", "storage_classes": "IMAGE_SYM_CLASS_",
+         "comdat_selections": "IMAGE_COMDAT_SELECT_", "weak_external_searches": "IMAGE_WEAK_EXTERN_SEARCH_",
+         "base_relocations": "IMAGE_REL_BASED_",
+         **{"%s_relocations" % it: "IMAGE_REL_%s_" % it.upper() for it in ("i386", "amd64", "arm", "arm64", "ia64")}}
 # Where the names of ordinals stand, for the hash of imports.
 ORDINALS = HERE / "python/goblin_pe/_imphash.py"
 MADE = "callers/generate.py makes this file of what the proved crates declare."
@@ -522,7 +525,7 @@ def rust_files(it: Interface) -> Dict[str, str]:
 
     def ordinals(name: str) -> str:
         table, = re.findall(r'(?s)\n%s = """(.*?)"""' % name, ORDINALS.read_text("utf-8"))
-        words = table.lower().split()
+        words = table.split()
         return "pub const %s: &[(u16, &str)] = &[\n%s];\n" % (name, "".join('    (%s, "%s"),\n' % row for row in zip(words[::2], words[1::2])))
 
     records = [r for r in it.records.values() if r.name != "Text"]
@@ -532,7 +535,7 @@ def rust_files(it: Interface) -> Dict[str, str]:
         "rust/src/records.rs": RUST_RECORDS % (
             MADE, sum_of(it)[:4], sum_of(it)[4:], "\n".join(map(record, records)), "".join("        %s: %s,\n" % row for row in it.defaults.items()),
             "".join(facts(r.name) for r in records), "\n".join(map(call, it.calls))),
-        "rust/src/numbers.rs": "//! The numbers in the library's records, by name.\n//! %s\n\n%s" % (
+        "rust/src/numbers.rs": "//! The numbers in the library's records, by name.\n//! %s\n\nuse crate::error::UnknownNumber;\n\n%s" % (
             MADE, "\n".join(map(enum, it.enums.values()))),
         "rust/src/constants.rs": "//! The numbers of the PE and COFF formats, by goblin's names, which are mostly the formats' own.\n// %s\n\n%s" % (
             MADE, "\n".join(comment(file.doc, mark="// ") + "\n" + "".join(map(constant, file.items)) for file in it.constants))}
@@ -569,15 +572,15 @@ RUST_ENUM = """#[repr(u32)]
 %s}
 
 impl TryFrom<u32> for NAME {
-    type Error = u32;
+    type Error = UnknownNumber;
 
     /// What has this number.
     ///
     /// # Errors
     /// The number, where nothing has it.
-    fn try_from(number: u32) -> Result<NAME, u32> {
+    fn try_from(number: u32) -> Result<NAME, UnknownNumber> {
         match number {
-%s            _ => Err(number),
+%s            _ => Err(UnknownNumber(number as usize)),
         }
     }
 }

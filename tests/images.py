@@ -193,6 +193,77 @@ def importer(imports, relocated=0):
     return headers + raw
 
 
+def with_others(is_wide=True):
+    """An image that has what the library leaves to others: delayed imports from two libraries, debug data that name a PDB, and three
+    resources. What each of them says stands in test_python.py."""
+    place, width = 0x1000, 8 if is_wide else 4
+    base, data, form = 0x180000000 if is_wide else 0x400000, bytearray(0x200), "<%dQ" if is_wide else "<%dI"
+
+    def put(content, alignment=8):
+        data.extend(bytes(-len(data) % alignment) + content)
+        return place + len(data) - len(content)
+
+    def library(name, entries):
+        texts = [1 << (8 * width - 1) | it if isinstance(it, int) else put(struct.pack("<H", 7) + it + b"\0", 2) for it in entries]
+        names, slots = (put(struct.pack(form % (len(texts) + 1), *texts, 0)) for _ in range(2))
+        return struct.pack("<8I", 1, put(name + b"\0", 1), 0, slots, names, 0, 0, 0)
+
+    records = library(b"late.dll", [b"Later", 12]) + library(b"never.dll", [b"Never"])
+    path = b"RSDS" + bytes(range(16)) + struct.pack("<I", 3) + b"c:\\work\\some.pdb\0"
+    pdb = put(path)
+    debug = struct.pack("<2I2H4I", 0, 0, 0, 0, 2, len(path), pdb, pdb - place + 0x200)
+    texts = {it: put(struct.pack("<H", len(it)) + it.encode("utf-16-le"), 2) for it in ("TEXT", "README")}
+    content = put(b"content")
+    # (the offsets of resources are from their directory on, at the front of the section)
+    high, at = 1 << 31, {name: it - place for name, it in texts.items()}
+    tree = [(1, 1, ((high | at["TEXT"], high | 0x80), (16, high | 0xA0))), (1, 0, ((high | at["README"], high | 0xC0),)),
+            (0, 1, ((1, high | 0xD8),)), (0, 1, ((0, 0x100),)), (0, 2, ((0x407, 0x110), (0x409, 0x110)))]
+    for offset, (named, numbered, rows) in zip((0, 0x80, 0xA0, 0xC0, 0xD8), tree):
+        struct.pack_into("<2I4H", data, offset, 0, 0, 0, 0, named, numbered)
+        for index, row in enumerate(rows):
+            struct.pack_into("<2I", data, offset + 16 + 8 * index, *row)
+    struct.pack_into("<8I", data, 0x100, content, 7, 0, 0, content + 1, 6, 0, 0)
+    data[0x140: 0x140 + len(records)], data[0x1C0: 0x1C0 + 28] = records, debug
+    directories = ((2, place, 0x1C0), (6, place + 0x1C0, 28), (13, place + 0x140, 96))
+    headers = image_headers(0x200, 1, 0x10000, directories) if is_wide else narrow_headers(base, directories)
+    put_section(headers, 0x148 if is_wide else 0x138, b".others", data, place, 0x200)
+    return bytes(headers + data + bytes(-len(data) % 0x200))
+
+
+def narrow_headers(base, directories):
+    """The headers of an image for 32 bits, with room for the records of a few sections."""
+    headers = bytearray(0x200)
+    headers[0:2] = b"MZ"
+    struct.pack_into("<I", headers, 0x3C, 0x40)
+    struct.pack_into("<4sHHIIIHH", headers, 0x40, b"PE\0\0", 0x14C, 1, 0, 0, 0, 224, 0x2102)
+    struct.pack_into("<HBBIIIIII", headers, 0x58, 0x10B, 14, 0, 0, 0, 0, 0x1000, 0x1000, 0)
+    struct.pack_into("<IIIHHHHHHIIIIHH", headers, 0x74, base, 0x1000, 0x200, 6, 0, 0, 0, 6, 0, 0, 0x10000, 0x200, 0, 3, 0)
+    struct.pack_into("<I", headers, 0xB4, 16)
+    for index, address, size in directories:
+        struct.pack_into("<II", headers, 0xB8 + 8 * index, address, size)
+    return headers
+
+
+def with_data_behind(image, size):
+    """The image with so many zeros between its headers, which have 512 bytes, and the data of its sections."""
+    image, (signature,) = bytearray(image), struct.unpack_from("<I", image, 0x3C)
+    count, optional = struct.unpack_from("<H12xH", image, signature + 6)
+    for place in range(signature + 24 + optional, signature + 24 + optional + 40 * count, 40):
+        pointer, = struct.unpack_from("<I", image, place + 20)
+        struct.pack_into("<I", image, place + 20, pointer + size)
+    return bytes(image[:0x200] + bytes(size) + image[0x200:])
+
+
+def with_small_header(image, size):
+    """The sample whose section table begins so many bytes after the begin of its optional header, over the rest of that."""
+    image, (signature,) = bytearray(image), struct.unpack_from("<I", image, 0x3C)
+    count, optional = struct.unpack_from("<H12xH", image, signature + 6)
+    table = signature + 24 + optional
+    struct.pack_into("<H", image, signature + 20, size)
+    image[signature + 24 + size: signature + 24 + size + 40 * count] = image[table: table + 40 * count]
+    return image
+
+
 def with_directory(image, index, address, size):
     """The image for 64 bits with one of its data directories at another address, of another size."""
     image = bytearray(image)

@@ -8,7 +8,7 @@ import signal
 import struct
 import unittest
 
-from tests import images, programs
+from tests import hostile, images, programs
 from tests.programs import BY_NAME, CALLERS, CC, FLAGS, IMAGES, OBJECTS, SAMPLES, TERSE, TOP, Case, library, milliseconds, need, run, succeed, with_memory
 
 
@@ -46,6 +46,12 @@ def built(name, *flags):
 def refused(call, file):
     """How many growths of memory a call asks for, each of which is refused once."""
     return int(succeed([built("growths"), call, file]))
+
+
+@functools.cache
+def large():
+    """An image of 17 MiB, whose imports stand at its end."""
+    return images.with_data_behind(images.importer([(b"fruit.dll", [b"Apple"])]), 17 << 20)
 
 
 def need_flags(*flags):
@@ -149,6 +155,24 @@ int main(int argc, char **argv)
         source, made = self.written("readme.c", program.encode()), self.folder / "readme"
         succeed([CC, "-std=c11", *FLAGS, *STRICT, "-I", library(), "-o", made, source, library() / "libgoblin_pe.a"])
         self.assertEqual(succeed([made], cwd=self.folder), "GetTickCount from KERNEL32.dll\n")
+        self.written("some.dll", BY_NAME.read_bytes().replace(b"GetTickCount", b"Get\x1b[2J\\\xc3\xa9nt"))
+        self.assertEqual(succeed([made], cwd=self.folder), "Get\\x1b[2J\\x5c\\xc3\\xa9nt from KERNEL32.dll\n")
+        self.written("some.dll", large())
+        self.assertEqual(succeed([made], cwd=self.folder), "Apple from fruit.dll\n")
+
+    def test_no_example_cuts_a_file(self):
+        """Of more than 16 MiB, whose imports stand at its end."""
+        image, to = self.written("large.dll", large()), self.folder / "patched.dll"
+        self.assert_runs([built("walk"), "10", image], (0, b"1 imports\n0 exports\n", b""))
+        self.assert_runs([built("damage"), image], (0, b"", b""))
+        self.assert_runs([built("patch"), image, "7", ".data", ".code", to], (0, b"0x7 .code\n", b""))
+        self.assertEqual((to.stat().st_size, to.read_bytes()[0x200:]), (image.stat().st_size, image.read_bytes()[0x200:]))
+
+    def test_what_can_not_be_read_is_no_file(self):
+        for name, *words in ("walk", "10"), ("damage",):
+            self.assert_runs([built(name), *words, self.folder / "lost.dll"], (2, b"", b""))
+            self.assert_runs([built(name), *words, self.folder], (2, b"", b""))
+        self.assert_runs([built("patch"), self.folder, "7", ".data", ".code", self.folder / "not.dll"], (2, b"", b""))
 
     def test_ten_idioms_of_a_newcomer(self):
         self.assertEqual(succeed([built("idioms"), BY_NAME]), "10 of 10\n")
@@ -413,6 +437,16 @@ class Patch(Case):
         data[header + 8: header + 12], data[place: place + 8] = b"\x78\x56\x34\x12", b".code\0\0\0"
         self.assertEqual(to.read_bytes(), data)
 
+    def test_a_checksum_where_the_section_table_stands_is_not_written(self):
+        """The first record begins where the field is, and has a name that is no checksum."""
+        image = images.with_small_header(BY_NAME.read_bytes(), 64)
+        table = int.from_bytes(image[0x3C:0x40], "little") + 24 + 64
+        image[table + 40: table + 48] = b".rd".ljust(8, b"\0")  # (the number of directories, 0, is the second half)
+        to = self.folder / "patched.dll"
+        self.assert_runs([built("patch"), self.written("small.dll", image), "7", ".text", ".code", to],
+                         (1, b"", b"the section table stands where the optional header would go on\n"))
+        self.assertFalse(to.exists())
+
     def test_a_name_that_is_too_long(self):
         wanted = (1, b"", b"refused: ")
         status, out, said = run([built("patch"), BY_NAME, "0", ".text", "ninebytes", self.folder / "not.dll"])
@@ -473,6 +507,18 @@ class Reuse(Case):
         succeed([built("loader", *SANITIZED), *self.loaded])
         status, _, said = run([built("list", *SANITIZED), CALLERS / "build"])
         self.assertEqual((status, said[:9]), (1, b"refused: "))
+
+    def test_hostile_files_with_sanitizers(self):
+        """Of each example: it ends with a status of its own, and the sanitizers say nothing."""
+        need_flags(*SANITIZED)
+        to, env = self.folder / "patched.dll", {**os.environ, "ASAN_OPTIONS": "exitcode=99", "UBSAN_OPTIONS": "exitcode=99"}
+        for index, data in enumerate(itertools.islice(hostile.files(), 60)):
+            file = self.written(f"{index}.bin", data)
+            for name, *words in (("list", file), ("list", "--permissive", file), ("list", "--symbols", file), ("list", "--te", file),
+                                 ("walk", "1000", file), ("damage", file), ("loader", file), ("patch", file, "7", ".text", ".code", to)):
+                with self.subTest(name=name, index=index):
+                    status, _, said = run([built(name, *SANITIZED), *words], env=env)
+                    self.assertIn(status, (0, 1), said)
 
     def test_under_valgrind(self):
         need("valgrind")

@@ -202,11 +202,11 @@ class Read(unittest.TestCase):
                 self.assertEqual(list(walk()), wanted)
 
     def assert_imports(self, pe, wanted):
-        self.assertEqual((pe.import_table, pe.imports), (package().State.READ, wanted))
+        self.assertEqual((pe.import_table, list(pe.imports)), (package().State.READ, wanted))
         self.assert_walks(pe.walk_imports, wanted)
 
     def assert_exports(self, pe, wanted):
-        self.assertEqual((pe.export_table, pe.exports), (package().State.READ, wanted))
+        self.assertEqual((pe.export_table, list(pe.exports)), (package().State.READ, wanted))
         self.assert_walks(pe.walk_exports, wanted)
 
 
@@ -243,7 +243,7 @@ class Exports(Read):
             with self.subTest(name):
                 self.assert_refused(data, refused)
                 pe = read(data, is_permissive=True)
-                self.assertEqual((pe.export_table, pe.exports, told(pe.damage.exports)), (package().State.REFUSED, [], refused))
+                self.assertEqual((pe.export_table, pe.exports, told(pe.damage.exports)), (package().State.REFUSED, (), refused))
 
     def test_forwarders_name_a_library_and_a_name_or_an_ordinal(self):
         for text, wanted in FORWARDERS:
@@ -256,7 +256,7 @@ class Exports(Read):
         for text in NO_FORWARDERS:
             with self.subTest(text):
                 pe = read(images.library(b"a.dll", [(b"f", text)]))
-                self.assertEqual((pe.exports, [it.forwards for it in pe.export_addresses]), ([], [True]))
+                self.assertEqual((pe.exports, [it.forwards for it in pe.export_addresses]), ((), [True]))
                 self.assertEqual((pe.damage.left_out_exports, pe.forwarder_at(pe.export_addresses[0].rva)), (1, None))
                 self.assertEqual([it[2:] for it in pe.walk_export_addresses()], [(True, None)])
 
@@ -314,13 +314,13 @@ class WholeFiles(Read):
             with self.subTest(how=how):
                 pe = package().Pe(sample(), how)
                 self.assertEqual(pe.data_directories, {0: (0x10A0, 0x60), 1: (0x1000, 0x28)})
-                self.assertEqual(pe.sections, [(b".rdata", 0x100, 0x1000, 0x100, 0x200, 0, 0, 0, 0, 0, b".rdata\0\0")])
-                self.assertEqual((pe.relocation_table, pe.blocks), (package().State.ABSENT, []))
+                self.assertEqual(list(pe.sections), [(b".rdata", 0x100, 0x1000, 0x100, 0x200, 0, 0, 0, 0, 0, b".rdata\0\0")])
+                self.assertEqual((pe.relocation_table, pe.blocks), (package().State.ABSENT, ()))
 
     def test_what_the_export_directory_leads_to(self):
         pe = read(sample())
         self.assertEqual(pe.export_directory, (b"a.dll", (0, 0, 0, 0, 0x1080, 1, 2, 2, 0x10C8, 0x10D0, 0x10D8)))
-        self.assertEqual(pe.export_addresses, [(1, 0x1010, False), (2, 0x10E0, True)])
+        self.assertEqual(list(pe.export_addresses), [(1, 0x1010, False), (2, 0x10E0, True)])
         self.assertEqual(list(pe.walk_export_addresses()), [(1, 0x1010, False, None), (2, 0x10E0, True, (b"b", 12))])
 
     def test_an_export_directory_that_passes_the_window_of_its_section(self):
@@ -355,7 +355,7 @@ class WholeFiles(Read):
             self.assert_exports(pe, [PLAIN, FORWARDED])
         pe = read(data, is_permissive=True)
         self.assert_imports(pe, [])
-        self.assertEqual((pe.export_table, pe.exports), (package().State.REFUSED, []))
+        self.assertEqual((pe.export_table, pe.exports), (package().State.REFUSED, ()))
 
 
 class OverlappingSections(Read):

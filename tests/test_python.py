@@ -1,16 +1,19 @@
 """The package for callers in Python."""
+import contextlib
 import importlib.util
+import io
 import json
 import os
 import pathlib
 import pty
+import random
 import re
 import signal
 import struct
 import subprocess
 import sys
 
-from tests import images
+from tests import hostile, images
 from tests.programs import (BY_NAME, CALLERS, CC, FLAGS, IMAGES, OBJECTS, SAMPLES, TERSE, TOP, Case, beside, environment, library, need,
                             package, run, succeed, with_memory)
 
@@ -234,7 +237,12 @@ class Triage(Case):
         self.written("names.dll", images.pointers_to_one_name(150000))
         self.written("front.dll", images.directory_in_front())
         self.written("nowhere.dll", images.import_from_nowhere(BY_NAME.read_bytes()))
+        self.written("unmapped.dll", images.with_directory(BY_NAME.read_bytes(), 1, 0x9000, 40))
+        self.written("cut.dll", BY_NAME.read_bytes()[:-16])
         found = self.triaged()
+        self.assertEqual((list(found["unmapped.dll"]["damage"]), found["unmapped.dll"]["libraries"]), (["imports"], {}))
+        # (what is left of the last section follows the others, and is no overlay)
+        self.assertEqual((found["cut.dll"]["overlay"], ["refused" in it for it in found["cut.dll"]["sections"]]), (None, [False] * 3 + [True]))
         self.assertEqual([found[it]["left_out"] for it in ("front.dll", "nowhere.dll")],
                          [{"left_out_libraries": 1, "left_out_entries": 1}, {"unmapped_entries": 1}])
         self.assertEqual((list(found["damaged.dll"]["damage"]), found["damaged.dll"]["exports"]), (["exports"], 0))
@@ -243,6 +251,89 @@ class Triage(Case):
         self.assertEqual(found["object.obj"], {"kind": "object"})
         self.assertEqual((sum(found["hostile.dll"]["libraries"].values()), found["hostile.dll"]["imphash"]), (100000, None))
         self.assertEqual(found["names.dll"]["exports"], 100000)
+
+
+def told_of_others(pefile, path):
+    """What pefile tells of delayed imports, PDBs and resources, as the examples have them."""
+    pe = pefile.PE(path)
+    imports = [(it.dll, x.name, x.hint if x.name else x.ordinal, x.address - pe.OPTIONAL_HEADER.ImageBase)
+               for it in getattr(pe, "DIRECTORY_ENTRY_DELAY_IMPORT", ()) for x in it.imports]
+    pdbs = [it.entry.PdbFileName.rstrip(b"\0") for it in getattr(pe, "DIRECTORY_ENTRY_DEBUG", ()) if it.entry]
+    found = []
+
+    def below(directory, path):
+        for it in directory.entries:
+            way = (*path, str(it.name) if it.name else it.id)
+            if hasattr(it, "directory"):
+                below(it.directory, way)
+            else:
+                found.append((way, it.data.struct.OffsetToData, it.data.struct.Size))
+
+    if hasattr(pe, "DIRECTORY_ENTRY_RESOURCE"):
+        below(pe.DIRECTORY_ENTRY_RESOURCE, ())
+    return imports, pdbs, found
+
+
+class Recipes(Case):
+    """The examples that read what the library leaves to others."""
+
+    def setUp(self):
+        super().setUp()
+        package()
+        self.recipes = {}
+        for name in "delayed_imports", "pdb_path", "resources":
+            spec = importlib.util.spec_from_file_location(name, CALLERS / f"python/examples/{name}.py")
+            self.recipes[name] = importlib.util.module_from_spec(spec)
+            spec.loader.exec_module(self.recipes[name])
+
+    def told(self, data):
+        """What they tell of an image."""
+        layout = package().Layout(data, package().Options(is_permissive=True))
+        return (list(self.recipes["delayed_imports"].delayed(layout)), list(self.recipes["pdb_path"].pdbs(layout)),
+                list(self.recipes["resources"].resources(layout)))
+
+    def test_what_an_image_has(self):
+        for is_wide in True, False:
+            image = images.with_others(is_wide)
+            imports, pdbs, found = self.told(image)
+            self.assertEqual([it[:3] for it in imports], [(b"late.dll", b"Later", 7), (b"late.dll", None, 12), (b"never.dll", b"Never", 7)])
+            self.assertEqual(pdbs, [(b"c:\\work\\some.pdb", "030201000504070608090A0B0C0D0E0F3")])
+            self.assertEqual([(it.path, it.size) for it in found], [(("TEXT", "README", 0), 7), ((16, 1, 0x407), 6), ((16, 1, 0x409), 6)])
+            layout = package().Layout(image)
+            self.assertEqual([layout.bytes_at(it.rva, it.size) for it in found], [b"content", b"ontent", b"ontent"])
+            for name, recipe in self.recipes.items():
+                path = self.written("some.dll", image)
+                with contextlib.redirect_stdout(io.StringIO()) as said:
+                    recipe.main(str(path), str(self.folder / "lost.dll"))
+                self.assertRegex(said.getvalue(), "(?s)^.*some.dll: .*lost.dll: ", name)
+
+    def test_they_tell_what_pefile_does(self):
+        try:
+            import pefile
+        except ImportError:
+            self.skipTest("no pefile")
+        files = [self.written("wide.dll", images.with_others()), self.written("narrow.dll", images.with_others(False)), *IMAGES]
+        for path in files:
+            with self.subTest(path.name):
+                imports, pdbs, found = self.told(path.read_bytes())
+                self.assertEqual((list(map(tuple, imports)), [it.path for it in pdbs], list(map(tuple, found))), told_of_others(pefile, str(path)))
+
+    def test_hostile_files(self):
+        """Whose tree of resources leads in a ring, whose branches are shared, or whose parts have other bytes."""
+        wide = images.with_others()
+        ring = images.with_parts(wide, (0x200 + 12, struct.pack("<2H4I", 0, 2, 1, 1 << 31, 2, 1 << 31)))
+        self.assertEqual(self.told(ring)[2], [])
+        many = images.with_parts(wide, (0x200 + 12, struct.pack("<2H", 0xFFFF, 0xFFFF)), (0x210, struct.pack("<2I", 1, 1 << 31) * 20000))
+        self.assertLessEqual(len(self.told(many)[2]), 100_000)
+        for data in hostile.files():
+            with contextlib.suppress(package().Refused):
+                self.told(data)
+        digits = random.Random(7)
+        for _ in range(500):
+            changed = bytearray(wide)
+            for _ in range(6):
+                changed[digits.randrange(0x200, len(changed))] = digits.choice([0, 0x7F, 0x80, 0xFF])
+            self.told(bytes(changed))
 
 
 class Package(Case):
@@ -263,6 +354,17 @@ class Package(Case):
                 self.assertEqual(found["file"], str(sample))
                 for kind in ("section", "import", "export", "block"):
                     self.assertEqual(len(found[kind + "s"]), sum(it.startswith(kind + " ") for it in listed), kind)
+
+    def test_what_is_not_changed_is_written_as_it_was(self):
+        """Also where the section table stands over the optional header, or the headers in the DOS header, unless that is refused."""
+        written = 0
+        for data in (*hostile.files(), *(bytes(images.with_small_header(BY_NAME.read_bytes(), it)) for it in range(0, 248, 8))):
+            for is_permissive in False, True:
+                with contextlib.suppress(ValueError):
+                    pe = package().Pe(data, package().Options(is_permissive=is_permissive, parse_imports=False))
+                    self.assertEqual(pe.write(sections=pe.sections), data)
+                    written += 1
+        self.assertGreater(written, 100)
 
     def test_a_folder_is_triaged(self):
         names = {"damaged.dll": "," + HASHES[BY_NAME.name] + ",exports", "refused.dll": ",the DOS header leads to 0x5a4d in place of the PE signature"}

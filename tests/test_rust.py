@@ -1,16 +1,41 @@
 """The crate for callers in Rust, and goblin beside it."""
 import functools
 import hashlib
+import itertools
 import json
 import pathlib
 import re
 import shutil
+import subprocess
 
-from tests import images
+from tests import hostile, images
 from tests.programs import BY_NAME, CALLERS, IMAGES, SAMPLES, TOP, Case, beside, environment, folder, library, need, package, run, succeed, with_memory
 from tests.test_python import HASHES, TOLD_BY_PEFILE, triaged_images
 
 REGISTRY = pathlib.Path("/usr/share/cargo/registry")
+# What runs all examples of the documentation on files: it tells which of them panics on which.
+HOSTILE = """#![allow(warnings)]
+use std::sync::Mutex;
+
+static FILE: Mutex<Vec<u8>> = Mutex::new(Vec::new());
+
+fn read() -> std::io::Result<Vec<u8>> {
+    Ok(FILE.lock().unwrap().clone())
+}
+
+%s
+fn main() {
+    let examples: &[(&str, fn() -> Result<(), Box<dyn std::error::Error>>)] = &[%s];
+    for path in std::env::args().skip(1) {
+        *FILE.lock().unwrap() = std::fs::read(&path).unwrap();
+        for (name, example) in examples {
+            if std::panic::catch_unwind(example).is_err() {
+                eprintln!("{name} panics on {path}");
+            }
+        }
+    }
+}
+"""
 # What stands around the programs of a README.
 README = """fn main() -> Result<(), Box<dyn std::error::Error>> {
     let bytes = std::fs::read(std::env::args().nth(1).ok_or("no file")?)?;
@@ -23,6 +48,21 @@ README = """fn main() -> Result<(), Box<dyn std::error::Error>> {
 def setUpModule():
     need("cargo")
     library()
+
+
+def documented_examples():
+    """The examples of the crate's documentation that read a file, by where they stand, each as the body of a function."""
+    found = {}
+    for path in sorted((CALLERS / "rust/src").glob("*.rs")):
+        lines = [re.sub(r"^ *//[/!] ?", "", it) if re.match(" *//[/!]", it) else "" for it in path.read_text("utf-8").splitlines()]
+        for body in re.finditer(r"(?ms)^```no_run(?:,edition2021)?\n(.*?)^```$", "\n".join(lines)):
+            text = re.sub(r"(?m)^# ?", "", body[1])
+            text = re.sub(r"(?m)^Ok::<\(\), .*$", "", text)
+            text = re.sub(r'std::fs::read\("[^"]*"\)', "crate::read()", text)
+            text = re.sub(r'(let (?:mut )?bytes) = (?:\[\]|vec!\[0\]|\*b"no image");', r"\1 = crate::read()?;", text)
+            text += "main();" if "fn main() {" in text else ""
+            found["%s:%d" % (path.name, "\n".join(lines)[:body.start()].count("\n") + 1)] = text
+    return found
 
 
 def cargo(verb, *words, **more):
@@ -123,6 +163,29 @@ class Crate(Case):
         shutil.copy(CALLERS / "rust/tests/newcomer.rs", user / "tests")
         told = succeed(["cargo", "test", "-q", "--offline", "--manifest-path", user / "Cargo.toml", "--test", "newcomer"], env=env)
         self.assertIn("test result: ok. 15 passed", told)
+
+    def test_no_example_panics_on_a_hostile_file(self):
+        """Those that are not run as they are documented, in a build that tests sums for overflows."""
+        examples = documented_examples()
+        self.assertGreater(len(examples), 100)
+        user, env = self.folder / "user", environment(GOBLIN_PE_LIB=str(library()), CARGO_TARGET_DIR=str(folder() / "target"))
+        succeed(["cargo", "new", "-q", "--vcs", "none", "--name", "hostile", user])
+        succeed(["cargo", "add", "-q", "--offline", "--manifest-path", user / "Cargo.toml", "--path", CALLERS / "rust"], env=env)
+        functions = "".join("fn example_%d() -> Result<(), Box<dyn std::error::Error>> {\n%s\nOk(())\n}\n" % row for row in enumerate(examples.values()))
+        table = "".join("(%s, example_%d)," % (json.dumps(name), index) for index, name in enumerate(examples))
+        (user / "src/main.rs").write_text(HOSTILE % (functions, table), "utf-8")
+        succeed(["cargo", "build", "-q", "--offline", "--manifest-path", user / "Cargo.toml"], env=env)
+        files = [self.written(f"{index}.bin", data) for index, data in enumerate(hostile.files())]
+        said = subprocess.run([folder() / "target/debug/hostile", *files], stdout=subprocess.DEVNULL, stderr=subprocess.PIPE, check=False, text=True)
+        self.assertEqual((said.returncode, re.findall(r"(?m)^.* panics on .*$", said.stderr)), (0, []), said.stderr[-2000:])
+
+    def test_no_program_panics_on_a_hostile_file(self):
+        files = [self.written(f"{index}.bin", data) for index, data in enumerate(itertools.islice(hostile.files(), 60))]
+        self.assertEqual(run([example("scan"), *files])[::2], (0, b""))
+        for file, words in itertools.product(files, (["list"], ["list", "--permissive"], ["list", "--symbols"], ["list", "--te"], ["fingerprint"],
+                                                     ["fingerprint", "--imports"], ["fingerprint", "--rich"], ["fingerprint", "--overlay"])):
+            status, _, said = run([example(words[0]), *words[1:], file])
+            self.assertIn(status, (0, 1), (words, file, said))
 
     def test_its_documentation(self):
         cargo("doc", RUSTDOCFLAGS="-D warnings")

@@ -91,9 +91,9 @@ BASE_RELOCATIONS = [[(3, 0x1001), (3, 0x100B), (3, 0x1022), (3, 0x1031), (3, 0x1
 BLOCKS = [
     ("no words and no byte after them", b"\0\x10\0\0\x08\0\0\0", [], ("MALFORMED", "BLOCK_RANGE", 8, 0)),
     ("no words before another block", b"\0\x10\0\0\x08\0\0\0\0\x20\0\0\x0C\0\0\0\x03\x30\0\0",
-     [(0x1000, 8, []), (0x2000, 12, [0x3003, 0])], None),
-    ("two words", b"\0\x20\0\0\x0C\0\0\0\x03\x30\0\0", [(0x2000, 12, [0x3003, 0])], None),
-    ("a word, and a byte that is no word", b"\0\0\0\0\x0B\0\0\0\x01\0\x02", [(0, 11, [1])], None),
+     [(0x1000, 8, ()), (0x2000, 12, (0x3003, 0))], None),
+    ("two words", b"\0\x20\0\0\x0C\0\0\0\x03\x30\0\0", [(0x2000, 12, (0x3003, 0))], None),
+    ("a word, and a byte that is no word", b"\0\0\0\0\x0B\0\0\0\x01\0\x02", [(0, 11, (1,))], None),
 ]
 
 # Sections by their address, their size in memory, and their data's size and offset in the file. The window of the wide one holds
@@ -257,7 +257,7 @@ class Tables(unittest.TestCase):
         for name, parts, header, entries, rest in RICH:
             with self.subTest(name):
                 pe = package().Pe(signed(parts))
-                self.assertEqual((pe.rich_header, pe.rich_entries, told(pe.rich_rest)), (header, entries, rest))
+                self.assertEqual((pe.rich_header, list(pe.rich_entries), told(pe.rich_rest)), (header, entries, rest))
 
     def test_a_rich_header_needs_both_markers_in_order(self):
         for name, parts, wanted in RICH_REFUSED:
@@ -332,7 +332,7 @@ class Tables(unittest.TestCase):
                 self.assertEqual((fault.status, is_there, position.value), (status, table == (1, 2, 40, 0), 0))
 
     def test_a_string_table_is_as_long_as_its_length_field_at_least(self):
-        self.assertEqual(symbols_of(b"", b"\x04\0\0\0"), [])
+        self.assertEqual(symbols_of(b"", b"\x04\0\0\0"), ())
         self.assertEqual(refusal(symbols_of, b"", b"\x01\0\0\0"), ("MALFORMED", "COFF_LENGTH", 0, 0))
 
     def test_the_relocations_of_a_section_are_those_that_another_tool_shows(self):
@@ -371,7 +371,7 @@ class Tables(unittest.TestCase):
         for name, directory, wanted, rest in BLOCKS:
             with self.subTest(name):
                 pe = package().Pe(with_blocks(directory), package().Options(resolve_rva=False))
-                self.assertEqual((pe.blocks, told(pe.block_rest)), (wanted, rest))
+                self.assertEqual((list(pe.blocks), told(pe.block_rest)), (wanted, rest))
                 walk = pe.walk_blocks()
                 self.assertEqual([*itertools.islice(walk, len(wanted))], wanted)
                 self.assertEqual(refusal(next, walk, None), rest)

@@ -333,6 +333,20 @@ static bool maps_by_records_of_zeros(void)
            data.bytes.bytes == file + 0x600 && data.bytes.length == 0x200 && !data.zeros;
 }
 
+/* Whether an address lies in the memory of a section, also among its zeros, exactly where a loader sees something. */
+static bool is_in_memory(const struct goblin_pe_image *image)
+{
+    struct goblin_pe_section_data seen;
+    for (size_t rva = 0xF00; rva < 0x1400; rva++) {
+        size_t index = 7;
+        bool is_there = goblin_pe_memory_section_at(image, rva, &index);
+        if (is_there != (rva >= 0x1000 && rva < 0x1300) || index != (is_there ? 0 : 7) ||
+            is_there != is_ok(goblin_pe_memory_at(image, rva, 1, &seen)))
+            return false;
+    }
+    return true;
+}
+
 /* Whether an offset has the address that is mapped to it, an address its section, and what a loader sees at it is told,
    of sections whose records a caller made. */
 static bool looks_up(void)
@@ -361,6 +375,8 @@ static bool looks_up(void)
         return false;
     if (!is_fault(goblin_pe_forwarder_at(&image, 0x1016, &forwarder), GOBLIN_PE_STATUS_MALFORMED,
                   GOBLIN_PE_CAUSE_FORWARDER))
+        return false;
+    if (!is_in_memory(&image))
         return false;
     return is_ok(goblin_pe_memory_at(&image, 0x11F0, 0x20, &seen)) && seen.bytes.bytes == file + 0x5F0 &&
            seen.bytes.length == 0x10 && seen.zeros == 0x10 &&

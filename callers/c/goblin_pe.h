@@ -32,7 +32,8 @@
    - malloc, realloc and free are those of one allocator, which aligns blocks for every type, as C asks for. No call is
      made from a signal handler, or, before exec, in the forked child of a process with threads.
    - The processor has what the level x86-64-v2 asks for. A thread has 16 KiB of stack: calls took less than 9 KiB.
-   A call may be made from any thread, and from several at once. After a refusal nothing is changed.
+   A call may be made from any thread, and from several at once. After a refusal nothing is changed. Where a call answers
+   a bool, false is no refusal: there is no such thing, or a name is too long for its room.
 
    What a file of n bytes may take, beside the caller's records. A name is a text of the file, which nothing
    bounds but the file's end, and which is read once for each who has it: m names take n * m steps at most. A step
@@ -56,7 +57,7 @@
    find_offset, section_at, text_at,
      bytes_at, memory_at,
      available_at, region_of,
-     forwarder_at                    none                                  the sections, and one text
+     memory_section_at, forwarder_at none                                  the sections, and one text
    find_rva                          none                                  the sections, and these once more for each
                                                                            whose data holds the offset
    next_blocks                       none, or for more than 96 sections    the sections, and the records
@@ -144,7 +145,8 @@ static inline struct goblin_pe_image goblin_pe_sound_image(const struct goblin_p
     return sound;
 }
 
-/* What a file is, by its first bytes: a goblin_pe_kind. */
+/* What a file is, by its first bytes: a goblin_pe_kind. Archives, import objects and big objects are told, and no call
+   reads them. */
 static inline uint32_t goblin_pe_kind_of(const uint8_t *bytes, size_t length)
 {
     return goblin_pe_raw_kind_of(GOBLIN_PE_BYTES(bytes, length), length);
@@ -153,7 +155,11 @@ static inline uint32_t goblin_pe_kind_of(const uint8_t *bytes, size_t length)
 /* Reads an image once: says in `file` what it is, fills the records of its data directories as far as
    there is room (a file has sixteen or none), and puts all other tables into `tables`, each whole. The
    tables that stood there before are not freed. After a refusal nothing is to be freed. Memory is taken
-   for the tables. What these lack of the imports and the exports goblin_pe_read_damage counts. */
+   for the tables. What these lack of the imports and the exports goblin_pe_read_damage counts.
+
+   Neither mode passes over more than sixteen data directories, a magic that is neither of the two, a header or a section
+   table that the file's end cuts, a section's name that is a slash and a text which is no number, or the marker `Rich`
+   of a Rich header without `DanS` before it. */
 static inline struct goblin_pe_fault goblin_pe_open(
     const uint8_t *bytes, size_t length, const struct goblin_pe_options *options, struct goblin_pe_file *file,
     struct goblin_pe_directory *directories, size_t directory_room, struct goblin_pe_tables *tables)
@@ -199,7 +205,8 @@ static inline struct goblin_pe_fault goblin_pe_read_layout(
 
 /* Tells what strict mode would refuse of an image, part by part, each for itself, where its header and its
    sections are read as the options say. A file without damage, of which no library is left out, is one that both
-   modes read, and read alike. Refused are a header or sections that these options refuse, and memory, which is
+   modes read, and read alike. Of imports for which the options do not ask nothing is told. Refused are a header or
+   sections that these options refuse, and memory, which is
    taken only for an index of more than 96 sections, and given back. */
 static inline struct goblin_pe_fault goblin_pe_read_damage(
     const uint8_t *bytes, size_t length, const struct goblin_pe_options *options, struct goblin_pe_damage *damage)
@@ -338,7 +345,12 @@ static inline struct goblin_pe_fault goblin_pe_read_object(
 }
 
 /* Reads a Terse Executable: its header, which says how many sections there are, and those as far as
-   there is room. The signature is not looked at. No memory is taken. */
+   there is room. The signature is not looked at. No memory is taken.
+
+   The front of such a file was stripped, and the records in it still say where all stood before. So these sections are
+   not as stored: of each the address, and each of the three pointers that is not 0, is moved by the stripped size less
+   the 40 bytes of the header that took the place, to where it is in this file. goblin_pe_read_section_data is right
+   then, but goblin_pe_write_section does not write the record that the file has. */
 static inline struct goblin_pe_fault goblin_pe_read_te(
     const uint8_t *bytes, size_t length, struct goblin_pe_te_header *header, struct goblin_pe_section *sections,
     size_t room)
@@ -407,7 +419,8 @@ static inline bool goblin_pe_symbol_at(
 }
 
 /* Reads the first auxiliary record of a symbol, by the kind that its class says; each answers false, and
-   changes nothing, where there are fewer than the 18 bytes of one. */
+   changes nothing, where there are fewer than the 18 bytes of one. None looks at the symbol: which kind its records
+   are, the caller tells by its class, its type and its section. */
 static inline bool goblin_pe_read_aux_function_definition(
     struct goblin_pe_text auxiliary, struct goblin_pe_aux_function_definition *record)
 {
@@ -531,10 +544,12 @@ static inline bool goblin_pe_find_offset(const struct goblin_pe_image *image, si
     return goblin_pe_raw_find_offset(&sound, rva, offset);
 }
 
-/* Puts the index of the section of an address into `index`, and answers whether it lies in one: the first
-   whose window holds it, which is what the file has of it in whole pages at most; goblin_pe_region_of also finds the
-   section of an address in the zeros after these. None where the file alignment is no power of two. The options are not
-   looked at. */
+/* Puts the index of the section by which an address is mapped into `index`, and answers whether there is one: the
+   first whose window holds it; none where the file alignment is no power of two. The options are not looked at. A
+   window begins at the section's address. It is empty where the raw size is 0, and else has the least of three sizes:
+   that of the data in the file, from its start rounded down to 512 up to its end rounded up to the file alignment; the
+   raw size; and the virtual size where that is not 0, these two rounded up to 4,096. So an address in the zeros that
+   follow the data may lie in none, as a TLS index does; goblin_pe_memory_section_at finds it. */
 static inline bool goblin_pe_section_at(const struct goblin_pe_image *image, size_t rva, size_t *index)
 {
     struct goblin_pe_image sound = goblin_pe_sound_image(image);
@@ -585,6 +600,16 @@ static inline uint32_t goblin_pe_region_of(
     return goblin_pe_raw_region_of(&sound, size_of_headers, rva, section);
 }
 
+/* Puts the index of the section in whose memory an address lies into `index`, also among the zeros that follow the data,
+   and answers whether there is one: the first whose virtual size, or raw size where that is 0, reaches it, as
+   goblin_pe_memory_at takes it; none, and nothing changed, where there is none, as in the headers. The options are not
+   looked at. */
+static inline bool goblin_pe_memory_section_at(const struct goblin_pe_image *image, size_t rva, size_t *index)
+{
+    uint32_t region = goblin_pe_region_of(image, 0, rva, index);
+    return region == GOBLIN_PE_REGION_STORED || region == GOBLIN_PE_REGION_ZEROS;
+}
+
 /* The text at an address, up to its NUL or the end of the file. Refused are an address without an offset in
    the file, an offset at or past the file's end, and bytes that are not UTF-8. No memory is taken. */
 static inline struct goblin_pe_fault goblin_pe_text_at(
@@ -621,10 +646,10 @@ static inline struct goblin_pe_fault goblin_pe_bytes_at(
 
 /* The data of a section: its bytes in the file, from its raw pointer, as stored or rounded down to 512 by the
    rule of the image's options, and how many zeros follow them up to the size in memory; none where the file has
-   at least as many bytes, which are not cut then, as those of goblin_pe_memory_at are. A section of uninitialized data
-   (IMAGE_SCN_CNT_UNINITIALIZED_DATA) whose raw pointer is 0, as an object's .bss, has no bytes, and its size as zeros:
-   the virtual size, or the raw size where that is 0. Of the image only the bytes, the options and the file
-   alignment are looked at, so for an object one with its bytes and else zeros will do. Refused is a file that is
+   at least as many bytes, which are not cut at that size then, as goblin_pe_memory_at cuts them. A section of
+   uninitialized data (IMAGE_SCN_CNT_UNINITIALIZED_DATA) whose raw pointer is 0, as an object's .bss, has no bytes, and
+   its size as zeros: the virtual size, or the raw size where that is 0. Of the image only the bytes, the options and the
+   file alignment are looked at, so for an object one with its bytes and else zeros will do. Refused is a file that is
    too short for it, and one in which it begins past the end, even where it has no bytes. No memory is taken. */
 static inline struct goblin_pe_fault goblin_pe_read_section_data(
     const struct goblin_pe_image *image, const struct goblin_pe_section *section, struct goblin_pe_section_data *data)

@@ -1,6 +1,6 @@
-/* Counts the imports and the exports of an image, in constant memory, and stops where there are too many: walk MOST
-   FILE. It says how many of each there are, and whether there are more; the status is 1 where a refusal ends a walk, as
-   that of a read would. */
+/* Counts the imports and the exports of an image, in no more memory than the file's, and stops where there are too many:
+   walk MOST FILE. It says how many of each there are, and whether there are more; the status is 1 where a refusal ends a
+   walk, as that of a read would, and 2 where the file can't be read. */
 #include "goblin_pe.h"
 
 #include <stdio.h>
@@ -8,9 +8,25 @@
 
 #define BATCH 1024
 
-static uint8_t bytes[16 << 20];
+/* Reads a file whole, and says in `length` how many bytes it has; null where it can't be read. */
+static uint8_t *read_file(const char *path, size_t *length)
+{
+    FILE *from = fopen(path, "rb");
+    long size = from && !fseek(from, 0, SEEK_END) ? ftell(from) : -1;
+    uint8_t *bytes = size < 0 ? NULL : malloc((size_t)size + 1);
+    *length = size < 0 ? 0 : (size_t)size;
+    if (bytes)
+        rewind(from);
+    if (bytes && fread(bytes, 1, *length, from) != *length) {
+        free(bytes);
+        bytes = NULL;
+    }
+    if (from)
+        fclose(from);
+    return bytes;
+}
 
-static bool count_imports(size_t length, const struct goblin_pe_places *places, size_t most)
+static bool count_imports(const uint8_t *bytes, size_t length, const struct goblin_pe_places *places, size_t most)
 {
     static struct goblin_pe_import imports[BATCH];
     struct goblin_pe_import_cursor position = { 0 };
@@ -24,7 +40,7 @@ static bool count_imports(size_t length, const struct goblin_pe_places *places, 
     return fault.status == GOBLIN_PE_STATUS_OK;
 }
 
-static bool count_exports(size_t length, const struct goblin_pe_places *places, size_t most)
+static bool count_exports(const uint8_t *bytes, size_t length, const struct goblin_pe_places *places, size_t most)
 {
     static struct goblin_pe_export exports[BATCH];
     struct goblin_pe_fault fault;
@@ -39,14 +55,15 @@ static bool count_exports(size_t length, const struct goblin_pe_places *places, 
 
 int main(int argc, char **argv)
 {
-    FILE *from = argc == 3 ? fopen(argv[2], "rb") : NULL;
-    if (!from)
+    size_t length = 0, most = argc == 3 ? strtoull(argv[1], NULL, 10) : 0;
+    uint8_t *bytes = argc == 3 ? read_file(argv[2], &length) : NULL;
+    if (!bytes)
         return 2;
-    size_t length = fread(bytes, 1, sizeof bytes, from), most = strtoull(argv[1], NULL, 10);
-    fclose(from);
     struct goblin_pe_layout layout;
-    if (goblin_pe_read_layout(bytes, length, NULL, &layout, NULL, 0, NULL, 0).status != GOBLIN_PE_STATUS_OK)
-        return 1;
-    bool has_imports = count_imports(length, &layout.places, most);
-    return !count_exports(length, &layout.places, most) || !has_imports;
+    struct goblin_pe_fault fault = goblin_pe_read_layout(bytes, length, NULL, &layout, NULL, 0, NULL, 0);
+    bool is_read = fault.status == GOBLIN_PE_STATUS_OK && count_imports(bytes, length, &layout.places, most);
+    if (fault.status == GOBLIN_PE_STATUS_OK)
+        is_read = count_exports(bytes, length, &layout.places, most) && is_read;
+    free(bytes);
+    return !is_read;
 }

@@ -52,6 +52,7 @@ def tag(library):
     """For which machines a wheel with this shared library is; one that leads to a folder is for this one, and names no
     C library."""
     system = "manylinux_%d_%d" % needed(library) if library and sys.platform == "linux" else sys.platform
+    # (each CPython since 3.9 has PyObject_GetBuffer, though its stable interface only from 3.11 on; other Pythons have it not)
     return "cp39-abi3-%s_%s" % (system, platform.machine())
 
 

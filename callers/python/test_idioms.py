@@ -37,7 +37,7 @@ class Idioms(unittest.TestCase):
 
     def test_rows_are_sliced_and_indexed(self):
         sections = Pe(DATA).sections
-        self.assertEqual((len(sections), sections[0].name, sections[-1].name, sections[1:3]), (4, b".text", b".reloc", [*sections][1:3]))
+        self.assertEqual((len(sections), sections[0].name, sections[-1].name, sections[1:3]), (4, b".text", b".reloc", (*sections,)[1:3]))
         self.assertTrue(sections and not Pe(DATA).rich_entries)
         self.assertIn(sections[2], reversed(sections))
 

@@ -33,7 +33,8 @@ A refusal raises Refused, also where the library is refused memory: its status i
 comes from Python alone, where there is no memory for what was read.
 
 The rows Section, Import, Export, Block, Symbol, Range and others are named tuples, and so are the headers, whose fields
-are those of the format: a changed copy is made by _replace, and Pe.write writes it. State, Status, Kind, Cause, Counted,
+are those of the format: a changed copy is made by _replace, and Pe.write writes it. What lists rows is a tuple, which nobody
+changes. State, Status, Kind, Cause, Counted,
 ReadFault, RefusedPart, Region and DirectoryType name numbers. All of them can be imported from here, and help(goblin_pe.Section) explains one;
 goblin_pe.constants has the numbers of the formats, such as IMAGE_FILE_DLL.
 
@@ -50,9 +51,9 @@ import types as _types
 import typing as _t
 
 from . import _laid_out, records
-from ._imphash import imphash as _imphash
-from ._names import names_of as names_of
-from ._library import LIB as _LIB, Data as Data, Kept as _Kept, held as _held, kept as _kept
+from ._imphash import imphash as imphash, ordinal_name as ordinal_name
+from ._names import flags_of as flags_of, names_of as names_of, relocation_name as relocation_name
+from ._library import LIB as _LIB, Data as Data, Kept as _Kept, held as _held, kept as _kept, viewed as _viewed
 from ._refused import Refused as Refused, named as _named, refusal as _refusal, test as _test
 from .constants import IMAGE_FILE_DLL as _IMAGE_FILE_DLL, MAGIC_64 as _MAGIC_64
 from .numbers import (
@@ -69,8 +70,9 @@ from .rows import (
     NO_TEXT as _NO_TEXT, Block as Block, Export as Export, ExportAddress as ExportAddress,
     ExportDirectory as ExportDirectory, ExportEntry as ExportEntry, Import as Import, Library as Library, Range as Range,
     RichHeader as RichHeader, Rows as _Rows,
-    Section as Section, SectionData as SectionData, Symbol as Symbol, available_of as _available_of, batches as _batches, data_of as _data_of,
-    growing_batches as _growing_batches, record_of as _section_record, room as _room)
+    Section as Section, SectionData as SectionData, SectionView as SectionView, Symbol as Symbol,
+    available_of as _available_of, batches as _batches, data_of as _data_of, growing_batches as _growing_batches,
+    record_of as _section_record, room as _room, view_of as _view_of)
 
 __version__ = "0.4.0"
 
@@ -156,8 +158,8 @@ def _here(data: _t.Optional[_Kept]) -> _Kept:
 
 
 def kind(data: Data) -> Kind:
-    """What a file is, by its first bytes."""
-    with memoryview(data) as view, view.cast("B") as in_bytes, _held(_kept(in_bytes[:64])) as (address, length):
+    """What a file is, by its first bytes. Archives, import objects and big objects are told, and nothing here reads them."""
+    with _viewed(data) as in_bytes, _held(_kept(in_bytes[:64])) as (address, length):
         return Kind(_LIB.goblin_pe_raw_kind_of(address, length))
 
 
@@ -175,7 +177,8 @@ class Damage(_t.NamedTuple):
 
     dos_stub: of the DOS stub.
     section_names: of the names of the sections: one begins with a slash and goes on with bytes that are no text.
-    imports, exports: of these; of the imports if they are asked for.
+    imports, exports: of these; of the imports only where the options ask for them: with parse_imports=False it is None, and 0
+        of them are counted, whatever they hold.
     relocations: of the base relocations: of their directory, not of its blocks.
     left_out_libraries: how many libraries permissive mode leaves out of the imports: those without an address table; of a
         directory at file offset 0 all.
@@ -212,7 +215,12 @@ class Options:
         of an image: a RawPointerRule. Rounding is right where `section_alignment` is 4,096 or more, and pointers as stored
         where it is less, since the Windows loader maps such an image as one flat view of the file; by the file alignment
         pefile maps.
-    parse_imports: whether the imports are read; where not, their table is absent.
+    parse_imports: whether the imports are read; where not, their table is absent, and `damage` tells nothing of them.
+
+    Neither mode passes over more than sixteen data directories (so number_of_rva_and_sizes is at most sixteen of what was read, and
+    was not cut to that), a magic that is neither of the two, a header or a section table that the file's end cuts, a section's name
+    that is a slash and a text which is no number, or the marker `Rich` of a Rich header without `DanS` before it: such a file is
+    refused.
     """
 
     is_permissive: bool = False
@@ -249,7 +257,15 @@ def refused_part(data: Data, options: _t.Optional[Options] = None) -> RefusedPar
     return RefusedPart(part.value)
 
 
-_L, _V = _t.TypeVar("_L", bound="Layout"), _t.TypeVar("_V")
+_V = _t.TypeVar("_V")
+_F = _t.TypeVar("_F", bound="_File")
+_L = _t.TypeVar("_L", bound="Layout")
+_O = _t.TypeVar("_O", bound="ObjectFile")
+_T = _t.TypeVar("_T", bound="Te")
+
+
+# A Rich header, its entries, and why a rest is none.
+_Rich = _t.Tuple[_t.Optional[RichHeader], _t.Tuple[RichMetadata, ...], _t.Optional[Refused]]
 
 # Of each table that walks go over: the call, its records, and what says where it goes on.
 _WALKED: _t.Dict[DirectoryType, _t.Tuple[str, _t.Any, _t.Any]] = {
@@ -258,11 +274,110 @@ _WALKED: _t.Dict[DirectoryType, _t.Tuple[str, _t.Any, _t.Any]] = {
     DirectoryType.BASE_RELOCATION_TABLE: ("goblin_pe_raw_next_blocks", records.Block, _c.c_size_t)}
 
 
-class Layout:
+class _File:
+    # what an image, an object and a Terse Executable have: the bytes of a file, as long as they are kept, and sections
+    _data: _t.Optional[_Kept]
+    _sections: _t.Any  # (their records, whose texts lie in the bytes, which begin at the address)
+    _address: int
+    _counts: _t.Dict[str, int]
+    _made: _t.Dict[str, _t.Any]  # (the rows that were asked for, and the damage)
+
+    def _bytes(self) -> _Kept:
+        return _here(self._data)
+
+    @property
+    def data(self) -> _Kept:
+        """The file's bytes as they are kept: those that it was made of, or the copy of a buffer that could be written. ValueError
+        is raised where they are no longer here."""
+        return self._bytes()
+
+    def close(self) -> None:
+        """Lets go of the file's bytes, and of the records whose rows were not asked for."""
+        self._data = None
+        self._sections = None
+
+    def __enter__(self: _F) -> _F:
+        return self
+
+    def __exit__(self, *error: object) -> None:
+        self.close()
+
+    def __getstate__(self) -> _t.Dict[str, _t.Any]:
+        # (of a closed one, the rows that were asked for)
+        rows = {} if self._data is None else {name: getattr(self, name) for name in self._counts}
+        return {**self.__dict__, "_made": {**self._made, **rows}, "_data": None, "_sections": None}
+
+    def _each(self, table: str, most_kept: _t.Optional[int] = _MOST_KEPT) -> _t.Iterator[_t.Any]:
+        # the rows of a table, one by one (the records stay while they are gone through)
+        stored, data = self._sections, self._bytes()
+        return _section_rows(data, self._address, stored, self._counts[table], most_kept)
+
+    def _rows(self, table: str) -> _t.Tuple[_t.Any, ...]:
+        # the rows of a table, made when they are first asked for
+        return self._once(table, lambda: tuple(self._each(table, None)) if self._counts[table] else ())
+
+    def _once(self, name: str, make: _t.Callable[[], _V]) -> _V:
+        # what is made when it is first asked for
+        if name not in self._made:
+            self._made[name] = make()
+        found: _V = self._made[name]
+        return found
+
+    @property
+    def sections(self) -> _t.Tuple[Section, ...]:
+        """The sections."""
+        return self._rows("sections")
+
+    def section_by_name(self, name: _t.Union[bytes, str]) -> _t.Optional[Section]:
+        """The first section of this name; None where there is none."""
+        wanted = _in_bytes(name)
+        return next((s for s in self._made.get("sections") or self._each("sections") if s.name == wanted), None)
+
+    def section_by_number(self, number: int) -> _t.Optional[Section]:
+        """The section of this number, counted from 1, as a symbol's section_number has it; None where there is none, as where a
+        symbol is undefined (0), absolute (-1) or for a debugger (-2)."""
+        index = (number + 0x10000 if number < -2 else number) - 1  # (a symbol says more than 32,767 below 0)
+        return self._section(index) if index in range(self._counts["sections"]) else None
+
+    def _section(self, index: int) -> Section:
+        # the row of one section: that of the list, where this was made
+        if "sections" in self._made:
+            found: Section = self._made["sections"][index]
+            return found
+        stored, data = self._sections, self._bytes()
+        return _Rows(data, self._address).section(stored[index])
+
+    def _mapped_by(self) -> _t.Tuple[records.Options, int]:
+        # by which options and which file alignment data of sections begin
+        return records.Options(), 0
+
+    def section_data(self, section: Section) -> SectionData:
+        """The data of one of its sections, copied, and how many zeros follow it in memory. Of an image it begins at the raw
+        pointer, which the options may round down to 512, as they do for find_offset; of others at the pointer that the row has.
+        There is as much as the raw size says: it is not cut at the virtual size, as memory_at of an image cuts it. Refused is
+        raised where it passes the file, and where it begins past the end, even if there is none."""
+        return _data_of(section, self._bytes(), *self._mapped_by())
+
+    def section_view(self, section: Section) -> SectionView:
+        """The same as section_data, but a view of the file's bytes, of which none is copied."""
+        return _view_of(section, self._bytes(), *self._mapped_by())
+
+
+def _whole(path: _t.Union[str, "_os.PathLike[str]"]) -> bytes:
+    with open(path, "rb") as file:
+        return file.read()
+
+
+def _in_bytes(name: _t.Union[bytes, str]) -> bytes:
+    # a name as the file has it
+    return name.encode() if isinstance(name, str) else name
+
+
+class Layout(_File):
     """An image by its header and its sections: Layout(data, options), where `data` are the file's bytes and `options` are
     Options. A file whose header or sections are refused raises Refused. Nothing of it is listed, so it takes memory for the
     records of its sections alone, however much its tables list: these are walked over, or looked up. Of the sections rows are
-    made where `sections` is asked for. The Rich header is no part of it: Pe has it.
+    made where `sections` is asked for.
 
     It keeps `data`, or the copy of a buffer that could be written, until close() or the end of a `with`. Sections, symbols and
     damage that were not asked for before, the export directory and the name in it, and the methods raise ValueError then, but
@@ -283,10 +398,10 @@ class Layout:
         self._take_sections(sections, address)
 
     def _hold(self, data: Data, options: _t.Optional[Options]) -> None:
-        self._data: _t.Optional[_Kept] = _kept(data)
+        self._data = _kept(data)
         how = self._options = _record_of(options)
         self._with_imports = records.Options(how.is_permissive, how.resolve_rva, how.raw_pointer_rule, True)
-        self._made: _t.Dict[str, _t.Any] = {}  # (the rows that were asked for, and the damage)
+        self._made = {}
         self._symbol_table: _t.Optional[records.SymbolTable] = None  # (until a symbol is asked for)
 
     def _take_headers(self, file: _t.Union[records.File, records.Layout], directories: _t.List[records.Directory]) -> None:
@@ -300,55 +415,53 @@ class Layout:
         self._sections, self._address = stored, address
         self._mapping = _mapping_of(stored, self._counts["sections"])
 
-    def _each(self, table: str, most_kept: _t.Optional[int] = _MOST_KEPT) -> _t.Iterator[_t.Any]:
-        # the rows of a table, one by one (the records stay while they are gone through)
-        stored, data = self._sections, self._bytes()
-        return _section_rows(data, self._address, stored, self._counts[table], most_kept)
-
-    def _rows(self, table: str) -> _t.List[_t.Any]:
-        # the rows of a table, made when they are first asked for
-        return self._once(table, lambda: list(self._each(table, None)) if self._counts[table] else [])
-
-    def _once(self, name: str, make: _t.Callable[[], _V]) -> _V:
-        # what is made when it is first asked for
-        if name not in self._made:
-            self._made[name] = make()
-        found: _V = self._made[name]
-        return found
-
-    @property
-    def sections(self) -> _t.List[Section]:
-        """The sections."""
-        return self._rows("sections")
-
     def __repr__(self) -> str:
         return "<Layout machine=%#x sections=%d>" % (self.coff_header.machine, self._counts["sections"])
 
     def __getstate__(self) -> _t.Dict[str, _t.Any]:
-        # (of a closed one, the rows that were asked for)
-        rows = {} if self._data is None else {name: getattr(self, name) for name in self._counts}
-        made = {**self._made, **rows}
-        return {**self.__dict__, "_made": made, "_data": None, "_sections": None, "_mapping": bytes(self._mapping)}
+        return {**super().__getstate__(), "_mapping": bytes(self._mapping)}
 
     def __setstate__(self, state: _t.Dict[str, _t.Any]) -> None:
         self.__dict__.update(state)
         self._mapping = _mapping_of(state["_mapping"], self._counts["sections"])
 
-    def close(self) -> None:
-        """Lets go of the file's bytes, and of the records whose rows were not asked for."""
-        self._data = None
-        self._sections = None
-
     def imphash(self) -> str:
         """The hash of the imports that analysts compare: the MD5 in hexadecimal, or an empty text where there are no
         imports. Other tools tell the same where they see the same imports. It walks over them, and keeps none."""
-        return _imphash(self.walk_imports())
+        return imphash(self.walk_imports())
 
     @classmethod
     def open(cls: _t.Type[_L], path: _t.Union[str, "_os.PathLike[str]"], options: _t.Optional[Options] = None) -> _L:
         """The image in a file, which is read whole. OSError is raised where it can't be read."""
-        with open(path, "rb") as file:
-            return cls(file.read(), options)
+        return cls(_whole(path), options)
+
+    def _rich(self) -> _Rich:
+        return self._once("rich", self._read_rich)
+
+    def _read_rich(self) -> _Rich:
+        # what stands before the PE signature, as of an image without sections and without an optional header
+        signature = self.dos_header.pe_pointer
+        if signature < 64:  # (there is no room)
+            return None, (), None
+        front = bytearray(self._bytes()[: signature + 24])
+        front[signature + 6: signature + 8] = front[signature + 20: signature + 22] = bytes(2)
+        pe = Pe(bytes(front), Options(is_permissive=True))
+        return pe.rich_header, pe.rich_entries, pe.rich_rest
+
+    @property
+    def rich_header(self) -> _t.Optional[RichHeader]:
+        """The Rich header; None where the file has none. A layout reads it when it, or an entry of it, is first asked for."""
+        return self._rich()[0]
+
+    @property
+    def rich_entries(self) -> _t.Tuple[RichMetadata, ...]:
+        """The entries of the Rich header."""
+        return self._rich()[1]
+
+    @property
+    def rich_rest(self) -> _t.Optional[Refused]:
+        """Why the rest that follows these entries is no entry; None where there is no rest."""
+        return self._rich()[2]
 
     @property
     def dos_header(self) -> DosHeader:
@@ -389,15 +502,6 @@ class Layout:
     def image_base(self) -> int:
         """The address at which the image is best loaded; 0 where it has no optional header."""
         return self._header.windows_fields.image_base if self._has_directories else 0
-
-    def __enter__(self: _L) -> _L:
-        return self
-
-    def __exit__(self, *error: object) -> None:
-        self.close()
-
-    def _bytes(self) -> _Kept:
-        return _here(self._data)
 
     def _image(self, address: int, length: int) -> records.Image:
         # what maps addresses
@@ -474,19 +578,20 @@ class Layout:
             return None if refused else _Rows(data, address).forwarder(found)
 
     def section_at(self, rva: int) -> _t.Optional[Section]:
-        """The section of an address: the first whose window holds it; None where there is none. A window has what the file has
-        of the section, in whole pages at most: region_of also finds the section of an address in the zeros after that."""
+        """The section by which an address is mapped: the first whose window holds it; None where there is none. A window begins at
+        the section's address. It is empty where the raw size is 0, and else has the least of three sizes: that of the data in the
+        file, from its start rounded down to 512 up to its end rounded up to the file alignment; the raw size; and the virtual
+        size where that is not 0, these two rounded up to 4,096. So an address in the zeros that follow the data may lie in none,
+        as a TLS index does; memory_section_at finds it."""
         index = _c.c_size_t()
         is_found = _LIB.goblin_pe_raw_section_at(_c.byref(self._image(_laid_out.NOWHERE, 0)), _size(rva), _c.byref(index))
         return self._section(index.value) if is_found else None
 
-    def _section(self, index: int) -> Section:
-        # the row of one section: that of the list, where this was made
-        if "sections" in self._made:
-            found: Section = self._made["sections"][index]
-            return found
-        stored, data = self._sections, self._bytes()
-        return _Rows(data, self._address).section(stored[index])
+    def memory_section_at(self, rva: int) -> _t.Optional[Section]:
+        """The section in whose memory an address lies, with the zeros that follow its data: the first whose virtual size, or raw
+        size where that is 0, reaches it, as memory_at takes it; None where there is none, as in the headers. The options are not
+        looked at."""
+        return self.region_of(rva)[1]
 
     def find_rva(self, offset: int) -> _t.Optional[int]:
         """The address of a file offset, which find_offset maps to it: that in the first section that has one; None where
@@ -495,10 +600,8 @@ class Layout:
         is_found = _LIB.goblin_pe_raw_find_rva(_c.byref(self._image(_laid_out.NOWHERE, 0)), _size(offset), _c.byref(rva))
         return rva.value if is_found else None
 
-    def section_data(self, section: Section) -> SectionData:
-        """The data of one of its sections, and how many zeros follow it in memory. It begins at the raw pointer, which the
-        options may round down to 512, as they do for find_offset; else it is as data of a Section has it."""
-        return _data_of(section, self._bytes(), self._options, self._header.windows_fields.file_alignment)
+    def _mapped_by(self) -> _t.Tuple[records.Options, int]:
+        return self._options, self._header.windows_fields.file_alignment
 
     def checksum(self) -> _t.Optional[int]:
         """The checksum of the whole file, as the function `checksum` adds it up; None without an optional header, which has the
@@ -594,6 +697,21 @@ class Layout:
         """The exports one by one, of which none is kept."""
         return self._walked(DirectoryType.EXPORT_TABLE, "exported")
 
+    def find_export(self, name: _t.Union[bytes, str]) -> _t.Optional[Export]:
+        """The first export of this name; None where there is none. It walks over the exports, of which it keeps none."""
+        wanted = _in_bytes(name)
+        return next((x for x in self.walk_exports() if x.name == wanted), None)
+
+    def find_export_by_ordinal(self, ordinal: int) -> _t.Optional[ExportEntry]:
+        """The entry of the export address table for an ordinal, also of an export without a name; None where the table has none,
+        or one that is not used."""
+        data = self._bytes()
+        directory = self._read_directory(data)
+        if directory is None or ordinal - directory.table.ordinal_base not in range(directory.table.address_table_entries):
+            return None
+        found = next(self._export_entries(data, ordinal - directory.table.ordinal_base), None)
+        return found if found and found.rva else None
+
     @property
     def export_directory(self) -> _t.Optional[ExportDirectory]:
         """The record of the exports; None where there are none, and where permissive mode passes over a refused directory. A
@@ -618,12 +736,13 @@ class Layout:
         forwarder. None is kept. Refused is raised where it would be of the exports."""
         return self._export_entries(self._bytes())
 
-    def _export_entries(self, data: _Kept) -> _t.Iterator[ExportEntry]:
+    def _export_entries(self, data: _Kept, first: int = 0) -> _t.Iterator[ExportEntry]:
+        # those from an index on
         directory, most = self._read_directory(data), self._batch()
-        ordinals = _itertools.count(directory.table.ordinal_base if directory else 0)
+        ordinals = _itertools.count(first + directory.table.ordinal_base if directory else 0)
         batches = _growing_batches(data, _room(records.ExportAddress, most), lambda address, length, *to: (
             _LIB.goblin_pe_raw_next_export_addresses(address, length, _c.byref(self._options), _c.byref(self._places), *to)),
-            _c.c_size_t(), _LARGEST_BATCH if most > _BATCH else 0)
+            _c.c_size_t(first), _LARGEST_BATCH if most > _BATCH else 0)
         for it in _itertools.chain.from_iterable(_laid_out.first_of(found, count) for _, count, found in batches):
             yield ExportEntry(next(ordinals), it.rva, it.forwards, self.forwarder_at(it.rva) if it.forwards else None)
 
@@ -634,10 +753,10 @@ class Layout:
         return self._walked(DirectoryType.BASE_RELOCATION_TABLE, "block")
 
     @property
-    def symbols(self) -> _t.List[Symbol]:
+    def symbols(self) -> _t.Tuple[Symbol, ...]:
         """The symbols, which few images have. Refused is raised where the file is too short for their table or its string
         table, and where the string table is not UTF-8, or says a length below 4."""
-        return self._once("symbols", lambda: list(self.walk_symbols()))
+        return self._once("symbols", lambda: tuple(self.walk_symbols()))
 
     def walk_symbols(self, tests_texts: bool = True) -> _t.Iterator[Symbol]:
         """The symbols one by one, of which none is kept. Refused is raised as by `symbols`; without tests_texts not where the
@@ -729,9 +848,10 @@ class Pe(Layout):
         self._states = State(file.imports.state), State(file.exports.state), State(file.relocations.blocks.state)
 
     @property
-    def libraries(self) -> _t.List[bytes]:
-        """The names of the libraries of which something is imported, sorted, each once."""
-        return sorted({x.dll for x in self.imports})
+    def libraries(self) -> _t.Tuple[bytes, ...]:
+        """The names of the libraries of which something is imported, sorted, each once: of `imports`, so none where the options
+        left these out."""
+        return tuple(sorted({x.dll for x in self.imports}))
 
     @property
     def rich_header(self) -> _t.Optional[RichHeader]:
@@ -739,7 +859,7 @@ class Pe(Layout):
         return self._rich_header
 
     @property
-    def rich_entries(self) -> _t.List[RichMetadata]:
+    def rich_entries(self) -> _t.Tuple[RichMetadata, ...]:
         """The entries of the Rich header."""
         return self._rows("rich_entries")
 
@@ -754,7 +874,7 @@ class Pe(Layout):
         return self._states[0]
 
     @property
-    def imports(self) -> _t.List[Import]:
+    def imports(self) -> _t.Tuple[Import, ...]:
         """The imports."""
         return self._rows("imports")
 
@@ -764,7 +884,7 @@ class Pe(Layout):
         return self._states[1]
 
     @property
-    def exports(self) -> _t.List[Export]:
+    def exports(self) -> _t.Tuple[Export, ...]:
         """The exports."""
         return self._rows("exports")
 
@@ -774,7 +894,7 @@ class Pe(Layout):
         return self._export_directory
 
     @property
-    def export_addresses(self) -> _t.List[ExportAddress]:
+    def export_addresses(self) -> _t.Tuple[ExportAddress, ...]:
         """The entries of the export address table, by rising ordinals, also those without a name."""
         return self._rows("export_addresses")
 
@@ -784,7 +904,7 @@ class Pe(Layout):
         return self._states[2]
 
     @property
-    def blocks(self) -> _t.List[Block]:
+    def blocks(self) -> _t.Tuple[Block, ...]:
         """The blocks of base relocations."""
         return self._rows("blocks")
 
@@ -821,9 +941,9 @@ class Pe(Layout):
         imports. Other tools tell the same where they see the same imports. Where the options left the imports out, it
         walks over them, and keeps none."""
         if not self._options.parse_imports:
-            return _imphash(self.walk_imports())
+            return imphash(self.walk_imports())
         is_made = "imports" in self._made or not self._counts["imports"]
-        return _imphash(self.imports if is_made else self._each("imports"))
+        return imphash(self.imports if is_made else self._each("imports"))
 
     def write(self, coff_header: _t.Optional[CoffHeader] = None, optional_header: _t.Optional[OptionalHeader] = None,
               sections: _t.Optional[_t.Iterable[Section]] = None, data_directories: _t.Optional[_t.Mapping[int, DataDirectory]] = None,
@@ -833,8 +953,11 @@ class Pe(Layout):
         directories are given by their index, and those that are left out are zeros then.
 
         Refused is raised where a header can't be written, OverflowError where a number does not fit its field, and ValueError
-        where the sections pass the file, where permissive mode replaced the DOS stub, where an optional header or a directory is
-        given for which the file has no place, and where a DOS header leads elsewhere than the file's own."""
+        where the file has no place for what is given: for an optional header or a directory, which may not reach into the section
+        table but where they say what stands there; for more sections than it has, past the file, or where anything but zeros
+        stands, or before the data of a section; and so where permissive mode replaced the DOS stub, where a DOS header leads
+        elsewhere than the file's own, and where a COFF header says another size of the optional header, which would move the
+        section table."""
         if optional_header is not None and self.optional_header is None:
             raise ValueError("the file has no optional header")
         directories = self._directories if data_directories is None else data_directories
@@ -843,22 +966,33 @@ class Pe(Layout):
         with memoryview(self._bytes()) as view:
             out = bytearray(view)
         place = self.dos_header.pe_pointer + 24 + self.coff_header.size_of_optional_header
-        header = header[:place]
+        if header[place:] != out[place: len(header)]:
+            raise ValueError("the optional header ends at %#x, before all that is given" % place)
         out[: len(header)] = header
-        for s in sections or ():
-            if place + 40 > len(out):
-                raise ValueError("there is no room for so many sections")
-            room, written = (_c.c_uint8 * 40)(), _c.c_size_t()
-            _test(_LIB.goblin_pe_raw_write_section(_c.byref(_section_record(s)), room, 40, _c.byref(written)))
-            out[place: place + 40] = room
-            place += 40
+        records_of_sections = b"".join(map(self._written_section, sections or ()))
+        self._test_room(out, place, len(records_of_sections))
+        out[place: place + len(records_of_sections)] = records_of_sections
         return bytes(out)
+
+    def _written_section(self, section: Section) -> bytes:
+        room, written = (_c.c_uint8 * 40)(), _c.c_size_t()
+        _test(_LIB.goblin_pe_raw_write_section(_c.byref(_section_record(section)), room, 40, _c.byref(written)))
+        return bytes(room)
+
+    def _test_room(self, file: bytearray, table: int, size: int) -> None:
+        # whether so many bytes of records have room in the section table: past those of the file's own, zeros before all data
+        own, end = table + 40 * self._counts["sections"], table + size
+        is_before_data = all(end <= s.pointer_to_raw_data for s in self._mapping if s.size_of_raw_data)
+        if end > own and not (is_before_data and end <= len(file) and not any(file[own: end])):
+            raise ValueError("there is no room for so many sections")
 
     def _written_header(self, dos: DosHeader, coff: CoffHeader, optional: OptionalHeader, given: _t.Mapping[int, DataDirectory]) -> bytes:
         if 64 + len(self._stub) != self.dos_header.pe_pointer:
             raise ValueError("permissive mode replaced the DOS stub, so the headers can't be written at their places")
         if dos.pe_pointer != self.dos_header.pe_pointer:
             raise ValueError("the PE signature of the file stands at %#x" % self.dos_header.pe_pointer)
+        if coff.size_of_optional_header != self.coff_header.size_of_optional_header:
+            raise ValueError("the optional header of the file has %d bytes" % self.coff_header.size_of_optional_header)
         count, none = 16 if self.optional_header else 0, DataDirectory(0, 0)
         own = min(count, self._header.windows_fields.number_of_rva_and_sizes)
         for index in given:
@@ -877,62 +1011,65 @@ class Pe(Layout):
         return bytes(room[: size.value - 8 * (count - own)])
 
 
-class ObjectFile:
+class ObjectFile(_File):
     """An object that was read: ObjectFile(data, options); of the Options only is_permissive counts. A file that is refused
-    raises Refused, as one is whose string table is not UTF-8; without tests_texts a symbol whose name is not has none. No machine is tested, so a file that is no object may be read as one with sections that make no sense:
+    raises Refused, and so does one whose symbol table or string table is, as one that is not UTF-8; without tests_texts that is read, and a
+    symbol whose name is not UTF-8 has none. No machine is tested, so a file that is no object may be read as one with sections that make no sense:
     ask `kind` before.
 
-    It keeps `data`, or the copy of a buffer that could be written. A copy, as it is sent to another process, has all but `data`:
-    its methods raise ValueError.
+    It keeps `data`, or the copy of a buffer that could be written, until close() or the end of a `with`. A copy, as it is sent to
+    another process, has all but `data`: its methods raise ValueError.
     """
 
     def __init__(self, data: Data, options: _t.Optional[Options] = None, tests_texts: bool = True):
         asked, found = _record_of(options), records.Object()
-        read = _kept(data)
+        self._data = read = _kept(data)
         with _held(read) as (address, length):
             for _ in range(2):
                 sections, count = _room(records.Section, found.sections), found.sections
                 _test(_LIB.goblin_pe_raw_read_object(address, length, _c.byref(asked), _c.byref(found), sections, count))
         self._coff_header: CoffHeader = found.coff_header
         self._symbol_table = _symbol_table(read, found.coff_header, tests_texts)
-        self._data: _t.Optional[_Kept] = read
-        self._sections, self._count, self._address = sections, found.sections, address
-        self._made: _t.Dict[str, _t.List[_t.Any]] = {}
+        self._sections, self._counts, self._address = sections, {"sections": count}, address
+        self._made = {}
+
+    @classmethod
+    def open(cls: _t.Type[_O], path: _t.Union[str, "_os.PathLike[str]"], options: _t.Optional[Options] = None) -> _O:
+        """The object in a file, which is read whole. OSError is raised where it can't be read."""
+        return cls(_whole(path), options)
 
     @property
     def coff_header(self) -> CoffHeader:
         """The COFF header."""
         return self._coff_header
 
-    def _each(self, most_kept: _t.Optional[int] = _MOST_KEPT) -> _t.Iterator[Section]:
-        return _section_rows(_here(self._data), self._address, self._sections, self._count, most_kept)
+    def relocations(self, section: Section) -> _t.List[Relocation]:
+        """The relocations of one of its sections, as section.relocations lists them: at most 65,535."""
+        return section.relocations(self._bytes())
+
+    def walk_relocations(self, section: Section) -> _t.Iterator[Relocation]:
+        """All relocations of one of its sections, one by one, as by section.walk_relocations."""
+        return section.walk_relocations(self._bytes())
 
     @property
-    def sections(self) -> _t.List[Section]:
-        """The sections."""
-        if "sections" not in self._made:
-            self._made["sections"] = list(self._each(None))
-        return self._made["sections"]
-
-    @property
-    def symbols(self) -> _t.List[Symbol]:
+    def symbols(self) -> _t.Tuple[Symbol, ...]:
         """The symbols."""
-        if "symbols" not in self._made:
-            self._made["symbols"] = list(self.walk_symbols())
-        return self._made["symbols"]
+        return self._once("symbols", lambda: tuple(self.walk_symbols()))
 
     def walk_symbols(self) -> _t.Iterator[Symbol]:
-        """The symbols one by one, of which none is kept."""
-        return _walk_symbols(_here(self._data), self._symbol_table)
+        """The symbols one by one, of which none is kept. Their string table was tested once, so that a second walk costs no more
+        than what it gives."""
+        return _walk_symbols(self._bytes(), self._symbol_table)
 
     def __getstate__(self) -> _t.Dict[str, _t.Any]:
-        rows = {"sections": self.sections, "symbols": self.symbols}
-        return {**self.__dict__, "_made": rows, "_data": None, "_sections": ()}
+        if self._data is not None:
+            self.symbols  # (a copy has them)
+        return super().__getstate__()
 
     def symbol_at(self, index: int) -> _t.Optional[Symbol]:
         """The symbol whose record has this index: relocations and weak externals name symbols so. None where the table ends
         before it; an auxiliary record is read as a symbol, too."""
-        return _symbol_at(_here(self._data), self._symbol_table, index)
+        return _symbol_at(self._bytes(), self._symbol_table, index)
 
     def string_at(self, offset: int) -> _t.Optional[bytes]:
         """The text at an offset of the string table, up to a NUL or the table's end; None where there is none that is UTF-8. The
@@ -945,40 +1082,37 @@ class ObjectFile:
         return self._symbol_table.strings_length + 4 if self._symbol_table.offset else 0
 
     def __repr__(self) -> str:
-        return "<ObjectFile machine=%#x sections=%d>" % (self.coff_header.machine, self._count)
+        return "<ObjectFile machine=%#x sections=%d>" % (self.coff_header.machine, self._counts["sections"])
 
 
-class Te:
+class Te(_File):
     """A Terse Executable that was read: Te(data). Its signature is not looked at. A file that is refused raises Refused. It keeps
-    `data`, or the copy of a buffer that could be written, for the names of its sections.
+    `data`, or the copy of a buffer that could be written, until close() or the end of a `with`.
+
+    The front of such a file was stripped, and its section records still say where all stood before. So its `sections` are not as
+    stored: of each the address, and each of the three pointers that is not 0, is moved by the stripped size less the 40 bytes of
+    the header that took the place, to where it is in this file. What Section.data reads is right then, but a row that is written
+    is not the record that the file has.
 
     header: the header.
     """
 
     def __init__(self, data: Data):
-        header, self._stored = _laid_out.laid_out(TeHeader)(), _room(records.Section, 255)
-        self._data = _kept(data)
-        with _held(self._data) as (address, length):
-            _test(_LIB.goblin_pe_raw_read_te(address, length, _c.byref(header), self._stored, 255))
+        header, self._sections = _laid_out.laid_out(TeHeader)(), _room(records.Section, 255)
+        self._data = read = _kept(data)
+        with _held(read) as (address, length):
+            _test(_LIB.goblin_pe_raw_read_te(address, length, _c.byref(header), self._sections, 255))
         self.header: TeHeader = _laid_out.read(TeHeader, header)
-        self._address, self._count = address, self.header.number_of_sections
-        self._made: _t.Optional[_t.List[Section]] = None  # (the sections, once they were asked for)
+        self._address, self._counts = address, {"sections": self.header.number_of_sections}
+        self._made = {}
 
-    def _each(self, most_kept: _t.Optional[int] = _MOST_KEPT) -> _t.Iterator[Section]:
-        return _section_rows(self._data, self._address, self._stored, self._count, most_kept)
-
-    @property
-    def sections(self) -> _t.List[Section]:
-        """The sections."""
-        if self._made is None:
-            self._made = list(self._each(None))
-        return self._made
-
-    def __getstate__(self) -> _t.Dict[str, _t.Any]:
-        return {**self.__dict__, "_made": self.sections, "_data": b"", "_stored": ()}
+    @classmethod
+    def open(cls: _t.Type[_T], path: _t.Union[str, "_os.PathLike[str]"]) -> _T:
+        """The Terse Executable in a file, which is read whole. OSError is raised where it can't be read."""
+        return cls(_whole(path))
 
     def __repr__(self) -> str:
-        return "<Te machine=%#x sections=%d>" % (self.header.machine, self._count)
+        return "<Te machine=%#x sections=%d>" % (self.header.machine, self._counts["sections"])
 
 
 from ._described import to_json as to_json  # noqa: E402  # (it tells of what is above)

@@ -87,7 +87,7 @@ def symbols(found: ObjectFile) -> Iterator[str]:
     for it in found.walk_symbols():
         yield "symbol %d value=%d section=%d class=%d aux=%d name=%s" % (
             it.index, it.value, it.section_number, it.storage_class, it.number_of_aux_symbols, shown(it.name or b""))
-    for s in found._each():
+    for s in found._each("sections"):
         if s.number_of_relocations:
             yield "relocations %s %d" % (shown(s.name), s.number_of_relocations)
 
@@ -99,7 +99,7 @@ def te(found: Te) -> Iterator[str]:
         yield "%s %#x" % (field, getattr(h, field))
     for field in ("reloc_dir", "debug_dir"):
         yield "%s %#x %d" % (field, getattr(h, field).virtual_address, getattr(h, field).size)
-    for s in found._each():
+    for s in found._each("sections"):
         yield "section %s va=%#x vsize=%#x raw=%#x ptr=%#x characteristics=%#x" % (
             shown(s.name), s.virtual_address, s.virtual_size, s.size_of_raw_data, s.pointer_to_raw_data, s.characteristics)
 

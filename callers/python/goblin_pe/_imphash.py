@@ -1,8 +1,8 @@
-"""The hash of the imports of an image by which analysts find files that were made alike: the MD5 of all imports in their
-order, each as library.name in lower case, joined by commas. An import by ordinal has the name `ord` and the number; but
-for those libraries that programs import by ordinal everywhere, it has the name that the ordinal has there."""
+"""The hash of the imports of an image by which analysts find files that were made alike, as pefile makes it: the MD5 of all
+imports in their order, each as library.name in lower case, joined by commas. An import by ordinal has the name `ord` and the
+number; but for those libraries that programs import by ordinal everywhere, it has the name that the ordinal has there."""
 import hashlib
-from typing import Dict, Iterable
+from typing import Dict, Iterable, Optional
 
 from .rows import Import
 
@@ -111,25 +111,36 @@ AUTOMATION = """
 
 
 def _by_ordinal(table: str) -> Dict[int, bytes]:
-    words = table.lower().encode().split()
+    words = table.encode().split()
     return dict(zip(map(int, words[::2]), words[1::2]))
 
 
+# Of each library, whose name is in lower case, the names of its ordinals.
 NAMES = {b"ws2_32.dll": _by_ordinal(SOCKETS), b"wsock32.dll": _by_ordinal(SOCKETS), b"oleaut32.dll": _by_ordinal(AUTOMATION)}
+
+
+def ordinal_name(dll: bytes, ordinal: int) -> Optional[bytes]:
+    """The name that an ordinal has in a library that programs import by ordinals everywhere, WS2_32.dll, WSOCK32.dll or
+    OLEAUT32.dll, in whatever case; None where it has none there, and of other libraries."""
+    return NAMES.get(dll.lower(), {}).get(ordinal)
 
 
 def _line(x: Import) -> bytes:
     library = x.dll.lower()
-    name = x.name.lower() if x.name else NAMES.get(library, {}).get(x.ordinal, b"ord%d" % x.ordinal)
-    return (library[:-4] if library.endswith(ENDINGS) else library) + b"." + name
+    name = x.name or ordinal_name(library, x.ordinal) or b"ord%d" % x.ordinal
+    return (library[:-4] if library.endswith(ENDINGS) else library) + b"." + name.lower()
 
 
 def imphash(imports: Iterable[Import]) -> str:
-    """The hash in hexadecimal; empty where nothing is imported. What has no name, or the ordinal 0, is left out, and so is
-    a library without a name. It goes through the imports once, and keeps none of them."""
+    """The hash of these imports that analysts compare, as the method of an image gives it of all: the MD5 in hexadecimal, or an
+    empty text where nothing is imported. What has no name, or the ordinal 0, is left out, and so is a library without a name. It
+    goes through the imports once, and keeps none of them, so that they may come from a walk that counts them, too."""
     digest, separator = hashlib.md5(usedforsecurity=False), b""
     for x in imports:
         if x.dll and (x.ordinal if x.name is None else x.name):
             digest.update(separator + _line(x))
             separator = b","
     return digest.hexdigest() if separator else ""
+
+
+imphash.__module__ = ordinal_name.__module__ = "goblin_pe"  # (where they are explained)

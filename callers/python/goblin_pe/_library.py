@@ -4,7 +4,7 @@ import ctypes as c
 import mmap
 import os
 import sys
-from typing import Iterator, Tuple, Union
+from typing import Iterator, Optional, Tuple, Union
 
 from ._laid_out import NOWHERE
 from .records import CALLS, INTERFACE, Fault
@@ -79,15 +79,37 @@ def _is_writable(view: memoryview) -> bool:
 Kept = Union[bytes, mmap.mmap, memoryview]
 
 
+def _view(data: Data) -> memoryview:
+    # a view of the bytes of a buffer, which lie in one piece
+    if isinstance(data, (str, os.PathLike)):
+        raise TypeError("the bytes of a file are wanted, not its path %r: Pe.open(path) reads them" % (data,))
+    view = memoryview(data)
+    if not view.c_contiguous:
+        raise BufferError("the bytes don't lie in one piece")
+    return view
+
+
 def kept(data: Data) -> Kept:
     """The bytes of a buffer: themselves where no thread can write into them, and else a copy. BufferError is raised where
-    they don't lie in one piece."""
-    with memoryview(data) as view:
-        if not view.c_contiguous:
-            raise BufferError("the bytes don't lie in one piece")
+    they don't lie in one piece, and TypeError where it is no buffer."""
+    with _view(data) as view:
         if _is_writable(view):
             return view.tobytes()
         return data if isinstance(data, (bytes, mmap.mmap)) else view.cast("B")
+
+
+@contextlib.contextmanager
+def viewed(data: Data) -> Iterator[memoryview]:
+    """The single bytes of a buffer, none of which is copied: other threads may change them."""
+    with _view(data) as view, view.cast("B") as single:
+        yield single
+
+
+def part_kept(data: Data, begin: int, size: int) -> Optional[bytes]:
+    """A copy of a part of a buffer into which threads can write; None where none can, and where the part passes its end."""
+    with viewed(data) as view:
+        is_there = _is_writable(view) and begin + size <= len(view)
+        return bytes(view[begin: begin + size]) if is_there else None
 
 
 @contextlib.contextmanager

@@ -49,6 +49,6 @@ def refusal(fault: records.Fault) -> Optional[Refused]:
 
 def test(fault: records.Fault) -> None:
     """Raises the refusal of a call, where there is one."""
-    found = refusal(fault)
-    if found:
-        raise found
+    # (which no local has: it would be kept by the frame that it names itself, and with it the bytes of the file)
+    if fault.status:
+        raise Refused(fault.status, fault.cause, fault.first, fault.second)

@@ -5,9 +5,9 @@ import struct
 from typing import Any, Callable, Dict, Iterator, List, NamedTuple, Optional, Tuple, Type, TypeVar, Union
 
 from . import _laid_out, records
-from ._library import LIB, Data, Kept, held, kept
+from ._library import LIB, Data, Kept, held, kept, part_kept, viewed
 from ._refused import test
-from .constants import (IMAGE_SYM_CLASS_EXTERNAL, IMAGE_SYM_CLASS_FILE, IMAGE_SYM_CLASS_FUNCTION, IMAGE_SYM_CLASS_STATIC,
+from .constants import (IMAGE_SCN_LNK_NRELOC_OVFL, IMAGE_SYM_CLASS_EXTERNAL, IMAGE_SYM_CLASS_FILE, IMAGE_SYM_CLASS_FUNCTION, IMAGE_SYM_CLASS_STATIC,
                         IMAGE_SYM_CLASS_WEAK_EXTERNAL, IMAGE_SYM_DTYPE_FUNCTION, IMAGE_SYM_DTYPE_SHIFT)
 from .numbers import Forwards
 from .records import (AuxBeginAndEndFunction, AuxFunctionDefinition, AuxSectionDefinition, AuxWeakExternal, ExportDirectoryTable,
@@ -31,9 +31,18 @@ class SectionData(NamedTuple):
     zeros: int
 
 
+class SectionView(NamedTuple):
+    """The data of a section in the file as a view of the file's bytes, which copies none of them, and how many zeros follow it in
+    memory. A mapped file can't be closed before the view is released."""
+
+    data: memoryview
+    zeros: int
+
+
 class Section(NamedTuple):
     """A section: its name (that of the string table where it has one, else its eight bytes up to the first NUL), the
-    fields of its record, and the eight bytes of the name in it. Where a number was put into it that does not fit its field,
+    fields of its record, and the eight bytes of the name in it. Of a Terse Executable the address and the three pointers are moved,
+    as Te says, and are not those of the record. Where a number was put into it that does not fit its field,
     what reads or writes by it raises OverflowError, and ValueError where its raw_name has more than eight bytes."""
 
     name: bytes
@@ -49,12 +58,14 @@ class Section(NamedTuple):
     raw_name: bytes
 
     def data(self, file: Data) -> SectionData:
-        """Its data in the file: the bytes from the raw pointer as stored, and how many zeros follow them in memory. The bytes are
-        not cut at the virtual size; those of memory_at of a Layout are. A section of uninitialized data
-        (IMAGE_SCN_CNT_UNINITIALIZED_DATA) whose raw pointer is 0, as an object's .bss, has no bytes, and its size as zeros:
-        the virtual size, or the raw size where that is 0. Refused is raised where the bytes pass the file, and where they
-        begin past its end, even if there are none."""
-        return data_of(self, kept(file), records.Options(), 0)
+        """Its data in the file: the bytes from the raw pointer as stored, and how many zeros follow them in memory. There are as
+        many as its raw size says: they are not cut at its virtual size, as memory_at of an image cuts them. A section of
+        uninitialized data (IMAGE_SCN_CNT_UNINITIALIZED_DATA) whose raw pointer is 0, as an object's .bss, has no bytes, and its
+        size as zeros: the virtual size, or the raw size where that is 0. Refused is raised where they pass the file, and where
+        they begin past its end, even if there are none."""
+        with viewed(file) as view:
+            begin, length, zeros = place_of(self, view, records.Options(), 0)
+            return SectionData(bytes(view[begin: begin + length]), zeros)
 
     def available_data(self, file: Data) -> SectionData:
         """The same as far as the file has it, which is never refused: there are fewer bytes where the file ends before, and no
@@ -65,25 +76,41 @@ class Section(NamedTuple):
         """All its relocations in the object, one by one, also where there are more than number_of_relocations can say: then
         without the first record, which has their number. Refused is raised where the file is too short for them, and where
         they begin at or past its end, even if there are none."""
-        record, found = record_of(self), room(_laid_out.laid_out(Relocation), 256)
+        (record, data), found = self._with_relocations(file), room(_laid_out.laid_out(Relocation), 256)
 
         def call(address: int, length: int, *to: Any) -> records.Fault:
             fault: records.Fault = LIB.goblin_pe_raw_next_relocations(address, length, c.byref(record), *to)
             return fault
 
-        return (_laid_out.read(Relocation, it) for _, count in batches(kept(file), found, call, c.c_size_t()) for it in found[:count])
+        return (_laid_out.read(Relocation, it) for _, count in batches(data, found, call, c.c_size_t()) for it in found[:count])
 
     def relocations(self, file: Data) -> List[Relocation]:
         """Its relocations in the object: as many as number_of_relocations says, so at most 65,535. Where that is 65,535, and
         characteristics have the flag IMAGE_SCN_LNK_NRELOC_OVFL, the section has more than these: the first row is none of
         them, and its virtual_address tells how many follow one another there, itself among them; walk_relocations gives all.
         Refused is raised where the file is too short for them, and where they begin at or past its end, even if there are none."""
-        count, kind = c.c_size_t(), _laid_out.laid_out(Relocation)
-        with held(kept(file)) as (address, length):
+        (record, data), count, kind = self._with_relocations(file), c.c_size_t(), _laid_out.laid_out(Relocation)
+        with held(data) as (address, length):
             for _ in range(2):
-                found, record = room(kind, count.value), record_of(self)
+                found = room(kind, count.value)
                 test(LIB.goblin_pe_raw_read_relocations(address, length, c.byref(record), found, count.value, c.byref(count)))
         return [_laid_out.read(Relocation, it) for it in found[: count.value]]
+
+    def _with_relocations(self, file: Data) -> Tuple[records.Section, Kept]:
+        # its record, and bytes that have its relocations: of a buffer that could be written a copy of these alone, if it has them
+        record, begin, count = record_of(self), self.pointer_to_relocations, self.number_of_relocations
+        if count == 0xFFFF and self.characteristics & IMAGE_SCN_LNK_NRELOC_OVFL:
+            with viewed(file) as view:
+                count = max(count, int.from_bytes(view[begin: begin + 4], "little"))
+        alone = part_kept(file, begin, max(1, RELOCATION * count))
+        if alone is None:
+            return record, kept(file)
+        record.pointer_to_relocations = 0
+        return record, alone
+
+
+# The size of the record of a relocation, in bytes.
+RELOCATION = 10
 
 
 class Import(NamedTuple):
@@ -161,7 +188,7 @@ class Block(NamedTuple):
 
     rva: int
     size: int
-    words: List[int]
+    words: Tuple[int, ...]
 
 
 _Kind = TypeVar("_Kind")
@@ -255,13 +282,26 @@ def record_of(s: Section) -> records.Section:
     return record
 
 
-def data_of(s: Section, file: Kept, options: records.Options, file_alignment: int) -> SectionData:
-    """The data of a section in the file, from where the options have its raw pointer."""
+def place_of(s: Section, file: Union[Kept, memoryview], options: records.Options, file_alignment: int) -> Tuple[int, int, int]:
+    """Where the data of a section begins in the file, from where the options have its raw pointer; how many bytes it has, and how
+    many zeros follow them. No byte of the file is looked at."""
     found = records.SectionData()
     with held(file) as (address, length):
         image = records.Image(records.Text(address, length), _laid_out.NOWHERE, 0, file_alignment, options)
         test(LIB.goblin_pe_raw_read_section_data(c.byref(image), c.byref(record_of(s)), c.byref(found)))
-        return SectionData(Rows(file, address).text(found.bytes), found.zeros)
+        return found.bytes.bytes - address if found.bytes.length else 0, found.bytes.length, found.zeros
+
+
+def data_of(s: Section, file: Kept, options: records.Options, file_alignment: int) -> SectionData:
+    """The data of a section in the file."""
+    begin, length, zeros = place_of(s, file, options, file_alignment)
+    return SectionData(bytes(file[begin: begin + length]), zeros)
+
+
+def view_of(s: Section, file: Kept, options: records.Options, file_alignment: int) -> SectionView:
+    """The same without a copy."""
+    begin, length, zeros = place_of(s, file, options, file_alignment)
+    return SectionView(memoryview(file)[begin: begin + length], zeros)
 
 
 def available_of(s: Section, file: Kept, options: records.Options, file_alignment: int) -> SectionData:
@@ -369,7 +409,7 @@ class Rows:
         """The row of a block."""
         count = b.words.length // 2
         words = struct.unpack_from("<%dH" % count, self._data, self._begin(b.words)) if count else ()
-        return Block(b.rva, b.size, list(words))
+        return Block(b.rva, b.size, words)
 
     def symbol(self, s: records.NamedSymbol) -> Symbol:
         """The row of a symbol."""

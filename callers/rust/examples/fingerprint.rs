@@ -19,12 +19,11 @@ fn write_rich_text(pe: &Pe, bytes: &[u8], to: &mut impl Write) -> io::Result<()>
     to.write_all(&text)
 }
 
-// What follows the data of all sections that end in the file.
+// What follows the data of all sections; what is left of one that the file's end cuts is none of it.
 fn overlay<'a>(layout: &Layout, bytes: &'a [u8]) -> &'a [u8] {
     let with_data = layout.sections().filter(|s| s.size_of_raw_data > 0);
     let ends = with_data.map(|s| s.pointer_to_raw_data as usize + s.size_of_raw_data as usize);
-    let last = ends.filter(|&end| end <= bytes.len()).max();
-    &bytes[last.unwrap_or(bytes.len())..]
+    &bytes[ends.max().unwrap_or(bytes.len()).min(bytes.len())..]
 }
 
 fn main() -> io::Result<()> {

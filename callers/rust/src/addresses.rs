@@ -151,9 +151,11 @@ impl<'a> Layout<'a> {
         Ok(Forwarder::from(&found))
     }
 
-    /// The section of an address: the first whose window holds it; `None` where there is none. A window has what the
-    /// file has of the section, in whole pages at most: [`region_of`](Self::region_of) also finds the section of an
-    /// address in the zeros after that.
+    /// The section by which an address is mapped: the first whose window holds it; `None` where there is none. A window
+    /// begins at the section's address. It is empty where the raw size is 0, and else has the least of three sizes: that
+    /// of the data in the file, from its start rounded down to 512 up to its end rounded up to the file alignment; the raw
+    /// size; and the virtual size where that is not 0, these two rounded up to 4,096. So an address in the zeros that
+    /// follow the data may lie in none, as a TLS index does: [`memory_section_at`](Self::memory_section_at) finds it.
     ///
     /// ```no_run
     /// # let bytes = [];
@@ -166,6 +168,21 @@ impl<'a> Layout<'a> {
     pub fn section_at(&self, rva: usize) -> Option<Section<'a>> {
         let index = raw::section_at(&self.image(), rva)?;
         self.sections().nth(index)
+    }
+
+    /// The section in whose memory an address lies, also among the zeros that follow its data: the first whose virtual
+    /// size, or raw size where that is 0, reaches it, as [`memory_at`](Self::memory_at) takes it; `None` where there is
+    /// none, as in the headers. The options are not looked at.
+    ///
+    /// ```no_run
+    /// # let bytes = [];
+    /// # let layout = goblin_pe::Layout::read(&bytes, &goblin_pe::Options::permissive())?;
+    /// let is_outside = layout.memory_section_at(layout.entry() as usize).is_none();
+    /// # Ok::<(), goblin_pe::Error>(())
+    /// ```
+    #[must_use]
+    pub fn memory_section_at(&self, rva: usize) -> Option<Section<'a>> {
+        self.region_of(rva).1
     }
 
     /// The address of a file offset, which [`find_offset`](Self::find_offset) maps to it: that in the first

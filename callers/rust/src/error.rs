@@ -2,7 +2,7 @@
 
 use std::{fmt, io};
 
-use crate::numbers::{Cause, Counted, ErrorKind, ReadFault};
+use crate::numbers::{Cause, Counted, DirectoryType, ErrorKind, ReadFault};
 use crate::raw;
 
 /// Why a file was refused. Its text says so; where a program has to tell refusals apart, it asks for
@@ -129,6 +129,40 @@ impl fmt::Debug for Error {
 }
 
 impl std::error::Error for Error {}
+
+/// A number that names nothing of a kind, as [`TryFrom`] of the enums of numbers answers it.
+///
+/// ```
+/// use goblin_pe::{DirectoryType, UnknownNumber};
+///
+/// assert_eq!(DirectoryType::try_from(1_usize), Ok(DirectoryType::ImportTable));
+/// let refused = DirectoryType::try_from(99_usize);
+/// assert_eq!(refused, Err(UnknownNumber(99)));
+/// assert_eq!(refused.unwrap_err().to_string(), "nothing has the number 99");
+/// ```
+#[derive(Clone, Copy, Debug, PartialEq, Eq, Hash)]
+pub struct UnknownNumber(pub usize);
+
+impl fmt::Display for UnknownNumber {
+    fn fmt(&self, f: &mut fmt::Formatter<'_>) -> fmt::Result {
+        write!(f, "nothing has the number {}", self.0)
+    }
+}
+
+impl std::error::Error for UnknownNumber {}
+
+impl TryFrom<usize> for DirectoryType {
+    type Error = UnknownNumber;
+
+    /// The kind of the data directory at an index.
+    ///
+    /// # Errors
+    /// The index, where no kind has it.
+    fn try_from(index: usize) -> Result<DirectoryType, UnknownNumber> {
+        let number = u32::try_from(index).map_err(|_| UnknownNumber(index))?;
+        DirectoryType::try_from(number)
+    }
+}
 
 impl From<Error> for io::Error {
     /// An error of the kind [`io::ErrorKind::OutOfMemory`] where memory was refused, for which none is taken;

@@ -1,6 +1,6 @@
-//! The text by whose hash analysts find files that were made alike: all imports of an image in their order, each as
-//! library.name in lower case, joined by commas. An import by ordinal has the name `ord` and the number; but for those
-//! libraries that programs import by ordinal everywhere, the name that it has there.
+//! The text by whose hash analysts find files that were made alike, as pefile makes it: all imports of an image in their
+//! order, each as library.name in lower case, joined by commas. An import by ordinal has the name `ord` and the number; but
+//! for those libraries that programs import by ordinal everywhere, the name that it has there.
 
 use std::io::{self, Write};
 
@@ -11,9 +11,24 @@ use crate::tables::{AUTOMATION, SOCKETS};
 // The endings that a library's name loses.
 const ENDINGS: [&[u8]; 3] = [b".dll", b".ocx", b".sys"];
 
-/// Writes the text. What has no name, or the ordinal 0, is left out, and so is a library without a name.
-pub fn write_text<'a>(
-    imports: impl Iterator<Item = Result<Import<'a>, Error>>,
+/// Writes the text whose MD5 is the hash of these imports that analysts compare, as
+/// [`Pe::write_imphash_text`](crate::Pe::write_imphash_text) writes it of all of an image: so of rows that a program walks
+/// over anyway. What has no name, or the ordinal 0, is left out, and so is a library without a name.
+///
+/// # Errors
+/// The first of the walk, and as of the writer.
+///
+/// ```no_run
+/// # let bytes = [];
+/// let layout = goblin_pe::Layout::parse(&bytes)?;
+/// let (mut count, mut text) = (0, Vec::new());
+/// let counted = layout.walk_imports().inspect(|_| count += 1);
+/// goblin_pe::write_imphash_text(counted, &mut text)?;
+/// println!("{count} imports, {} bytes to be hashed", text.len());
+/// # Ok::<(), std::io::Error>(())
+/// ```
+pub fn write_imphash_text<'a>(
+    imports: impl IntoIterator<Item = Result<Import<'a>, Error>>,
     to: &mut impl Write,
 ) -> io::Result<()> {
     let mut comma = "";
@@ -46,8 +61,11 @@ fn write_import(import: &Import<'_>, to: &mut impl Write) -> io::Result<()> {
             to.write_all(b".")?;
             write_lowercase(name.0, to)
         }
-        Imported::Ordinal(ordinal) => match name_of(library, ordinal) {
-            Some(name) => write!(to, ".{name}"),
+        Imported::Ordinal(ordinal) => match ordinal_name(library, ordinal) {
+            Some(name) => {
+                to.write_all(b".")?;
+                write_lowercase(name.as_bytes(), to)
+            }
             None => write!(to, ".ord{ordinal}"),
         },
     }
@@ -65,8 +83,16 @@ fn write_lowercase(text: &[u8], to: &mut impl Write) -> io::Result<()> {
     Ok(())
 }
 
-// The name of an ordinal, where all programs import it from this library by the ordinal.
-fn name_of(library: &[u8], ordinal: u16) -> Option<&'static str> {
+/// The name that an ordinal has in a library that programs import by ordinals everywhere, `WS2_32.dll`, `WSOCK32.dll` or
+/// `OLEAUT32.dll`, in whatever case; `None` where it has none there, and of other libraries.
+///
+/// ```
+/// assert_eq!(goblin_pe::ordinal_name("ws2_32.dll", 115), Some("WSAStartup"));
+/// assert_eq!(goblin_pe::ordinal_name(b"OLEAUT32.dll", 2), Some("SysAllocString"));
+/// assert_eq!(goblin_pe::ordinal_name("KERNEL32.dll", 1), None);
+/// ```
+#[must_use]
+pub fn ordinal_name(library: impl AsRef<[u8]>, ordinal: u16) -> Option<&'static str> {
     let names = [
         ("ws2_32.dll", SOCKETS),
         ("wsock32.dll", SOCKETS),
@@ -74,7 +100,7 @@ fn name_of(library: &[u8], ordinal: u16) -> Option<&'static str> {
     ];
     let (_, names) = names
         .into_iter()
-        .find(|(name, _)| library.eq_ignore_ascii_case(name.as_bytes()))?;
+        .find(|(name, _)| library.as_ref().eq_ignore_ascii_case(name.as_bytes()))?;
     let found = names.iter().find(|(number, _)| *number == ordinal)?;
     Some(found.1)
 }

@@ -406,7 +406,7 @@ pub struct WalkExportAddresses<'a> {
     // The ordinal of the next entry, once one was read.
     ordinal: usize,
     batches: Batches<raw::ExportAddress, usize>,
-    // By which forwarders are read, once there is one.
+    // By which forwarders are read, once there is one. It is read anew, so that the walk owns what it needs.
     layout: Option<Layout<'a>>,
 }
 
@@ -642,6 +642,22 @@ impl<'a> Symbols<'a> {
             table,
             batches,
         })
+    }
+
+    /// How many records the symbol table has, wherever the walk is, auxiliary ones among them: each index is below it.
+    ///
+    /// ```no_run
+    /// # let bytes = [];
+    /// let object = goblin_pe::Object::parse(&bytes)?;
+    /// let mut addresses = vec![0; object.symbols()?.record_count()];
+    /// for symbol in object.symbols()? {
+    ///     addresses[symbol.index] = symbol.value;
+    /// }
+    /// # Ok::<(), goblin_pe::Error>(())
+    /// ```
+    #[must_use]
+    pub fn record_count(&self) -> usize {
+        self.table.record_count as usize
     }
 
     /// The symbol whose record has this index in the symbol table, wherever the walk is: relocations and weak

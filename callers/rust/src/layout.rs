@@ -14,8 +14,13 @@ use crate::iterators::{
 use crate::memory::{make_room, room};
 use crate::numbers::DirectoryType;
 use crate::pe::Pe;
-use crate::raw::{self, CoffHeader, DataDirectory, DosHeader, OptionalHeader, Options};
-use crate::rows::{Damage, ExportDirectory, Header, Section, section_table};
+use crate::raw::{
+    self, CoffHeader, DataDirectory, DosHeader, OptionalHeader, Options, RichMetadata,
+};
+use crate::rows::{
+    DOS_HEADER, Damage, ExportDirectory, Header, RichHeader, SIGNATURE_AND_COFF_HEADER, Section,
+    section_index, section_table,
+};
 use crate::text::Text;
 
 /// An image by its header and its sections. Nothing of it is listed, so it takes memory for its sections alone,
@@ -49,7 +54,6 @@ use crate::text::Text;
 /// # Ok::<(), std::io::Error>(())
 /// ```
 ///
-/// The Rich header is no part of a layout: [`Pe::rich_header`] has it.
 #[derive(Clone)]
 pub struct Layout<'a> {
     pub(crate) bytes: &'a [u8],
@@ -111,6 +115,34 @@ impl<'a> Layout<'a> {
         })
     }
 
+    /// Reads the header and the sections of an image that lies in memory, by the default options: strictly.
+    ///
+    /// # Errors
+    /// As of [`Layout::read`].
+    ///
+    /// ```no_run
+    /// # let bytes = [];
+    /// let layout = goblin_pe::Layout::parse(&bytes)?;
+    /// println!("{} sections", layout.sections().len());
+    /// # Ok::<(), goblin_pe::Error>(())
+    /// ```
+    pub fn parse(bytes: &'a [u8]) -> Result<Layout<'a>, Error> {
+        Layout::read(bytes, &Options::default())
+    }
+
+    /// The bytes of the file.
+    ///
+    /// ```no_run
+    /// # let bytes = [];
+    /// # let layout = goblin_pe::Layout::read(&bytes, &goblin_pe::Options::permissive())?;
+    /// println!("{} bytes", layout.bytes().len());
+    /// # Ok::<(), goblin_pe::Error>(())
+    /// ```
+    #[must_use]
+    pub fn bytes(&self) -> &'a [u8] {
+        self.bytes
+    }
+
     /// Whether the optional header is one for 64 bits.
     ///
     /// ```no_run
@@ -157,7 +189,8 @@ impl<'a> Layout<'a> {
     /// ```no_run
     /// # let bytes = [];
     /// # let layout = goblin_pe::Layout::read(&bytes, &goblin_pe::Options::permissive())?;
-    /// println!("it begins at {:#x}", layout.image_base() + u64::from(layout.entry()));
+    /// // (a hostile file may have any of them)
+    /// println!("it begins at {:#x}", layout.image_base().wrapping_add(layout.entry().into()));
     /// # Ok::<(), goblin_pe::Error>(())
     /// ```
     #[must_use]
@@ -238,15 +271,16 @@ impl<'a> Layout<'a> {
         DataDirectories(self.directories[..count].iter().enumerate())
     }
 
-    /// The sections. What follows the data of all of them in the file is its overlay.
+    /// The sections. What follows the data of all of them in the file is its overlay; what is left of a section that the
+    /// file's end cuts is none.
     ///
     /// ```no_run
     /// # let bytes = [];
     /// # let layout = goblin_pe::Layout::read(&bytes, &goblin_pe::Options::permissive())?;
     /// let with_data = layout.sections().filter(|s| s.size_of_raw_data > 0);
     /// let ends = with_data.map(|s| s.pointer_to_raw_data as usize + s.size_of_raw_data as usize);
-    /// let last = ends.filter(|&end| end <= bytes.len()).max();
-    /// let overlay = &bytes[last.unwrap_or(bytes.len())..];
+    /// let last = ends.max().unwrap_or(bytes.len()).min(bytes.len());
+    /// let overlay = &bytes[last..];
     /// # Ok::<(), goblin_pe::Error>(())
     /// ```
     #[must_use]
@@ -268,7 +302,24 @@ impl<'a> Layout<'a> {
         self.sections().find(|s| s.name == *name.as_ref())
     }
 
-    /// The header, to be changed and written.
+    /// The section of this number, counted from 1, as a symbol's `section_number` has it; `None` where there is none, as
+    /// where a symbol is undefined (0), absolute (-1) or for a debugger (-2).
+    ///
+    /// ```no_run
+    /// # let bytes = [];
+    /// # let layout = goblin_pe::Layout::read(&bytes, &goblin_pe::Options::permissive())?;
+    /// for symbol in layout.symbols()? {
+    ///     let section = layout.section_by_number(symbol.section_number);
+    ///     println!("{}", section.map(|s| s.name).unwrap_or_default());
+    /// }
+    /// # Ok::<(), goblin_pe::Error>(())
+    /// ```
+    #[must_use]
+    pub fn section_by_number(&self, number: i16) -> Option<Section<'a>> {
+        self.sections().nth(section_index(number)?)
+    }
+
+    /// The header, to be changed and written: [`patched`](Self::patched) puts it into the file.
     ///
     /// ```no_run
     /// # let bytes = [];
@@ -325,8 +376,9 @@ impl<'a> Layout<'a> {
     }
 
     /// The data of one of its sections, and how many zeros follow it in memory. It begins at the raw
-    /// pointer, which the options may round down to 512, as they do for [`find_offset`](Self::find_offset); else it is
-    /// as [`Section::data`] has it.
+    /// pointer, which the options may round down to 512, as they do for [`find_offset`](Self::find_offset).
+    /// There is as much as the raw size says: it is not cut at the virtual size, as
+    /// [`memory_at`](Self::memory_at) cuts it. Uninitialized data is as [`Section::data`] has it.
     ///
     /// # Errors
     /// Where the data passes the file, and where it begins past the end, even if there is none.
@@ -455,6 +507,62 @@ impl<'a> Layout<'a> {
         Ok(self.export_directory()?.and_then(|it| it.name))
     }
 
+    /// The Rich header, read anew by each call; `None` where the file has none. [`Pe::rich_header`] has it from the read.
+    ///
+    /// # Errors
+    /// [`ErrorKind::Memory`](crate::ErrorKind::Memory) alone.
+    ///
+    /// ```no_run
+    /// # let bytes = [];
+    /// # let layout = goblin_pe::Layout::read(&bytes, &goblin_pe::Options::permissive())?;
+    /// let key = layout.rich_header()?.map(|it| it.key);
+    /// # Ok::<(), goblin_pe::Error>(())
+    /// ```
+    pub fn rich_header(&self) -> Result<Option<RichHeader>, Error> {
+        let front = self.front()?;
+        let read = |it: &Vec<u8>| Pe::read(it, &Options::permissive()).map(|pe| pe.rich_header());
+        front.as_ref().map_or(Ok(None), read)
+    }
+
+    /// The entries of the Rich header, read anew by each call. [`Pe::rich_entries`] has them from the read.
+    ///
+    /// # Errors
+    /// [`ErrorKind::Memory`](crate::ErrorKind::Memory) alone.
+    ///
+    /// ```no_run
+    /// # let bytes = [];
+    /// # let layout = goblin_pe::Layout::read(&bytes, &goblin_pe::Options::permissive())?;
+    /// for entry in layout.rich_entries()? {
+    ///     println!("tool {}, build {}, {} times", entry.product, entry.build, entry.use_count);
+    /// }
+    /// # Ok::<(), goblin_pe::Error>(())
+    /// ```
+    pub fn rich_entries(&self) -> Result<Vec<RichMetadata>, Error> {
+        let mut entries = Vec::new();
+        if let Some(front) = self.front()? {
+            let pe = Pe::read(&front, &Options::permissive())?;
+            make_room(&mut entries, pe.rich_entries().len())?;
+            entries.extend_from_slice(pe.rich_entries());
+        }
+        Ok(entries)
+    }
+
+    // What stands before the PE signature, where there is room for a Rich header, as of an image without sections and
+    // without an optional header.
+    fn front(&self) -> Result<Option<Vec<u8>>, Error> {
+        let signature = self.file.dos_header.pe_pointer as usize;
+        let stored = self.bytes.get(..signature + SIGNATURE_AND_COFF_HEADER);
+        let Some(stored) = stored.filter(|_| signature >= DOS_HEADER) else {
+            return Ok(None);
+        };
+        let mut front = room(stored.len())?;
+        front.extend_from_slice(stored);
+        for counted in [6, 20] {
+            front[signature + counted..][..2].fill(0);
+        }
+        Ok(Some(front))
+    }
+
     /// A walk over the entries of the export address table, by rising ordinals, also those without a name, each with its
     /// forwarder: for the first of these it reads the sections anew, of which it keeps the records. What is refused of
     /// the exports ends it.
@@ -490,7 +598,8 @@ impl<'a> Layout<'a> {
         WalkBlocks::of(self.bytes, self.options, self.file.places)
     }
 
-    /// The symbols, which few images have; they are read as the walk goes on.
+    /// The symbols, which few images have; they are read as the walk goes on. The whole string table is tested first, so
+    /// for a second walk take a copy before the first one, which tests nothing again.
     ///
     /// # Errors
     /// A file that is too short for the symbol table or its string table, and a string table that is not
@@ -539,7 +648,7 @@ impl<'a> Layout<'a> {
     /// # Ok::<(), std::io::Error>(())
     /// ```
     pub fn write_imphash_text(&self, to: &mut impl Write) -> io::Result<()> {
-        imphash::write_text(self.walk_imports(), to)
+        imphash::write_imphash_text(self.walk_imports(), to)
     }
 
     /// What strict mode would refuse of the file, part by part, by the options of the read, and how much is left
@@ -609,6 +718,15 @@ impl fmt::Debug for Layout<'_> {
             .field("machine", &self.coff_header().machine)
             .field("sections", &self.file.sections)
             .finish_non_exhaustive()
+    }
+}
+
+impl<'a> TryFrom<&'a [u8]> for Layout<'a> {
+    type Error = Error;
+
+    /// As by [`Layout::parse`].
+    fn try_from(bytes: &'a [u8]) -> Result<Layout<'a>, Error> {
+        Layout::parse(bytes)
     }
 }
 

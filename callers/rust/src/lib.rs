@@ -34,6 +34,8 @@
 //! | [`Layout::damage`] | as a read | an index of more than 96 sections |
 //! | [`Layout::footprint`], [`Layout::write_fingerprint_text`] | as two reads | a bit for each byte of the file, and the ranges; an index of more than 96 sections |
 //! | [`Layout::find_offset`] and what is at an address | a walk over the sections | none |
+//! | [`Layout::rich_header`], [`Layout::rich_entries`] | as long as what stands before the PE signature | a copy of that, and a record for each entry |
+//! | [`Layout::patched`] | as long as the file | a copy of the file, and of its header |
 //! | [`Layout::find_rva`] | a walk over the sections, and one more for each whose data holds the offset | none |
 //! | [`Object::read`], [`Te::read`] | as long as the sections and their names | a record for each section |
 //! | rows, names and texts | none: they are places in the bytes | none |
@@ -73,6 +75,7 @@ mod memory;
 mod names;
 mod numbers;
 mod object;
+mod patch;
 mod pe;
 #[allow(unsafe_code)]
 mod raw;
@@ -83,15 +86,19 @@ mod tables;
 mod te;
 mod text;
 
-pub use error::Error;
+pub use error::{Error, UnknownNumber};
 pub use footprint::Footprint;
+pub use imphash::{ordinal_name, write_imphash_text};
 pub use iterators::{
     Blocks, DataDirectories, ExportAddresses, Exports, FootprintRanges, Imports, IntoImports,
     Sections, Symbols, WalkBlocks, WalkExportAddresses, WalkExports, WalkImports, WalkLibraries,
     WalkRelocations, Words,
 };
 pub use layout::Layout;
-pub use names::{DllFlags, FileFlags, Machine, SectionFlags, Subsystem};
+pub use names::{
+    BaseRelocation, ComdatSelection, DllFlags, FileFlags, Machine, SectionFlags, StorageClass,
+    Subsystem, WeakExternalSearch, relocation_name,
+};
 pub use numbers::{
     Cause, Counted, DirectoryType, ErrorKind, Kind, Part, RawPointerRule, ReadFault, RefusedPart,
     Region,
@@ -110,7 +117,7 @@ pub use rows::{
 pub use te::Te;
 pub use text::Text;
 
-/// What a file is, by its first bytes.
+/// What a file is, by its first bytes. Archives, import objects and big objects are told, and nothing here reads them.
 ///
 /// ```no_run
 /// use goblin_pe::{Kind, Object, Options, Pe};
@@ -134,11 +141,14 @@ pub fn kind(bytes: &[u8]) -> Kind {
 /// that it loads at boot or into critical processes.
 ///
 /// ```no_run
-/// # use goblin_pe::{Options, Pe};
 /// let mut bytes = std::fs::read("some.sys")?;
-/// let field = Pe::read(&bytes, &Options::default())?.dos_header().pe_pointer as usize + 88;
-/// let sum = goblin_pe::checksum(&bytes, field);
-/// bytes[field..][..4].copy_from_slice(&sum.to_le_bytes());
+/// let layout = goblin_pe::Layout::parse(&bytes)?;
+/// let field = layout.dos_header().pe_pointer as usize + 88;
+/// // (a file without an optional header has no such field)
+/// if layout.optional_header().is_some() {
+///     let sum = goblin_pe::checksum(&bytes, field);
+///     bytes[field..][..4].copy_from_slice(&sum.to_le_bytes());
+/// }
 /// # Ok::<(), Box<dyn std::error::Error>>(())
 /// ```
 #[must_use]

@@ -1,6 +1,8 @@
 //! The numbers in the library's records, by name.
 //! callers/generate.py makes this file of what the proved crates declare.
 
+use crate::error::UnknownNumber;
+
 /// What a file is, by its first bytes. This does not tell whether it can be read, and no call reads
 /// archives, import objects and big objects.
 #[repr(u32)]
@@ -28,13 +30,13 @@ pub enum Kind {
 }
 
 impl TryFrom<u32> for Kind {
-    type Error = u32;
+    type Error = UnknownNumber;
 
     /// What has this number.
     ///
     /// # Errors
     /// The number, where nothing has it.
-    fn try_from(number: u32) -> Result<Kind, u32> {
+    fn try_from(number: u32) -> Result<Kind, UnknownNumber> {
         match number {
             0 => Ok(Kind::Unknown),
             1 => Ok(Kind::Image),
@@ -43,7 +45,7 @@ impl TryFrom<u32> for Kind {
             4 => Ok(Kind::Archive),
             5 => Ok(Kind::ImportObject),
             6 => Ok(Kind::BigObject),
-            _ => Err(number),
+            _ => Err(UnknownNumber(number as usize)),
         }
     }
 }
@@ -77,18 +79,18 @@ pub enum RawPointerRule {
 }
 
 impl TryFrom<u32> for RawPointerRule {
-    type Error = u32;
+    type Error = UnknownNumber;
 
     /// What has this number.
     ///
     /// # Errors
     /// The number, where nothing has it.
-    fn try_from(number: u32) -> Result<RawPointerRule, u32> {
+    fn try_from(number: u32) -> Result<RawPointerRule, UnknownNumber> {
         match number {
             0 => Ok(RawPointerRule::AsStored),
             1 => Ok(RawPointerRule::RoundedTo512),
             2 => Ok(RawPointerRule::ByFileAlignment),
-            _ => Err(number),
+            _ => Err(UnknownNumber(number as usize)),
         }
     }
 }
@@ -116,19 +118,19 @@ pub enum Region {
 }
 
 impl TryFrom<u32> for Region {
-    type Error = u32;
+    type Error = UnknownNumber;
 
     /// What has this number.
     ///
     /// # Errors
     /// The number, where nothing has it.
-    fn try_from(number: u32) -> Result<Region, u32> {
+    fn try_from(number: u32) -> Result<Region, UnknownNumber> {
         match number {
             0 => Ok(Region::Nowhere),
             1 => Ok(Region::Headers),
             2 => Ok(Region::Stored),
             3 => Ok(Region::Zeros),
-            _ => Err(number),
+            _ => Err(UnknownNumber(number as usize)),
         }
     }
 }
@@ -155,18 +157,18 @@ pub enum Part {
 }
 
 impl TryFrom<u32> for Part {
-    type Error = u32;
+    type Error = UnknownNumber;
 
     /// What has this number.
     ///
     /// # Errors
     /// The number, where nothing has it.
-    fn try_from(number: u32) -> Result<Part, u32> {
+    fn try_from(number: u32) -> Result<Part, UnknownNumber> {
         match number {
             0 => Ok(Part::Absent),
             1 => Ok(Part::Read),
             2 => Ok(Part::Refused),
-            _ => Err(number),
+            _ => Err(UnknownNumber(number as usize)),
         }
     }
 }
@@ -191,18 +193,18 @@ pub enum Forwards {
 }
 
 impl TryFrom<u32> for Forwards {
-    type Error = u32;
+    type Error = UnknownNumber;
 
     /// What has this number.
     ///
     /// # Errors
     /// The number, where nothing has it.
-    fn try_from(number: u32) -> Result<Forwards, u32> {
+    fn try_from(number: u32) -> Result<Forwards, UnknownNumber> {
         match number {
             0 => Ok(Forwards::None),
             1 => Ok(Forwards::Name),
             2 => Ok(Forwards::Ordinal),
-            _ => Err(number),
+            _ => Err(UnknownNumber(number as usize)),
         }
     }
 }
@@ -235,13 +237,13 @@ pub enum ErrorKind {
 }
 
 impl TryFrom<u32> for ErrorKind {
-    type Error = u32;
+    type Error = UnknownNumber;
 
     /// What has this number.
     ///
     /// # Errors
     /// The number, where nothing has it.
-    fn try_from(number: u32) -> Result<ErrorKind, u32> {
+    fn try_from(number: u32) -> Result<ErrorKind, UnknownNumber> {
         match number {
             1 => Ok(ErrorKind::Malformed),
             2 => Ok(ErrorKind::BadMagic),
@@ -249,7 +251,7 @@ impl TryFrom<u32> for ErrorKind {
             4 => Ok(ErrorKind::Read),
             5 => Ok(ErrorKind::Memory),
             0xFFFF_FFFF => Ok(ErrorKind::Unknown),
-            _ => Err(number),
+            _ => Err(UnknownNumber(number as usize)),
         }
     }
 }
@@ -343,13 +345,13 @@ pub enum Cause {
 }
 
 impl TryFrom<u32> for Cause {
-    type Error = u32;
+    type Error = UnknownNumber;
 
     /// What has this number.
     ///
     /// # Errors
     /// The number, where nothing has it.
-    fn try_from(number: u32) -> Result<Cause, u32> {
+    fn try_from(number: u32) -> Result<Cause, UnknownNumber> {
         match number {
             1 => Ok(Cause::Message),
             2 => Ok(Cause::NoDosSignature),
@@ -385,7 +387,7 @@ impl TryFrom<u32> for Cause {
             32 => Ok(Cause::BlockRange),
             33 => Ok(Cause::Overflow),
             34 => Ok(Cause::SlotCount),
-            _ => Err(number),
+            _ => Err(UnknownNumber(number as usize)),
         }
     }
 }
@@ -413,19 +415,19 @@ pub enum Counted {
 }
 
 impl TryFrom<u32> for Counted {
-    type Error = u32;
+    type Error = UnknownNumber;
 
     /// What has this number.
     ///
     /// # Errors
     /// The number, where nothing has it.
-    fn try_from(number: u32) -> Result<Counted, u32> {
+    fn try_from(number: u32) -> Result<Counted, UnknownNumber> {
         match number {
             0 => Ok(Counted::Other),
             1 => Ok(Counted::Sections),
             2 => Ok(Counted::NamePointers),
             3 => Ok(Counted::AddressTableEntries),
-            _ => Err(number),
+            _ => Err(UnknownNumber(number as usize)),
         }
     }
 }
@@ -451,18 +453,18 @@ pub enum ReadFault {
 }
 
 impl TryFrom<u32> for ReadFault {
-    type Error = u32;
+    type Error = UnknownNumber;
 
     /// What has this number.
     ///
     /// # Errors
     /// The number, where nothing has it.
-    fn try_from(number: u32) -> Result<ReadFault, u32> {
+    fn try_from(number: u32) -> Result<ReadFault, UnknownNumber> {
         match number {
             1 => Ok(ReadFault::BadOffset),
             2 => Ok(ReadFault::TooBig),
             3 => Ok(ReadFault::BadInput),
-            _ => Err(number),
+            _ => Err(UnknownNumber(number as usize)),
         }
     }
 }
@@ -518,13 +520,13 @@ pub enum DirectoryType {
 }
 
 impl TryFrom<u32> for DirectoryType {
-    type Error = u32;
+    type Error = UnknownNumber;
 
     /// What has this number.
     ///
     /// # Errors
     /// The number, where nothing has it.
-    fn try_from(number: u32) -> Result<DirectoryType, u32> {
+    fn try_from(number: u32) -> Result<DirectoryType, UnknownNumber> {
         match number {
             0 => Ok(DirectoryType::ExportTable),
             1 => Ok(DirectoryType::ImportTable),
@@ -541,7 +543,7 @@ impl TryFrom<u32> for DirectoryType {
             12 => Ok(DirectoryType::ImportAddressTable),
             13 => Ok(DirectoryType::DelayImportDescriptor),
             14 => Ok(DirectoryType::ClrRuntimeHeader),
-            _ => Err(number),
+            _ => Err(UnknownNumber(number as usize)),
         }
     }
 }
@@ -573,13 +575,13 @@ pub enum RefusedPart {
 }
 
 impl TryFrom<u32> for RefusedPart {
-    type Error = u32;
+    type Error = UnknownNumber;
 
     /// What has this number.
     ///
     /// # Errors
     /// The number, where nothing has it.
-    fn try_from(number: u32) -> Result<RefusedPart, u32> {
+    fn try_from(number: u32) -> Result<RefusedPart, UnknownNumber> {
         match number {
             0 => Ok(RefusedPart::Nothing),
             1 => Ok(RefusedPart::Header),
@@ -587,7 +589,7 @@ impl TryFrom<u32> for RefusedPart {
             3 => Ok(RefusedPart::Imports),
             4 => Ok(RefusedPart::Exports),
             5 => Ok(RefusedPart::Relocations),
-            _ => Err(number),
+            _ => Err(UnknownNumber(number as usize)),
         }
     }
 }

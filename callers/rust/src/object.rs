@@ -7,7 +7,7 @@ use crate::error::Error;
 use crate::iterators::{Sections, Symbols};
 use crate::memory::make_room;
 use crate::raw::{self, CoffHeader, Options};
-use crate::rows::Section;
+use crate::rows::{Section, section_index};
 
 /// An object that was read. A copy has records of its own; where memory for them is refused, the process ends as
 /// it does for a [`Vec`].
@@ -56,6 +56,36 @@ impl<'a> Object<'a> {
         })
     }
 
+    /// Reads an object that lies in memory, by the default options: strictly.
+    ///
+    /// # Errors
+    /// As of [`Object::read`].
+    ///
+    /// ```no_run
+    /// # let bytes = [];
+    /// let object = goblin_pe::Object::parse(&bytes)?;
+    /// println!("{} sections", object.sections().len());
+    /// # Ok::<(), goblin_pe::Error>(())
+    /// ```
+    pub fn parse(bytes: &'a [u8]) -> Result<Object<'a>, Error> {
+        Object::read(bytes, &Options::default())
+    }
+
+    /// The bytes of the file.
+    ///
+    /// ```no_run
+    /// # let bytes = [];
+    /// let object = goblin_pe::Object::parse(&bytes)?;
+    /// for section in object.sections() {
+    ///     println!("{}", section.relocations(object.bytes())?.len());
+    /// }
+    /// # Ok::<(), goblin_pe::Error>(())
+    /// ```
+    #[must_use]
+    pub fn bytes(&self) -> &'a [u8] {
+        self.bytes
+    }
+
     /// The COFF header.
     ///
     /// ```no_run
@@ -96,6 +126,23 @@ impl<'a> Object<'a> {
         self.sections().find(|s| s.name == *name.as_ref())
     }
 
+    /// The section of this number, counted from 1, as a symbol's `section_number` has it; `None` where there is none, as
+    /// where a symbol is undefined (0), absolute (-1) or for a debugger (-2).
+    ///
+    /// ```no_run
+    /// # let bytes = [];
+    /// let object = goblin_pe::Object::parse(&bytes)?;
+    /// for symbol in object.symbols()? {
+    ///     let section = object.section_by_number(symbol.section_number);
+    ///     println!("{}", section.map(|s| s.name).unwrap_or_default());
+    /// }
+    /// # Ok::<(), goblin_pe::Error>(())
+    /// ```
+    #[must_use]
+    pub fn section_by_number(&self, number: i16) -> Option<Section<'a>> {
+        self.sections().nth(section_index(number)?)
+    }
+
     /// The data of one of its sections, and how many zeros follow it in memory; see [`Section::data`].
     ///
     /// # Errors
@@ -111,7 +158,8 @@ impl<'a> Object<'a> {
         section.data(self.bytes)
     }
 
-    /// The symbols, which are read as the walk goes on.
+    /// The symbols, which are read as the walk goes on. The whole string table is tested first, so for a second walk take a
+    /// copy before the first one, which tests nothing again.
     ///
     /// # Errors
     /// A file that is too short for the symbol table or its string table, and a string table that is not
@@ -120,7 +168,10 @@ impl<'a> Object<'a> {
     /// ```no_run
     /// # let bytes = [];
     /// let object = goblin_pe::Object::read(&bytes, &goblin_pe::Options::default())?;
-    /// let undefined = object.symbols()?.filter(|it| it.section_number == 0).count();
+    /// let symbols = object.symbols()?;
+    /// let again = symbols.clone();
+    /// let undefined = symbols.filter(|it| it.section_number == 0).count();
+    /// println!("{undefined} of {} are undefined", again.count());
     /// # Ok::<(), goblin_pe::Error>(())
     /// ```
     pub fn symbols(&self) -> Result<Symbols<'a>, Error> {
@@ -142,6 +193,15 @@ impl<'a> Object<'a> {
     /// ```
     pub fn untested_symbols(&self) -> Result<Symbols<'a>, Error> {
         Symbols::untested(self.bytes, self.coff_header())
+    }
+}
+
+impl<'a> TryFrom<&'a [u8]> for Object<'a> {
+    type Error = Error;
+
+    /// As by [`Object::parse`].
+    fn try_from(bytes: &'a [u8]) -> Result<Object<'a>, Error> {
+        Object::parse(bytes)
     }
 }
 

@@ -131,7 +131,8 @@ impl<'a> Pe<'a> {
         self.export_directory()?.name
     }
 
-    /// The names of the libraries of which something is imported, sorted, each once.
+    /// The names of the libraries of which something is imported, sorted, each once: of [`imports`](Pe::imports), so none
+    /// where the options left these out.
     ///
     /// # Errors
     /// [`ErrorKind::Memory`](crate::ErrorKind::Memory) alone.
@@ -271,9 +272,9 @@ impl<'a> Pe<'a> {
     /// ```
     pub fn write_imphash_text(&self, to: &mut impl Write) -> io::Result<()> {
         if self.options.parse_imports {
-            imphash::write_text(self.imports().map(Ok), to)
+            imphash::write_imphash_text(self.imports().map(Ok), to)
         } else {
-            imphash::write_text(self.walk_imports(), to)
+            imphash::write_imphash_text(self.walk_imports(), to)
         }
     }
 
@@ -420,7 +421,8 @@ impl<'a> Pe<'a> {
 impl<'a> Deref for Pe<'a> {
     type Target = Layout<'a>;
 
-    /// The image without its lists.
+    /// The image without its lists: what takes a layout takes an image, and no method stands twice. Only what the export
+    /// directory says an image has from its read, so that it is not refused then.
     fn deref(&self) -> &Layout<'a> {
         &self.layout
     }

@@ -53,6 +53,10 @@ impl<'a> Slice<'a> {
 
 impl Options {
     /// Damaged parts are passed over, in permissive mode. Else as by default.
+    ///
+    /// Neither mode passes over more than sixteen data directories, a magic that is neither of the two, a header or a
+    /// section table that the file's end cuts, a section's name that is a slash and a text which is no number, or the
+    /// marker `Rich` of a Rich header without `DanS` before it.
     #[must_use]
     pub const fn permissive() -> Options {
         Options {

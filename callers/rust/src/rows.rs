@@ -19,11 +19,8 @@ use std::io::Write;
 /// let pe = goblin_pe::Pe::read(&bytes, &goblin_pe::Options::default())?;
 /// let mut header = pe.header();
 /// header.coff_header.time_date_stamp = 0;
-/// let (mut out, table) = (bytes.clone(), header.section_table());
-/// let mut written = vec![0; header.write(&mut [])?];
-/// let size = header.write(&mut written)?.min(table).min(out.len());
-/// out[..size].copy_from_slice(&written[..size]);
-/// # Ok::<(), goblin_pe::Error>(())
+/// let changed = pe.patched(&header, &[])?;
+/// # Ok::<(), std::io::Error>(())
 /// ```
 #[derive(Clone, Copy, Debug, PartialEq, Eq, PartialOrd, Ord, Hash)]
 #[non_exhaustive]
@@ -57,8 +54,8 @@ impl Header<'_> {
     /// Writes the header to the front of `out`, and returns how many bytes it has: all sixteen data
     /// directories are written, zeros for those that are not there. Where strict mode read it, these are
     /// the bytes of the file up to the last directory that the file has. In the file the section table may
-    /// stand where the zeros are: so write elsewhere, and copy at most the bytes before
-    /// [`section_table`](Header::section_table) into the file.
+    /// stand where the zeros are, or the header's own last bytes would:
+    /// [`Layout::patched`](crate::Layout::patched) puts a header into the file where it has a place.
     ///
     /// The PE signature follows the stub, whatever `pe_pointer` says: where permissive mode replaced the
     /// stub, the headers after it do not stand at their places.
@@ -97,8 +94,20 @@ impl Header<'_> {
     }
 }
 
-// The size of the PE signature and the COFF header, in bytes.
-const SIGNATURE_AND_COFF_HEADER: usize = 24;
+// The index of the section of a number, as a symbol has it: more than 32,767 are numbers below 0, of which the last two
+// name none.
+pub(crate) fn section_index(number: i16) -> Option<usize> {
+    let number = if number < -2 {
+        i32::from(number) + 0x1_0000
+    } else {
+        number.into()
+    };
+    usize::try_from(number).ok()?.checked_sub(1)
+}
+
+// The size of the DOS header, and that of the PE signature and the COFF header, in bytes.
+pub(crate) const DOS_HEADER: usize = 64;
+pub(crate) const SIGNATURE_AND_COFF_HEADER: usize = 24;
 
 // The file offset of the section table of an image.
 pub(crate) fn section_table(dos_header: &DosHeader, coff_header: &CoffHeader) -> usize {
@@ -115,7 +124,7 @@ pub struct Damage {
     pub dos_stub: Option<Error>,
     /// Of the names of the sections: one begins with a slash and goes on with bytes that are no text.
     pub section_names: Option<Error>,
-    /// Of the imports, if they are asked for.
+    /// Of the imports, if the options ask for them: else it is `None`, and nothing of them is counted, whatever they hold.
     pub imports: Option<Error>,
     /// Of the exports.
     pub exports: Option<Error>,
@@ -209,7 +218,8 @@ pub struct Section<'a> {
     pub raw_name: [u8; 8],
     /// The size in memory, in bytes: what the data in the file lacks of it is zeros.
     pub virtual_size: u32,
-    /// The address in memory, relative to the image's base.
+    /// The address in memory, relative to the image's base. Of a Terse Executable it is moved, and so are the three file
+    /// offsets below, as [`Te::sections`](crate::Te::sections) says.
     pub virtual_address: u32,
     /// The size of the data in the file, in bytes; in an image rounded up, so it may be above the
     /// virtual size.
@@ -268,8 +278,8 @@ impl<'a> Section<'a> {
 
     /// The pair (data in the file `bytes`, how many zeros follow it in memory). The data begins at the
     /// raw pointer as stored. [`Layout::section_data`](crate::Layout::section_data) takes the bytes that were read,
-    /// and begins where the options say. The data is not cut at the virtual size; that of
-    /// [`memory_at`](crate::Layout::memory_at) is. A section of uninitialized data
+    /// and begins where the options say. There is as much as the raw size says: it is not cut at the virtual size, as
+    /// [`Layout::memory_at`](crate::Layout::memory_at) cuts it. A section of uninitialized data
     /// ([`IMAGE_SCN_CNT_UNINITIALIZED_DATA`](crate::constants::IMAGE_SCN_CNT_UNINITIALIZED_DATA)) whose raw pointer is 0,
     /// as an object's `.bss`, has no bytes, and its size as zeros: the virtual size, or the raw size where that is 0.
     ///
@@ -360,7 +370,8 @@ impl<'a> Section<'a> {
     /// # let bytes = [];
     /// let object = goblin_pe::Object::read(&bytes, &goblin_pe::Options::default())?;
     /// for section in object.sections() {
-    ///     println!("{} has {} relocations", section.name, section.walk_relocations(&bytes).count());
+    ///     let found = section.walk_relocations(&bytes).filter(Result::is_ok);
+    ///     println!("{} has {} relocations that can be read", section.name, found.count());
     /// }
     /// # Ok::<(), goblin_pe::Error>(())
     /// ```
@@ -390,7 +401,8 @@ impl<'a> Section<'a> {
         Ok(())
     }
 
-    /// Writes the record of the section, with `raw_name` for a name, and returns its size, 40 bytes.
+    /// Writes the record of the section, with `raw_name` for a name, and returns its size, 40 bytes: of a Terse Executable
+    /// not the one that the file has, as its sections are moved.
     ///
     /// # Errors
     /// Too little room; nothing is written then.
@@ -735,7 +747,8 @@ pub struct Symbol<'a> {
 
 impl<'a> Symbol<'a> {
     /// The first auxiliary record, of a symbol that defines a function; `None` where it has none, as
-    /// in the calls below.
+    /// in the calls below. None of them looks at the symbol: which kind its records are, its class tells, and its type
+    /// and section.
     ///
     /// ```no_run
     /// # let bytes = [];

@@ -6,7 +6,7 @@ use crate::error::Error;
 use crate::iterators::Sections;
 use crate::memory::make_room;
 use crate::raw::{self, TeHeader};
-use crate::rows::Section;
+use crate::rows::{Section, section_index};
 
 // The size of the header, in bytes.
 const HEADER: usize = 40;
@@ -64,7 +64,25 @@ impl<'a> Te<'a> {
         &self.header
     }
 
+    /// The bytes of the file.
+    ///
+    /// ```no_run
+    /// # let bytes = [];
+    /// let te = goblin_pe::Te::read(&bytes)?;
+    /// println!("{} bytes", te.bytes().len());
+    /// # Ok::<(), goblin_pe::Error>(())
+    /// ```
+    #[must_use]
+    pub fn bytes(&self) -> &'a [u8] {
+        self.bytes
+    }
+
     /// The sections.
+    ///
+    /// The front of such a file was stripped, and the records in it still say where all stood before. So these are not as
+    /// stored: of each the address, and each of the three pointers that is not 0, is moved by the stripped size less the
+    /// 40 bytes of the header that took the place, to where it is in this file. [`Section::data`] is right then, but
+    /// [`Section::write`] does not write the record that the file has.
     ///
     /// ```no_run
     /// # let bytes = [];
@@ -88,6 +106,20 @@ impl<'a> Te<'a> {
     #[must_use]
     pub fn section_by_name(&self, name: impl AsRef<[u8]>) -> Option<Section<'a>> {
         self.sections().find(|s| s.name == *name.as_ref())
+    }
+
+    /// The section of this number, counted from 1, as a symbol's `section_number` has it; `None` where there is none, as
+    /// where a symbol is undefined (0), absolute (-1) or for a debugger (-2).
+    ///
+    /// ```no_run
+    /// # let bytes = [];
+    /// let te = goblin_pe::Te::read(&bytes)?;
+    /// println!("{:?}", te.section_by_number(1));
+    /// # Ok::<(), goblin_pe::Error>(())
+    /// ```
+    #[must_use]
+    pub fn section_by_number(&self, number: i16) -> Option<Section<'a>> {
+        self.sections().nth(section_index(number)?)
     }
 
     /// The data of one of its sections, and how many zeros follow it in memory; see [`Section::data`].

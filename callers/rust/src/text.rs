@@ -26,6 +26,7 @@ use std::str::{self, Utf8Error};
 /// assert!(name == "KERNEL32.dll" && name.eq_ignore_ascii_case(b"kernel32.DLL"));
 /// assert_eq!(format!("{name:>14}"), "  KERNEL32.dll");
 /// assert_eq!(Text(b"a\xFF").to_string(), r"a\xff");
+/// assert_eq!(format!("{:?}", [Text(br#"a", "b"#)]), r#"["a\x22, \x22b"]"#);
 /// assert_eq!(Text::from(r"naïve\path").to_string(), r"na\xc3\xafve\x5cpath");
 /// ```
 #[derive(Clone, Copy, Default, PartialEq, Eq, PartialOrd, Ord, Hash)]
@@ -94,9 +95,13 @@ fn fill(f: &mut fmt::Formatter<'_>, count: usize) -> fmt::Result {
 }
 
 impl fmt::Debug for Text<'_> {
+    /// The text between quotation marks, as it is shown; one in it is `\x22`, so that it never ends the text.
     fn fmt(&self, f: &mut fmt::Formatter<'_>) -> fmt::Result {
         f.write_char('"')?;
-        self.shown().try_for_each(|it| f.write_char(it))?;
+        self.shown().try_for_each(|it| match it {
+            '"' => f.write_str(r"\x22"),
+            _ => f.write_char(it),
+        })?;
         f.write_char('"')
     }
 }

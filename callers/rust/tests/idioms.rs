@@ -47,6 +47,7 @@ fn texts_are_shown_with_a_width() {
     assert_eq!(format!("[{:*^7.2}]", Text(b"abc")), "[**ab***]");
     assert_eq!(format!("[{:>6}]", Text(b"\\\xFF")), r"[\x5c\xff]");
     assert_eq!(format!("{:?}", Text(b"a\n")), r#""a\x0a""#);
+    assert_eq!(format!("{:?}", [Text(b"a\", \"b")]), r#"["a\x22, \x22b"]"#);
     assert_eq!(Text(b"\xC3\xA9\xFF").to_string_lossy(), "\u{E9}\u{FFFD}");
     let imported = Imported::Name {
         name: Text(b"f"),

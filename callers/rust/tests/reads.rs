@@ -2,7 +2,7 @@
 use goblin_pe::constants::{COFF_MACHINE_X86_64, IMAGE_SCN_LNK_NRELOC_OVFL};
 use goblin_pe::{
     Cause, DirectoryType, Error, ErrorKind, Forwarder, Imported, Kind, Layout, Object, Options,
-    Part, Pe, RawPointerRule, ReadFault, RefusedPart, Region, Te, Text,
+    Part, Pe, RawPointerRule, ReadFault, RefusedPart, Region, Te, Text, UnknownNumber,
 };
 
 fn sample(name: &str) -> Vec<u8> {
@@ -100,7 +100,7 @@ fn fields_stand_where_the_format_says() {
             number(&bytes, place, 4)
         );
         assert_eq!(u64::from(directory.size), number(&bytes, place + 4, 4));
-        let kind = DirectoryType::try_from(index as u32).unwrap();
+        let kind = DirectoryType::try_from(index).unwrap();
         assert_eq!(pe.data_directory(kind), Some(directory));
     }
     assert_eq!(pe.data_directory(DirectoryType::Architecture), None);
@@ -720,7 +720,7 @@ fn refusals() {
     );
     assert_eq!(
         (Cause::try_from(22), Cause::try_from(35)),
-        (Ok(Cause::Unmapped), Err(35))
+        (Ok(Cause::Unmapped), Err(UnknownNumber(35)))
     );
 }
 
@@ -975,4 +975,206 @@ fn a_walk_gives_all_relocations() {
         let all: Result<Vec<_>, _> = s.walk_relocations(&bytes).collect();
         assert_eq!(all, s.relocations(&bytes));
     }
+}
+
+// The sample whose section table begins so many bytes after the begin of its optional header, over the rest of that.
+fn with_small_header(size: u16) -> (Vec<u8>, usize) {
+    let mut bytes = sample("imports_by_name_x64.dll");
+    let header = number(&bytes, 0x3C, 4) as usize;
+    let table = header + 24 + number(&bytes, header + 20, 2) as usize;
+    let stored = bytes[table..table + 160].to_vec();
+    let table = header + 24 + usize::from(size);
+    bytes[header + 20..header + 22].copy_from_slice(&size.to_le_bytes());
+    bytes[table..table + 160].copy_from_slice(&stored);
+    (bytes, table)
+}
+
+fn is_no_place(made: std::io::Result<Vec<u8>>) -> bool {
+    made.is_err_and(|it| it.kind() == std::io::ErrorKind::InvalidInput)
+}
+
+#[test]
+fn changed_files_are_as_they_were_but_for_the_change() {
+    for name in [
+        "imports_by_name_x64.dll",
+        "imports_by_name_x86.dll",
+        "align16_x64.dll",
+    ] {
+        let bytes = sample(name);
+        let layout = Layout::parse(&bytes).unwrap();
+        let (mut header, mut sections) = (layout.header(), layout.sections().collect::<Vec<_>>());
+        assert_eq!(layout.patched(&header, &sections).unwrap(), bytes);
+        header.coff_header.time_date_stamp = 7;
+        sections[0].raw_name = *b".code\0\0\0";
+        let made = layout.patched(&header, &sections[..1]).unwrap();
+        let again = Layout::parse(&made).unwrap();
+        let stamp = again.coff_header().time_date_stamp;
+        assert_eq!(
+            (stamp, again.sections().next().unwrap().name),
+            (7, Text(b".code"))
+        );
+        let changed = made.iter().zip(&bytes).filter(|(one, other)| one != other);
+        assert!(made.len() == bytes.len() && changed.count() <= 12);
+    }
+}
+
+// Of an optional header of 216 bytes, over whose last directories the section table stands; and one that would move it.
+#[test]
+fn what_a_file_has_no_place_for_is_not_written() {
+    let (bytes, _) = with_small_header(216);
+    let layout = Layout::read(&bytes, &Options::permissive()).unwrap();
+    let own = layout.header();
+    assert_eq!(layout.patched(&own, &[]).unwrap(), bytes);
+    let directory = own.data_directories[DirectoryType::ImportTable as usize];
+    for (index, has_place) in [
+        (DirectoryType::DebugTable, true),
+        (DirectoryType::ClrRuntimeHeader, false),
+    ] {
+        let mut header = own;
+        header.data_directories[index as usize] = directory;
+        assert_eq!(is_no_place(layout.patched(&header, &[])), !has_place);
+    }
+    let bytes = sample("imports_by_name_x64.dll");
+    let layout = Layout::parse(&bytes).unwrap();
+    let changes: [fn(&mut goblin_pe::Header); 5] = [
+        |header| header.coff_header.size_of_optional_header += 8,
+        |header| header.dos_header.pe_pointer += 8,
+        |header| header.dos_stub = Text(b"short"),
+        |header| header.optional_header = None,
+        |header| {
+            header
+                .optional_header
+                .as_mut()
+                .unwrap()
+                .windows_fields
+                .number_of_rva_and_sizes = 3
+        },
+    ];
+    for (index, change) in changes.into_iter().enumerate() {
+        let mut header = layout.header();
+        change(&mut header);
+        assert_eq!(is_no_place(layout.patched(&header, &[])), index < 4);
+    }
+}
+
+#[test]
+fn sections_are_written_where_there_is_room() {
+    let bytes = sample("imports_by_name_x64.dll");
+    let layout = Layout::parse(&bytes).unwrap();
+    let (header, mut sections) = (layout.header(), layout.sections().collect::<Vec<_>>());
+    let data = sections
+        .iter()
+        .map(|s| s.pointer_to_raw_data as usize)
+        .min()
+        .unwrap();
+    let (own, room) = (sections.len(), (data - header.section_table()) / 40);
+    sections.resize(room, sections[0]);
+    let made = layout.patched(&header, &sections).unwrap();
+    assert_eq!(made[data..], bytes[data..]);
+    assert_ne!(made, bytes);
+    let mut bound = bytes.clone();
+    bound[header.section_table() + 40 * own] = 1;
+    let layout = Layout::parse(&bound).unwrap();
+    assert!(is_no_place(layout.patched(&header, &sections)));
+    assert_eq!(layout.patched(&header, &sections[..own]).unwrap(), bound);
+    sections.push(sections[0]);
+    let layout = Layout::parse(&bytes).unwrap();
+    assert!(is_no_place(layout.patched(&header, &sections)));
+}
+
+// A section that grows to 0x300 bytes in memory, of which the file has 0x200.
+#[test]
+fn the_memory_of_a_section_holds_what_follows_its_data() {
+    let mut bytes = sample("imports_by_name_x64.dll");
+    let place = bytes.windows(6).position(|it| it == b".rdata").unwrap();
+    for (offset, number) in [(8, 0x3000_u32), (12, 0x10000)] {
+        bytes[place + offset..place + offset + 4].copy_from_slice(&number.to_le_bytes());
+    }
+    let layout = Layout::read(&bytes, &Options::permissive()).unwrap();
+    for (rva, is_mapped, is_there) in [
+        (0x10000, true, true),
+        (0x12FFF, false, true),
+        (0x13000, false, false),
+    ] {
+        let name = |it: Option<goblin_pe::Section>| it.map(|s| s.name.to_string());
+        let wanted = |is: bool| is.then(|| String::from(".rdata"));
+        assert_eq!(name(layout.section_at(rva)), wanted(is_mapped));
+        assert_eq!(name(layout.memory_section_at(rva)), wanted(is_there));
+        assert_eq!(layout.memory_at(rva, 1).is_ok(), is_there);
+    }
+    assert_eq!(layout.memory_section_at(0), None);
+    assert_eq!(layout.memory_section_at(usize::MAX), None);
+    for rva in 0..0x20000 {
+        assert_eq!(
+            layout.memory_section_at(rva).is_some(),
+            layout.memory_at(rva, 1).is_ok()
+        );
+    }
+}
+
+#[test]
+fn sections_are_found_by_number() {
+    let bytes = sample("object_x64.obj");
+    let object = Object::parse(&bytes).unwrap();
+    for (index, section) in object.sections().enumerate() {
+        assert_eq!(object.section_by_number(index as i16 + 1), Some(section));
+    }
+    for number in [0, -1, -2, -3, i16::MIN, object.sections().len() as i16 + 1] {
+        assert_eq!(object.section_by_number(number), None);
+    }
+    let mut many = vec![0; 20 + 40 * 40000];
+    many[..2].copy_from_slice(&COFF_MACHINE_X86_64.to_le_bytes());
+    many[2..4].copy_from_slice(&40000_u16.to_le_bytes());
+    for index in 0..40000_u32 {
+        let place = 20 + 40 * index as usize + 8;
+        many[place..place + 4].copy_from_slice(&index.to_le_bytes());
+    }
+    let object = Object::parse(&many).unwrap();
+    let size = |number| object.section_by_number(number).map(|s| s.virtual_size);
+    assert_eq!(
+        (size(i16::MAX), size(i16::MIN), size(-3)),
+        (Some(32766), Some(32767), None)
+    );
+    assert_eq!(object.bytes().as_ptr(), many.as_ptr());
+}
+
+// A Rich header of two entries, put into the stub.
+#[test]
+fn a_layout_reads_its_rich_header() {
+    let mut bytes = sample("program_x64.exe");
+    let layout = Layout::parse(&bytes).unwrap();
+    assert_eq!(
+        (layout.rich_header(), layout.rich_entries()),
+        (Ok(None), Ok(vec![]))
+    );
+    let words = [0x536E_6144, 0, 0, 0, 0x0105_75CF, 7, 1, 9_u32];
+    let stored = words.iter().flat_map(|it| (it ^ 0x1234).to_le_bytes());
+    let rich: Vec<u8> = stored.chain(*b"Rich\x34\x12\0\0").collect();
+    bytes[64..64 + rich.len()].copy_from_slice(&rich);
+    let (layout, pe) = (Layout::parse(&bytes).unwrap(), Pe::parse(&bytes).unwrap());
+    assert_eq!(layout.rich_header(), Ok(pe.rich_header()));
+    assert_eq!(layout.rich_entries().unwrap(), pe.rich_entries());
+    assert_eq!(
+        (pe.rich_header().unwrap().key, pe.rich_entries().len()),
+        (0x1234, 2)
+    );
+}
+
+// A copy of the walk before its first item goes again, and says how many records there are, whatever it has given.
+#[test]
+fn symbols_are_walked_twice() {
+    let bytes = sample("object_x64.obj");
+    let object = Object::parse(&bytes).unwrap();
+    let symbols = object.symbols().unwrap();
+    let (mut first, second) = (symbols.clone(), symbols);
+    let records = first
+        .by_ref()
+        .map(|s| 1 + usize::from(s.number_of_aux_symbols));
+    let count = records.sum::<usize>();
+    let stored = object.coff_header().number_of_symbol_table as usize;
+    assert_eq!(
+        (count, first.record_count(), first.next()),
+        (stored, stored, None)
+    );
+    assert!(second.eq(object.symbols().unwrap()));
 }

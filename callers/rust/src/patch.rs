@@ -1,0 +1,146 @@
+//! Files with changed headers and sections.
+
+use std::io;
+
+use crate::layout::Layout;
+use crate::memory::room;
+use crate::rows::{DOS_HEADER, Header, Section};
+
+// The size of a section's record, in bytes.
+const SECTION_RECORD: usize = 40;
+
+// A file has sixteen data directories at most, of eight bytes each.
+const DIRECTORIES: usize = 16;
+const DIRECTORY: usize = 8;
+
+// The file has no place for what is given.
+fn no_place(why: &'static str) -> io::Error {
+    io::Error::new(io::ErrorKind::InvalidInput, why)
+}
+
+impl Layout<'_> {
+    /// The file with this header, and with these records of its first sections, in place of its own, and else as it was
+    /// read. A data directory that is `None` is written as zeros.
+    ///
+    /// # Errors
+    /// [`io::ErrorKind::InvalidInput`] where the file has no place for what is given: for an optional header or a
+    /// directory, which may not reach into the section table but where they say what stands there; for more sections than
+    /// it has, past the file, or where anything but zeros stands, or before the data of a section; and so where
+    /// permissive mode replaced the DOS stub, where the header leads elsewhere than the file's own, and where it says
+    /// another size of the optional header, which would move the section table. As of [`Header::write`], and
+    /// [`io::ErrorKind::OutOfMemory`].
+    ///
+    /// ```no_run
+    /// # let bytes = [];
+    /// let layout = goblin_pe::Layout::parse(&bytes)?;
+    /// let mut header = layout.header();
+    /// header.coff_header.time_date_stamp = 0;
+    /// let mut sections: Vec<_> = layout.sections().collect();
+    /// for section in sections.iter_mut().filter(|s| s.name == ".text") {
+    ///     section.raw_name = *b".code\0\0\0";
+    /// }
+    /// let changed = layout.patched(&header, &sections)?;
+    /// # Ok::<(), std::io::Error>(())
+    /// ```
+    pub fn patched(&self, header: &Header, sections: &[Section]) -> io::Result<Vec<u8>> {
+        let own = self.header();
+        test_header(&own, header)?;
+        let mut file = room(self.bytes.len())?;
+        file.extend_from_slice(self.bytes);
+        let table = own.section_table();
+        let written = written(&own, header)?;
+        let (front, rest) = written.split_at(table.min(written.len()));
+        if !rest.is_empty() && file.get(table..written.len()) != Some(rest) {
+            return Err(no_place(
+                "the section table stands where the optional header would go on",
+            ));
+        }
+        put(&mut file, 0, front)?;
+        self.test_room(table, sections.len())?;
+        for (index, section) in sections.iter().enumerate() {
+            let mut record = [0; SECTION_RECORD];
+            section.write(&mut record)?;
+            put(&mut file, table + SECTION_RECORD * index, &record)?;
+        }
+        Ok(file)
+    }
+
+    // Tests that so many records have room in the section table: past the file's own, zeros before all data.
+    fn test_room(&self, table: usize, count: usize) -> io::Result<()> {
+        let own = table + SECTION_RECORD * self.file.sections;
+        let end = table.saturating_add(count.saturating_mul(SECTION_RECORD));
+        let mut with_data = self.sections().filter(|s| s.size_of_raw_data > 0);
+        let is_before_data = with_data.all(|s| end <= s.pointer_to_raw_data as usize);
+        let more = self.bytes.get(own..end);
+        let are_zeros = more.is_some_and(|it| it.iter().all(|&byte| byte == 0));
+        if end <= own || is_before_data && are_zeros {
+            Ok(())
+        } else {
+            Err(no_place("there is no room for so many sections"))
+        }
+    }
+}
+
+// Tests that a header stands where the file's own does.
+fn test_header(own: &Header, header: &Header) -> io::Result<()> {
+    let signature = own.dos_header.pe_pointer;
+    let is_in_place = |it: &Header| {
+        it.dos_header.pe_pointer == signature
+            && DOS_HEADER + it.dos_stub.len() == signature as usize
+    };
+    let sizes = [own, header].map(|it| it.coff_header.size_of_optional_header);
+    let have_optional = [own, header].map(|it| it.optional_header.is_some());
+    let mut past = header.data_directories[directories(own)..].iter();
+    let facts = [
+        (is_in_place(own), "permissive mode replaced the DOS stub"),
+        (
+            is_in_place(header),
+            "the PE signature of the file stands elsewhere",
+        ),
+        (
+            sizes[0] == sizes[1],
+            "the optional header of the file has another size",
+        ),
+        (
+            have_optional[0] == have_optional[1],
+            "an optional header is added or left out",
+        ),
+        (
+            past.all(Option::is_none),
+            "the file has no place for so many data directories",
+        ),
+    ];
+    let wrong = facts.iter().find(|(holds, _)| !holds);
+    wrong.map_or(Ok(()), |(_, why)| Err(no_place(why)))
+}
+
+// How many data directories a file has.
+fn directories(header: &Header) -> usize {
+    let count = header
+        .optional_header
+        .map(|it| it.windows_fields.number_of_rva_and_sizes);
+    (count.unwrap_or(0) as usize).min(DIRECTORIES)
+}
+
+// The bytes of a header, up to the last directory that the file has.
+fn written(own: &Header, header: &Header) -> io::Result<Vec<u8>> {
+    let size = header.write(&mut [])?;
+    let mut written = room(size)?;
+    written.resize(size, 0);
+    header.write(&mut written)?;
+    if own.optional_header.is_some() {
+        written.truncate(size - DIRECTORY * (DIRECTORIES - directories(own)));
+    }
+    Ok(written)
+}
+
+// Puts bytes at an offset of the file.
+fn put(file: &mut [u8], offset: usize, bytes: &[u8]) -> io::Result<()> {
+    let place = file
+        .get_mut(offset..)
+        .and_then(|it| it.get_mut(..bytes.len()));
+    place
+        .ok_or_else(|| no_place("the file ends before all that is given"))?
+        .copy_from_slice(bytes);
+    Ok(())
+}

@@ -1,0 +1,25 @@
+"""Files that no reader may trust, on which the examples are run."""
+import random
+
+from tests import images
+from tests.programs import BY_NAME, IMAGES, OBJECTS, TERSE
+
+
+def files():
+    """Files that are damaged, made to mislead, or no files of the kind that is read."""
+    data, signature = BY_NAME.read_bytes(), int.from_bytes(BY_NAME.read_bytes()[0x3C:0x40], "little")
+    highest = images.with_parts(data, (signature + 24 + 16, b"\xff" * 4), (signature + 24 + 24, b"\xff" * 8))
+    yield from (b"", b"MZ", b"no image", data, highest, data[:-16], data + b"overlay", *(it.read_bytes() for it in (*OBJECTS, *TERSE)))
+    yield from (images.own_tables(30), bytes(images.shared_image(30, 100)), bytes(images.one_long_name(100, 1000)), images.directory_in_front(),
+                bytes(images.pointers_to_nowhere(1000)), images.pointers_to_one_name(1000), images.import_from_nowhere(data),
+                bytes(images.with_small_header(data, 104)), images.with_parts(data, (signature + 20, bytes(2))), bytes(images.hostile_image(1 << 14)))
+    # (an image of the DOS header and the COFF header alone)
+    bare = images.with_parts(data[:signature + 24], (signature + 6, bytes(2)), (signature + 20, bytes(2)))
+    yield from (bare, bare[:-1])
+    for sample in (*IMAGES, *OBJECTS, *TERSE):
+        stored, digits = sample.read_bytes(), random.Random(sample.name)
+        for _ in range(40):
+            changed = bytearray(stored[:digits.choice([len(stored), digits.randrange(len(stored))])])
+            for _ in range(8 if changed else 0):
+                changed[digits.randrange(min(len(changed), 0x700))] = digits.choice([0, 0x7F, 0xFF, digits.randrange(256)])
+            yield bytes(changed)
