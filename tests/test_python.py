@@ -355,6 +355,17 @@ class Package(Case):
                 for kind in ("section", "import", "export", "block"):
                     self.assertEqual(len(found[kind + "s"]), sum(it.startswith(kind + " ") for it in listed), kind)
 
+    def test_what_is_not_changed_is_written_as_it_was(self):
+        """Also where the section table stands over the optional header, or the headers in the DOS header, unless that is refused."""
+        written = 0
+        for data in (*hostile.files(), *(bytes(images.with_small_header(BY_NAME.read_bytes(), it)) for it in range(0, 248, 8))):
+            for is_permissive in False, True:
+                with contextlib.suppress(ValueError):
+                    pe = package().Pe(data, package().Options(is_permissive=is_permissive, parse_imports=False))
+                    self.assertEqual(pe.write(sections=pe.sections), data)
+                    written += 1
+        self.assertGreater(written, 100)
+
     def test_a_folder_is_triaged(self):
         names = {"damaged.dll": "," + HASHES[BY_NAME.name] + ",exports", "refused.dll": ",the DOS header leads to 0x5a4d in place of the PE signature"}
         self.written("damaged.dll", images.with_directory(BY_NAME.read_bytes(), 0, 0x9000, 40))

@@ -464,12 +464,16 @@ class Headers(unittest.TestCase):
     def test_a_rest_of_the_rich_header_is_told(self):
         data, key = bytearray(sample("program_x64.exe")), 0x1234ABCD
         self.assertIsNone(Pe(data).rich_rest)
+        self.assertEqual((Layout(data).rich_header, Layout(data).rich_entries, Layout(data).rich_rest), (None, (), None))
         words = [0x536E6144, 0, 0, 0, 261 << 16 | 30159, 7]
         for rest, wanted in (([], None), ([5], (Status.READ, ReadFault.TOO_BIG))):
             stored = struct.pack("<%dI" % len(words + rest), *(it ^ key for it in words + rest)) + struct.pack("<II", 0x68636952, key)
             data[64: 64 + len(stored)] = stored
-            pe = Pe(data)
+            pe, layout = Pe(data), Layout(data)
             self.assertEqual([(it.build, it.product, it.use_count) for it in pe.rich_entries], [(30159, 261, 7)])
+            self.assertEqual((layout.rich_header, layout.rich_entries, layout.rich_rest), (pe.rich_header, pe.rich_entries, pe.rich_rest))
+            layout.close()
+            self.assertEqual(layout.rich_header, pe.rich_header)
             self.assertEqual(pe.rich_rest and (pe.rich_rest.status, pe.rich_rest.cause), wanted)
 
 
@@ -883,7 +887,9 @@ class Files(unittest.TestCase):
             rva = 0x10000 + distance
             self.assertEqual((pe.section_at(rva), pe.region_of(rva)[1]), (section if is_mapped else None, section if is_there else None))
             self.assertEqual(pe.memory_at(rva, 1) is not None, is_there)
-        self.assertEqual([pe.region_of(rva)[1] for rva in (0, -1, 2**70)], [None] * 3)
+        self.assertIsNone(pe.region_of(0)[1])
+        for rva in -1, 2**70:  # (as section_at)
+            self.assertRaises(OverflowError, pe.region_of, rva)
         for name in os.listdir(SAMPLES):
             if name.endswith((".dll", ".exe", ".efi")):
                 pe = Pe(sample(name))

@@ -12,7 +12,7 @@ import sys
 from collections import Counter
 from typing import Any, Dict, Iterator, Optional
 
-from goblin_pe import Kind, Layout, Options, Pe, Refused, kind, names_of
+from goblin_pe import Import, Kind, Layout, Options, Refused, imphash, kind, names_of
 
 # Of no file are more imports counted, and no more exports.
 MOST = 100_000
@@ -24,9 +24,9 @@ def entropy(data: memoryview) -> float:
     return sum(share * math.log2(1 / share) for share in shares)
 
 
-def rich_hash(pe: Pe, data: Any) -> Optional[str]:
+def rich_hash(layout: Layout, data: Any) -> Optional[str]:
     """The MD5 of the Rich header from its first marker on up to the second, without its key; None where there is none."""
-    rich = pe.rich_header
+    rich = layout.rich_header
     if rich is None:
         return None
     stored, key = data[rich.start_offset: rich.end_offset], rich.key.to_bytes(4, "little")
@@ -53,21 +53,29 @@ def sections(layout: Layout) -> Iterator[Dict[str, Any]]:
         yield told
 
 
+def counted(imports: Iterator[Import], libraries: "Counter[bytes]") -> Iterator[Import]:
+    """These imports, up to the limit, each of which counts for its library as it is handed on."""
+    for it in itertools.islice(imports, MOST):
+        libraries[it.dll.lower()] += 1
+        yield it
+
+
 def image(data: Any) -> Dict[str, Any]:
-    """What is told of an image; its imports and its exports are counted up to the limit."""
-    with Pe(data, Options(is_permissive=True, parse_imports=False)) as pe:
-        walked = itertools.islice(pe.walk_imports(), MOST)
-        libraries: Counter[bytes] = Counter(it.dll.lower() for it in walked)
+    """What is told of an image; its imports and its exports are counted up to the limit, and none of them is kept."""
+    with Layout(data, Options(is_permissive=True, parse_imports=False)) as layout:
+        libraries: Counter[bytes] = Counter()
+        hashed = imphash(counted(layout.walk_imports(), libraries))
         is_counted = sum(libraries.values()) < MOST
-        damage = (Layout(data, Options(is_permissive=True)) if is_counted else pe).damage
+        damage = (Layout(data, Options(is_permissive=True)) if is_counted else layout).damage  # (else not of the imports)
+        header = layout.optional_header
         return {
-            "machine": names_of(pe.coff_header.machine, "machine")[0], "time_date_stamp": pe.coff_header.time_date_stamp,
-            "is_64": pe.is_64, "is_lib": pe.is_lib, "entry": pe.entry, "image_base": pe.image_base,
-            "subsystem": pe.optional_header and names_of(pe.optional_header.windows_fields.subsystem, "subsystem")[0],
+            "machine": names_of(layout.coff_header.machine, "machine")[0], "time_date_stamp": layout.coff_header.time_date_stamp,
+            "is_64": layout.is_64, "is_lib": layout.is_lib, "entry": layout.entry, "image_base": layout.image_base,
+            "subsystem": header and names_of(header.windows_fields.subsystem, "subsystem")[0],
             "libraries": {name.decode("utf-8", "backslashreplace"): count for name, count in sorted(libraries.items())},
-            "imphash": pe.imphash() if is_counted else None,
-            "exports": sum(1 for _ in itertools.islice(pe.walk_exports(), MOST)), "rich_hash": rich_hash(pe, data), "overlay": overlay(pe, data),
-            "sections": list(sections(pe)), "damage": {part: str(why) for part, why in zip(damage._fields[:5], damage) if why},
+            "imphash": hashed if is_counted else None, "exports": sum(1 for _ in itertools.islice(layout.walk_exports(), MOST)),
+            "rich_hash": rich_hash(layout, data), "overlay": overlay(layout, data), "sections": list(sections(layout)),
+            "damage": {part: str(why) for part, why in zip(damage._fields[:5], damage) if why},
             "left_out": {what: count for what, count in zip(damage._fields[5:], damage[5:]) if count}}
 
 

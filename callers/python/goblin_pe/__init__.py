@@ -71,7 +71,8 @@ from .rows import (
     ExportDirectory as ExportDirectory, ExportEntry as ExportEntry, Import as Import, Library as Library, Range as Range,
     OutOfSteps as OutOfSteps, RichHeader as RichHeader, Rows as _Rows,
     Section as Section, SectionData as SectionData, SectionView as SectionView, Symbol as Symbol,
-    available_of as _available_of, batches as _batches, data_of as _data_of, growing_batches as _growing_batches, record_of as _section_record, room as _room, view_of as _view_of)
+    available_of as _available_of, batches as _batches, data_of as _data_of, growing_batches as _growing_batches,
+    record_of as _section_record, room as _room, view_of as _view_of)
 
 __version__ = "0.4.0"
 
@@ -263,6 +264,9 @@ _O = _t.TypeVar("_O", bound="ObjectFile")
 _T = _t.TypeVar("_T", bound="Te")
 
 
+# A Rich header, its entries, and why a rest is none.
+_Rich = _t.Tuple[_t.Optional[RichHeader], _t.Tuple[RichMetadata, ...], _t.Optional[Refused]]
+
 # Of each table that walks go over: the call, its records, and what says where it goes on.
 _WALKED: _t.Dict[DirectoryType, _t.Tuple[str, _t.Any, _t.Any]] = {
     DirectoryType.IMPORT_TABLE: ("goblin_pe_raw_next_imports", records.Import, records.ImportCursor),
@@ -373,7 +377,7 @@ class Layout(_File):
     """An image by its header and its sections: Layout(data, options), where `data` are the file's bytes and `options` are
     Options. A file whose header or sections are refused raises Refused. Nothing of it is listed, so it takes memory for the
     records of its sections alone, however much its tables list: these are walked over, or looked up. Of the sections rows are
-    made where `sections` is asked for. The Rich header is no part of it: Pe has it.
+    made where `sections` is asked for.
 
     It keeps `data`, or the copy of a buffer that could be written, until close() or the end of a `with`. Sections, symbols and
     damage that were not asked for before, the export directory and the name in it, and the methods raise ValueError then, but
@@ -430,6 +434,34 @@ class Layout(_File):
     def open(cls: _t.Type[_L], path: _t.Union[str, "_os.PathLike[str]"], options: _t.Optional[Options] = None) -> _L:
         """The image in a file, which is read whole. OSError is raised where it can't be read."""
         return cls(_whole(path), options)
+
+    def _rich(self) -> _Rich:
+        return self._once("rich", self._read_rich)
+
+    def _read_rich(self) -> _Rich:
+        # what stands before the PE signature, as of an image without sections and without an optional header
+        signature = self.dos_header.pe_pointer
+        if signature < 64:  # (there is no room)
+            return None, (), None
+        front = bytearray(self._bytes()[: signature + 24])
+        front[signature + 6: signature + 8] = front[signature + 20: signature + 22] = bytes(2)
+        pe = Pe(bytes(front), Options(is_permissive=True))
+        return pe.rich_header, pe.rich_entries, pe.rich_rest
+
+    @property
+    def rich_header(self) -> _t.Optional[RichHeader]:
+        """The Rich header; None where the file has none. A layout reads it when it, or an entry of it, is first asked for."""
+        return self._rich()[0]
+
+    @property
+    def rich_entries(self) -> _t.Tuple[RichMetadata, ...]:
+        """The entries of the Rich header."""
+        return self._rich()[1]
+
+    @property
+    def rich_rest(self) -> _t.Optional[Refused]:
+        """Why the rest that follows these entries is no entry; None where there is no rest."""
+        return self._rich()[2]
 
     @property
     def dos_header(self) -> DosHeader:
@@ -932,8 +964,8 @@ class Pe(Layout):
     def _test_room(self, file: bytearray, table: int, size: int) -> None:
         # whether so many bytes of records have room in the section table: past those of the file's own, zeros before all data
         own, end = table + 40 * self._counts["sections"], table + size
-        data = min((s.pointer_to_raw_data for s in self._mapping if s.size_of_raw_data), default=len(file))
-        if end > own and (end > min(data, len(file)) or any(file[own: end])):
+        is_before_data = all(end <= s.pointer_to_raw_data for s in self._mapping if s.size_of_raw_data)
+        if end > own and not (is_before_data and end <= len(file) and not any(file[own: end])):
             raise ValueError("there is no room for so many sections")
 
     def _written_header(self, dos: DosHeader, coff: CoffHeader, optional: OptionalHeader, given: _t.Mapping[int, DataDirectory]) -> bytes:

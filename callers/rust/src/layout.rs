@@ -14,9 +14,12 @@ use crate::iterators::{
 use crate::memory::{make_room, room};
 use crate::numbers::DirectoryType;
 use crate::pe::Pe;
-use crate::raw::{self, CoffHeader, DataDirectory, DosHeader, OptionalHeader, Options};
+use crate::raw::{
+    self, CoffHeader, DataDirectory, DosHeader, OptionalHeader, Options, RichMetadata,
+};
 use crate::rows::{
-    Damage, ExportDirectory, Header, Library, Section, section_index, section_table,
+    DOS_HEADER, Damage, ExportDirectory, Header, Library, RichHeader, SIGNATURE_AND_COFF_HEADER,
+    Section, section_index, section_table,
 };
 use crate::text::Text;
 
@@ -51,7 +54,6 @@ use crate::text::Text;
 /// # Ok::<(), std::io::Error>(())
 /// ```
 ///
-/// The Rich header is no part of a layout: [`Pe::rich_header`] has it.
 #[derive(Clone)]
 pub struct Layout<'a> {
     pub(crate) bytes: &'a [u8],
@@ -376,7 +378,7 @@ impl<'a> Layout<'a> {
     /// The data of one of its sections, and how many zeros follow it in memory. It begins at the raw
     /// pointer, which the options may round down to 512, as they do for [`find_offset`](Self::find_offset).
     /// There is as much as the raw size says: it is not cut at the virtual size, as
-    /// [`memory_at`](Self::memory_at) cuts it.
+    /// [`memory_at`](Self::memory_at) cuts it. Uninitialized data is as [`Section::data`] has it.
     ///
     /// # Errors
     /// Where the data passes the file, and where it begins past the end, even if there is none.
@@ -518,6 +520,62 @@ impl<'a> Layout<'a> {
     /// ```
     pub fn name(&self) -> Result<Option<Text<'a>>, Error> {
         Ok(self.export_directory()?.and_then(|it| it.name))
+    }
+
+    /// The Rich header, read anew by each call; `None` where the file has none. [`Pe::rich_header`] has it from the read.
+    ///
+    /// # Errors
+    /// [`ErrorKind::Memory`](crate::ErrorKind::Memory) alone.
+    ///
+    /// ```no_run
+    /// # let bytes = [];
+    /// # let layout = goblin_pe::Layout::read(&bytes, &goblin_pe::Options::permissive())?;
+    /// let key = layout.rich_header()?.map(|it| it.key);
+    /// # Ok::<(), goblin_pe::Error>(())
+    /// ```
+    pub fn rich_header(&self) -> Result<Option<RichHeader>, Error> {
+        let front = self.front()?;
+        let read = |it: &Vec<u8>| Pe::read(it, &Options::permissive()).map(|pe| pe.rich_header());
+        front.as_ref().map_or(Ok(None), read)
+    }
+
+    /// The entries of the Rich header, read anew by each call. [`Pe::rich_entries`] has them from the read.
+    ///
+    /// # Errors
+    /// [`ErrorKind::Memory`](crate::ErrorKind::Memory) alone.
+    ///
+    /// ```no_run
+    /// # let bytes = [];
+    /// # let layout = goblin_pe::Layout::read(&bytes, &goblin_pe::Options::permissive())?;
+    /// for entry in layout.rich_entries()? {
+    ///     println!("tool {}, build {}, {} times", entry.product, entry.build, entry.use_count);
+    /// }
+    /// # Ok::<(), goblin_pe::Error>(())
+    /// ```
+    pub fn rich_entries(&self) -> Result<Vec<RichMetadata>, Error> {
+        let mut entries = Vec::new();
+        if let Some(front) = self.front()? {
+            let pe = Pe::read(&front, &Options::permissive())?;
+            make_room(&mut entries, pe.rich_entries().len())?;
+            entries.extend_from_slice(pe.rich_entries());
+        }
+        Ok(entries)
+    }
+
+    // What stands before the PE signature, where there is room for a Rich header, as of an image without sections and
+    // without an optional header.
+    fn front(&self) -> Result<Option<Vec<u8>>, Error> {
+        let signature = self.file.dos_header.pe_pointer as usize;
+        let stored = self.bytes.get(..signature + SIGNATURE_AND_COFF_HEADER);
+        let Some(stored) = stored.filter(|_| signature >= DOS_HEADER) else {
+            return Ok(None);
+        };
+        let mut front = room(stored.len())?;
+        front.extend_from_slice(stored);
+        for counted in [6, 20] {
+            front[signature + counted..][..2].fill(0);
+        }
+        Ok(Some(front))
     }
 
     /// A walk over the entries of the export address table, by rising ordinals, also those without a name, each with its

@@ -34,6 +34,7 @@
 //! | [`Layout::damage`] | as a read | an index of more than 96 sections |
 //! | [`Layout::footprint`], [`Layout::write_fingerprint_text`] | as two reads | a bit for each byte of the file, and the ranges; an index of more than 96 sections |
 //! | [`Layout::find_offset`] and what is at an address | a walk over the sections | none |
+//! | [`Layout::rich_header`], [`Layout::rich_entries`] | as long as what stands before the PE signature | a copy of that, and a record for each entry |
 //! | [`Layout::patched`] | as long as the file | a copy of the file, and of its header |
 //! | [`Layout::find_rva`] | a walk over the sections, and one more for each whose data holds the offset | none |
 //! | [`Object::read`], [`Te::read`] | as long as the sections and their names | a record for each section |

@@ -4,10 +4,9 @@ use std::io;
 
 use crate::layout::Layout;
 use crate::memory::room;
-use crate::rows::{Header, Section};
+use crate::rows::{DOS_HEADER, Header, Section};
 
-// The size of the DOS header, which the stub follows, and that of a section's record, in bytes.
-const DOS_HEADER: usize = 64;
+// The size of a section's record, in bytes.
 const SECTION_RECORD: usize = 40;
 
 // A file has sixteen data directories at most, of eight bytes each.
@@ -68,17 +67,13 @@ impl Layout<'_> {
 
     // Tests that so many records have room in the section table: past the file's own, zeros before all data.
     fn test_room(&self, table: usize, count: usize) -> io::Result<()> {
-        let begins = self.sections().filter(|s| s.size_of_raw_data > 0);
-        let data = begins.map(|s| s.pointer_to_raw_data as usize).min();
-        let (own, end) = (
-            table + SECTION_RECORD * self.file.sections,
-            table.saturating_add(count.saturating_mul(SECTION_RECORD)),
-        );
-        let more = self
-            .bytes
-            .get(own..end)
-            .filter(|_| Some(end) <= data.or(Some(end)));
-        if end <= own || more.is_some_and(|it| it.iter().all(|&byte| byte == 0)) {
+        let own = table + SECTION_RECORD * self.file.sections;
+        let end = table.saturating_add(count.saturating_mul(SECTION_RECORD));
+        let mut with_data = self.sections().filter(|s| s.size_of_raw_data > 0);
+        let is_before_data = with_data.all(|s| end <= s.pointer_to_raw_data as usize);
+        let more = self.bytes.get(own..end);
+        let are_zeros = more.is_some_and(|it| it.iter().all(|&byte| byte == 0));
+        if end <= own || is_before_data && are_zeros {
             Ok(())
         } else {
             Err(no_place("there is no room for so many sections"))
@@ -89,28 +84,34 @@ impl Layout<'_> {
 // Tests that a header stands where the file's own does.
 fn test_header(own: &Header, header: &Header) -> io::Result<()> {
     let signature = own.dos_header.pe_pointer;
-    let size = own.coff_header.size_of_optional_header;
-    let is_at_its_place = |it: &Header| DOS_HEADER + it.dos_stub.len() == signature as usize;
-    if !is_at_its_place(own) {
-        Err(no_place("permissive mode replaced the DOS stub"))
-    } else if !is_at_its_place(header) || header.dos_header.pe_pointer != signature {
-        Err(no_place("the PE signature of the file stands elsewhere"))
-    } else if header.coff_header.size_of_optional_header != size {
-        Err(no_place("the optional header of the file has another size"))
-    } else if header.optional_header.is_some() != own.optional_header.is_some() {
-        Err(no_place(
-            "the file has no place for an optional header, or one that is kept",
-        ))
-    } else if header.data_directories[directories(own)..]
-        .iter()
-        .any(Option::is_some)
-    {
-        Err(no_place(
+    let is_in_place = |it: &Header| {
+        it.dos_header.pe_pointer == signature
+            && DOS_HEADER + it.dos_stub.len() == signature as usize
+    };
+    let sizes = [own, header].map(|it| it.coff_header.size_of_optional_header);
+    let have_optional = [own, header].map(|it| it.optional_header.is_some());
+    let mut past = header.data_directories[directories(own)..].iter();
+    let facts = [
+        (is_in_place(own), "permissive mode replaced the DOS stub"),
+        (
+            is_in_place(header),
+            "the PE signature of the file stands elsewhere",
+        ),
+        (
+            sizes[0] == sizes[1],
+            "the optional header of the file has another size",
+        ),
+        (
+            have_optional[0] == have_optional[1],
+            "an optional header is added or left out",
+        ),
+        (
+            past.all(Option::is_none),
             "the file has no place for so many data directories",
-        ))
-    } else {
-        Ok(())
-    }
+        ),
+    ];
+    let wrong = facts.iter().find(|(holds, _)| !holds);
+    wrong.map_or(Ok(()), |(_, why)| Err(no_place(why)))
 }
 
 // How many data directories a file has.

@@ -105,8 +105,9 @@ pub(crate) fn section_index(number: i16) -> Option<usize> {
     usize::try_from(number).ok()?.checked_sub(1)
 }
 
-// The size of the PE signature and the COFF header, in bytes.
-const SIGNATURE_AND_COFF_HEADER: usize = 24;
+// The size of the DOS header, and that of the PE signature and the COFF header, in bytes.
+pub(crate) const DOS_HEADER: usize = 64;
+pub(crate) const SIGNATURE_AND_COFF_HEADER: usize = 24;
 
 // The file offset of the section table of an image.
 pub(crate) fn section_table(dos_header: &DosHeader, coff_header: &CoffHeader) -> usize {

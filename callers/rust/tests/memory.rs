@@ -86,6 +86,10 @@ fn refused_memory_is_an_error() {
     let walk = || pe.walk_export_addresses().next().unwrap();
     assert_eq!(refused(walk), memory);
     assert_eq!(refused(|| layout.export_directory()), None);
+    assert_eq!(refused(|| layout.rich_header()), memory);
+    assert_eq!(refused(|| layout.rich_entries()), memory);
+    let patched = without_memory(|| layout.patched(&layout.header(), &[]));
+    assert_eq!(patched.unwrap_err().kind(), io::ErrorKind::OutOfMemory);
     assert_eq!(refused(|| pe.walk_blocks().next().unwrap()), memory);
     let refused_relocations = |section: goblin_pe::Section| {
         let walked = || section.walk_relocations(&object).next().unwrap();

@@ -1180,6 +1180,28 @@ fn sections_are_found_by_number() {
     assert_eq!(object.bytes().as_ptr(), many.as_ptr());
 }
 
+// A Rich header of two entries, put into the stub.
+#[test]
+fn a_layout_reads_its_rich_header() {
+    let mut bytes = sample("program_x64.exe");
+    let layout = Layout::parse(&bytes).unwrap();
+    assert_eq!(
+        (layout.rich_header(), layout.rich_entries()),
+        (Ok(None), Ok(vec![]))
+    );
+    let words = [0x536E_6144, 0, 0, 0, 0x0105_75CF, 7, 1, 9_u32];
+    let stored = words.iter().flat_map(|it| (it ^ 0x1234).to_le_bytes());
+    let rich: Vec<u8> = stored.chain(*b"Rich\x34\x12\0\0").collect();
+    bytes[64..64 + rich.len()].copy_from_slice(&rich);
+    let (layout, pe) = (Layout::parse(&bytes).unwrap(), Pe::parse(&bytes).unwrap());
+    assert_eq!(layout.rich_header(), Ok(pe.rich_header()));
+    assert_eq!(layout.rich_entries().unwrap(), pe.rich_entries());
+    assert_eq!(
+        (pe.rich_header().unwrap().key, pe.rich_entries().len()),
+        (0x1234, 2)
+    );
+}
+
 // A copy of the walk before its first item goes again, and says how many records there are, whatever it has given.
 #[test]
 fn symbols_are_walked_twice() {
