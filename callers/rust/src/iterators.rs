@@ -11,6 +11,7 @@ use crate::layout::Layout;
 use crate::memory::make_room;
 use crate::raw::{self, CoffHeader, Fault, Options, Relocation};
 use crate::rows::{Block, Export, ExportAddress, ExportEntry, Import, Library, Section, Symbol};
+use crate::text::Text;
 
 // Iterators that make a row of each item of another one.
 macro_rules! iterators {
@@ -752,7 +753,11 @@ mod tests {
             let last = batches.next(|at, steps, to| read(total, false, at, steps, to));
             let error = last.unwrap().unwrap_err();
             assert_eq!(error.numbers(), (0, steps as u64, 0));
-            assert!(batches.next(|at, steps, to| read(total, false, at, steps, to)).is_none());
+            assert!(
+                batches
+                    .next(|at, steps, to| read(total, false, at, steps, to))
+                    .is_none()
+            );
         }
         let mut batches = Batches::new(0, BATCH).within(1001);
         assert_eq!(rest(0, &mut batches, 1000), 1000);
@@ -767,6 +772,10 @@ mod tests {
         }
         let refused = batches.next(|at, steps, to| read(128, true, at, steps, to));
         assert!(refused.unwrap().is_err());
-        assert!(batches.next(|at, steps, to| read(1000, false, at, steps, to)).is_none());
+        assert!(
+            batches
+                .next(|at, steps, to| read(1000, false, at, steps, to))
+                .is_none()
+        );
     }
 }
