@@ -112,7 +112,7 @@ static bool has_imports(const struct goblin_pe_places *places, const struct gobl
     struct goblin_pe_import import;
     size_t count = 0, begin = *first;
     for (;; (*first)++) {
-        if (goblin_pe_next_imports(bytes, length, NULL, places, &position, &import, 1, &count).status !=
+        if (goblin_pe_next_imports(bytes, length, NULL, places, &position, &import, 1, 0, &count).status !=
             GOBLIN_PE_STATUS_OK)
             return false;
         if (!count || import.library != library->index)
