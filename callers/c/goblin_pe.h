@@ -33,7 +33,8 @@
      made from a signal handler, or, before exec, in the forked child of a process with threads.
    - The processor has what the level x86-64-v2 asks for. A thread has 16 KiB of stack: calls took less than 9 KiB.
    A call may be made from any thread, and from several at once. After a refusal nothing is changed. Where a call answers
-   a bool, false is no refusal: there is no such thing, or a name is too long for its room.
+   a bool, false is no refusal: there is no such thing, a name is too long for its room, or the file lacks some of a
+   section's data, of which available_section_data gives what there is.
 
    What a file of n bytes may take, beside the caller's records. A name is a text of the file, which nothing
    bounds but the file's end, and which is read once for each who has it: m names take n * m steps at most. A step

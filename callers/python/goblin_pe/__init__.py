@@ -35,8 +35,8 @@ comes from Python alone, where there is no memory for what was read.
 The rows Section, Import, Export, Block, Symbol, Range and others are named tuples, and so are the headers, whose fields
 are those of the format: a changed copy is made by _replace, and Pe.write writes it. What lists rows is a tuple, which nobody
 changes. State, Status, Kind, Cause, Counted, ReadFault, RefusedPart, Region and DirectoryType name numbers. All of them can be
-imported from here, and help(goblin_pe.Section) explains one;
-goblin_pe.constants has the numbers of the formats, such as IMAGE_FILE_DLL.
+imported from here, and help(goblin_pe.Section) explains one; goblin_pe.constants has the numbers of the formats, such as
+IMAGE_FILE_DLL.
 
 The reader is the proved library goblin_pe. Its shared library stands beside an installed module; in the repository
 callers/build puts it into callers/lib. The variable GOBLIN_PE_SO names another when the module is imported.
@@ -995,10 +995,9 @@ class Pe(Layout):
 
 class ObjectFile(_File):
     """An object that was read: ObjectFile(data, options); of the Options only is_permissive counts. A file that is refused
-    raises Refused, and so does one whose symbol table or string table is, as where that is not UTF-8; without tests_texts a
-    symbol whose name is not has none. No machine is tested, so a file that is no object may be read as one with sections that
-    make no sense:
-    ask `kind` before.
+    raises Refused, and so does one whose symbol table or string table is. Without tests_texts a string table that is not UTF-8
+    is read, too, and a symbol whose name is not has none. No machine is tested, so a file that is no object may be read as one
+    with sections that make no sense: ask `kind` before.
 
     It keeps `data`, or the copy of a buffer that could be written, until close() or the end of a `with`. A copy, as it is sent to
     another process, has all but `data`: its methods raise ValueError.
