@@ -43,12 +43,12 @@ impl Layout<'_> {
     /// # Ok::<(), std::io::Error>(())
     /// ```
     pub fn patched(&self, header: &Header, sections: &[Section]) -> io::Result<Vec<u8>> {
-        let own = self.header();
-        test_header(&own, header)?;
+        let present = self.header();
+        test_header(&present, header)?;
         let mut file = room(self.bytes.len())?;
         file.extend_from_slice(self.bytes);
-        let table = own.section_table();
-        let written = written(&own, header)?;
+        let table = present.section_table();
+        let written = written(&present, header)?;
         let (front, rest) = written.split_at(table.min(written.len()));
         if !rest.is_empty() && file.get(table..written.len()) != Some(rest) {
             return Err(no_place(
@@ -67,13 +67,13 @@ impl Layout<'_> {
 
     // Tests that so many records have room in the section table: past the file's own, zeros before all data.
     fn test_room(&self, table: usize, count: usize) -> io::Result<()> {
-        let own = table + SECTION_RECORD * self.file.sections;
+        let present = table + SECTION_RECORD * self.file.sections;
         let end = table.saturating_add(count.saturating_mul(SECTION_RECORD));
         let mut with_data = self.sections().filter(|s| s.size_of_raw_data > 0);
         let is_before_data = with_data.all(|s| end <= s.pointer_to_raw_data as usize);
-        let more = self.bytes.get(own..end);
+        let more = self.bytes.get(present..end);
         let are_zeros = more.is_some_and(|it| it.iter().all(|&byte| byte == 0));
-        if end <= own || is_before_data && are_zeros {
+        if end <= present || is_before_data && are_zeros {
             Ok(())
         } else {
             Err(no_place("there is no room for so many sections"))
@@ -82,17 +82,17 @@ impl Layout<'_> {
 }
 
 // Tests that a header stands where the file's own does.
-fn test_header(own: &Header, header: &Header) -> io::Result<()> {
-    let signature = own.dos_header.pe_pointer;
+fn test_header(present: &Header, header: &Header) -> io::Result<()> {
+    let signature = present.dos_header.pe_pointer;
     let is_in_place = |it: &Header| {
         it.dos_header.pe_pointer == signature
             && DOS_HEADER + it.dos_stub.len() == signature as usize
     };
-    let sizes = [own, header].map(|it| it.coff_header.size_of_optional_header);
-    let have_optional = [own, header].map(|it| it.optional_header.is_some());
-    let mut past = header.data_directories[directories(own)..].iter();
+    let sizes = [present, header].map(|it| it.coff_header.size_of_optional_header);
+    let have_optional = [present, header].map(|it| it.optional_header.is_some());
+    let mut past = header.data_directories[directories(present)..].iter();
     let facts = [
-        (is_in_place(own), "permissive mode replaced the DOS stub"),
+        (is_in_place(present), "permissive mode replaced the DOS stub"),
         (
             is_in_place(header),
             "the PE signature of the file stands elsewhere",
@@ -123,13 +123,13 @@ fn directories(header: &Header) -> usize {
 }
 
 // The bytes of a header, up to the last directory that the file has.
-fn written(own: &Header, header: &Header) -> io::Result<Vec<u8>> {
+fn written(present: &Header, header: &Header) -> io::Result<Vec<u8>> {
     let size = header.write(&mut [])?;
     let mut written = room(size)?;
     written.resize(size, 0);
     header.write(&mut written)?;
-    if own.optional_header.is_some() {
-        written.truncate(size - DIRECTORY * (DIRECTORIES - directories(own)));
+    if present.optional_header.is_some() {
+        written.truncate(size - DIRECTORY * (DIRECTORIES - directories(present)));
     }
     Ok(written)
 }
