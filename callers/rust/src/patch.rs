@@ -92,7 +92,10 @@ fn test_header(present: &Header, header: &Header) -> io::Result<()> {
     let have_optional = [present, header].map(|it| it.optional_header.is_some());
     let mut past = header.data_directories[directories(present)..].iter();
     let facts = [
-        (is_in_place(present), "permissive mode replaced the DOS stub"),
+        (
+            is_in_place(present),
+            "permissive mode replaced the DOS stub",
+        ),
         (
             is_in_place(header),
             "the PE signature of the file stands elsewhere",
