@@ -43,7 +43,5 @@ pub extern "C" fn goblin_pe_raw_next_libraries<'a>(
         steps old new count.old count.new) }
 {
     let opts = options_at(options, places.file_alignment);
-    status_of(give::<PeLibrary>(
-        alloc, bytes, &opts, places, cursor, steps, records, count,
-    ))
+    status_of(give::<PeLibrary>(alloc, bytes, &opts, places, cursor, steps, records, count))
 }

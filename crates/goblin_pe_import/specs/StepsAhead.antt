@@ -45,8 +45,8 @@ unfoldable pub record_steps : Bool → Format EntryValue → (ℕ → Option ℕ
 record_steps strict format offset_of bytes r =
     1 + tested_ahead strict format offset_of bytes (address_table_rva r)
     + (if is_left_out strict format offset_of bytes r then 0
-      else slots_ahead format bytes (lookup_offset offset_of r)
-          + untested_ahead strict format offset_of bytes (Some (address_table_rva r)))
+    else slots_ahead format bytes (lookup_offset offset_of r)
+    + untested_ahead strict format offset_of bytes (Some (address_table_rva r)))
 
 -- those of the records of a directory, from the next one on
 abbrev pub records_ahead : Bool → Format EntryValue → (ℕ → Option ℕ) → List ℕ → Option ℕ → ℕ

@@ -93,7 +93,9 @@ pub(super) fn leads_to_none<'a, T: Bitfield<'a>>(
     ensures { let m = map_of address_map.now in
         result ≡ left_out.leads_to_none T.format (offset_of m) bytes.now entry.now }
 {
-    test_address_table::<T>(bytes, entry, address_map).0.is_err()
+    test_address_table::<T>(bytes, entry, address_map)
+        .0
+        .is_err()
 }
 
 // How much is left out for a record: its library, or entries of that library's lookup table.
