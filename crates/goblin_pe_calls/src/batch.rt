@@ -60,7 +60,8 @@ pub fn room_within(steps: usize, room: usize) -> usize
     ensures is { result ≡ room_within steps room }
     ensures fits { result ≤ room }
 {
-    if steps == 0 { room } else { room.min(steps) }
+    // (0 is the greatest number then)
+    if steps.wrapping_sub(1) < room { steps } else { room }
 }
 
 // As `Batched::next`, but for no more records than there are steps.

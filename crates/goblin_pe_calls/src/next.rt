@@ -127,6 +127,7 @@ fn limit_of(steps: usize) -> Option<usize>
 fn end_within(room: usize, first: usize, steps: &Option<usize>) -> usize
     ensures room { result ≤ room }
     ensures steps { IfSome steps.now (λ left. result ≤ first + left) }
+    ensures least { first ≤ room → first ≤ result }
 {
     match steps {
         Some(left) => room.min(first.saturating_add(*left)),
@@ -181,10 +182,10 @@ fn fill_library<'a, 'm, 'e>(
     ensures further { first ≤ result }
     ensures counted { AreCounted steps.old steps.new (file_ahead imports.old) (file_ahead imports.new) }
 {
-    let end = end_within(records.len(), first, steps);
-    if end <= first {
+    if records.len() <= first {
         return first;
     }
+    let end = end_within(records.len(), first, steps);
     let count = match imports {
         FileImports::Narrow(imports) => fill_here(bytes, imports, records, first, end),
         FileImports::Wide(imports) => fill_here(bytes, imports, records, first, end),
