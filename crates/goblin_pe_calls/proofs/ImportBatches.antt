@@ -1,5 +1,5 @@
 -- A loop that fills records with the imports of a file from a position on.
-use Rattle.std.proofs.Common.{◌≡◌, ◌≢◌, ◌⊎◌, append-nil, ℕ, zero, suc, ◌+◌, ◌-◌, ◌<◌, ◌≤◌, take, List, [], ◌∷◌, ◌++◌, length, map, drop, set, ap, subst, sym, refl, arith, ◌∙◌, inl, inr, is_some, IsSomeAnd, MatchResult, Option, None, Result, Some, Ok, Err, option_map, unwrap_or}
+use Rattle.std.proofs.Common.{◌≡◌, ◌≢◌, ◌⊎◌, append-nil, ℕ, zero, suc, ◌+◌, ◌-◌, ◌<◌, ◌≤◌, take, List, [], ◌∷◌, ◌++◌, length, map, set, ap, subst, sym, refl, arith, ◌∙◌, inl, inr, is_some, IsSomeAnd, MatchResult, Option, None, Result, Some, Ok, Err, option_map, unwrap_or}
 use Rattle.std.proofs.Math.Seq.{take-append_seam}
 use Rattle.std.proofs.lemmas.List.{append_assoc, length-append, length-map}
 use Rattle.goblin_base.specs.declared.error.ErrorOf.{ErrorOf}

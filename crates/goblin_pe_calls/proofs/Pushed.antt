@@ -1,5 +1,5 @@
 -- Imports that a walk gives one by one, and records that are made of them.
-use Rattle.std.proofs.Common.{◌≡◌, ◌∙◌, List, [], ◌∷◌, ◌++◌, Some, Option, Ok, map, refl, ap, sym, append_assoc, ℕ, suc, ◌+◌, length, arith}
+use Rattle.std.proofs.Common.{◌≡◌, ◌∙◌, List, [], ◌∷◌, ◌++◌, Some, Option, Ok, map, refl, ap, sym, append_assoc, suc, arith}
 use Rattle.std.proofs.lemmas.List.{length-append, map-append}
 use Rattle.goblin_base.specs.declared.error.ErrorOf.{ErrorOf}
 use Rattle.goblin_base.specs.Tables.{Format}
