@@ -61,7 +61,11 @@ pub fn room_within(steps: usize, room: usize) -> usize
     ensures fits { result ≤ room }
 {
     // (0 is the greatest number then)
-    if steps.wrapping_sub(1) < room { steps } else { room }
+    if steps.wrapping_sub(1) < room {
+        steps
+    } else {
+        room
+    }
 }
 
 // As `Batched::next`, but for no more records than there are steps.
