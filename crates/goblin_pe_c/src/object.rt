@@ -120,10 +120,11 @@ pub extern "C" fn goblin_pe_raw_string_at<'a>(
 /// Fills records of the symbols of a table that
 /// [`goblin_pe_raw_read_symbol_table`](crate::object::goblin_pe_raw_read_symbol_table) told of,
 /// from the record at the index `position` on: as many as there are and as there is room for, but
-/// no more than `steps`, where these are not 0. `count` says how many these are, and `position` is then the index of the record that is read
-/// next. The first record is read as a symbol, even where it is an auxiliary one of a symbol before
-/// it. After the last symbol, and where the table's offset is 0, `count` is 0, as it is without
-/// room; the position then stays. It takes no memory, and time for these symbols alone.
+/// no more than `steps`, where these are not 0. `count` says how many these are, and `position` is
+/// then the index of the record that is read next. The first record is read as a symbol, even where
+/// it is an auxiliary one of a symbol before it. After the last symbol, and where the table's
+/// offset is 0, `count` is 0, as it is without room; the position then stays. It takes no memory,
+/// and time for these symbols alone.
 ///
 /// The table may say anything: of the string table only the names are looked at, each by itself,
 /// and one that is not UTF-8 is not there. Refused are records that run past the end of the file or

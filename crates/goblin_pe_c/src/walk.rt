@@ -1,6 +1,6 @@
 //! The calls that walk over a table, from any position on: as many records as there is room for,
-//! and within so many steps; and the one that reads what the export directory says. They take no memory, but for an index
-//! where a file has more than 96 sections.
+//! and within so many steps; and the one that reads what the export directory says. They take no
+//! memory, but for an index where a file has more than 96 sections.
 
 ghost use Rattle.std.specs.Prelude.{◌≡◌, drop, length, take};
 ghost use Rattle.goblin_pe_calls.specs.Batches.{AddressBatch, BlockBatch, ExportBatch};
@@ -84,9 +84,9 @@ pub extern "C" fn goblin_pe_raw_next_imports<'a>(
 /// says in `count` how many, and leaves in `position` where the next call goes on: an index in the
 /// name pointer table from which the others come, at first 0. With room for any, a `count` of 0 is
 /// the end; the position then stays. No more than `steps` come, 0 for no limit; name pointers that
-/// have no export are passed over without a step. A file without an export directory, and in permissive mode one
-/// whose directory is refused, has none. The sections and the directory lie where `places` says, as
-/// for [`goblin_pe_raw_next_imports`].
+/// have no export are passed over without a step. A file without an export directory, and in
+/// permissive mode one whose directory is refused, has none. The sections and the directory lie
+/// where `places` says, as for [`goblin_pe_raw_next_imports`].
 ///
 /// Refused, with nothing changed, are sections as by that call, and in strict mode the export
 /// directory. Memory as there.
@@ -141,9 +141,9 @@ pub extern "C" fn goblin_pe_raw_read_export_directory<'a>(
 /// Fills `records` with the entries of the export address table of a file from the index `position`
 /// on, as many as there is room for, but no more than `steps`, where these are not 0; says in
 /// `count` how many, and moves `position` past them. With room for any, a `count` of 0 is the end.
-/// The index and the ordinal base are the ordinal that an entry stands for. A file without an export directory, and in permissive mode one whose directory
-/// is refused, has none. The sections and the directory lie where `places` says, as for
-/// [`goblin_pe_raw_next_imports`].
+/// The index and the ordinal base are the ordinal that an entry stands for. A file without an
+/// export directory, and in permissive mode one whose directory is refused, has none. The sections
+/// and the directory lie where `places` says, as for [`goblin_pe_raw_next_imports`].
 ///
 /// Refused, with nothing changed, are sections as by that call, and in strict mode the export
 /// directory. Memory as there.
@@ -170,10 +170,10 @@ pub extern "C" fn goblin_pe_raw_next_export_addresses(
 
 /// Fills `records` with the blocks of base relocations of a file from a position on, as many as
 /// there is room for, but no more than `steps`, where these are not 0; says in `count` how many,
-/// and leaves in `position` where the next call goes on: the offset in the directory at which the next block begins, at first 0. With room for any, a
-/// `count` of 0 is the end. A file without a directory of base relocations, and in permissive mode
-/// one whose directory is refused, has none. The sections and the directory lie where `places`
-/// says, as for [`goblin_pe_raw_next_imports`].
+/// and leaves in `position` where the next call goes on: the offset in the directory at which the
+/// next block begins, at first 0. With room for any, a `count` of 0 is the end. A file without a
+/// directory of base relocations, and in permissive mode one whose directory is refused, has none.
+/// The sections and the directory lie where `places` says, as for [`goblin_pe_raw_next_imports`].
 ///
 /// Refused, with nothing changed, are sections as by that call; in strict mode the directory; and
 /// in both modes a rest that is no block, if it comes next and there is room for a block, by the
@@ -233,7 +233,8 @@ pub extern "C" fn goblin_pe_raw_next_relocations(
 
 /// Fills `words` with those of a block of base relocations from the index `position` on, each with
 /// its address and its type, as many as there is room for, but no more than `steps`, where these
-/// are not 0; moves `position` past them, and answers how many these are. A byte that is left after the words is no word.
+/// are not 0; moves `position` past them, and answers how many these are. A byte that is left after
+/// the words is no word.
 #[unsafe(no_mangle)]
 pub extern "C" fn goblin_pe_raw_next_words(
     block: &PeBlock,
