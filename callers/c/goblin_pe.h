@@ -262,21 +262,20 @@ static inline bool goblin_pe_is_end(const struct goblin_pe_import_cursor *cursor
     return cursor->is_begun && !cursor->has_next && !cursor->has_place && !cursor->is_untested;
 }
 
-/* Goes on with the walk over the imports of an image from `cursor`, zeros at the beginning: fills as many
-   records as there is room for, says in `count` how many, and leaves in `cursor` where the next call goes on. The count 0
-   without a refusal is the end, where there is room and no limit of steps; so it is of a file without imports, where these
-   are not asked for, and in permissive mode where their directory is an empty list there. The call ends after so many
-   `steps`, 0 for no limit, perhaps with the count 0: it is the end only where goblin_pe_is_end says so of the cursor. With
-   room for as many records as steps, a call takes all of them, but at the end. What gives no import
+/* Goes on with the walk over the imports of an image from `cursor`, zeros at the beginning: fills as many records as
+   there is room for, says in `count` how many, and leaves in `cursor` where the next call goes on. The count 0
+   without a refusal is the end, where there is room and no limit of steps; so it is of a file without imports, where
+   these are not asked for, and in permissive mode where their directory is an empty list there. The call ends after
+   so many `steps`, 0 for no limit, perhaps with the count 0: it is the end only where goblin_pe_is_end says so of
+   the cursor. With room for as many records as steps, a call takes all of them, but at the end. What gives no import
    goblin_pe_read_damage counts: `unmapped_entries` in either mode, `left_out_libraries` and `left_out_entries` in
    permissive mode. In strict mode the walk ends with a refusal where goblin_pe_open has one for its imports; what
    comes before it is given first, and no law says on which bytes that depends. The cursor is the walk in numbers: it
    may be kept, copied and sent. The sections and the tables lie at `places`, which goblin_pe_read_layout and
    goblin_pe_open say, so no call reads the header again; other numbers there or in the cursor lead to other tables,
-   and harm nothing; flags are false or true.
-   Refused is also a file that is too short for the records of its sections. Memory is taken only for an index of
-   more than 96 sections, which Windows does not load, and given back: each call makes it anew, of 65,535 sections
-   in some 25 milliseconds, so give room for thousands then. */
+   and harm nothing; flags are false or true. Refused is also a file that is too short for the records of its
+   sections. Memory is taken only for an index of more than 96 sections, which Windows does not load, and given back:
+   each call makes it anew, of 65,535 sections in some 25 milliseconds, so give room for thousands then. */
 static inline struct goblin_pe_fault goblin_pe_next_imports(
     const uint8_t *bytes, size_t length, const struct goblin_pe_options *options, const struct goblin_pe_places *places,
     struct goblin_pe_import_cursor *cursor, struct goblin_pe_import *imports, size_t room, size_t steps, size_t *count)
@@ -301,10 +300,10 @@ static inline struct goblin_pe_fault goblin_pe_next_libraries(
         GOBLIN_PE_SOME(struct goblin_pe_library, libraries, room), room, steps, count);
 }
 
-/* Goes on with the walk over the exports of an image, as goblin_pe_next_imports does over imports, with no more of them
-   than `steps`, where these are not 0; name pointers that give no export are passed over without a step. The position is
-   the index of a name pointer, 0 at the beginning. There are none where permissive mode passes over
-   a refused directory; strict mode refuses it at once. A name pointer gives no export where no export has its index as
+/* Goes on with the walk over the exports of an image, as goblin_pe_next_imports does over imports, with no more of
+   them than `steps`, where these are not 0; name pointers that give no export are passed over without a step. The
+   position is the index of a name pointer, 0 at the beginning. There are none where permissive mode passes over a
+   refused directory; strict mode refuses it at once. A name pointer gives no export where no export has its index as
    hint: it stands four times that index after the file offset of name_pointer_rva of the export directory's record. */
 static inline struct goblin_pe_fault goblin_pe_next_exports(
     const uint8_t *bytes, size_t length, const struct goblin_pe_options *options, const struct goblin_pe_places *places,
@@ -315,9 +314,10 @@ static inline struct goblin_pe_fault goblin_pe_next_exports(
         GOBLIN_PE_SOME(struct goblin_pe_export, exports, room), room, steps, count);
 }
 
-/* Reads what the export directory of an image says, with its ordinal base: the record that goblin_pe_open puts beside its
-   tables. It is zeros where the image has none, and where permissive mode passes over a refused one; strict mode refuses
-   it. It lies at `places`, as for goblin_pe_next_imports, and so do the sections; memory is as there. */
+/* Reads what the export directory of an image says, with its ordinal base: the record that goblin_pe_open puts
+   beside its tables. It is zeros where the image has none, and where permissive mode passes over a refused one;
+   strict mode refuses it. It lies at `places`, as for goblin_pe_next_imports, and so do the sections; memory is as
+   there. */
 static inline struct goblin_pe_fault goblin_pe_read_export_directory(
     const uint8_t *bytes, size_t length, const struct goblin_pe_options *options, const struct goblin_pe_places *places,
     struct goblin_pe_export_directory *directory)
@@ -326,10 +326,10 @@ static inline struct goblin_pe_fault goblin_pe_read_export_directory(
         GOBLIN_PE_BYTES(bytes, length), length, goblin_pe_options_or_default(options), places, directory);
 }
 
-/* Goes on with the walk over the entries of the export address table of an image, as goblin_pe_next_exports does over
-   exports, each in a step: the records that goblin_pe_open puts into a table. The position is the index of an entry, 0 at the
-   beginning; with the ordinal base, which goblin_pe_read_export_directory reads, it is the ordinal that the entry stands
-   for. goblin_pe_forwarder_at reads the forwarder of one. */
+/* Goes on with the walk over the entries of the export address table of an image, as goblin_pe_next_exports does
+   over exports, each in a step: the records that goblin_pe_open puts into a table. The position is the index of an
+   entry, 0 at the beginning; with the ordinal base, which goblin_pe_read_export_directory reads, it is the ordinal
+   that the entry stands for. goblin_pe_forwarder_at reads the forwarder of one. */
 static inline struct goblin_pe_fault goblin_pe_next_export_addresses(
     const uint8_t *bytes, size_t length, const struct goblin_pe_options *options, const struct goblin_pe_places *places,
     size_t *position, struct goblin_pe_export_address *addresses, size_t room, size_t steps, size_t *count)
@@ -404,9 +404,9 @@ static inline struct goblin_pe_fault goblin_pe_find_symbol_table(
     return goblin_pe_raw_find_symbol_table(GOBLIN_PE_BYTES(bytes, length), length, header, table);
 }
 
-/* Puts the text at an offset of a string table into `text`, up to a NUL or the table's end, and answers whether there is
-   one that is UTF-8. The offset counts from the table's length of four bytes, as the numbers do that stand in place of
-   names; strings_length + 4 is the table's size. No memory is taken. */
+/* Puts the text at an offset of a string table into `text`, up to a NUL or the table's end, and answers whether
+   there is one that is UTF-8. The offset counts from the table's length of four bytes, as the numbers do that stand
+   in place of names; strings_length + 4 is the table's size. No memory is taken. */
 static inline bool goblin_pe_string_at(
     const uint8_t *bytes, size_t length, const struct goblin_pe_symbol_table *table, size_t offset,
     struct goblin_pe_text *text)
@@ -414,12 +414,12 @@ static inline bool goblin_pe_string_at(
     return goblin_pe_raw_string_at(GOBLIN_PE_BYTES(bytes, length), length, table, offset, text);
 }
 
-/* Goes on with the walk over the symbols of a table, from the record at the index `position` on, 0 at the
-   beginning: fills as many records as there is room for, but no more than `steps`, where these are not 0, says in
-   `count` how many, and leaves in `position` the index of the record that is read next. The count 0 without a refusal is the end, where there is room; so it is
-   of a table of zeros. The record at the position is read as a symbol, even where it is an auxiliary one of the
-   symbol before it. A table may also be made by hand: it is refused where it does not lie in the file, and of
-   its string table only the names that are given are tested. No memory is taken. */
+/* Goes on with the walk over the symbols of a table, from the record at the index `position` on, 0 at the beginning:
+   fills as many records as there is room for, but no more than `steps`, where these are not 0, says in `count` how
+   many, and leaves in `position` the index of the record that is read next. The count 0 without a refusal is the
+   end, where there is room; so it is of a table of zeros. The record at the position is read as a symbol, even where
+   it is an auxiliary one of the symbol before it. A table may also be made by hand: it is refused where it does not
+   lie in the file, and of its string table only the names that are given are tested. No memory is taken. */
 static inline struct goblin_pe_fault goblin_pe_next_symbols(
     const uint8_t *bytes, size_t length, const struct goblin_pe_symbol_table *table, size_t *position,
     struct goblin_pe_named_symbol *symbols, size_t room, size_t steps, size_t *count)
@@ -498,10 +498,10 @@ static inline struct goblin_pe_fault goblin_pe_read_relocations(
 
 /* Goes on with the walk over all relocations of a section of an object from the index `position` on, 0 at the
    beginning: fills as many records as there is room for, but no more than `steps`, where these are not 0, says in
-   `count` how many, and moves `position` past them. The count 0 without a refusal is the end, where there is room. Where the section has more than its counter can say,
-   the first record is none of them: its virtual_address is the number of all records, itself among them. Refused is
-   a file that is too short for all of them, and one in which they begin at or past the end, even where there are
-   none. No memory is taken. */
+   `count` how many, and moves `position` past them. The count 0 without a refusal is the end, where there is room.
+   Where the section has more than its counter can say, the first record is none of them: its virtual_address is the
+   number of all records, itself among them. Refused is a file that is too short for all of them, and one in which
+   they begin at or past the end, even where there are none. No memory is taken. */
 static inline struct goblin_pe_fault goblin_pe_next_relocations(
     const uint8_t *bytes, size_t length, const struct goblin_pe_section *section, size_t *position,
     struct goblin_pe_relocation *relocations, size_t room, size_t steps, size_t *count)
@@ -514,7 +514,8 @@ static inline struct goblin_pe_fault goblin_pe_next_relocations(
 
 /* Goes on with the walk over the words of a block of base relocations from the index `position` on, 0 at the
    beginning: fills as many records as there is room for, but no more than `steps`, where these are not 0, moves
-   `position` past them, and answers how many these are; 0 is the end, where there is room. A byte that is left after the words is no word. */
+   `position` past them, and answers how many these are; 0 is the end, where there is room. A byte that is left after
+   the words is no word. */
 static inline size_t goblin_pe_next_words(
     const struct goblin_pe_block *block, size_t *position, struct goblin_pe_word *words, size_t room,
     size_t steps)
@@ -657,13 +658,13 @@ static inline struct goblin_pe_fault goblin_pe_bytes_at(
     return goblin_pe_raw_bytes_at(&sound, rva, size, bytes);
 }
 
-/* The data of a section: its bytes in the file, from its raw pointer, as stored or rounded down to 512 by the
-   rule of the image's options, and how many zeros follow them up to the size in memory; none where the file has
-   at least as many bytes, which are not cut at that size then, as goblin_pe_memory_at cuts them. A section of
-   uninitialized data (IMAGE_SCN_CNT_UNINITIALIZED_DATA) whose raw pointer is 0, as an object's .bss, has no bytes, and its
-   size as zeros: the virtual size, or the raw size where that is 0. Of the image only the bytes, the options and the file
-   alignment are looked at, so for an object one with its bytes and else zeros will do. Refused is a file that is
-   too short for it, and one in which it begins past the end, even where it has no bytes. No memory is taken. */
+/* The data of a section: its bytes in the file, from its raw pointer, as stored or rounded down to 512 by the rule
+   of the image's options, and how many zeros follow them up to the size in memory; none where the file has at least
+   as many bytes, which are not cut at that size then, as goblin_pe_memory_at cuts them. A section of uninitialized
+   data (IMAGE_SCN_CNT_UNINITIALIZED_DATA) whose raw pointer is 0, as an object's .bss, has no bytes, and its size as
+   zeros: the virtual size, or the raw size where that is 0. Of the image only the bytes, the options and the file
+   alignment are looked at, so for an object one with its bytes and else zeros will do. Refused is a file that is too
+   short for it, and one in which it begins past the end, even where it has no bytes. No memory is taken. */
 static inline struct goblin_pe_fault goblin_pe_read_section_data(
     const struct goblin_pe_image *image, const struct goblin_pe_section *section, struct goblin_pe_section_data *data)
 {
