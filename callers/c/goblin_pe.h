@@ -41,10 +41,12 @@
    of a long text takes some 0.15 nanoseconds where it is ASCII, else up to three. A walk is stopped after any batch,
    and a batch by its `steps`; no other call is stopped.
 
-   The `steps` of a call are how many records of its table it may look at, and for imports also how many records of
-   libraries and slots of their tables, whether or not these give something; 0 is no limit. The call ends after so many,
-   and the next one goes on from where it was left. A name may be read in each step, and the slots of an address table
-   are looked at in one go, so that the last one may take up to n / 4 more.
+   The `steps` of a call are how many records it may give, and for imports how many records of libraries and slots of
+   their tables it may look at, whether or not these give something; 0 is no limit. The call ends after so many, and the
+   next one goes on from where it was left. A name may be read in each step, and the slots of an address table are
+   looked at in one go, so that up to n more are. Exports pass over name pointers that give none without a step, and each
+   library of next_libraries is one step, whatever its tables have: where many share a long table of dead entries, these
+   are looked at once for each.
 
    call                              memory at most                        time at most
    kind_of, read_section_data,
