@@ -1,6 +1,6 @@
 #!/usr/bin/env python3
 """Reads images by the module goblin_pe and by pefile, and compares what both see: beside_pefile.py FILE.. Addresses are mapped
-by the file alignment, as pefile maps them. Of each file it compares the headers' numbers, the sections, the imports with their
+as the Windows loader does, nearly as pefile maps them. Of each file it compares the headers' numbers, the sections, the imports with their
 hints and slots, the exports with their forwarders, also those without a name, and three things that analysts compare: the hashes
 of the imports and of the Rich header, and where an overlay begins. A file that either refuses has to be refused by the other.
 

@@ -32,7 +32,7 @@ SIZES = ("SIZEOF_COFF_HEADER", "SIZEOF_STANDARD_FIELDS_32", "SIZEOF_STANDARD_FIE
          "SIZEOF_WINDOWS_FIELDS_64", "OFFSET_WINDOWS_FIELDS_32_CHECKSUM", "OFFSET_WINDOWS_FIELDS_64_CHECKSUM", "SIZEOF_PE_MAGIC",
          "PE_POINTER_OFFSET", "DOS_STUB_OFFSET", "SIZEOF_DATA_DIRECTORY", "NUM_DATA_DIRECTORIES", "SIZEOF_SECTION_TABLE",
          "COFF_SYMBOL_SIZE", "COFF_RELOCATION_SIZE", "SIZEOF_IMPORT_DIRECTORY_ENTRY", "SIZEOF_EXPORT_DIRECTORY_TABLE",
-         "SIZEOF_EXPORT_ADDRESS_TABLE_ENTRY", "RELOCATION_BLOCK_SIZE")
+         "SIZEOF_EXPORT_ADDRESS_TABLE_ENTRY", "RELOCATION_BLOCK_SIZE", "MOST_WITHOUT_INDEX")
 # The numbers: the size of each, its type in C, and that in ctypes.
 NUMBERS = {"bool": (1, "bool", "c_bool"), "usize": (8, "size_t", "c_size_t"), "i16": (2, "int16_t", "c_int16"),
            **{"u%d" % bits: (bits // 8, "uint%d_t" % bits, "c_uint%d" % bits) for bits in (8, 16, 32, 64)}}
@@ -196,7 +196,7 @@ def constants_of(path: str) -> Declared:
 
 
 def sizes_of(crates: List[str]) -> Declared:
-    """The sizes of records, in the order of their names above."""
+    """The sizes of records and the like, in the order of their names above."""
     items: Dict[str, Item] = {}
     for path in [it for crate in crates for it in sorted((CRATES / crate).glob("src/**/*.rt"))]:
         source = path.read_text("utf-8")
@@ -209,7 +209,7 @@ def sizes_of(crates: List[str]) -> Declared:
                 items[found[1]] = Item(found[1], type_of(found[2]), doc, found[3])
     if sorted(items) != sorted(SIZES):
         raise Refused("the sizes %s" % sorted(set(SIZES) - set(items)))
-    return Declared("sizes", "The sizes of records, in bytes, and offsets in them.", [items[name] for name in SIZES])
+    return Declared("sizes", "The sizes of records, in bytes, offsets in them, and the most sections that take no index.", [items[name] for name in SIZES])
 
 
 class Interface:
@@ -497,7 +497,8 @@ def rust_files(it: Interface) -> Dict[str, str]:
         if p.type.form in ("text", "table"):
             how = ("mut", "room") if p.type.is_written else ("const", "count")
             return ["%s: *%s %s" % (p.name, how[0], what), "%s_%s: usize" % (singular(p.name), how[1])]
-        return ["%s: %s%s%s" % (p.name, "&" * p.type.is_reference, "mut " * p.type.is_written, what)]
+        # (what a call fills may have no values before)
+        return ["%s: %s%s" % (p.name, "*mut " if p.type.is_written else "&" * p.type.is_reference, what)]
 
     def call(c: Declared) -> str:
         rows = [row for p in c.items for row in taken(p)]

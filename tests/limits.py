@@ -7,7 +7,7 @@ import sys
 import time
 
 from goblin_pe import _laid_out, records
-from goblin_pe import CoffHeader, TeHeader
+from goblin_pe import CoffHeader, Layout, Options, OutOfSteps, TeHeader
 from goblin_pe._library import LIB
 from tests import images
 
@@ -93,6 +93,14 @@ def libraries_of_no_address_table(base, size):
     return (record * (libraries - 1) + bytes(20)).ljust(size, b"\1")
 
 
+def left_out_entries_of_one_long_name(base, size):
+    """A library of a long name, of whose entries none has a name that an address leads to."""
+    count = size // 2 // 4 - 11
+    name = base + size // 2
+    record = struct.pack("<5I", base + 40, 0, 0, name, base + 40).ljust(40, b"\0")
+    return record + struct.pack("<I", 0x70000000) * count + bytes(4) + "\u00E9".encode() * (size // 4 - 1) + b"\0\0"
+
+
 def exports_in_one_text(base, size):
     """Exports of one address, the names of which begin so, too."""
     count = (size - 56) // 8
@@ -107,6 +115,13 @@ def many_name_pointers(base, size):
     pointers, ordinals, text = base + 48, base + 48 + 4 * count, base + 48 + 6 * count
     record = struct.pack("<IIHHIIIIIII", 0, 0, 0, 0, text, 1, 1, count, base + 40, pointers, ordinals) + struct.pack("<II", 0x9000, 0)
     return record + struct.pack("<I", text) * count + bytes(2 * count) + b"name".ljust(8, b"\0")
+
+
+def dead_name_pointers(base, size):
+    """Name pointers whose ordinals lie past the address table, which has no entry."""
+    count = (size - 40) // 6
+    pointers, ordinals = base + 40, base + 40 + 4 * count
+    return struct.pack("<IIHHIIIIIII", 0, 0, 0, 0, 0, 1, 0, count, 0, pointers, ordinals) + bytes(6 * count)
 
 
 def read_object(file, room=65535):
@@ -175,12 +190,30 @@ def next_imports(file, options=STRICT, batches=1, steps=0):
     return fault.status, found
 
 
+def exports_within_steps(file):
+    layout, directories = records.Layout(), (records.Directory * 16)()
+    LIB.goblin_pe_raw_read_layout(file, len(file), c.byref(STRICT), c.byref(layout), directories, 16, (records.Section * 1)(), 0)
+    position, room, count = c.c_size_t(), (records.Export * 256)(), c.c_size_t()
+    fault = LIB.goblin_pe_raw_next_exports(
+        file, len(file), c.byref(STRICT), c.byref(layout.places), c.byref(position), room, 256, 100000, c.byref(count))
+    return fault.status, position.value + count.value
+
+
 def next_imports_permissively(file):
     return next_imports(file, PERMISSIVE)
 
 
 def imports_within_steps(file):
     return next_imports(file, PERMISSIVE, 1, 100000)
+
+
+def walk_within_steps(file):
+    walk, count = Layout(file, Options(is_permissive=True)).walk_imports(steps=100000), 0
+    try:
+        count = sum(1 for _ in walk)
+    except OutOfSteps:
+        return 0, count
+    return 1, count
 
 
 def all_imports_permissively(file):
@@ -204,6 +237,10 @@ ROWS = {
         imports_within_steps, lambda: in_one_section((0, 0, 0x1000, 40), libraries_of_left_out_entries, MIB)),
     "libraries that are all left out, within steps": (
         imports_within_steps, lambda: in_one_section((0, 0, 0x1000, 40), libraries_of_no_address_table, MIB)),
+    "name pointers without an export, within steps": (
+        exports_within_steps, lambda: in_one_section((0x1000, 40, 0, 0), dead_name_pointers, MIB)),
+    "a walk over imports of one long name, within steps": (
+        walk_within_steps, lambda: in_one_section((0, 0, 0x1000, 40), left_out_entries_of_one_long_name, MIB)),
     "many batches of one library": (
         all_imports_permissively, lambda: in_one_section((0, 0, 0x1000, 40), imports_of_one_library, 4 * MIB)),
     "a batch of many sections": (next_imports, lambda: bytes(images.hostile_image(64 * (65535 + 16)))),

@@ -191,7 +191,13 @@ class Damage(Case):
                 ("nowhere", images.import_from_nowhere(BY_NAME.read_bytes()), b"imports that lead nowhere, in either mode: 1\n"),
                 ("unmapped", images.with_directory(BY_NAME.read_bytes(), 1, 0x9000, 40), b"imports: the address 0x9000 has no offset in the file\n"),
                 ("names", images.pointers_to_nowhere(1000), b"export names that lead nowhere, in either mode: 999\n"),
-                ("text", b"MZ", b"refused: the file is too short for the DOS header\n")):
+                ("rounded", images.sample((0x14C, b"\x10\x02\0\0")), b"exports: Buffer is too short for 4112 name pointers\n"
+                 b"imports that are there only where raw pointers are rounded: 2\n"),
+                ("hidden", images.sample((0x94, b"\0\2\0\0"), (0x240, b"\xA0\1\0\0"), (0x1A0, b"\0\0VirtualAlloc\0")),
+                 b"imports that lead nowhere, in either mode: 1\nimports that are there only where the headers are mapped: 1\n"),
+                ("seventeen", images.sample((0xB4, b"\x11")), b"refused: there are 17 data directories, more than sixteen\n"
+                 b"sections that are there: 1\n"),
+                ("text", b"MZ", b"refused: the file is too short for the DOS header\nDOS header: the file is too short for the DOS header\n")):
             with self.subTest(name):
                 self.assert_runs([built("damage"), self.written("some.dll", image)], (int(bool(told)), told, b""))
 
@@ -264,9 +270,10 @@ class Loader(Case):
             "relocation at 0x3c: 0x10040", "relocation at 0x1000: 0x411234", "relocation at 0x1004: 0x8000", "3 base relocations"])
 
     def test_raw_pointers_are_rounded_where_sections_are_aligned_to_pages(self):
-        """Those of the sections with the numbers and the imports; what is told is the same."""
+        """Those of the sections with the numbers and the imports, whose data ends where it did; what is told is the same."""
         image = images.importer([(b"fruit.dll", [b"Apple"])], relocated=3)
-        past = images.with_parts(image, (0x15C, struct.pack("<I", 0x210)), (0x184, struct.pack("<I", 0x5FF)))
+        moved = ((at, pointer, *struct.unpack_from("<2I", image, at)) for at, pointer in ((0x158, 0x210), (0x180, 0x5FF)))
+        past = images.with_parts(image, *((at, struct.pack("<2I", size + was - pointer, pointer)) for at, pointer, size, was in moved))
         wanted, told = (succeed([built("loader"), self.written("image.exe", it), self.library]) for it in (image, past))
         self.assertEqual(told, wanted)
         self.assertIn("fruit.dll Apple: 0x180013010 in the slot at 0x2050", told)
@@ -358,7 +365,7 @@ class Loader(Case):
     def test_an_import_that_is_not_read_is_told(self):
         image = self.written("nowhere.dll", images.import_from_nowhere(BY_NAME.read_bytes()))
         status, out, said = run([built("loader"), image])
-        self.assertEqual((status, out.splitlines()[-1], said), (1, b"1 imports whose names no section maps", b""))
+        self.assertEqual((status, out.splitlines()[-1], said), (1, b"1 imports whose names nothing maps", b""))
 
     def test_what_is_not_there_is_told(self):
         self.assert_resolves([(b"fruit.dll", [9, 15, b"Banana"]), (b"nuts.dll", [1])], 1, [

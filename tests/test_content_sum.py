@@ -9,9 +9,10 @@ from tests.programs import CALLERS, CC, TOP, Case, environment, folder, need, ru
 
 RT = r"""#!/bin/sh
 kit=$(dirname "$(dirname "$(readlink -f "$0")")")
-[ "$1" = doc ] || echo "$1 $(basename "$PWD")" >> "$CALLED"
+case $1 in doc | help) ;; *) echo "$1 $(basename "$PWD")" >> "$CALLED" ;; esac
 case $1 in
 doc) echo "$kit/START-HERE.md" ;;
+help) echo "ci [--anew]" ;;
 lib) name=$(basename "$PWD"); mkdir -p "out/rlib/$name.rlib" && cat src/* > "out/rlib/$name.rlib/format" ;;
 run) mkdir -p out && { echo '#!/bin/sh'; cat src/main.rt; } > out/pe_list && chmod +x out/pe_list ;;
 ci) echo "$*" > "$CALLED.ci"; for it in crates/*; do (cd "$it" && if [ -e src/main.rt ]; then "$0" run; else "$0" lib; fi); done; echo '1 passed, 0 failed' ;;
@@ -277,11 +278,13 @@ class Lists(Tree):
         self.assertEqual([self.listed(), self.build()], [[], ["build goblin_pe_c"]])
 
     def test_a_run_of_all_tests(self):
-        """Its gate takes nothing kept where that is asked for; the tests of this repository are none of the copy's."""
+        """Its gate takes nothing kept where that is asked for, of a kit that keeps something; the tests of this repository are
+        none of the copy's."""
         python = self.kit / "bin/python3"
         python.write_text(f'#!/bin/sh\n[ "$1" = -m ] || exec "{sys.executable}" "$@"\necho "1 passed, 0 failed"\n', "ascii")
         python.chmod(0o755)
-        for words, wanted in ([], "ci\n"), (["--anew"], "ci --anew\n"):
+        for known, words, wanted in (True, [], "ci\n"), (True, ["--anew"], "ci --anew\n"), (False, ["--anew"], "ci\n"):
+            (self.kit / "bin/rt").write_text(RT if known else RT.replace(" [--anew]", ""), "ascii")
             status, out, said = run([self.top / "test", *words], env=self.env())
             self.assertEqual((status, out.decode().splitlines()[-1]), (0, "3 passed, 0 failed"), out + said)
             self.assertEqual((self.folder / "called.ci").read_text("ascii"), wanted)

@@ -8,8 +8,9 @@ import types
 import unittest
 import uuid
 
+from tests import hostile
 from tests.images import DEFAULT_STUB, sample, with_parts
-from tests.programs import CC, SAMPLES, need, package, refusal
+from tests.programs import CC, IMAGES, SAMPLES, need, package, refusal, told
 
 
 # The modes in which a row holds.
@@ -213,6 +214,34 @@ REFUSED_PARTS = (
     ("exports and base relocations", with_parts(SAMPLE, NO_RELOCATIONS, NO_EXPORTS), "EXPORTS", "NOTHING"),
 )
 
+# Files; why they are refused as a whole, in both modes; the parts of their headers that are refused, and why; and of what is there the machine, the magic, the indexes of the data directories, the names of the sections and how many are missing, and
+# how many imports and how many export addresses the walks of permissive mode give.
+ALL_PARTS = ("dos_header", "coff_header", "standard_fields", "windows_fields", "data_directories")
+CUT, PAST_END, ROM = ("READ", "TOO_BIG", 0, 0), ("READ", "BAD_OFFSET", 0, 0), ("BAD_MAGIC", 0, 0x107, 0)
+NO_IMAGE = ("MALFORMED", "DOS_MAGIC", 0x6F6E, 0)
+PARTS = (
+    ("a sound file", SAMPLE, None, {}, (0x14C, 0x10B, [0, 1], [b".rdata"], 0, 2, 2)),
+    ("seventeen data directories", with_parts(SAMPLE, (0xB4, b"\x11")), ("MALFORMED", "DIRECTORY_COUNT", 17, 0), {},
+     (0x14C, 0x10B, [0, 1], [b".rdata"], 0, 2, 2)),
+    ("as many as a number can say", with_parts(SAMPLE, (0xB4, b"\xFF" * 4)), ("MALFORMED", "DIRECTORY_COUNT", 0xFFFFFFFF, 0), {},
+     (0x14C, 0x10B, [0, 1], [b".rdata"], 0, 2, 2)),
+    ("the magic of a ROM image", with_parts(SAMPLE, (0x58, b"\x07\x01")), ROM, dict.fromkeys(ALL_PARTS[2:], ROM),
+     (0x14C, None, [], [b".rdata"], 0, 0, 0)),
+    ("a section whose name is a slash and no number", with_parts(SAMPLE, (TABLE, b"/abc\0\0")), ("MALFORMED", "NAME_DECIMAL", 0, 0), {},
+     (0x14C, 0x10B, [0, 1], [b"/abc"], 0, 2, 2)),
+    # (eleven records lie between the table's place and the end of the file, of which the later ones are no sections)
+    ("nineteen sections, of which eleven are there", with_parts(SAMPLE, (0x46, b"\x13")), CUT, {},
+     (0x14C, 0x10B, [0, 1], [b".rdata", *[None] * 10], 8, 2, 2)),
+    ("a cut section table", SAMPLE[:TABLE_END - 1], CUT, {}, (0x14C, 0x10B, [0, 1], [], 1, 0, 0)),
+    ("a header that is cut in its data directories", SAMPLE[:TABLE - 1], CUT, {"data_directories": CUT},
+     (0x14C, 0x10B, [], [], 1, 0, 0)),
+    ("one that is cut in its Windows fields", SAMPLE[:0xB7], CUT, dict.fromkeys(ALL_PARTS[3:], CUT), (0x14C, 0x10B, [], [], 1, 0, 0)),
+    ("one that is cut in its standard fields", SAMPLE[:0x73], CUT, {"standard_fields": CUT, **dict.fromkeys(ALL_PARTS[3:], PAST_END)},
+     (0x14C, None, [], [], 1, 0, 0)),
+    ("one that is cut in its COFF header", SAMPLE[:0x57], CUT, dict.fromkeys(ALL_PARTS[1:], CUT), (0, None, [], [], 0, 0, 0)),
+    ("no image", b"no image", NO_IMAGE, dict.fromkeys(ALL_PARTS, NO_IMAGE), (0, None, [], [], 0, 0, 0)),
+)
+
 # What reads a file, the file, and the sentence by which it is refused, as goblin says it, so that logs can be searched for it.
 SENTENCES = [
     ("Pe", with_parts(bytes(64), (0, b"MZ"), (0x3C, b"\x3C\xFF")), "cannot parse PE header signature (offset 0xff3c)"),
@@ -341,8 +370,71 @@ class RefusedParts(unittest.TestCase):
             for mode, part in zip(BOTH, wanted):
                 with self.subTest(name, mode=mode):
                     how = package().Options(is_permissive=mode == "permissive")
-                    self.assertEqual(package().refused_part(file, how), package().RefusedPart[part])
-                    self.assertEqual(refusal(read, file, mode) is None, part == "NOTHING")
+                    if part == "NOTHING":
+                        package().Pe(file, how)
+                        continue
+                    with self.assertRaises(package().Refused) as caught:
+                        package().Pe(file, how)
+                    self.assertEqual(caught.exception.part.name, part)
+
+
+class Parts(unittest.TestCase):
+    def test_each_part_is_given_or_refused_by_itself(self):
+        for name, file, refused, parts, wanted in PARTS:
+            for mode in BOTH:
+                with self.subTest(name, mode=mode):
+                    found = package().Parts(file, package().Options(is_permissive=mode == "permissive"))
+                    self.assertEqual(found.refusal and told(found.refusal), refused)
+                    self.assertEqual({part: told(why) for part, why in found.refused_parts.items()}, parts)
+                    magic = found.optional_header and found.optional_header.standard_fields.magic
+                    names = [s.name for s in found.sections]
+                    self.assertEqual((found.coff_header.machine, magic, list(found.data_directories), len(names), found.missing_sections),
+                                     (*wanted[:3], len(wanted[3]), wanted[4]))
+                    self.assertEqual([it for it, own in zip(names, wanted[3]) if own], [own for own in wanted[3] if own])
+
+    def test_the_tables_of_a_refused_file_are_walked(self):
+        for name, file, _, _, wanted in PARTS:
+            with self.subTest(name):
+                found = package().Parts(file, package().Options(is_permissive=True))
+                self.assertEqual((len(list(found.walk_imports())), len(list(found.walk_export_addresses()))), wanted[5:])
+
+    def test_the_parts_of_a_sound_header_are_its_own(self):
+        for sample_of in IMAGES:
+            file = sample_of.read_bytes()
+            with self.subTest(sample_of.name):
+                found, layout = package().Parts(file), package().Layout(file)
+                for part in ("dos_header", "coff_header", "optional_header", "data_directories"):
+                    self.assertEqual(getattr(found, part), getattr(layout, part))
+                self.assertEqual((found.refusal, found.refused_parts, found.missing_sections), (None, {}, 0))
+                self.assertEqual([s[1:] for s in found.sections], [s[1:] for s in layout.sections])
+                self.assertEqual(list(found.walk_imports()), list(layout.walk_imports()))
+
+    def test_of_damaged_files_they_say_what_a_layout_says(self):
+        """Where a layout is read, the parts are its parts; where it is refused, that is the refusal."""
+        refused = 0
+        for index, file in enumerate(hostile.files()):
+            for how in (package().Options(is_permissive=it, raw_section_names=it) for it in (False, True)):
+                with self.subTest(index, how=how):
+                    found = package().Parts(file, how)
+                    self.assertEqual(found.refusal and told(found.refusal), refusal(package().Layout, file, how))
+                    refused += bool(found.refusal)
+                    if found.refusal is None:
+                        layout = package().Layout(file, how)
+                        for part in ("dos_header", "coff_header", "optional_header", "data_directories"):
+                            self.assertEqual(getattr(found, part), getattr(layout, part))
+                        self.assertEqual((found.refused_parts, found.missing_sections), ({}, 0))
+                        self.assertEqual([s.virtual_address for s in found.sections], [s.virtual_address for s in layout.sections])
+        self.assertGreater(refused, 100)
+
+    def test_raw_names_of_sections_refuse_no_file(self):
+        file = with_parts(SAMPLE, (TABLE, b"/abc\0\0"))
+        how = package().Options(raw_section_names=True)
+        self.assertEqual(refusal(package().Layout, file), ("MALFORMED", "NAME_DECIMAL", 0, 0))
+        self.assertEqual([s.name for s in package().Layout(file, how).sections], [b"/abc"])
+        self.assertEqual(refusal(package().Pe, file, how), ("MALFORMED", "NAME_DECIMAL", 0, 0))
+        self.assertEqual([s.name for s in package().Layout(NAMED_ELSEWHERE, how).sections], [b"/640"])
+        self.assertEqual(package().Parts(file, how).refusal, None)
+        self.assertEqual(refusal(package().Layout, SAMPLE[:TABLE_END - 1], how), ("READ", "TOO_BIG", 0, 0))
 
 
 class Written(unittest.TestCase):

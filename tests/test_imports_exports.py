@@ -323,6 +323,22 @@ class WholeFiles(Read):
         self.assertEqual(list(pe.export_addresses), [(1, 0x1010, False), (2, 0x10E0, True)])
         self.assertEqual(list(pe.walk_export_addresses()), [(1, 0x1010, False, None), (2, 0x10E0, True, (b"b", 12))])
 
+    def test_addresses_are_read_without_the_names(self):
+        """More name pointers are counted than the file has bytes: the exports are refused, and an ordinal is found all the same."""
+        data = sample((0x2B8, b"\x01\x03"))
+        for how in modes():
+            layout = package().Layout(data, how)
+            with self.subTest(how=how):
+                self.assertEqual(list(layout.walk_export_addresses()), [(1, 0x1010, False, None), (2, 0x10E0, True, (b"b", 12))])
+                self.assertEqual((layout.name, layout.export_directory.table[7]), (b"a.dll", 769))
+                self.assertEqual(layout.find_export_by_ordinal(1), (1, 0x1010, False, None))
+                self.assertEqual(layout.damage.exports and layout.damage.exports.first, 769)
+        self.assert_refused(data, ("BUFFER_TOO_SHORT", "NAME_POINTERS", 769, 0))
+        pe = read(data, is_permissive=True)
+        self.assertEqual((pe.export_table, pe.exports, pe.export_addresses), (package().State.REFUSED, (), ()))
+        more = package().Layout(sample((0x2B4, b"\x01\x03"), (0x2B8, b"\x01\x03")))
+        self.assertEqual(refusal(lambda: next(more.walk_export_addresses())), ("BUFFER_TOO_SHORT", "ADDRESS_TABLE_ENTRIES", 769, 0))
+
     def test_an_export_directory_that_passes_the_window_of_its_section(self):
         """It begins 8 bytes before the window's end, and the next window stands elsewhere in the file: no address within the
         record but its first leads to the record. Its ordinal base is 100."""
@@ -358,11 +374,59 @@ class WholeFiles(Read):
         self.assertEqual((pe.export_table, pe.exports), (package().State.REFUSED, ()))
 
 
+class InTheHeaders(Read):
+    """Names and tables in the headers, which the Windows loader maps and goblin does not: what strict mode refuses by goblin's view
+    and what both modes list then, and what by the loader's."""
+
+    def views(self, *changes):
+        """The sample whose headers have 0x200 bytes, with these changes, in permissive mode in both views."""
+        data = sample((0x94, struct.pack("<I", 0x200)), *changes)
+        return data, read(data, is_permissive=True), read(data, is_permissive=True, raw_pointer_rule="AS_LOADED")
+
+    def test_the_name_of_an_import(self):
+        data, goblin, loader = self.views((0x240, b"\xA0\x01\0\0"), (0x1A0, b"\0\0VirtualAlloc\0"))
+        hidden = (b"a.dll", b"VirtualAlloc", 0, 0x1060, 0x1A0, 0, 0)
+        self.assert_imports(goblin, [SEVEN])
+        self.assert_imports(loader, [hidden, SEVEN])
+        self.assertEqual((goblin.damage.unmapped_entries, loader.damage.unmapped_entries), (1, 0))
+        self.assert_imports(read(data, raw_pointer_rule="AS_LOADED"), [hidden, SEVEN])
+        self.assertEqual((loader.find_offset(0x1A0), loader.find_rva(0x1A0), goblin.find_offset(0x1A0)), (0x1A0, 0x1A0, None))
+        self.assertEqual((loader.text_at(0x1A2), loader.memory_at(0x1A2, 12)), (b"VirtualAlloc", (b"VirtualAlloc", 0)))
+        self.assertEqual((loader.find_offset(0x1FF), loader.find_offset(0x200), loader.section_at(0x1A0)), (0x1FF, None, None))
+
+    def test_an_import_directory(self):
+        data, goblin, loader = self.views((0xC0, struct.pack("<2I", 0x170, 40)), (0x170, RECORD))
+        self.assert_imports(goblin, [])
+        self.assert_imports(loader, [GO, SEVEN])
+        self.assertEqual(refusal(read, data), ("MALFORMED", "UNMAPPED", 0x170, 0))
+        self.assertEqual(told(goblin.damage.imports), ("MALFORMED", "UNMAPPED", 0x170, 0))
+        self.assertIsNone(loader.damage.imports)
+        self.assert_imports(read(data, raw_pointer_rule="AS_LOADED"), [GO, SEVEN])
+
+    def test_the_names_of_a_library_and_of_an_export(self):
+        _, goblin, loader = self.views((0x20C, b"\xB0\x01\0\0"), (0x2D0, b"\xB8\x01\0\0"), (0x1B0, b"b.dll\0\0\0g\0"))
+        self.assertEqual([x.dll for x in loader.imports], [b"b.dll", b"b.dll"])
+        self.assertNotIn(b"b.dll", [x.dll for x in goblin.imports])
+        self.assertEqual([x.name for x in loader.walk_exports()], [b"g", b"a.dll"])
+        self.assertEqual([x.name for x in goblin.walk_exports()], [None, b"a.dll"])
+
+    def test_files_that_agree_on_the_footprint_are_read_alike(self):
+        data, goblin, loader = self.views((0x240, b"\xA0\x01\0\0"), (0x1A0, b"\0\0VirtualAlloc\0"))
+        name = range(0x1A0, 0x1A0 + 15)
+        for pe, is_in in ((goblin, False), (loader, True)):
+            positions = {p for it in pe.footprint() for p in range(it.offset, it.offset + it.length)}
+            self.assertEqual(positions & set(name), set(name) if is_in else set())
+            other = bytes(it if p in positions else it ^ 0xFF for p, it in enumerate(data))
+            how = {} if pe is goblin else {"raw_pointer_rule": "AS_LOADED"}
+            again = read(other, is_permissive=True, **how)
+            self.assertEqual((again.imports, again.exports), (pe.imports, pe.exports))
+
+
 class OverlappingSections(Read):
     """Each reader takes what stands where find_offset says: in the first section that has the address."""
 
     def test_sections_in_many_orders(self):
-        for rule in ("AS_STORED", "ROUNDED_TO512", "BY_FILE_ALIGNMENT"):
+        for rule in ("AS_STORED", "ROUNDED_TO512", "AS_LOADED"):
             for where, before, after in OTHERS:
                 for name, two, held in ORDERS:
                     with self.subTest(name, others=where, rule=rule):

@@ -8,7 +8,7 @@ from tests.programs import CALLERS, TOP, library, need, run, with_memory
 # Kibibytes of address space, most of it for Python and the file.
 ROOM = 400 << 10
 # The rows of limits.py: milliseconds of processor time, ten times what was measured; and how many sections, symbols, exports or
-# imports there are, 1 where there are ranges, and 0 where there is no damage.
+# imports there are, 1 where there are ranges, and 0 where there is no damage; of exports within steps, how many were taken.
 ROWS = [
     ("an object of one long name", 4500, 13107),
     ("an object of one long name, without room", 50, 13107),
@@ -22,6 +22,8 @@ ROWS = [
     ("imports that are all left out", 10000, 0),
     ("imports that are all left out, within steps", 50, 0),
     ("libraries that are all left out, within steps", 50, 0),
+    ("name pointers without an export, within steps", 50, 100000),
+    ("a walk over imports of one long name, within steps", 100, 0),
     ("many batches of one library", 1000, 1048433),
     ("a batch of many sections", 250, 256),
 ]

@@ -232,6 +232,8 @@ class Triage(Case):
         self.written("damaged.dll", images.with_directory(BY_NAME.read_bytes(), 0, 0x9000, 40))
         self.written("empty.dll", b"")
         self.written("refused.dll", b"MZ" + bytes(100))
+        data = BY_NAME.read_bytes()
+        self.written("seventeen.dll", images.with_parts(data, (data.index(b"PE\0\0") + 24 + 108, b"\x11")))
         self.written("object.obj", OBJECTS[0].read_bytes())
         self.written("hostile.dll", images.own_tables(1609))
         self.written("names.dll", images.pointers_to_one_name(150000))
@@ -247,10 +249,39 @@ class Triage(Case):
                          [{"left_out_libraries": 1, "left_out_entries": 1}, {"unmapped_entries": 1}])
         self.assertEqual((list(found["damaged.dll"]["damage"]), found["damaged.dll"]["exports"]), (["exports"], 0))
         self.assertEqual(found["empty.dll"], {"kind": "unknown"})
-        self.assertEqual(found["refused.dll"], {"refused": "the DOS header leads to 0x5a4d in place of the PE signature"})
+        refused = found["refused.dll"]
+        self.assertEqual(refused["refused"], "the DOS header leads to 0x5a4d in place of the PE signature")
+        self.assertEqual((set(refused["refused_parts"].values()), len(refused["refused_parts"])), ({refused["refused"]}, 5))
+        seventeen, sound = found["seventeen.dll"], found["unmapped.dll"]
+        self.assertEqual((seventeen["refused"], seventeen["refused_parts"]), ("there are 17 data directories, more than sixteen", {}))
+        self.assertEqual((seventeen["libraries"], seventeen["sections"]), ({"kernel32.dll": 1}, sound["sections"]))
         self.assertEqual(found["object.obj"], {"kind": "object"})
         self.assertEqual((sum(found["hostile.dll"]["libraries"].values()), found["hostile.dll"]["imphash"]), (100000, None))
         self.assertEqual(found["names.dll"]["exports"], 100000)
+        self.assertEqual([found[it]["cut_off"] for it in ("hostile.dll", "names.dll", "unmapped.dll")], [["imports"], ["exports"], []])
+
+    def test_dead_entries_stop_at_the_steps(self):
+        """A walk over all of them, and over what is left out of the imports, takes a minute and more."""
+        package()
+        limits = importlib.import_module("tests.limits")
+        for name in "imports that are all left out, within steps", "libraries that are all left out, within steps":
+            self.written(name, limits.ROWS[name][1]())
+        for it in self.triaged().values():
+            self.assertEqual((it["cut_off"], it["imphash"], it["libraries"], it["damage"]), (["imports"], None, {}, {}))
+
+    def test_what_only_one_view_has_of_the_imports(self):
+        """The name of an import lies in the headers, which the loader maps; or the raw pointer is rounded, and the imports lie there."""
+        size = (0x94, struct.pack("<I", 0x200))
+        self.written("name.dll", images.sample(size, (0x240, b"\xA0\x01\0\0"), (0x1A0, b"\0\0VirtualAlloc\0")))
+        self.written("seventeen.dll", images.sample(
+            size, (0xB4, b"\x11"), (0x240, b"\xA0\x01\0\0"), (0x1A0, b"\0\0VirtualAlloc\0")))
+        self.written("rounded.dll", images.sample((0x14C, struct.pack("<I", 0x210))))
+        self.written("plain.dll", BY_NAME.read_bytes())
+        found = self.triaged()
+        self.assertEqual((found["rounded.dll"]["only_loaded"], found["rounded.dll"]["libraries"]), (["a.dll Go", "a.dll #7"], {}))
+        for name in "name.dll", "seventeen.dll":
+            self.assertEqual((found[name]["in_headers"], "only_loaded" in found[name]), (["a.dll VirtualAlloc"], False))
+        self.assertEqual(set(found["plain.dll"]) & {"only_loaded", "never_loaded", "in_headers"}, set())
 
 
 def told_of_others(pefile, path):
@@ -387,7 +418,7 @@ class Package(Case):
                           found["imphash"]), (0x8664, 40, None, "27abfd9cfda7519d5efb3f08a2a4f3ce"))
         self.assertEqual(refused, {"file": str(image), "refused": {
             "text": "the file begins with 0x6f6e in place of the DOS signature", "status": "MALFORMED", "cause": "DOS_MAGIC",
-            "first": 0x6F6E, "second": 0}})
+            "first": 0x6F6E, "second": 0, "part": "HEADER"}})
         self.assertEqual(failed["file"], str(lost))
         self.assertIn("No such file", failed["error"])
         found = json.loads(succeed([*LISTS, "--json", "--symbols", OBJECTS[0]], env=self.env))

@@ -105,7 +105,7 @@ HIGH = (0x1000, 0x200, 0x200, 0x800)
 LESS_DATA_THAN_MEMORY = (0x1000, 0x600, 0x400, 0x200)
 AT_NO_MULTIPLE = (0x1000, 0x100, 0x100, 0x210)
 WITHOUT_DATA = (0x1FB000, 0x28590, 0, 0)
-ROUNDED, BY_ALIGNMENT = ({"raw_pointer_rule": name} for name in ("ROUNDED_TO512", "BY_FILE_ALIGNMENT"))
+ROUNDED, AS_LOADED = ({"raw_pointer_rule": name} for name in ("ROUNDED_TO512", "AS_LOADED"))
 AS_OFFSETS = {"resolve_rva": False}
 # Sections, the file alignment, options, an address, and its offset in the file.
 OFFSETS = [
@@ -123,10 +123,10 @@ OFFSETS = [
     ([AT_NO_MULTIPLE], 0x200, ROUNDED, 0x11FF, 0x3FF),
     ([AT_NO_MULTIPLE], 0x200, ROUNDED, 0x1200, None),
     ([AT_NO_MULTIPLE], 0x100, ROUNDED, 0x1000, 0x200),
-    ([AT_NO_MULTIPLE], 0x200, BY_ALIGNMENT, 0x1000, 0x200),
-    ([AT_NO_MULTIPLE], 0x1000, BY_ALIGNMENT, 0x1001, 0x201),
-    ([AT_NO_MULTIPLE], 0x100, BY_ALIGNMENT, 0x1000, 0x210),
-    ([AT_NO_MULTIPLE], 0, BY_ALIGNMENT, 0x1000, None),
+    ([AT_NO_MULTIPLE], 0x200, AS_LOADED, 0x1000, 0x200),
+    ([AT_NO_MULTIPLE], 0x1000, AS_LOADED, 0x1001, 0x201),
+    ([AT_NO_MULTIPLE], 0x100, AS_LOADED, 0x1000, 0x210),
+    ([AT_NO_MULTIPLE], 0, AS_LOADED, 0x1000, None),
     ([WIDE], 0, AS_OFFSETS, 0x1100, 0x1100),
     ([NARROW, WIDE], 0x200, {}, 0, None),
     ([NARROW, WIDE], 0x200, {}, 0xFFF, None),
@@ -163,22 +163,22 @@ ADDRESSES = [
 IN_MEMORY = [(0x1000, 16, 6, 0x210), (0x2000, 4, 6, 0x210), (0x3000, 0, 6, 0x210), (0x4000, 8, 0, 0), (0x5000, 8, 8, 0x210)]
 SEEN = [
     (0x1000, 16, (b"stored", 10)), (0x1002, 3, (b"ore", 0)), (0x1004, 4, (b"ed", 2)), (0x1006, 10, (b"", 10)), (0x100F, 1, (b"", 1)),
-    (0x1000, 0, (b"", 0)), (0x1000, 17, None), (0x100F, 2, None), (0x1010, 0, None), (0xFFF, 1, None),
-    (0x2000, 4, (b"stor", 0)), (0x2000, 5, None), (0x2004, 1, None), (0x3000, 6, (b"stored", 0)), (0x3000, 7, None),
-    (0x4000, 8, (b"", 8)), (0x5000, 6, (b"stored", 0)), (0x5000, 7, None), (0x5000, 8, None),
+    (0x1000, 0, (b"", 0)), (0x1000, 0x200, (b"stored", 0x1FA)), (0x1000, 0x201, None), (0x1200, 0, None), (0xFFF, 1, None),
+    (0x2000, 4, (b"stor", 0)), (0x2004, 3, (b"ed", 1)), (0x3000, 6, (b"stored", 0)), (0x3000, 7, (b"stored", 1)),
+    (0x4000, 8, (b"", 8)), (0x4000, 9, None), (0x5000, 6, (b"stored", 0)), (0x5000, 7, None), (0x5000, 8, None),
 ]
 # The first bytes that are seen there, of which fewer may be there: where the memory of the section ends, or the file.
 AVAILABLE = [
-    (0x1000, 3, (b"sto", 0)), (0x1000, 99, (b"stored", 10)), (0x1004, 99, (b"ed", 10)), (0x1006, 4, (b"", 4)), (0x100F, 2, (b"", 1)),
-    (0x1000, 0, (b"", 0)), (0x1010, 1, None), (0xFFF, 2, None), (0x2000, 99, (b"stor", 0)), (0x3000, 2 ** 64 - 1, (b"stored", 0)),
-    (0x4000, 99, (b"", 8)), (0x5000, 8, (b"stored", 0)), (0x5007, 1, (b"", 0)),
+    (0x1000, 3, (b"sto", 0)), (0x1000, 99, (b"stored", 93)), (0x1004, 0x1FC, (b"ed", 0x1FA)), (0x1006, 4, (b"", 4)),
+    (0x11FF, 2, (b"", 1)), (0x1000, 0, (b"", 0)), (0x1200, 1, None), (0xFFF, 2, None), (0x2000, 4, (b"stor", 0)),
+    (0x3000, 2 ** 64 - 1, (b"stored", 0x1FA)), (0x4000, 99, (b"", 8)), (0x5000, 8, (b"stored", 0)), (0x5007, 1, (b"", 0)),
 ]
-# Where addresses of such sections and of 0x200 bytes of headers lie, and in which section: among the zeros are those that the
-# windows do not hold, and no place is after a section's memory.
+# Where addresses of such sections and of 0x200 bytes of headers lie, and in which section: among the zeros are those of the windows
+# that the file does not have, and no place is after a section's memory.
 REGIONS = [
     (0, "HEADERS", None), (0x1FF, "HEADERS", None), (0x200, "NOWHERE", None), (0xFFF, "NOWHERE", None), (0x1000, "STORED", 0),
-    (0x1005, "STORED", 0), (0x1006, "ZEROS", 0), (0x100F, "ZEROS", 0), (0x1010, "NOWHERE", None), (0x3005, "STORED", 2),
-    (0x3006, "NOWHERE", None), (0x4000, "ZEROS", 3), (0x5007, "STORED", 4), (2 ** 64 - 1, "NOWHERE", None),
+    (0x1005, "STORED", 0), (0x1006, "ZEROS", 0), (0x100F, "ZEROS", 0), (0x11FF, "ZEROS", 0), (0x1200, "NOWHERE", None),
+    (0x3005, "STORED", 2), (0x3006, "ZEROS", 2), (0x4000, "ZEROS", 3), (0x5007, "STORED", 4), (2 ** 64 - 1, "NOWHERE", None),
 ]
 # Of a section the virtual size, the raw size, the raw pointer and the flags; and its data in a file of 0x300 bytes, by how many
 # bytes it has from where on and how many zeros follow, None where it is refused; and the data as far as the file has it.
@@ -437,6 +437,30 @@ class Tables(unittest.TestCase):
         self.assertEqual(pe.memory_at(0x1000, 16), (b"", 16))
         self.assertEqual(pe.region_of(0x1000), (package().Region.ZEROS, pe.sections[0]))
         self.assertEqual(pe.memory_at(0x2000, 16), (b"stored\0\0", 8))
+
+    def test_what_is_seen_at_an_address_is_what_stands_at_its_offset(self):
+        """Also up to the end of data whose raw pointer, 0x10, is rounded down, as packers make it; a loader sees the headers, too."""
+        file = with_sections([(0x1000, 0x1000, 0x3F0, 0x10)])
+        struct.pack_into("<I", file, 0x94, 0x200)  # (size_of_headers)
+        file += bytes(range(1, 101)) * 7
+        file = file[:0x3FC] + b"last"
+        for how, front in (({}, None), (ROUNDED, None), (AS_LOADED, 0)):
+            pe = package().Pe(file, options(**how))
+            for rva in (0, 0x1FF, 0x200, 0xFFF, 0x1000, 0x100F, *range(0x13E0, 0x1420), 0x1FFF, 0x2000):
+                offset = pe.find_offset(rva)
+                with self.subTest(rva=hex(rva), **how):
+                    if rva < 0x200:
+                        self.assertEqual(offset, None if front is None else rva)
+                        self.assertEqual(pe.region_of(rva), (package().Region.HEADERS, None))
+                    if offset is not None and offset < len(file):
+                        self.assertEqual(pe.memory_at(rva, 1), (file[offset:][:1], 0))
+                        self.assertEqual(pe.available_at(rva, 1), (file[offset:][:1], 0))
+                        self.assertEqual(pe.bytes_at(rva, 1), file[offset:][:1])
+                        if rva >= 0x1000:
+                            self.assertEqual(pe.region_of(rva)[0], package().Region.STORED)
+            if how:
+                self.assertEqual(pe.memory_at(0x13FC, 8), (b"last", 4))
+                self.assertEqual(pe.section_data(pe.sections[0]), (file, 0x1000 - len(file)))
 
     def test_what_stands_at_an_address(self):
         for data, rva, size, text, wanted in CONTENTS:

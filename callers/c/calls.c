@@ -169,7 +169,7 @@ static bool is_told(void)
     struct goblin_pe_tables tables;
     char text[GOBLIN_PE_FAULT_ROOM];
     struct goblin_pe_fault refused = goblin_pe_open(NULL, 0, NULL, &file, NULL, 0, &tables);
-    struct goblin_pe_fault longest = { GOBLIN_PE_STATUS_MALFORMED, 0, UINT64_MAX, UINT64_MAX };
+    struct goblin_pe_fault longest = { GOBLIN_PE_STATUS_MALFORMED, 0, UINT64_MAX, UINT64_MAX, 0, 0 };
     bool is_right = !strcmp(goblin_pe_fault_string(&refused, text), "the file is too short for the DOS signature");
     for (; longest.cause < 100; longest.cause++) {
         uint8_t bare[160];
@@ -199,6 +199,26 @@ static bool is_laid_out(const struct goblin_pe_file *file, const struct goblin_p
            !memcmp(&layout.coff_header, &file->coff_header, sizeof layout.coff_header) &&
            layout.places.section_table == goblin_pe_section_table(file) &&
            file->places.section_table == layout.places.section_table;
+}
+
+/* Whether the parts of a header that can be read are the header's, and those of a cut one are there. */
+static bool is_parted(const struct goblin_pe_file *file, const struct goblin_pe_tables *tables)
+{
+    static struct goblin_pe_section sections[100];
+    struct goblin_pe_directory directories[16];
+    struct goblin_pe_parts parts, none;
+    if (!goblin_pe_read_parts(bytes, length, NULL, &parts, directories, 16, sections, 100) ||
+        goblin_pe_read_parts(bytes, 1, NULL, &none, NULL, 0, NULL, 0))
+        return false;
+    for (size_t i = 0; i < parts.sections && i < 100; i++)
+        if (sections[i].virtual_address != tables->sections[i].virtual_address || sections[i].has_real_name)
+            return false;
+    struct goblin_pe_image image = goblin_pe_image_of_parts(bytes, length, NULL, &parts, sections);
+    return are_mapped(&image, 0x1000) && parts.sections == file->sections && !parts.missing_sections &&
+           parts.directories == file->directories && parts.places.section_table == file->places.section_table &&
+           !memcmp(&parts.coff_header, &file->coff_header, sizeof parts.coff_header) &&
+           is_ok(parts.dos_header_fault) && is_ok(parts.directories_fault) && !none.sections && !none.directories &&
+           none.refusal.status == GOBLIN_PE_STATUS_MALFORMED && none.coff_header_fault.status == none.refusal.status;
 }
 
 /* Whether calls by places that are not those of the image answer what these lead to. */
@@ -238,13 +258,13 @@ static bool goes_by_places(const struct goblin_pe_places *own)
            is_ok(goblin_pe_read_export_directory(bytes, length, NULL, &places, &directory)) && !directory.is_read;
 }
 
-/* Whether an image that was opened is refused for no part, and has its checksum where its header says. */
+/* Whether an image that was opened has its checksum where its header says, and its front is refused for its header. */
 static bool has_checksum(const struct goblin_pe_file *file)
 {
     size_t field = file->dos_header.pe_pointer + (size_t)88;
-    uint32_t part = 7, sum = 7;
-    return is_ok(goblin_pe_refused_part_of(bytes, length, NULL, &part)) && part == GOBLIN_PE_REFUSED_PART_NOTHING &&
-           is_ok(goblin_pe_refused_part_of(bytes, 2, NULL, &part)) && part == GOBLIN_PE_REFUSED_PART_HEADER &&
+    uint32_t sum = 7;
+    struct goblin_pe_layout layout;
+    return goblin_pe_read_layout(bytes, 2, NULL, &layout, NULL, 0, NULL, 0).part == GOBLIN_PE_REFUSED_PART_HEADER &&
            !goblin_pe_file_checksum(bytes, 2, NULL, &sum) && sum == 7 &&
            goblin_pe_file_checksum(bytes, length, NULL, &sum) && sum == goblin_pe_checksum(bytes, length, field);
 }
@@ -257,7 +277,7 @@ static bool is_image(void)
     if (!is_sound() || !is_ok(goblin_pe_open(bytes, length, NULL, &file, directories, 16, &tables)))
         return false;
     struct goblin_pe_image image = goblin_pe_image_of(bytes, length, NULL, &file, &tables);
-    bool is_right = is_laid_out(&file, &tables) && has_symbols(&file.coff_header) && has_checksum(&file) &&
+    bool is_right = is_laid_out(&file, &tables) && is_parted(&file, &tables) && has_symbols(&file.coff_header) && has_checksum(&file) &&
                     are_mapped(&image, 0) && are_mapped(&image, SIZE_MAX) && goes_by_places(&file.places);
     for (size_t i = 0; i < tables.section_count; i++)
         is_right &= are_mapped(&image, tables.sections[i].virtual_address) &&
@@ -305,9 +325,9 @@ static bool sets_names(void)
    one begins where the options say. */
 static bool maps_by_records_of_zeros(void)
 {
-    static uint8_t file[0x800];
+    static uint8_t file[0x834];
     struct goblin_pe_section sections[2];
-    struct goblin_pe_image image = { { file, sizeof file }, sections, 2, 0x200, GOBLIN_PE_DEFAULT_OPTIONS };
+    struct goblin_pe_image image = { { file, sizeof file }, sections, 2, 0x200, 0x400, GOBLIN_PE_DEFAULT_OPTIONS };
     struct goblin_pe_section_data data;
     struct goblin_pe_text text = { file, 77 }, found;
     struct goblin_pe_fault fault;
@@ -330,7 +350,7 @@ static bool maps_by_records_of_zeros(void)
     return goblin_pe_find_offset(&image, 0x2034, &offset) && offset == 0x634 &&
            is_ok(goblin_pe_bytes_at(&image, 0x2034, 5, &found)) && found.bytes == file + 0x634 &&
            found.length == 5 && is_ok(goblin_pe_read_section_data(&image, &sections[1], &data)) &&
-           data.bytes.bytes == file + 0x600 && data.bytes.length == 0x200 && !data.zeros;
+           data.bytes.bytes == file + 0x600 && data.bytes.length == 0x234 && !data.zeros;
 }
 
 /* Whether an address lies in the memory of a section, also among its zeros, exactly where a loader sees something. */
@@ -339,7 +359,7 @@ static bool is_in_memory(const struct goblin_pe_image *image)
     struct goblin_pe_section_data seen;
     for (size_t rva = 0xF00; rva < 0x1400; rva++) {
         size_t index = 7;
-        uint32_t region = goblin_pe_region_of(image, 0x400, rva, &index);
+        uint32_t region = goblin_pe_region_of(image, rva, &index);
         bool is_there = region == GOBLIN_PE_REGION_STORED || region == GOBLIN_PE_REGION_ZEROS;
         if (is_there != (rva >= 0x1000 && rva < 0x1300) || index != (is_there ? 0 : 7) ||
             is_there != is_ok(goblin_pe_memory_at(image, rva, 1, &seen)))
@@ -354,7 +374,7 @@ static bool looks_up(void)
 {
     static uint8_t file[0x800];
     struct goblin_pe_section section;
-    struct goblin_pe_image image = { { file, sizeof file }, &section, 1, 0x200, GOBLIN_PE_DEFAULT_OPTIONS };
+    struct goblin_pe_image image = { { file, sizeof file }, &section, 1, 0x200, 0x400, GOBLIN_PE_DEFAULT_OPTIONS };
     struct goblin_pe_section_data seen = { { file, 77 }, 77 };
     struct goblin_pe_forwarder forwarder;
     size_t rva = 7, index = 7;
@@ -386,13 +406,46 @@ static bool looks_up(void)
            forwarder.lib.length == 5;
 }
 
+/* Whether the headers are mapped in the loader's view alone, and what a loader sees is what stands at the offset, also
+   at the end of data whose raw pointer is rounded. */
+static bool maps_as_loaded(void)
+{
+    static uint8_t file[0x400];
+    struct goblin_pe_section section;
+    struct goblin_pe_image image = { { file, sizeof file }, &section, 1, 0x200, 0x200, GOBLIN_PE_DEFAULT_OPTIONS };
+    struct goblin_pe_section_data seen, data;
+    struct goblin_pe_text text;
+    size_t offset = 7, rva = 7, index = 7;
+    memset(&section, 0, sizeof section);
+    section.virtual_address = section.virtual_size = 0x1000;
+    section.size_of_raw_data = 0x3F0;
+    section.pointer_to_raw_data = 0x10;
+    memcpy(file + 0x40, "VirtualAlloc", 13);
+    memcpy(file + 0x3FC, "last", 4);
+    if (goblin_pe_find_offset(&image, 0x40, &offset) || goblin_pe_find_rva(&image, 0x8, &rva) || offset != 7 || rva != 7 ||
+        is_ok(goblin_pe_memory_at(&image, 0x40, 1, &seen)))
+        return false;
+    image.options.raw_pointer_rule = GOBLIN_PE_RAW_POINTER_RULE_AS_LOADED;
+    if (!goblin_pe_find_offset(&image, 0x40, &offset) || offset != 0x40 || goblin_pe_section_at(&image, 0x40, &index) ||
+        !is_ok(goblin_pe_text_at(&image, 0x40, &text)) || text.bytes != file + 0x40 || text.length != 12 ||
+        !is_ok(goblin_pe_memory_at(&image, 0x40, 12, &seen)) || seen.bytes.bytes != file + 0x40 || seen.zeros)
+        return false;
+    if (goblin_pe_region_of(&image, 0x1FF, &index) != GOBLIN_PE_REGION_HEADERS ||
+        goblin_pe_region_of(&image, 0x200, &index) != GOBLIN_PE_REGION_NOWHERE || index != 7)
+        return false;
+    return is_ok(goblin_pe_memory_at(&image, 0x13FC, 4, &seen)) && seen.bytes.bytes == file + 0x3FC && !seen.zeros &&
+           is_ok(goblin_pe_bytes_at(&image, 0x13FC, 4, &text)) && text.bytes == file + 0x3FC &&
+           is_ok(goblin_pe_read_section_data(&image, &section, &data)) && data.bytes.bytes == file &&
+           data.bytes.length == 0x400 && goblin_pe_region_of(&image, 0x13FC, &index) == GOBLIN_PE_REGION_STORED && !index;
+}
+
 /* Whether an address has its region and the first bytes that are there, and the data of a section is given as far as
    the file has it, of sections whose records a caller made: one of uninitialized data is all zeros. */
 static bool tells_what_is_there(void)
 {
     static uint8_t file[0x480];
     struct goblin_pe_section sections[2];
-    struct goblin_pe_image image = { { file, sizeof file }, sections, 2, 0x200, GOBLIN_PE_DEFAULT_OPTIONS };
+    struct goblin_pe_image image = { { file, sizeof file }, sections, 2, 0x200, 0x400, GOBLIN_PE_DEFAULT_OPTIONS };
     struct goblin_pe_section_data found = { { file, 77 }, 77 };
     size_t index = 7;
     memset(sections, 0, sizeof sections);
@@ -403,11 +456,11 @@ static bool tells_what_is_there(void)
     sections[1].virtual_address = 0x2000;
     sections[1].size_of_raw_data = 0x5000;
     sections[1].characteristics = GOBLIN_PE_IMAGE_SCN_CNT_UNINITIALIZED_DATA;
-    if (goblin_pe_region_of(&image, 0x400, 0x3FF, &index) != GOBLIN_PE_REGION_HEADERS ||
-        goblin_pe_region_of(&image, 0x400, 0x400, &index) != GOBLIN_PE_REGION_NOWHERE || index != 7)
+    if (goblin_pe_region_of(&image, 0x3FF, &index) != GOBLIN_PE_REGION_HEADERS ||
+        goblin_pe_region_of(&image, 0x400, &index) != GOBLIN_PE_REGION_NOWHERE || index != 7)
         return false;
-    if (goblin_pe_region_of(&image, 0x400, 0x10FF, &index) != GOBLIN_PE_REGION_STORED || index != 0 ||
-        goblin_pe_region_of(&image, 0x400, 0x2000, &index) != GOBLIN_PE_REGION_ZEROS || index != 1)
+    if (goblin_pe_region_of(&image, 0x10FF, &index) != GOBLIN_PE_REGION_STORED || index != 0 ||
+        goblin_pe_region_of(&image, 0x2000, &index) != GOBLIN_PE_REGION_ZEROS || index != 1)
         return false;
     if (!is_fault(goblin_pe_available_at(&image, 0x1300, 1, &found), GOBLIN_PE_STATUS_MALFORMED,
                   GOBLIN_PE_CAUSE_UNMAPPED) ||
@@ -475,7 +528,7 @@ static bool walks_and_adds(void)
 
 int main(int argc, char **argv)
 {
-    if (!sets_names() || !is_told() || !maps_by_records_of_zeros() || !looks_up() || !walks_and_adds() ||
+    if (!sets_names() || !is_told() || !maps_by_records_of_zeros() || !looks_up() || !maps_as_loaded() || !walks_and_adds() ||
         !tells_what_is_there() || !reads_odd_names() ||
         goblin_pe_kind_of(NULL, 0) != GOBLIN_PE_KIND_UNKNOWN)
         return 4;

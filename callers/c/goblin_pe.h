@@ -34,19 +34,21 @@
    - The processor has what the level x86-64-v2 asks for. A thread has 16 KiB of stack: calls took less than 9 KiB.
    A call may be made from any thread, and from several at once. After a refusal nothing is changed. Where a call answers
    a bool, false is no refusal: there is no such thing, a name is too long for its room, or the file lacks some of a
-   section's data, of which available_section_data gives what there is.
+   section's data, of which available_section_data gives what there is. So read_parts fills what there is of a file that
+   is refused as a whole, and answers false.
 
    What a file of n bytes may take, beside the caller's records. A name is a text of the file, which nothing
    bounds but the file's end, and which is read once for each who has it: m names take n * m steps at most. A step
    of a long text takes some 0.15 nanoseconds where it is ASCII, else up to three. A walk is stopped after any batch,
    and a batch by its `steps`; no other call is stopped.
 
-   The `steps` of a call are how many records it may give, and for imports how many records of libraries and slots of
-   their tables it may look at, whether or not these give something; 0 is no limit. The call ends after so many, and the
-   next one goes on from where it was left. A name may be read in each step, and the slots of an address table are
-   looked at in one go, so that up to n more are. Exports pass over name pointers that give none without a step, and each
-   library of next_libraries is one step, whatever its tables have: where many share a long table of dead entries, these
-   are looked at once for each.
+   The `steps` of a call are how many records of its table it may look at: of imports the records of libraries and the
+   slots of their tables, of exports the name pointers, whether or not these give something; of all else each gives a
+   record. 0 is no limit. The call ends after so many, and the next one goes on from where it was left. A name may be
+   read in each step, and the slots of an address table are looked at in one go, so that up to n more are. Each library
+   of next_libraries is one step, whatever its tables have: where many share a long table of dead entries, these are
+   looked at once for each. There may be more steps than room, so that few calls pass over what gives nothing: each reads
+   the name of its library again.
 
    call                              memory at most                        time at most
    kind_of, read_section_data,
@@ -54,6 +56,7 @@
      find_symbol_table,
      write_*, set_*                  none                                  what the records say
    read_layout                       none                                  n, and a name for each section with room
+   read_parts                        none                                  n
    read_object, read_te              none                                  the sections, and a name for each with room
    read_symbol_table, checksum,
      file_checksum                   none                                  n
@@ -81,13 +84,13 @@
    next_exports                      the same                              the sections, the library's own name, and a name
                                                                            for each record and for what is passed over
                                                                            before it
-   read_damage, refused_part_of      the same                              n, a name for each import and each export, and
+   read_damage                       the same                              n, a name for each import and each export, and
                                                                            for what is left out of them, and the
                                                                            address table of each library
    open                              its tables, which no n bounds (see    the same, and a name for each section
                                      below), half as much room again for
-                                     imports, exports and blocks, and such
-                                     an index
+                                     imports, exports and blocks, or for
+                                     32 of them, and such an index
    footprint                         n / 8 and 8 * n bytes, and such an    the same
                                      index
 
@@ -170,7 +173,7 @@ static inline uint32_t goblin_pe_kind_of(const uint8_t *bytes, size_t length)
 
    Neither mode passes over more than sixteen data directories, a magic that is neither of the two, a header or a section
    table that the file's end cuts, a section's name that is a slash and a text which is no number, or the marker `Rich`
-   of a Rich header without `DanS` before it. */
+   of a Rich header without `DanS` before it. What is there of such a file goblin_pe_read_parts gives. */
 static inline struct goblin_pe_fault goblin_pe_open(
     const uint8_t *bytes, size_t length, const struct goblin_pe_options *options, struct goblin_pe_file *file,
     struct goblin_pe_directory *directories, size_t directory_room, struct goblin_pe_tables *tables)
@@ -201,8 +204,10 @@ static inline void goblin_pe_free(struct goblin_pe_tables *tables)
 
 /* Reads an image without its tables: says in `layout` what it is, how many data directories and how many
    sections it has, and fills their records as far as there is room. A first call without room tells how much is
-   needed. Refused are a header or sections that goblin_pe_open refuses. No memory is taken, however much the
-   tables of the file list. */
+   needed. Refused are a header or sections that goblin_pe_open refuses, but no section for its name where the
+   options have `raw_section_names`: no name is looked up then. No other call looks at that option, so of such a file
+   goblin_pe_open and goblin_pe_read_damage may be refused, and goblin_pe_footprint tells of the refusal alone. No
+   memory is taken, however much the tables of the file list. */
 static inline struct goblin_pe_fault goblin_pe_read_layout(
     const uint8_t *bytes, size_t length, const struct goblin_pe_options *options, struct goblin_pe_layout *layout,
     struct goblin_pe_directory *directories, size_t directory_room, struct goblin_pe_section *sections,
@@ -214,27 +219,33 @@ static inline struct goblin_pe_fault goblin_pe_read_layout(
         GOBLIN_PE_SOME(struct goblin_pe_section, sections, section_room), section_room);
 }
 
+/* Reads the parts of an image's header, each by itself, and answers whether the header and the sections can be read as
+   a whole: fills the records of data directories and of sections as goblin_pe_read_layout does, the sections with
+   their raw names. No file is refused: each part that is not there has its own fault in `parts`, and `refusal` is
+   what goblin_pe_read_layout answers. Of more than sixteen data directories the first sixteen are given; of a
+   section table that the file's end cuts the records that are there. Walks go by `places`, and what is looked up
+   by addresses by goblin_pe_image_of_parts. */
+static inline bool goblin_pe_read_parts(
+    const uint8_t *bytes, size_t length, const struct goblin_pe_options *options, struct goblin_pe_parts *parts,
+    struct goblin_pe_directory *directories, size_t directory_room, struct goblin_pe_section *sections,
+    size_t section_room)
+{
+    return goblin_pe_raw_read_parts(
+        GOBLIN_PE_BYTES(bytes, length), length, goblin_pe_options_or_default(options), parts,
+        GOBLIN_PE_SOME(struct goblin_pe_directory, directories, directory_room), directory_room,
+        GOBLIN_PE_SOME(struct goblin_pe_section, sections, section_room), section_room);
+}
+
 /* Tells what strict mode would refuse of an image, part by part, each for itself, where its header and its
    sections are read as the options say. A file without damage, of which no library is left out, is one that both
    modes read, and read alike. Of imports for which the options do not ask nothing is told. Refused are a header or
-   sections that these options refuse, and memory, which is
-   taken only for an index of more than 96 sections, and given back. */
+   sections that goblin_pe_open refuses by these options, and memory, which is taken only for an index of more than 96
+   sections, and given back. */
 static inline struct goblin_pe_fault goblin_pe_read_damage(
     const uint8_t *bytes, size_t length, const struct goblin_pe_options *options, struct goblin_pe_damage *damage)
 {
     return goblin_pe_raw_read_damage(
         GOBLIN_PE_BYTES(bytes, length), length, goblin_pe_options_or_default(options), damage);
-}
-
-/* Puts into `part` the part for which a read by these options refuses a file, as an enum goblin_pe_refused_part: the
-   first that cannot be read, in the order of the header, the sections, the imports, the exports and the base
-   relocations; nothing where the file is read, and in permissive mode never a table. So ask it after a refusal. Refused
-   is memory alone, which is taken only for an index of more than 96 sections, and given back. */
-static inline struct goblin_pe_fault goblin_pe_refused_part_of(
-    const uint8_t *bytes, size_t length, const struct goblin_pe_options *options, uint32_t *part)
-{
-    return goblin_pe_raw_refused_part_of(
-        GOBLIN_PE_BYTES(bytes, length), length, goblin_pe_options_or_default(options), part);
 }
 
 /* Puts into `ranges` the bytes of a file on which goblin_pe_open by these options depends: of two files of
@@ -302,10 +313,11 @@ static inline struct goblin_pe_fault goblin_pe_next_libraries(
         GOBLIN_PE_SOME(struct goblin_pe_library, libraries, room), room, steps, count);
 }
 
-/* Goes on with the walk over the exports of an image, as goblin_pe_next_imports does over imports, with no more of
-   them than `steps`, where these are not 0; name pointers that give no export are passed over without a step. The
-   position is the index of a name pointer, 0 at the beginning. There are none where permissive mode passes over a
-   refused directory; strict mode refuses it at once. A name pointer gives no export where no export has its index as
+/* Goes on with the walk over the exports of an image, as goblin_pe_next_imports does over imports. The position is the
+   index of a name pointer, 0 at the beginning. Each step looks at one, whether or not it gives an export: so a call
+   takes as many as the position goes on. Where fewer come than there is room for, and it goes on by fewer than
+   `steps` (0 is no limit), the walk is at the end. There are none where permissive mode passes over a refused
+   directory; strict mode refuses it at once. A name pointer gives no export where no export has its index as
    hint: it stands four times that index after the file offset of name_pointer_rva of the export directory's record. */
 static inline struct goblin_pe_fault goblin_pe_next_exports(
     const uint8_t *bytes, size_t length, const struct goblin_pe_options *options, const struct goblin_pe_places *places,
@@ -318,8 +330,8 @@ static inline struct goblin_pe_fault goblin_pe_next_exports(
 
 /* Reads what the export directory of an image says, with its ordinal base: the record that goblin_pe_open puts
    beside its tables. It is zeros where the image has none, and where permissive mode passes over a refused one;
-   strict mode refuses it. It lies at `places`, as for goblin_pe_next_imports, and so do the sections; memory is as
-   there. */
+   strict mode refuses it. How many name pointers it counts does not matter, as it does to goblin_pe_open. It lies at
+   `places`, as for goblin_pe_next_imports, and so do the sections; memory is as there. */
 static inline struct goblin_pe_fault goblin_pe_read_export_directory(
     const uint8_t *bytes, size_t length, const struct goblin_pe_options *options, const struct goblin_pe_places *places,
     struct goblin_pe_export_directory *directory)
@@ -331,7 +343,8 @@ static inline struct goblin_pe_fault goblin_pe_read_export_directory(
 /* Goes on with the walk over the entries of the export address table of an image, as goblin_pe_next_exports does
    over exports, each in a step: the records that goblin_pe_open puts into a table. The position is the index of an
    entry, 0 at the beginning; with the ordinal base, which goblin_pe_read_export_directory reads, it is the ordinal
-   that the entry stands for. goblin_pe_forwarder_at reads the forwarder of one. */
+   that the entry stands for. The names of exports are not looked at, so it is found also where goblin_pe_open refuses
+   these for their number. goblin_pe_forwarder_at reads the forwarder of one. */
 static inline struct goblin_pe_fault goblin_pe_next_export_addresses(
     const uint8_t *bytes, size_t length, const struct goblin_pe_options *options, const struct goblin_pe_places *places,
     size_t *position, struct goblin_pe_export_address *addresses, size_t room, size_t steps, size_t *count)
@@ -527,10 +540,12 @@ static inline size_t goblin_pe_next_words(
     return goblin_pe_raw_next_words(&sound, position, GOBLIN_PE_SOME(struct goblin_pe_word, words, room), room, steps);
 }
 
-/* What maps the addresses of an image with these sections and this file alignment. */
+/* What maps the addresses of an image with these sections, this file alignment and headers of so many bytes, as the
+   optional header says: file_alignment and size_of_headers. The headers are looked at where the options map them
+   (GOBLIN_PE_RAW_POINTER_RULE_AS_LOADED), and by goblin_pe_region_of. */
 static inline struct goblin_pe_image goblin_pe_image_by(
     const uint8_t *bytes, size_t length, const struct goblin_pe_options *options,
-    const struct goblin_pe_section *sections, size_t section_count, uint32_t file_alignment)
+    const struct goblin_pe_section *sections, size_t section_count, uint32_t file_alignment, uint32_t size_of_headers)
 {
     struct goblin_pe_image image;
     image.bytes.bytes = GOBLIN_PE_BYTES(bytes, length);
@@ -538,6 +553,7 @@ static inline struct goblin_pe_image goblin_pe_image_by(
     image.sections = GOBLIN_PE_SOME(const struct goblin_pe_section, sections, section_count);
     image.section_count = section_count;
     image.file_alignment = file_alignment;
+    image.size_of_headers = size_of_headers;
     image.options = *goblin_pe_options_or_default(options);
     return image;
 }
@@ -548,8 +564,8 @@ static inline struct goblin_pe_image goblin_pe_image_of(
     const struct goblin_pe_tables *tables)
 {
     return goblin_pe_image_by(
-        bytes, length, options, tables->sections, tables->section_count,
-        file->optional_header.windows_fields.file_alignment);
+        bytes, length, options, tables->sections, tables->section_count, file->places.file_alignment,
+        file->places.size_of_headers);
 }
 
 /* The same of a layout, all of whose sections had room. */
@@ -558,12 +574,24 @@ static inline struct goblin_pe_image goblin_pe_image_of_layout(
     const struct goblin_pe_layout *layout, const struct goblin_pe_section *sections)
 {
     return goblin_pe_image_by(
-        bytes, length, options, sections, layout->sections, layout->optional_header.windows_fields.file_alignment);
+        bytes, length, options, sections, layout->sections, layout->places.file_alignment,
+        layout->places.size_of_headers);
+}
+
+/* The same of the parts of a header, all of whose sections had room. */
+static inline struct goblin_pe_image goblin_pe_image_of_parts(
+    const uint8_t *bytes, size_t length, const struct goblin_pe_options *options, const struct goblin_pe_parts *parts,
+    const struct goblin_pe_section *sections)
+{
+    return goblin_pe_image_by(
+        bytes, length, options, sections, parts->sections, parts->optional_header.windows_fields.file_alignment,
+        parts->optional_header.windows_fields.size_of_headers);
 }
 
 /* Puts the file offset of an address into `offset`, and answers whether there is one. There is none where no
-   section maps the address or the alignment is no power of two; where the options say that addresses are
-   offsets, it is the address itself. It can lie past the file's end. */
+   section maps the address, nor the headers where the options map as the Windows loader does, or the alignment is no
+   power of two; where the options say that addresses are offsets, it is the address itself. It can lie past the file's
+   end. */
 static inline bool goblin_pe_find_offset(const struct goblin_pe_image *image, size_t rva, size_t *offset)
 {
     struct goblin_pe_image sound = goblin_pe_sound_image(image);
@@ -592,11 +620,14 @@ static inline bool goblin_pe_find_rva(const struct goblin_pe_image *image, size_
     return goblin_pe_raw_find_rva(&sound, offset, rva);
 }
 
-/* The bytes that a loader sees at an address: those that the file has, and how many zeros follow them. They lie
-   in the memory of the first section that holds the address, which has as many bytes as its virtual size says,
-   or its raw size where that is 0; a header lies in none. Refused are an address that no section's memory holds,
-   bytes that pass the section's memory, and bytes that the file does not have; where all of them are zeros, it need
-   not have any. Where the options say that addresses are offsets, they are the file's own. No memory is taken. */
+/* The bytes that a loader sees at an address: those that the file has, and how many zeros follow them. Where the address
+   has an offset inside the file, the first is the byte there, as goblin_pe_bytes_at gives it, but in a section of
+   uninitialized data whose raw pointer is 0. They lie in the memory of the first section whose window holds the address,
+   or else of the first whose memory does: as many bytes as its virtual size says, or its raw size where that is 0, and no
+   fewer than its window has. A header lies in none, but where the options map as the Windows loader does it is there, too.
+   Refused are an address that nothing in memory holds, bytes that pass the memory of what does, and bytes that the file
+   does not have; where all of them are zeros, it need not have any. Where the options say that addresses are offsets,
+   they are the file's own. No memory is taken. */
 static inline struct goblin_pe_fault goblin_pe_memory_at(
     const struct goblin_pe_image *image, size_t rva, size_t size, struct goblin_pe_section_data *contents)
 {
@@ -606,7 +637,7 @@ static inline struct goblin_pe_fault goblin_pe_memory_at(
 
 /* The first of the bytes that a loader sees at an address, at most `size`: as goblin_pe_memory_at, but fewer where the
    section's memory ends before, or the file does. No zeros follow bytes of which some are missing in the file, since it
-   is not known what they are. Refused is an address that no section's memory holds, and where the options say that
+   is not known what they are. Refused is an address that nothing in memory holds, and where the options say that
    addresses are offsets, one at or past the end of the file. No memory is taken. */
 static inline struct goblin_pe_fault goblin_pe_available_at(
     const struct goblin_pe_image *image, size_t rva, size_t size, struct goblin_pe_section_data *contents)
@@ -616,14 +647,13 @@ static inline struct goblin_pe_fault goblin_pe_available_at(
 }
 
 /* Where an address lies, as an enum goblin_pe_region: in the bytes that the file has of a section or in the zeros after
-   them, by the first section whose memory holds it, whose index is then put into `section`; or else in the headers,
-   which have so many bytes (size_of_headers of the optional header), or nowhere. The options are not looked at, nor
-   whether the file has a section's bytes. */
-static inline uint32_t goblin_pe_region_of(
-    const struct goblin_pe_image *image, uint32_t size_of_headers, size_t rva, size_t *section)
+   them, by the section that goblin_pe_memory_at finds, whose index is then put into `section`; or else in the headers,
+   which have as many bytes as the image says, in whole file blocks, or nowhere. Whether addresses are offsets is not
+   looked at, nor whether the file has a section's bytes. */
+static inline uint32_t goblin_pe_region_of(const struct goblin_pe_image *image, size_t rva, size_t *section)
 {
     struct goblin_pe_image sound = goblin_pe_sound_image(image);
-    return goblin_pe_raw_region_of(&sound, size_of_headers, rva, section);
+    return goblin_pe_raw_region_of(&sound, rva, section);
 }
 
 /* The text at an address, up to its NUL or the end of the file. Refused are an address without an offset in
@@ -661,12 +691,13 @@ static inline struct goblin_pe_fault goblin_pe_bytes_at(
 }
 
 /* The data of a section: its bytes in the file, from its raw pointer, as stored or rounded down to 512 by the rule
-   of the image's options, and how many zeros follow them up to the size in memory; none where the file has at least
-   as many bytes, which are not cut at that size then, as goblin_pe_memory_at cuts them. A section of uninitialized
-   data (IMAGE_SCN_CNT_UNINITIALIZED_DATA) whose raw pointer is 0, as an object's .bss, has no bytes, and its size as
-   zeros: the virtual size, or the raw size where that is 0. Of the image only the bytes, the options and the file
-   alignment are looked at, so for an object one with its bytes and else zeros will do. Refused is a file that is too
-   short for it, and one in which it begins past the end, even where it has no bytes. No memory is taken. */
+   of the image's options, to where they end as stored, so a pointer that is rounded cuts none of the end; and how many
+   zeros follow them up to the size in memory; none where the file has at least as many bytes, which are not cut at
+   that size then, as goblin_pe_memory_at cuts them. A section of uninitialized data
+   (IMAGE_SCN_CNT_UNINITIALIZED_DATA) whose raw pointer is 0, as an object's .bss, has no bytes, and its size as zeros:
+   the virtual size, or the raw size where that is 0. Of the image only the bytes, the options and the file alignment
+   are looked at, so for an object one with its bytes and else zeros will do. Refused is a file that is too short for
+   it, and one in which it begins past the end, even where it has no bytes. No memory is taken. */
 static inline struct goblin_pe_fault goblin_pe_read_section_data(
     const struct goblin_pe_image *image, const struct goblin_pe_section *section, struct goblin_pe_section_data *data)
 {

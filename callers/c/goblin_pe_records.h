@@ -16,15 +16,15 @@ extern "C" {
 #define GOBLIN_PE_INTERFACE_VERSION 4
 
 /* The sum of the interface that is declared here. goblin_pe_interface answers that of the library. */
-#define GOBLIN_PE_INTERFACE 0x726f9829u
+#define GOBLIN_PE_INTERFACE 0x55052f38u
 
 /* What follows .so. in the name by which programs ask for the shared library. */
-#define GOBLIN_PE_SONAME "4.726f9829"
+#define GOBLIN_PE_SONAME "4.55052f38"
 
 /* Only a library of this very interface has this call, so that a program is linked with no other. */
-uint32_t goblin_pe_interface_726f9829(void);
+uint32_t goblin_pe_interface_55052f38(void);
 #ifdef __GNUC__
-__attribute__((used)) static uint32_t (*const goblin_pe_needs_interface)(void) = goblin_pe_interface_726f9829;
+__attribute__((used)) static uint32_t (*const goblin_pe_needs_interface)(void) = goblin_pe_interface_55052f38;
 #endif
 
 /* What a file is, by its first bytes. This does not tell whether it can be read, and no call reads
@@ -49,13 +49,13 @@ enum goblin_pe_kind {
     GOBLIN_PE_KIND_BIG_OBJECT = 6
 };
 
-/* Where the raw data of a section begins: for addresses, for the data of a section of an image, and
-   for what a loader sees at an address.
+/* How addresses are mapped, and where the raw data of a section begins: for addresses, for the data
+   of a section of an image, and for what is in memory at an address.
 
    Where the raw pointer is a multiple of 512, as the PE/COFF specification asks for the usual file
-   alignments, all rules say the same. Else rounding is right where `section_alignment` is 4,096 or
-   more, and pointers as stored where it is less, since the Windows loader maps such an image as one
-   flat view of the file. */
+   alignments, all rules say the same of sections. Else rounding is right where `section_alignment`
+   is 4,096 or more, and pointers as stored where it is less, since the Windows loader maps such an
+   image as one flat view of the file. */
 enum goblin_pe_raw_pointer_rule {
     /* At the raw pointer, as goblin maps. */
     GOBLIN_PE_RAW_POINTER_RULE_AS_STORED = 0,
@@ -64,16 +64,23 @@ enum goblin_pe_raw_pointer_rule {
     /* By the file alignment, as pefile maps: rounded where that is 512 or more, else as stored. In
        a lawful image it is below 512 only where it equals a `section_alignment` below 4,096, so
        this is right for each such image, without a look at its header before. */
-    GOBLIN_PE_RAW_POINTER_RULE_BY_FILE_ALIGNMENT = 2
+    GOBLIN_PE_RAW_POINTER_RULE_BY_FILE_ALIGNMENT = 2,
+    /* The same, and the file's front is mapped, too, where the window of no section holds an
+       address: the Windows loader maps the headers at the image's base, as many bytes as
+       `size_of_headers` says, in whole file blocks. Packers put names and tables there. Read an
+       image by the rule before it first: address 0 has an offset by this one, and so a library
+       whose record has no lookup table, which says 0 in its place, has one at the file's front. */
+    GOBLIN_PE_RAW_POINTER_RULE_AS_LOADED = 3
 };
 
 /* Where an address of an image lies. */
 enum goblin_pe_region {
     /* Neither in a section nor in the headers. */
     GOBLIN_PE_REGION_NOWHERE = 0,
-    /* In the headers, which are at the front of the file and of the memory. */
+    /* In the headers, which are at the front of the file and of the memory, in whole file blocks. */
     GOBLIN_PE_REGION_HEADERS = 1,
-    /* In the bytes of a section that are stored in the file, at its raw pointer. */
+    /* In the bytes of a section that are stored in the file: its data, and what the file has of the
+       file blocks by which its addresses are mapped. */
     GOBLIN_PE_REGION_STORED = 2,
     /* In the zeros that follow these up to the section's size in memory. */
     GOBLIN_PE_REGION_ZEROS = 3
@@ -361,12 +368,17 @@ struct goblin_pe_options {
     bool is_permissive;
     /* Whether an address is mapped to a file offset by the sections; where not, it is the offset. */
     bool resolve_rva;
-    /* Where the raw data of a section begins, for addresses, for the data of a section of an image
-       and for what a loader sees at an address: the number of a `goblin_pe_raw_pointer_rule`; any
-       other number is taken as 0. */
+    /* How addresses are mapped, and where the raw data of a section begins, for addresses, for the
+       data of a section of an image and for what is in memory at an address: the number of a
+       `goblin_pe_raw_pointer_rule`; any other number is taken as 0. */
     uint8_t raw_pointer_rule;
     /* Whether the imports are read; where not, their table is absent. */
     bool parse_imports;
+    /* Whether the sections of a layout have their raw names alone, as the loader of images takes
+       them: no name is tested, none refuses the file, and none is looked up in the string table.
+       Else a name that begins with a slash is looked up there, in either mode. Only a read of a
+       layout looks at it: an open, the damage and a footprint test each name. */
+    bool raw_section_names;
 };
 
 /* Why a call gave no value, in numbers; the status 0 is that it gave one. */
@@ -379,6 +391,11 @@ struct goblin_pe_fault {
     uint64_t first;
     /* The number that the cause calls `second`; else 0. */
     uint64_t second;
+    /* The part of an image that is refused, by the numbers of `goblin_pe_refused_part`, where the
+       call reads a whole image or a layout; else 0. */
+    uint32_t part;
+    /* Zero. It stands where padding would be, so that each byte of the record is defined. */
+    uint32_t reserved;
 };
 
 /* A section, as its record describes it.
@@ -426,7 +443,10 @@ struct goblin_pe_image {
     size_t section_count;
     /* Its file alignment, in bytes. */
     uint32_t file_alignment;
-    /* Whether addresses are mapped, and by which rule for raw pointers; all else is not looked at. */
+    /* How many bytes its headers have, as its optional header says; 0 without one. They are looked
+       at where the options map as the Windows loader does, and where an address lies. */
+    uint32_t size_of_headers;
+    /* Whether addresses are mapped, and by which rule; all else is not looked at. */
     struct goblin_pe_options options;
 };
 
@@ -482,6 +502,9 @@ struct goblin_pe_places {
     struct goblin_pe_data_directory relocations;
     /* The file alignment of the sections' raw data, in bytes; 0 where there is no optional header. */
     uint32_t file_alignment;
+    /* How many bytes the headers have, as the optional header says: so much of the file's front the
+       Windows loader maps at the image's base. 0 where there is no optional header. */
+    uint32_t size_of_headers;
     /* How many records the section table has. */
     uint16_t number_of_sections;
     /* The magic of the optional header: by 0x10B the entries of import tables have four bytes, else
@@ -791,7 +814,7 @@ struct goblin_pe_export_directory_table {
     uint32_t ordinal_table_rva;
 };
 
-/* What the export directory says of the library; zeros where the exports are not read. */
+/* What the export directory says of the library; zeros where it is not read. */
 struct goblin_pe_export_directory {
     /* The library's own name, as it was linked, where there is a text at its address. */
     struct goblin_pe_text name;
@@ -799,7 +822,8 @@ struct goblin_pe_export_directory {
     struct goblin_pe_export_directory_table table;
     /* Whether there is a text at the name's address. */
     bool has_name;
-    /* Whether the exports are read. */
+    /* Whether it is read: of a whole file with its exports; by itself also where these are refused
+       for the number of their name pointers alone. */
     bool is_read;
 };
 
@@ -920,8 +944,8 @@ struct goblin_pe_windows_fields {
     uint64_t size_of_heap_commit;
     /* Reserved, 0, at 80. */
     uint32_t loader_flags;
-    /* How many data directories follow, at 84. Readers take at most sixteen; directories past this
-       number are not there, whatever bytes follow. */
+    /* How many data directories follow, at 84. Readers refuse a header that says more than sixteen;
+       directories past this number are not there, whatever bytes follow. */
     uint32_t number_of_rva_and_sizes;
 };
 
@@ -1114,6 +1138,42 @@ struct goblin_pe_layout {
     struct goblin_pe_text dos_stub;
 };
 
+/* The parts of an image's header, each read by itself: what is there of a file that is refused as a
+   whole. Each part has a fault of the status 0 where it is given, or the file has no such part;
+   else why it is refused, perhaps for the cause of a part that alone tells where it lies. */
+struct goblin_pe_parts {
+    /* The optional header: the standard fields and the Windows fields, zeros in place of those that
+       are refused. */
+    struct goblin_pe_optional_header optional_header;
+    /* How many data directories there are, whatever the room: sixteen, or none where there is no
+       optional header, or its standard fields are refused. Records past them are not filled. */
+    size_t directories;
+    /* How many sections there are, whatever the room: as many as the COFF header says, or as the
+       file has whole records, if these are fewer. */
+    size_t sections;
+    /* How many more the COFF header says. */
+    size_t missing_sections;
+    /* Where the sections that are there and the tables lie, for walks over these. */
+    struct goblin_pe_places places;
+    /* The DOS header, zeros where it is refused. */
+    struct goblin_pe_dos_header dos_header;
+    /* The COFF header, zeros where it is refused. */
+    struct goblin_pe_coff_header coff_header;
+    /* Why the header or the sections are refused as a whole; the status 0 where they are read. */
+    struct goblin_pe_fault refusal;
+    /* Why the DOS header is refused, with the PE signature that it points to; so are all parts
+       then. */
+    struct goblin_pe_fault dos_header_fault;
+    /* Why the COFF header is refused; so are then the parts after it. */
+    struct goblin_pe_fault coff_header_fault;
+    /* Why the standard fields are refused. */
+    struct goblin_pe_fault standard_fields_fault;
+    /* Why the Windows fields are refused. */
+    struct goblin_pe_fault windows_fields_fault;
+    /* Why the data directories are refused. Of more than sixteen the first sixteen are given. */
+    struct goblin_pe_fault directories_fault;
+};
+
 /* What strict mode would refuse of a file, part by part: for each part a fault of the status 0
    where strict mode would read it, or the file has no such part; else why not. */
 struct goblin_pe_damage {
@@ -1202,8 +1262,7 @@ struct goblin_pe_fault goblin_pe_raw_memory_at(
 struct goblin_pe_fault goblin_pe_raw_available_at(
     const struct goblin_pe_image *image, size_t rva, size_t size,
     struct goblin_pe_section_data *contents);
-uint32_t goblin_pe_raw_region_of(
-    const struct goblin_pe_image *image, uint32_t size_of_headers, size_t rva, size_t *section);
+uint32_t goblin_pe_raw_region_of(const struct goblin_pe_image *image, size_t rva, size_t *section);
 struct goblin_pe_fault goblin_pe_raw_read_object(
     const uint8_t *bytes, size_t byte_count, const struct goblin_pe_options *options,
     struct goblin_pe_object *object, struct goblin_pe_section *sections, size_t section_room);
@@ -1264,12 +1323,13 @@ struct goblin_pe_fault goblin_pe_raw_read_layout(
     const uint8_t *bytes, size_t byte_count, const struct goblin_pe_options *options,
     struct goblin_pe_layout *layout, struct goblin_pe_directory *directories, size_t directory_room,
     struct goblin_pe_section *sections, size_t section_room);
+bool goblin_pe_raw_read_parts(
+    const uint8_t *bytes, size_t byte_count, const struct goblin_pe_options *options,
+    struct goblin_pe_parts *parts, struct goblin_pe_directory *directories, size_t directory_room,
+    struct goblin_pe_section *sections, size_t section_room);
 struct goblin_pe_fault goblin_pe_raw_read_damage(
     const uint8_t *bytes, size_t byte_count, const struct goblin_pe_options *options,
     struct goblin_pe_damage *damage);
-struct goblin_pe_fault goblin_pe_raw_refused_part_of(
-    const uint8_t *bytes, size_t byte_count, const struct goblin_pe_options *options,
-    uint32_t *part);
 struct goblin_pe_fault goblin_pe_raw_footprint(
     const uint8_t *bytes, size_t byte_count, const struct goblin_pe_options *options,
     struct goblin_pe_ranges *ranges);
@@ -1283,7 +1343,7 @@ struct goblin_pe_fault goblin_pe_raw_set_name_offset(
     struct goblin_pe_section *section, size_t offset);
 
 /* Strictly, with addresses mapped by the sections from their raw pointers as stored, and imports. */
-#define GOBLIN_PE_DEFAULT_OPTIONS { false, true, 0, true }
+#define GOBLIN_PE_DEFAULT_OPTIONS { false, true, 0, true, false }
 
 /* How the records lie in memory, where the language can test it. */
 #if defined(__cplusplus) && __cplusplus >= 201103L
@@ -1331,17 +1391,20 @@ GOBLIN_PE_IS_AT(aux_section_definition, number, 12);
 GOBLIN_PE_IS_AT(aux_section_definition, selection, 14);
 GOBLIN_PE_IS_AT(aux_section_definition, unused, 15);
 
-GOBLIN_PE_HAS_SIZE(options, 4, 1);
+GOBLIN_PE_HAS_SIZE(options, 5, 1);
 GOBLIN_PE_IS_AT(options, is_permissive, 0);
 GOBLIN_PE_IS_AT(options, resolve_rva, 1);
 GOBLIN_PE_IS_AT(options, raw_pointer_rule, 2);
 GOBLIN_PE_IS_AT(options, parse_imports, 3);
+GOBLIN_PE_IS_AT(options, raw_section_names, 4);
 
-GOBLIN_PE_HAS_SIZE(fault, 24, 8);
+GOBLIN_PE_HAS_SIZE(fault, 32, 8);
 GOBLIN_PE_IS_AT(fault, status, 0);
 GOBLIN_PE_IS_AT(fault, cause, 4);
 GOBLIN_PE_IS_AT(fault, first, 8);
 GOBLIN_PE_IS_AT(fault, second, 16);
+GOBLIN_PE_IS_AT(fault, part, 24);
+GOBLIN_PE_IS_AT(fault, reserved, 28);
 
 GOBLIN_PE_HAS_SIZE(section, 64, 8);
 GOBLIN_PE_IS_AT(section, real_name, 0);
@@ -1357,12 +1420,13 @@ GOBLIN_PE_IS_AT(section, number_of_linenumbers, 50);
 GOBLIN_PE_IS_AT(section, characteristics, 52);
 GOBLIN_PE_IS_AT(section, has_real_name, 56);
 
-GOBLIN_PE_HAS_SIZE(image, 40, 8);
+GOBLIN_PE_HAS_SIZE(image, 48, 8);
 GOBLIN_PE_IS_AT(image, bytes, 0);
 GOBLIN_PE_IS_AT(image, sections, 16);
 GOBLIN_PE_IS_AT(image, section_count, 24);
 GOBLIN_PE_IS_AT(image, file_alignment, 32);
-GOBLIN_PE_IS_AT(image, options, 36);
+GOBLIN_PE_IS_AT(image, size_of_headers, 36);
+GOBLIN_PE_IS_AT(image, options, 40);
 
 GOBLIN_PE_HAS_SIZE(forwarder, 48, 8);
 GOBLIN_PE_IS_AT(forwarder, lib, 0);
@@ -1385,11 +1449,12 @@ GOBLIN_PE_IS_AT(places, exports, 8);
 GOBLIN_PE_IS_AT(places, imports, 16);
 GOBLIN_PE_IS_AT(places, relocations, 24);
 GOBLIN_PE_IS_AT(places, file_alignment, 32);
-GOBLIN_PE_IS_AT(places, number_of_sections, 36);
-GOBLIN_PE_IS_AT(places, magic, 38);
-GOBLIN_PE_IS_AT(places, has_exports, 40);
-GOBLIN_PE_IS_AT(places, has_imports, 41);
-GOBLIN_PE_IS_AT(places, has_relocations, 42);
+GOBLIN_PE_IS_AT(places, size_of_headers, 36);
+GOBLIN_PE_IS_AT(places, number_of_sections, 40);
+GOBLIN_PE_IS_AT(places, magic, 42);
+GOBLIN_PE_IS_AT(places, has_exports, 44);
+GOBLIN_PE_IS_AT(places, has_imports, 45);
+GOBLIN_PE_IS_AT(places, has_relocations, 46);
 
 GOBLIN_PE_HAS_SIZE(import_cursor, 56, 8);
 GOBLIN_PE_IS_AT(import_cursor, first_record, 0);
@@ -1412,16 +1477,16 @@ GOBLIN_PE_IS_AT(import_directory_entry, forwarder_chain, 8);
 GOBLIN_PE_IS_AT(import_directory_entry, name_rva, 12);
 GOBLIN_PE_IS_AT(import_directory_entry, import_address_table_rva, 16);
 
-GOBLIN_PE_HAS_SIZE(library, 136, 8);
+GOBLIN_PE_HAS_SIZE(library, 144, 8);
 GOBLIN_PE_IS_AT(library, name, 0);
 GOBLIN_PE_IS_AT(library, index, 16);
 GOBLIN_PE_IS_AT(library, record_offset, 24);
 GOBLIN_PE_IS_AT(library, cursor, 32);
 GOBLIN_PE_IS_AT(library, name_fault, 88);
-GOBLIN_PE_IS_AT(library, import_directory_entry, 112);
-GOBLIN_PE_IS_AT(library, is_left_out, 132);
-GOBLIN_PE_IS_AT(library, has_imports, 133);
-GOBLIN_PE_IS_AT(library, reserved, 134);
+GOBLIN_PE_IS_AT(library, import_directory_entry, 120);
+GOBLIN_PE_IS_AT(library, is_left_out, 140);
+GOBLIN_PE_IS_AT(library, has_imports, 141);
+GOBLIN_PE_IS_AT(library, reserved, 142);
 
 GOBLIN_PE_HAS_SIZE(coff_header, 20, 4);
 GOBLIN_PE_IS_AT(coff_header, machine, 0);
@@ -1575,18 +1640,18 @@ GOBLIN_PE_HAS_SIZE(table, 16, 8);
 GOBLIN_PE_IS_AT(table, count, 0);
 GOBLIN_PE_IS_AT(table, state, 8);
 
-GOBLIN_PE_HAS_SIZE(base_relocations, 40, 8);
+GOBLIN_PE_HAS_SIZE(base_relocations, 48, 8);
 GOBLIN_PE_IS_AT(base_relocations, blocks, 0);
 GOBLIN_PE_IS_AT(base_relocations, rest, 16);
 
-GOBLIN_PE_HAS_SIZE(rich_header, 56, 8);
+GOBLIN_PE_HAS_SIZE(rich_header, 64, 8);
 GOBLIN_PE_IS_AT(rich_header, entries, 0);
 GOBLIN_PE_IS_AT(rich_header, padding_size, 8);
 GOBLIN_PE_IS_AT(rich_header, rest, 16);
-GOBLIN_PE_IS_AT(rich_header, key, 40);
-GOBLIN_PE_IS_AT(rich_header, start_offset, 44);
-GOBLIN_PE_IS_AT(rich_header, end_offset, 48);
-GOBLIN_PE_IS_AT(rich_header, is_present, 52);
+GOBLIN_PE_IS_AT(rich_header, key, 48);
+GOBLIN_PE_IS_AT(rich_header, start_offset, 52);
+GOBLIN_PE_IS_AT(rich_header, end_offset, 56);
+GOBLIN_PE_IS_AT(rich_header, is_present, 60);
 
 GOBLIN_PE_HAS_SIZE(dos_header, 64, 4);
 GOBLIN_PE_IS_AT(dos_header, signature, 0);
@@ -1609,7 +1674,7 @@ GOBLIN_PE_IS_AT(dos_header, oem_info, 38);
 GOBLIN_PE_IS_AT(dos_header, reserved2, 40);
 GOBLIN_PE_IS_AT(dos_header, pe_pointer, 60);
 
-GOBLIN_PE_HAS_SIZE(file, 424, 8);
+GOBLIN_PE_HAS_SIZE(file, 440, 8);
 GOBLIN_PE_IS_AT(file, optional_header, 0);
 GOBLIN_PE_IS_AT(file, directories, 144);
 GOBLIN_PE_IS_AT(file, sections, 152);
@@ -1617,9 +1682,9 @@ GOBLIN_PE_IS_AT(file, places, 160);
 GOBLIN_PE_IS_AT(file, imports, 208);
 GOBLIN_PE_IS_AT(file, exports, 224);
 GOBLIN_PE_IS_AT(file, relocations, 240);
-GOBLIN_PE_IS_AT(file, rich_header, 280);
-GOBLIN_PE_IS_AT(file, dos_header, 336);
-GOBLIN_PE_IS_AT(file, coff_header, 400);
+GOBLIN_PE_IS_AT(file, rich_header, 288);
+GOBLIN_PE_IS_AT(file, dos_header, 352);
+GOBLIN_PE_IS_AT(file, coff_header, 416);
 
 GOBLIN_PE_HAS_SIZE(directory, 24, 8);
 GOBLIN_PE_IS_AT(directory, end, 0);
@@ -1656,16 +1721,31 @@ GOBLIN_PE_IS_AT(layout, dos_header, 208);
 GOBLIN_PE_IS_AT(layout, coff_header, 272);
 GOBLIN_PE_IS_AT(layout, dos_stub, 296);
 
-GOBLIN_PE_HAS_SIZE(damage, 152, 8);
+GOBLIN_PE_HAS_SIZE(parts, 496, 8);
+GOBLIN_PE_IS_AT(parts, optional_header, 0);
+GOBLIN_PE_IS_AT(parts, directories, 144);
+GOBLIN_PE_IS_AT(parts, sections, 152);
+GOBLIN_PE_IS_AT(parts, missing_sections, 160);
+GOBLIN_PE_IS_AT(parts, places, 168);
+GOBLIN_PE_IS_AT(parts, dos_header, 216);
+GOBLIN_PE_IS_AT(parts, coff_header, 280);
+GOBLIN_PE_IS_AT(parts, refusal, 304);
+GOBLIN_PE_IS_AT(parts, dos_header_fault, 336);
+GOBLIN_PE_IS_AT(parts, coff_header_fault, 368);
+GOBLIN_PE_IS_AT(parts, standard_fields_fault, 400);
+GOBLIN_PE_IS_AT(parts, windows_fields_fault, 432);
+GOBLIN_PE_IS_AT(parts, directories_fault, 464);
+
+GOBLIN_PE_HAS_SIZE(damage, 192, 8);
 GOBLIN_PE_IS_AT(damage, dos_stub, 0);
-GOBLIN_PE_IS_AT(damage, section_names, 24);
-GOBLIN_PE_IS_AT(damage, imports, 48);
-GOBLIN_PE_IS_AT(damage, exports, 72);
-GOBLIN_PE_IS_AT(damage, relocations, 96);
-GOBLIN_PE_IS_AT(damage, left_out_libraries, 120);
-GOBLIN_PE_IS_AT(damage, left_out_entries, 128);
-GOBLIN_PE_IS_AT(damage, unmapped_entries, 136);
-GOBLIN_PE_IS_AT(damage, left_out_exports, 144);
+GOBLIN_PE_IS_AT(damage, section_names, 32);
+GOBLIN_PE_IS_AT(damage, imports, 64);
+GOBLIN_PE_IS_AT(damage, exports, 96);
+GOBLIN_PE_IS_AT(damage, relocations, 128);
+GOBLIN_PE_IS_AT(damage, left_out_libraries, 160);
+GOBLIN_PE_IS_AT(damage, left_out_entries, 168);
+GOBLIN_PE_IS_AT(damage, unmapped_entries, 176);
+GOBLIN_PE_IS_AT(damage, left_out_exports, 184);
 
 GOBLIN_PE_HAS_SIZE(range, 16, 8);
 GOBLIN_PE_IS_AT(range, offset, 0);

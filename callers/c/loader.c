@@ -4,8 +4,8 @@
    relocations for an address 64 KiB above the preferred one, where an image whose relocations are stripped stays, and
    resolves each import against the libraries, which it opens the same way. It tells what it finds, and what stands in
    memory after each relocation. A library stands for the imports whose library has the name of its file, with or
-   without the ending .dll. Forwarders are followed through the libraries. An import whose name no section maps is not
-   read, and told. The status is 0 where all imports are resolved. */
+   without the ending .dll. Forwarders are followed through the libraries. An import whose name nothing maps is not read,
+   and told. The status is 0 where all imports are resolved. */
 #include "goblin_pe.h"
 
 #include <ctype.h>
@@ -315,7 +315,7 @@ static bool resolve(const struct module *m, const struct goblin_pe_import *impor
     return true;
 }
 
-/* Tells how many imports were not read, since no section maps their names; whether there are none. */
+/* Tells how many imports were not read, since nothing maps their names; whether there are none. */
 static bool has_all_imports(const struct module *m)
 {
     struct goblin_pe_options options = loading();
@@ -324,7 +324,7 @@ static bool has_all_imports(const struct module *m)
     if (fault.status != GOBLIN_PE_STATUS_OK)
         return refused(m, fault), false;
     if (damage.unmapped_entries)
-        printf("%zu imports whose names no section maps\n", damage.unmapped_entries);
+        printf("%zu imports whose names nothing maps\n", damage.unmapped_entries);
     return !damage.unmapped_entries;
 }
 

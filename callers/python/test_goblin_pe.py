@@ -13,6 +13,7 @@ import multiprocessing
 import os
 import pathlib
 import pickle
+import random
 import pydoc
 import re
 import struct
@@ -63,6 +64,8 @@ class Refusals(unittest.TestCase):
             Pe(b"no image")
         self.assertEqual(caught.exception, made)
         self.assertEqual(len({made, caught.exception}), 1)
+        parts = [made.part, caught.exception.part, pickle.loads(pickle.dumps(caught.exception)).part]
+        self.assertEqual(parts, [goblin_pe.RefusedPart.NOTHING, *[goblin_pe.RefusedPart.HEADER] * 2])
         for other in (Refused(1, 3, 0x6F6D), Refused(1, 4, 0x6F6E), Refused(4, 3, 0x6F6E), str(made), None):
             self.assertNotEqual(made, other)
 
@@ -151,11 +154,12 @@ class Kept(unittest.TestCase):
     def test_the_data_of_a_writable_buffer_is_not_copied_whole(self):
         data = bytearray(sample("object_x64.obj"))
         sections = ObjectFile(data).sections
-        wanted = [(s.data(bytes(data)), s.relocations(bytes(data)), list(s.walk_relocations(bytes(data)))) for s in sections]
-        self.assertTrue(any(relocations for _, relocations, _ in wanted))
+        wanted = [(s.data(bytes(data)), s.available_data(bytes(data)), s.relocations(bytes(data)), list(s.walk_relocations(bytes(data))))
+                  for s in sections]
+        self.assertTrue(any(relocations for _, _, relocations, _ in wanted))
         data += bytes(1 << 24)
         tracemalloc.start()
-        found = [(s.data(data), s.relocations(data), list(s.walk_relocations(data))) for s in sections]
+        found = [(s.data(data), s.available_data(data), s.relocations(data), list(s.walk_relocations(data))) for s in sections]
         most = tracemalloc.get_traced_memory()[1]
         tracemalloc.stop()
         self.assertEqual(found, wanted)
@@ -568,6 +572,55 @@ class Files(unittest.TestCase):
         self.assertNotEqual(Pe(data + b"\0", how).fingerprint(), pe.fingerprint())
         self.assertRegex(pe.fingerprint(), "^[0-9a-f]{64}$")
 
+    def test_parts_of_a_refused_header(self):
+        """Of an image for 64 bits: seventeen data directories, a section named /abc, the magic of a ROM image, a header that is cut in
+        its data directories, and a section table that is cut in its third record."""
+        data = sample("imports_by_name_x64.dll")
+        whole = Pe(data)
+        header = whole.dos_header.pe_pointer + 24
+        table = header + whole.coff_header.size_of_optional_header
+        fields = ["standard_fields", "windows_fields", "data_directories"]
+        for changed, refused, missing in ((data[:header + 108] + b"\x11" + data[header + 109:], [], 0),
+                                          (data[:table] + b"/abc\0" + data[table + 5:], [], 0),
+                                          (data[:header] + b"\x07\x01" + data[header + 2:], fields, 0),
+                                          (data[:header + 120], fields[2:], 4), (data[:table + 100], [], 2)):
+            for how in (Options(), Options(is_permissive=True)):
+                with self.subTest(refused=refused, missing=missing, how=how), self.assertRaises(Refused) as caught:
+                    Layout(changed, how)
+                parts = goblin_pe.Parts(changed, how)
+                self.assertEqual((parts.refusal, list(parts.refused_parts), parts.missing_sections), (caught.exception, refused, missing))
+                self.assertEqual([s.virtual_address for s in parts.sections], [s.virtual_address for s in whole.sections[:4 - missing]])
+                if not refused and not missing:
+                    self.assertEqual((tuple(parts.walk_imports()), parts.imphash()), (whole.imports, whole.imphash()))
+                    self.assertEqual(parts.find_offset(0x2000), whole.find_offset(0x2000))
+
+    def test_parts_are_kept_and_sent(self):
+        """What is there stays after the bytes are gone, and is sent to other processes."""
+        data = bytearray(sample("imports_by_name_x64.dll"))
+        whole = Pe(bytes(data))
+        data[whole.dos_header.pe_pointer + 24 + 108] = 17
+        with goblin_pe.Parts(data) as parts:
+            self.assertEqual(parts.sections, whole.sections)
+        for copied in (parts, copy.copy(parts), pickle.loads(pickle.dumps(parts))):
+            self.assertEqual((copied.refusal, copied.data_directories, copied.sections), (parts.refusal, whole.data_directories, whole.sections))
+            self.assertEqual(repr(copied), "<Parts machine=0x8664 sections=4>")
+            told = json.loads(goblin_pe.to_json(copied))
+            self.assertEqual((told["refusal"]["cause"], told["refused_parts"], told["missing_sections"], len(told["sections"])),
+                             (parts.refusal.cause.name, {}, 0, 4))
+
+    def test_json_of_parts_and_of_raw_names_is_never_refused(self):
+        data = sample("imports_by_name_x64.dll")
+        header = int.from_bytes(data[0x3C:0x40], "little") + 24
+        name = data.index(b".text\0\0\0")
+        for changed in (b"", b"no image", data, data[:header - 14], data[:header + 120], data[:header] + b"\x07\x01" + data[header + 2:]):
+            with self.subTest(changed[:header + 2][-30:]):
+                parts = goblin_pe.Parts(changed)
+                told = json.loads(goblin_pe.to_json(parts))
+                self.assertEqual((list(told["refused_parts"]), told["refusal"] is None), (list(parts.refused_parts), parts.refusal is None))
+        layout = Layout(data[:name] + b"/abc\0" + data[name + 5:], Options(raw_section_names=True))
+        told = json.loads(goblin_pe.to_json(layout))
+        self.assertEqual((told["sections"][0]["name"], told["damage"]["refused"]["cause"]), ("/abc", "NAME_DECIMAL"))
+
     def test_walks_give_what_is_listed(self):
         for name in ("imports_by_name_x64.dll", "forwarders_x64.dll", "program_x86.exe"):
             data = sample(name)
@@ -677,6 +730,36 @@ class Files(unittest.TestCase):
                         found[steps] += 1
             self.assertEqual(found, wanted)
 
+    def test_a_name_pointer_without_an_export_is_a_step(self):
+        """Without addresses none gives an export. The end is seen by one step more."""
+        data = bytearray(sample("forwarders_x64.dll"))
+        layout = Layout(bytes(data))
+        record = layout.find_offset(layout.data_directories[DirectoryType.EXPORT_TABLE].virtual_address)
+        data[record + 0x14:record + 0x18] = bytes(4)
+        pointers = int.from_bytes(data[record + 0x18:record + 0x1C], "little")
+        layout = Layout(bytes(data))
+        for steps in range(pointers + 2):
+            with self.subTest(steps=steps), contextlib.nullcontext() if steps > pointers else self.assertRaises(goblin_pe.OutOfSteps):
+                self.assertEqual(list(layout.walk_exports(steps=steps)), [])
+
+    def test_walks_over_other_records_end_after_so_many_steps(self):
+        """Each row is a step, and the end is seen by one more."""
+        layout, found = Layout(sample("forwarders_x64.dll")), ObjectFile(sample("object_x64.obj"))
+        section = max(found.sections, key=lambda it: it.number_of_relocations)
+        for walk in (layout.walk_export_addresses, layout.walk_symbols, found.walk_symbols,
+                     lambda **words: found.walk_relocations(section, **words),
+                     lambda **words: section.walk_relocations(found.data, **words)):
+            rows = list(walk())
+            for steps in range(len(rows) + 2):
+                given, left = [], walk(steps=steps)
+                with self.subTest(walk=walk, steps=steps), contextlib.nullcontext() if steps > len(rows) else self.assertRaisesRegex(
+                        goblin_pe.OutOfSteps, "^the walk has taken its %d steps$" % steps):
+                    for row in left:
+                        given.append(row)
+                self.assertEqual(given, rows[:steps])
+            with self.assertRaises(OverflowError):
+                walk(steps=-1)
+
     def test_a_walk_goes_on_after_each_step(self):
         data = with_libraries(with_section_names(3, 200), [b"a.dll", b"b.dll", b"c.dll"], [3, 0, 2])
         layout, cursor, count, found = Layout(data, Options(resolve_rva=False)), goblin_pe.records.ImportCursor(), ctypes.c_size_t(), []
@@ -686,6 +769,55 @@ class Files(unittest.TestCase):
             found += [it.slot for it in room[:count.value]]
         self.assertTrue(cursor.is_begun and not (cursor.has_next or cursor.has_place or cursor.is_untested))
         self.assertEqual(found, [it.slot for it in layout.walk_imports()])
+
+    def seen(self, table, steps, room):
+        """What a walk within so many steps gives of a table in which an x gives its place, a ! is refused, and any other byte gives
+        nothing; how it ends; and in how many calls. The library of the cursor is the place of the next byte."""
+        cursor, found, calls = goblin_pe.records.ImportCursor(), [], 0
+
+        def call(address, length, position, records, room, steps, count):
+            nonlocal calls
+            calls += 1
+            given, at = 0, cursor.library
+            cursor.is_begun = cursor.has_place = True
+            for at in range(at, min(at + steps, len(table))):
+                if table[at] == ord("!"):
+                    count._obj.value = given
+                    return goblin_pe.records.Fault(status=not given)
+                if table[at] == ord("x"):
+                    records[given].slot, given, cursor.library = at, given + 1, at + 1
+                    if given == room:
+                        break
+            cursor.library, cursor.has_place, count._obj.value = at + 1, at + 1 < len(table), given
+            return goblin_pe.records.Fault()
+
+        try:
+            records = (goblin_pe.records.Import * (room + 1))()
+            for _, count, given in goblin_pe._growing_batches(b"", records, call, cursor, 0, steps):
+                found += [it.slot for it in given[:count]]
+        except (goblin_pe.OutOfSteps, Refused) as why:
+            return found, type(why), calls
+        return found, None, calls
+
+    def test_steps_that_give_nothing_are_counted(self):
+        """Whatever the room."""
+        some = random.Random(1)
+        for _ in range(300):
+            table = bytes(some.choices(b".x", [some.random(), 0.3], k=some.randrange(1, 60))) + some.choice([b"", b"!", b"!x"])
+            for steps in range(len(table) + 2):
+                end = table.find(b"!") % (len(table) + 1)
+                wanted = [at for at, it in enumerate(table[:min(end, steps)]) if it == ord("x")]
+                why = goblin_pe.OutOfSteps if steps < min(end + 1, len(table)) or not steps else Refused if end < len(table) else None
+                for room in 1, 4, 10:
+                    with self.subTest(table=table, steps=steps, room=room):
+                        self.assertEqual(self.seen(table, steps, room)[:2], (wanted, why))
+
+    def test_few_calls_take_many_steps(self):
+        """Each call may read a long name again."""
+        for table, most in ((b"." * (1 << 18), 12), (b"..x" * (1 << 17), 250), ((b"." * 1000 + b"x" * 100) * 500, 1000)):
+            found, why, calls = self.seen(table, 100000, 256)
+            self.assertEqual((len(found), why), (table[:100000].count(b"x"), goblin_pe.OutOfSteps))
+            self.assertLessEqual(calls, most)
 
     def test_a_walk_ends_with_the_refusal_of_a_read(self):
         data = bytearray(sample("imports_by_name_x64.dll"))
@@ -837,6 +969,9 @@ class Files(unittest.TestCase):
         written = pe.write(coff, sections=more)
         self.assertEqual((written[table + 40 * room:], Pe(written, Options(is_permissive=True)).sections), (data[table + 40 * room:], more))
         self.assertRaisesRegex(ValueError, "no room", pe.write, sections=more + more[:1])
+        unstored = pe.sections[:-1] + (pe.sections[-1]._replace(size_of_raw_data=0x200, pointer_to_raw_data=0),)
+        beside = Pe(pe.write(sections=unstored), Options(is_permissive=True))
+        self.assertEqual(Pe(beside.write(coff, sections=more), Options(is_permissive=True)).sections, more)
         bound = bytearray(data)
         bound[table + 40 * len(pe.sections)] = 1  # (as bound imports stand there)
         self.assertRaisesRegex(ValueError, "no room", Pe(bound).write, sections=more)
@@ -913,7 +1048,11 @@ class Files(unittest.TestCase):
             for s in found.sections:
                 self.assertEqual((found.section_data(s), found.relocations(s), list(found.walk_relocations(s))),
                                  (s.data(found.data), s.relocations(found.data), list(s.walk_relocations(found.data))))
-            self.assertEqual([te.section_data(s) for s in te.sections], [s.data(te.data) for s in te.sections])
+            for read in found, te:
+                self.assertEqual([read.section_data(s) for s in read.sections], [s.data(read.data) for s in read.sections])
+                self.assertEqual([read.available_section_data(s) for s in read.sections], [s.data(read.data) for s in read.sections])
+            bss = found.sections[0]._replace(size_of_raw_data=400000, pointer_to_raw_data=0, virtual_size=0, characteristics=0xC0000080)
+            self.assertEqual((found.section_data(bss), found.available_section_data(bss)), ((b"", 400000),) * 2)
         for closed in (lambda: found.data, found.walk_symbols, lambda: found.symbol_at(0), lambda: found.relocations(s), lambda: found.section_data(s),
                        lambda: te.section_data(te.sections[0])):
             self.assertRaisesRegex(ValueError, "no longer here", closed)
@@ -1109,10 +1248,10 @@ class Files(unittest.TestCase):
 
     def test_help_names_what_is_for_users(self):
         text = pydoc.plain(pydoc.render_doc(goblin_pe))
-        for name in ("class Pe", "class ObjectFile", "class Te", "class Refused", "class Options", "footprint(", "walk_imports(", "walk_symbols(", "write(", "names_of(", "to_json("):
+        for name in ("class Pe", "class Parts", "class ObjectFile", "class Te", "class Refused", "class Options", "footprint(", "walk_imports(", "walk_symbols(", "write(", "names_of(", "to_json("):
             self.assertIn(name, text)
         self.assertNotIn("ctypes", text)
-        self.assertLess(len(text.splitlines()), 1300)
+        self.assertLess(len(text.splitlines()), 1800)
 
 
 if __name__ == "__main__":

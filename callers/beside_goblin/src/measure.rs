@@ -94,7 +94,7 @@ pub fn compare<F, T>(
     let [our_time, their_time] = [0, 1].map(|it| median(turns.iter().map(|turn| turn[it].0)));
     let [our_faults, their_faults] = [0, 1].map(|it| median(turns.iter().map(|turn| turn[it].1)));
     println!(
-        "{our_name} {our_time:.3} ms, {their_name} {their_time:.3} ms, ratio {:.2}, page faults {our_faults:.0} and {their_faults:.0}",
+        "{our_name} {our_time:.4} ms, {their_name} {their_time:.4} ms, ratio {:.2}, page faults {our_faults:.0} and {their_faults:.0}",
         our_time / their_time
     );
 }

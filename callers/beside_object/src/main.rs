@@ -1,15 +1,16 @@
 //! Reads files that lie in memory by this library and by the crate object, in turn, for `tools/benchmark`:
-//! beside_object ROUNDS FILE..
+//! beside_object ROUNDS FILE.., where the files are images or objects.
 //!
 //! object's own lists lack the imports by ordinal and the exports that are forwarded. So the rows that it reads are
 //! put into lists here, and without lists they are compared with the walks over this library's layout.
 #[path = "../../beside_goblin/src/measure.rs"]
 mod measure;
 
-use goblin_pe::{Layout, Options, Pe};
+use goblin_pe::{Kind, Layout, Options, Pe};
 use object::pe::{IMAGE_NT_OPTIONAL_HDR64_MAGIC, ImageNtHeaders32, ImageNtHeaders64};
+use object::read::coff::CoffFile;
 use object::read::pe::{ExportTarget, ImageNtHeaders, Import, PeFile, optional_header_magic};
-use object::{LittleEndian, Object, ObjectSection};
+use object::{LittleEndian, Object, ObjectSection, ObjectSymbol};
 use std::error::Error;
 use std::hint::black_box;
 
@@ -155,23 +156,96 @@ fn object_walks(bytes: &[u8]) -> Option<[usize; 3]> {
     }
 }
 
-fn main() -> Result<(), Box<dyn Error>> {
-    let (rounds, files) = measure::asked()?;
-    let files = measure::alike(files, our_lists, object_lists);
-    measure::compare(
-        &files,
-        rounds,
-        ("lists: ours", |file| our_lists(file)),
-        ("object", |file| object_lists(file)),
-    );
-    if files.iter().any(|it| our_walks(it) != object_walks(it)) {
-        return Err("the walks count otherwise".into());
+// How many symbols an object has by this library.
+fn our_symbols(bytes: &[u8]) -> Option<usize> {
+    let object = goblin_pe::Object::parse(bytes).ok()?;
+    let mut count = 0;
+    for symbol in object.symbols().ok()? {
+        black_box((symbol.name, symbol.value));
+        count += 1;
+    }
+    Some(count)
+}
+
+// How many relocations its sections have by this library.
+fn our_relocations(bytes: &[u8]) -> Option<usize> {
+    let object = goblin_pe::Object::parse(bytes).ok()?;
+    let mut count = 0;
+    for section in object.sections() {
+        for relocation in section.walk_relocations(bytes) {
+            black_box(relocation.ok()?);
+            count += 1;
+        }
+    }
+    Some(count)
+}
+
+// The count of `our_symbols` by object.
+fn object_symbols(bytes: &[u8]) -> Option<usize> {
+    let file = CoffFile::<&[u8]>::parse(bytes).ok()?;
+    let mut count = 0;
+    for symbol in file.symbols() {
+        black_box((symbol.name_bytes().ok(), symbol.address()));
+        count += 1;
+    }
+    Some(count)
+}
+
+// The count of `our_relocations` by object.
+fn object_relocations(bytes: &[u8]) -> Option<usize> {
+    let file = CoffFile::<&[u8]>::parse(bytes).ok()?;
+    let mut count = 0;
+    for section in file.sections() {
+        for relocation in section.relocations() {
+            black_box(relocation);
+            count += 1;
+        }
+    }
+    Some(count)
+}
+
+type Reader<T> = fn(&[u8]) -> Option<T>;
+
+// Compares two readers of the files in which they count the same.
+fn compare<T: PartialEq>(
+    title: &str,
+    rounds: usize,
+    files: &[Vec<u8>],
+    ours: Reader<T>,
+    theirs: Reader<T>,
+) -> Result<(), Box<dyn Error>> {
+    if files.iter().any(|it| ours(it) != theirs(it)) {
+        return Err(format!("the {title} count otherwise").into());
     }
     measure::compare(
-        &files,
+        files,
         rounds,
-        ("walks: ours", |file| our_walks(file)),
-        ("object", |file| object_walks(file)),
+        (&format!("{title}: ours"), |file| ours(file)),
+        ("object", |file| theirs(file)),
     );
+    Ok(())
+}
+
+fn main() -> Result<(), Box<dyn Error>> {
+    let (rounds, files) = measure::asked()?;
+    let (objects, images): (Vec<_>, Vec<_>) = files
+        .into_iter()
+        .partition(|(_, file)| goblin_pe::kind(file) == Kind::Object);
+    let objects: Vec<_> = objects.into_iter().map(|(_, file)| file).collect();
+    if !objects.is_empty() {
+        compare("symbols", rounds, &objects, our_symbols, object_symbols)?;
+        compare(
+            "relocations",
+            rounds,
+            &objects,
+            our_relocations,
+            object_relocations,
+        )?;
+    }
+    let images = measure::alike(images, our_lists, object_lists);
+    if !images.is_empty() {
+        compare("lists", rounds, &images, our_lists, object_lists)?;
+        compare("walks", rounds, &images, our_walks, object_walks)?;
+    }
     Ok(())
 }

@@ -1,6 +1,9 @@
 """Tells of each file of a folder what analysts compare, a line of JSON each: triage.py FOLDER. Four threads look at them. Of no
-file are more imports or exports counted than a limit says, and of imports past it `damage` tells nothing; but what is left out
-counts for no limit, `damage` looks at all exports, and all sections are told. What can't be read has a line, too, that says why.
+file are more imports or exports counted than a limit says, nor more entries looked at for them: `cut_off` tells of which there are
+more, and where these are the imports `damage` tells nothing of them; but it looks at all exports, and all sections are told. What
+imports only the Windows loader finds, and what only a reader does that takes raw pointers as stored and no names from the headers,
+has a finding of its own: packers hide imports so. What can't be read has a line, too, that says why, and of an image what is there
+of it all the same.
 Files are read whole, and not mapped: who can write or cut a mapped file changes the bytes during a call, or ends the program."""
 import concurrent.futures
 import hashlib
@@ -10,12 +13,24 @@ import math
 import os
 import sys
 from collections import Counter
-from typing import Any, Dict, Iterator, Optional
+from typing import Any, Dict, Iterator, List, Optional, Set, TypeVar
 
-from goblin_pe import Import, Kind, Layout, Options, Refused, imphash, kind, names_of
+from goblin_pe import (
+    Import, Kind, Layout, Options, OutOfSteps, Parts, RawPointerRule, Refused, imphash, kind, names_of)
 
-# Of no file are more imports counted, and no more exports.
+# Of no file are more imports counted, and no more exports; and for neither are more entries looked at.
 MOST = 100_000
+STEPS = 10 * MOST
+
+# Of the imports that one view alone has so many are told.
+TOLD = 100
+
+T = TypeVar("T")
+
+
+def text(stored: bytes) -> str:
+    """The characters of a text; a byte that is not UTF-8 as a backslash, x and two digits."""
+    return stored.decode("utf-8", "backslashreplace")
 
 
 def entropy(data: memoryview) -> float:
@@ -44,7 +59,7 @@ def overlay(layout: Layout, data: Any) -> Optional[int]:
 def sections(layout: Layout) -> Iterator[Dict[str, Any]]:
     """What each section is like; of one that passes the file nothing of its data."""
     for s in layout.sections:
-        told: Dict[str, Any] = {"name": s.name.decode("utf-8", "backslashreplace"), "flags": names_of(s.characteristics)}
+        told: Dict[str, Any] = {"name": text(s.name), "flags": names_of(s.characteristics)}
         try:
             content, _ = layout.section_view(s)
             told.update(entropy=round(entropy(content), 3), md5=hashlib.md5(content, usedforsecurity=False).hexdigest())
@@ -53,30 +68,89 @@ def sections(layout: Layout) -> Iterator[Dict[str, Any]]:
         yield told
 
 
+def within(walk: Iterator[T], what: str, cut_off: Set[str]) -> Iterator[T]:
+    """What a walk gives, up to the limit; where there is more of it, or its steps are taken, what it is of is cut off."""
+    try:
+        yield from itertools.islice(walk, MOST)
+        for _ in walk:
+            cut_off.add(what)
+            return
+    except OutOfSteps:
+        cut_off.add(what)
+
+
 def counted(imports: Iterator[Import], libraries: "Counter[bytes]") -> Iterator[Import]:
-    """These imports, up to the limit, each of which counts for its library as it is handed on."""
-    for it in itertools.islice(imports, MOST):
+    """These imports, each of which counts for its library as it is handed on."""
+    for it in imports:
         libraries[it.dll.lower()] += 1
         yield it
 
 
-def image(data: Any) -> Dict[str, Any]:
+def key(it: Import) -> bytes:
+    """What tells an import from others, in few bytes, as its name may be long."""
+    what = b"#%d" % it.ordinal if it.name is None else it.name
+    return hashlib.md5(it.dll.lower() + b"\0" + what, usedforsecurity=False).digest()
+
+
+def only_in(one: Layout, other: Layout) -> List[str]:
+    """The imports of one view that the other has not, the first of them."""
+    keys = set(map(key, within(other.walk_imports(steps=STEPS), "imports", set())))
+    lone = (it for it in within(one.walk_imports(steps=STEPS), "imports", set()) if key(it) not in keys)
+    return [text(it.dll) + " " + (f"#{it.ordinal}" if it.name is None else text(it.name)) for it in itertools.islice(lone, TOLD)]
+
+
+def lone_imports(layout: Layout, data: Any) -> Dict[str, List[str]]:
+    """What of the imports only is there where raw pointers are rounded, as the loader may do, what then is not, and what the headers
+    lead to, where these are mapped."""
+    def read(rule: RawPointerRule) -> Layout:
+        return type(layout)(data, Options(is_permissive=True, parse_imports=False, raw_pointer_rule=rule))
+    with read(RawPointerRule.BY_FILE_ALIGNMENT) as loaded, read(RawPointerRule.AS_LOADED) as mapped:
+        found = {"only_loaded": only_in(loaded, layout), "never_loaded": only_in(layout, loaded), "in_headers": only_in(mapped, loaded)}
+    return {what: names for what, names in found.items() if names}
+
+
+def contents(layout: Layout, data: Any) -> Dict[str, Any]:
     """What is told of an image; its imports and its exports are counted up to the limit, and none of them is kept."""
+    libraries: Counter[bytes] = Counter()
+    cut_off: Set[str] = set()
+    hashed = imphash(counted(within(layout.walk_imports(steps=STEPS), "imports", cut_off), libraries))
+    exports = sum(1 for _ in within(layout.walk_exports(steps=STEPS), "exports", cut_off))
+    header = layout.optional_header
+    return {
+        "machine": names_of(layout.coff_header.machine, "machine")[0], "time_date_stamp": layout.coff_header.time_date_stamp,
+        "is_64": layout.is_64, "is_lib": layout.is_lib, "entry": layout.entry, "image_base": layout.image_base,
+        "subsystem": header and names_of(header.windows_fields.subsystem, "subsystem")[0],
+        "libraries": {text(name): count for name, count in sorted(libraries.items())},
+        "imphash": None if "imports" in cut_off else hashed, "exports": exports, "cut_off": sorted(cut_off),
+        **lone_imports(layout, data), "overlay": overlay(layout, data), "sections": list(sections(layout))}
+
+
+def image(data: Any) -> Dict[str, Any]:
+    """What is told of an image that is read, and of its damage."""
     with Layout(data, Options(is_permissive=True, parse_imports=False)) as layout:
-        libraries: Counter[bytes] = Counter()
-        hashed = imphash(counted(layout.walk_imports(), libraries))
-        is_counted = sum(libraries.values()) < MOST
+        told = contents(layout, data)
+        is_counted = told["imphash"] is not None
         damage = (Layout(data, Options(is_permissive=True)) if is_counted else layout).damage  # (else not of the imports)
-        header = layout.optional_header
         return {
-            "machine": names_of(layout.coff_header.machine, "machine")[0], "time_date_stamp": layout.coff_header.time_date_stamp,
-            "is_64": layout.is_64, "is_lib": layout.is_lib, "entry": layout.entry, "image_base": layout.image_base,
-            "subsystem": header and names_of(header.windows_fields.subsystem, "subsystem")[0],
-            "libraries": {name.decode("utf-8", "backslashreplace"): count for name, count in sorted(libraries.items())},
-            "imphash": hashed if is_counted else None, "exports": sum(1 for _ in itertools.islice(layout.walk_exports(), MOST)),
-            "rich_hash": rich_hash(layout, data), "overlay": overlay(layout, data), "sections": list(sections(layout)),
+            **told, "rich_hash": rich_hash(layout, data),
             "damage": {part: str(why) for part, why in zip(damage._fields[:5], damage) if why},
             "left_out": {what: count for what, count in zip(damage._fields[5:], damage[5:]) if count}}
+
+
+def parts(data: Any, refused: Refused) -> Dict[str, Any]:
+    """What is told of an image that is refused: why, which parts of its header are, and what is there all the same."""
+    with Parts(data, Options(is_permissive=True)) as there:
+        return {
+            "refused": str(refused), "refused_parts": {part: str(why) for part, why in there.refused_parts.items()},
+            "missing_sections": there.missing_sections, **contents(there, data)}
+
+
+def told_of(data: Any) -> Dict[str, Any]:
+    """What is told of an image, be it refused or not."""
+    try:
+        return image(data)
+    except Refused as refused:
+        return parts(data, refused)
 
 
 def triaged(path: str) -> Dict[str, Any]:
@@ -86,7 +160,8 @@ def triaged(path: str) -> Dict[str, Any]:
         with open(path, "rb") as file:
             data = file.read()
         what = kind(data)
-        return {**told, "kind": what.name.lower(), **(image(data) if what == Kind.IMAGE else {})}
+        told["kind"] = what.name.lower()
+        return {**told, **(told_of(data) if what == Kind.IMAGE else {})}
     except (OSError, Refused) as error:
         return {**told, "refused": str(error)}
 

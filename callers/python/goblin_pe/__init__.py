@@ -15,7 +15,7 @@ relocations, objects with their symbols, and Terse Executables.
 
 `python -m goblin_pe FILE` lists a file, and with --json many of them.
 
-Pe, Layout, ObjectFile and Te read bytes, a memoryview, a mapped file or any other buffer that lies in one piece; Options say how.
+Pe, Layout, Parts, ObjectFile and Te read bytes, a memoryview, a mapped file or any other buffer that lies in one piece; Options say how.
 Texts are bytes. Addresses (rva) are relative to the image's base, offsets are file offsets, both in bytes. `kind` tells what
 a file is.
 
@@ -45,7 +45,6 @@ import ctypes as _c
 import dataclasses as _dataclasses
 import hashlib as _hashlib
 import itertools as _itertools
-import operator as _operator
 import os as _os
 import types as _types
 import typing as _t
@@ -55,7 +54,7 @@ from ._imphash import imphash as imphash, ordinal_name as ordinal_name
 from ._names import flags_of as flags_of, names_of as names_of, relocation_name as relocation_name
 from ._library import LIB as _LIB, Data as Data, Kept as _Kept, held as _held, kept as _kept, viewed as _viewed
 from ._refused import Refused as Refused, named as _named, refusal as _refusal, test as _test
-from .constants import IMAGE_FILE_DLL as _IMAGE_FILE_DLL, MAGIC_64 as _MAGIC_64
+from .constants import IMAGE_FILE_DLL as _IMAGE_FILE_DLL, MAGIC_64 as _MAGIC_64, MOST_WITHOUT_INDEX as _MOST_WITHOUT_INDEX
 from .numbers import (
     Cause as Cause, Counted as Counted, DirectoryType as DirectoryType, Kind as Kind,
     RawPointerRule as RawPointerRule, ReadFault as ReadFault, RefusedPart as RefusedPart,
@@ -72,7 +71,7 @@ from .rows import (
     OutOfSteps as OutOfSteps, RichHeader as RichHeader, Rows as _Rows,
     Section as Section, SectionData as SectionData, SectionView as SectionView, Symbol as Symbol,
     available_of as _available_of, batches as _batches, data_of as _data_of, growing_batches as _growing_batches,
-    record_of as _section_record, room as _room, view_of as _view_of)
+    record_of as _section_record, room as _room, size as _size, view_of as _view_of)
 
 __version__ = "0.4.0"
 
@@ -97,27 +96,22 @@ def _section_rows(data: _Kept, address: int, stored: _t.Any, count: int, most_ke
     return map(_Rows(data, address, most_kept).section, _itertools.islice(stored, count))
 
 
-def _size(number: int) -> int:
-    # an address or a size, which the library takes without a look at what is past 64 bits
-    number = _operator.index(number)
-    number.to_bytes(_c.sizeof(_c.c_size_t), "little")
-    return number
+def _limit(steps: _t.Optional[int]) -> _t.Optional[int]:
+    # how many steps a walk may take, where there is a limit
+    return None if steps is None else _size(steps)
 
 
 # How many rows of a walk are read at once; and how many where a call takes long, or no row is made: at first, and at last.
 _BATCH, _LARGE_BATCH, _LARGEST_BATCH = 256, 4096, 65536
-
-# How many sections the library walks over; of more it makes an index in each call.
-_MOST_WITHOUT_INDEX = 96
 
 # How many bytes of texts a walk keeps, of those that may come again.
 _MOST_KEPT = 1 << 20
 
 
 def _walk(data: _Kept, kind: _t.Any, row: str, call: _t.Callable[..., records.Fault], position: _t.Any,
-          most: int = _BATCH, steps: _t.Optional[int] = None) -> _t.Iterator[_t.Any]:
+          most: int = _BATCH, steps: _t.Optional[int] = None, is_permissive: bool = False) -> _t.Iterator[_t.Any]:
     # the rows of a walk, each made when it is asked for; large batches grow
-    batches = _growing_batches(data, _room(kind, most), call, position, _LARGEST_BATCH if most > _BATCH else 0, steps)
+    batches = _growing_batches(data, _room(kind, most), call, position, _LARGEST_BATCH if most > _BATCH else 0, steps, is_permissive)
     return _itertools.chain.from_iterable(
         map(getattr(_Rows(data, address, _MOST_KEPT), row), _laid_out.first_of(found, count)) for address, count, found in batches)
 
@@ -131,9 +125,9 @@ def _symbol_table(data: _Kept, header: CoffHeader, tests_texts: bool = True) -> 
     return table
 
 
-def _walk_symbols(data: _Kept, table: records.SymbolTable) -> _t.Iterator[Symbol]:
+def _walk_symbols(data: _Kept, table: records.SymbolTable, steps: _t.Optional[int]) -> _t.Iterator[Symbol]:
     return _walk(data, records.NamedSymbol, "symbol", lambda address, length, *to: _LIB.goblin_pe_raw_next_symbols(
-        address, length, _c.byref(table), *to), _c.c_size_t())
+        address, length, _c.byref(table), *to), _c.c_size_t(), steps=_limit(steps))
 
 
 def _symbol_at(data: _Kept, table: records.SymbolTable, index: int) -> _t.Optional[Symbol]:
@@ -213,20 +207,25 @@ class Options:
     resolve_rva: whether an address is mapped to a file offset by the sections; where not, it is the offset.
     raw_pointer_rule: where the raw data of a section begins for the mapping of addresses, and for section_data and memory_at
         of an image: a RawPointerRule. Rounding is right where `section_alignment` is 4,096 or more, and pointers as stored
-        where it is less, since the Windows loader maps such an image as one flat view of the file; by the file alignment
-        pefile maps.
+        where it is less, since the Windows loader maps such an image as one flat view of the file. BY_FILE_ALIGNMENT
+        chooses so, as pefile does. AS_LOADED also maps the headers, as that loader does: packers put names and tables there; but
+        a library whose record says 0 for its lookup table has one at the front of the file then.
     parse_imports: whether the imports are read; where not, their table is absent, and `damage` tells nothing of them.
+    raw_section_names: whether the sections of a Layout have their raw names alone, which refuse no file; where not, a name that
+        begins with a slash is looked up in the string table. Only the read of a Layout looks at this: a file with a name that
+        can't be read is refused by Pe and by `damage` all the same, and footprint and fingerprint tell of that refusal alone.
 
     Neither mode passes over more than sixteen data directories (so number_of_rva_and_sizes is at most sixteen of what was read, and
     was not cut to that), a magic that is neither of the two, a header or a section table that the file's end cuts, a section's name
     that is a slash and a text which is no number, or the marker `Rich` of a Rich header without `DanS` before it: such a file is
-    refused.
+    refused. Parts has what is there of it.
     """
 
     is_permissive: bool = False
     resolve_rva: bool = True
     raw_pointer_rule: RawPointerRule = RawPointerRule.AS_STORED
     parse_imports: bool = True
+    raw_section_names: bool = False
 
     def __post_init__(self) -> None:
         for name, value in vars(self).items():
@@ -244,17 +243,7 @@ def _record_of(how: _t.Optional[Options]) -> records.Options:
     how = Options() if how is None else how
     if not isinstance(how, Options):
         raise TypeError("options have to be Options, not %r" % (how,))
-    return records.Options(how.is_permissive, how.resolve_rva, how.raw_pointer_rule, how.parse_imports)
-
-
-def refused_part(data: Data, options: _t.Optional[Options] = None) -> RefusedPart:
-    """The part for which a read of an image by these Options is refused: the first that cannot be read, in the order of the
-    header, the sections, the imports, the exports and the base relocations; RefusedPart.NOTHING where the file is read, and in
-    permissive mode never a table. So ask it after a refusal: it reads the file again. Refused is raised for memory alone."""
-    asked, part = _record_of(options), _c.c_uint32()
-    with _held(_kept(data)) as (address, length):
-        _test(_LIB.goblin_pe_raw_refused_part_of(address, length, _c.byref(asked), _c.byref(part)))
-    return RefusedPart(part.value)
+    return records.Options(how.is_permissive, how.resolve_rva, how.raw_pointer_rule, how.parse_imports, how.raw_section_names)
 
 
 _V = _t.TypeVar("_V")
@@ -354,13 +343,18 @@ class _File:
     def section_data(self, section: Section) -> SectionData:
         """The data of one of its sections, copied, and how many zeros follow it in memory. Of an image it begins at the raw
         pointer, which the options may round down to 512, as they do for find_offset; of others at the pointer that the row has.
-        There is as much as the raw size says: it is not cut at the virtual size, as memory_at of an image cuts it. Refused is
-        raised where it passes the file, and where it begins past the end, even if there is none."""
+        There is as much as the raw size says: it is not cut at the virtual size, as memory_at of an image cuts it. Uninitialized
+        data is as Section.data has it. Refused is raised where it passes the file, and where it begins past the end, even if
+        there is none."""
         return _data_of(section, self._bytes(), *self._mapped_by())
 
     def section_view(self, section: Section) -> SectionView:
         """The same as section_data, but a view of the file's bytes, of which none is copied."""
         return _view_of(section, self._bytes(), *self._mapped_by())
+
+    def available_section_data(self, section: Section) -> SectionData:
+        """The same as section_data as far as the file has it, which is never refused; see available_data of a Section."""
+        return _available_of(section, self._bytes(), *self._mapped_by())
 
 
 def _whole(path: _t.Union[str, "_os.PathLike[str]"]) -> bytes:
@@ -400,11 +394,11 @@ class Layout(_File):
     def _hold(self, data: Data, options: _t.Optional[Options]) -> None:
         self._data = _kept(data)
         how = self._options = _record_of(options)
-        self._with_imports = records.Options(how.is_permissive, how.resolve_rva, how.raw_pointer_rule, True)
+        self._with_imports = records.Options(how.is_permissive, how.resolve_rva, how.raw_pointer_rule, True, how.raw_section_names)
         self._made = {}
         self._symbol_table: _t.Optional[records.SymbolTable] = None  # (until a symbol is asked for)
 
-    def _take_headers(self, file: _t.Union[records.File, records.Layout], directories: _t.List[records.Directory]) -> None:
+    def _take_headers(self, file: _t.Union[records.File, records.Layout, records.Parts], directories: _t.List[records.Directory]) -> None:
         self._dos_header, self._coff_header, self._header = file.dos_header, file.coff_header, file.optional_header
         self._places = file.places
         self._directories = {_named(DirectoryType, index): d.directory for index, d in enumerate(directories) if d.is_present}
@@ -505,11 +499,13 @@ class Layout(_File):
 
     def _image(self, address: int, length: int) -> records.Image:
         # what maps addresses
-        sections, alignment = self._mapping, self._header.windows_fields.file_alignment
-        return records.Image(records.Text(address, length), _c.addressof(sections), len(sections) - 1, alignment, self._options)
+        sections, fields = self._mapping, self._header.windows_fields
+        return records.Image(records.Text(address, length), _c.addressof(sections), len(sections) - 1,
+                             fields.file_alignment, fields.size_of_headers, self._options)
 
     def find_offset(self, rva: int) -> _t.Optional[int]:
-        """The file offset of an address: None where no section maps it or the file alignment is no power of two;
+        """The file offset of an address: None where no section maps it, nor the headers where the options map as the Windows
+        loader does, or the file alignment is no power of two;
         the address itself where the options say that addresses are offsets. It can lie past the file's end. OverflowError
         is raised where the address has more than 64 bits or a sign."""
         offset = _c.c_size_t()
@@ -538,11 +534,13 @@ class Layout(_File):
             return None if refused else _Rows(data, address).text(text)
 
     def memory_at(self, rva: int, size: int) -> _t.Optional[SectionData]:
-        """The bytes that a loader sees at an address: those that the file has, and how many zeros follow them. They lie in the
-        memory of the first section that holds the address, which has as many bytes as its virtual size says, or its raw
-        size where that is 0; a header lies in none. Where the options say that addresses are offsets, they are the file's
-        own. None where no section's memory holds the address, the bytes pass the section's memory, or the file does not
-        have its bytes."""
+        """The bytes that a loader sees at an address: those that the file has, and how many zeros follow them. Where the address
+        has an offset inside the file, the first is the byte there, as bytes_at gives it, but in a section of uninitialized
+        data whose raw pointer is 0. They lie in the memory of the first section whose window holds the address, or else of the
+        first whose memory does: as many bytes as its virtual size says, or its raw size where that is 0, and no fewer than its
+        window has. A header lies in none, but where the options map as the Windows loader does, it is there, too. Where
+        the options say that addresses are offsets, the bytes are the file's own. None where nothing in memory holds the address,
+        the bytes pass the memory of what does, or the file does not have its bytes."""
         seen, data = records.SectionData(), self._bytes()
         with _held(data) as (address, length):
             image = self._image(address, length)
@@ -552,7 +550,7 @@ class Layout(_File):
     def available_at(self, rva: int, size: int) -> _t.Optional[SectionData]:
         """The first of the bytes that a loader sees at an address, at most so many: as memory_at, but fewer where the section's
         memory ends before, or the file does. No zeros follow bytes of which some are missing in the file, since it is not
-        known what they are. None where no section's memory holds the address; where the options say that addresses are
+        known what they are. None where nothing in memory holds the address; where the options say that addresses are
         offsets, at or past the file's end."""
         seen, data = records.SectionData(), self._bytes()
         with _held(data) as (address, length):
@@ -561,11 +559,13 @@ class Layout(_File):
             return None if refused else SectionData(_Rows(data, address).text(seen.bytes), seen.zeros)
 
     def region_of(self, rva: int) -> _t.Tuple[Region, _t.Optional[Section]]:
-        """Where an address lies, and its section, where it lies in the memory of one: the first that holds it, as for memory_at.
-        The options are not looked at, nor whether the file has the section's bytes."""
-        index, headers = _c.c_size_t(), self._header.windows_fields.size_of_headers
-        image = self._image(_laid_out.NOWHERE, 0)
-        region = Region(_LIB.goblin_pe_raw_region_of(_c.byref(image), headers, _size(rva), _c.byref(index)))
+        """Where an address lies, and its section, where it lies in the memory of one, as for memory_at; or else in the headers, in
+        whole file blocks, or nowhere. Whether addresses are offsets is not looked at, nor whether the file has the section's
+        bytes."""
+        index = _c.c_size_t()
+        with _held(self._bytes()) as (address, length):
+            image = self._image(address, length)
+            region = Region(_LIB.goblin_pe_raw_region_of(_c.byref(image), _size(rva), _c.byref(index)))
         return region, self._section(index.value) if region in (Region.STORED, Region.ZEROS) else None
 
     def forwarder_at(self, rva: int) -> _t.Optional[_t.Tuple[bytes, _t.Union[bytes, int]]]:
@@ -606,10 +606,6 @@ class Layout(_File):
             is_there = _LIB.goblin_pe_raw_file_checksum(address, length, _c.byref(self._options), _c.byref(found))
         return found.value if is_there else None
 
-    def available_section_data(self, section: Section) -> SectionData:
-        """The same as far as the file has it, which is never refused; see available_data of a Section."""
-        return _available_of(section, self._bytes(), self._options, self._header.windows_fields.file_alignment)
-
     def _batch(self) -> int:
         # how many rows of a walk over imports or exports are read at once
         return _LARGE_BATCH if self._counts["sections"] > _MOST_WITHOUT_INDEX else _BATCH
@@ -622,8 +618,8 @@ class Layout(_File):
     def _walked(self, table: DirectoryType, row: str, steps: _t.Optional[int], begin: _t.Tuple[int, ...] = ()) -> _t.Iterator[_t.Any]:
         # the rows of a table, from where these numbers say, within so many steps
         _, kind, position = _WALKED[table]
-        limit = None if steps is None else _size(steps)
-        return _walk(self._bytes(), kind, row, self._next(table), position(*begin), self._batch(), limit)
+        return _walk(self._bytes(), kind, row, self._next(table), position(*begin), self._batch(), _limit(steps),
+                     self._options.is_permissive)
 
     def _records(self, table: DirectoryType) -> _t.Iterator[_t.Tuple[int, _t.Iterable[_t.Any]]]:
         # the records of a table, batch by batch: how many, and these
@@ -672,11 +668,12 @@ class Layout(_File):
         file; what else is refused of a library walk_imports tells, where it is given that."""
         call, asked = _LIB.goblin_pe_raw_next_libraries, self._with_imports
         return _walk(self._bytes(), records.Library, "library", lambda address, length, *to: call(
-            address, length, _c.byref(asked), _c.byref(self._places), *to), records.ImportCursor(), self._batch(),
-            None if steps is None else _size(steps))
+            address, length, _c.byref(asked), _c.byref(self._places), *to), records.ImportCursor(), self._batch(), _limit(steps),
+            self._options.is_permissive)
 
     def walk_exports(self, *, steps: _t.Optional[int] = None) -> _t.Iterator[Export]:
-        """The exports one by one, of which none is kept. With `steps` it raises OutOfSteps after so many."""
+        """The exports one by one, of which none is kept. With `steps` it raises OutOfSteps once it has looked at so many name
+        pointers, whether or not these gave an export."""
         return self._walked(DirectoryType.EXPORT_TABLE, "exported", steps)
 
     def find_export(self, name: _t.Union[bytes, str]) -> _t.Optional[Export]:
@@ -713,18 +710,19 @@ class Layout(_File):
         directory = self.export_directory
         return directory.name if directory else None
 
-    def walk_export_addresses(self) -> _t.Iterator[ExportEntry]:
+    def walk_export_addresses(self, *, steps: _t.Optional[int] = None) -> _t.Iterator[ExportEntry]:
         """The entries of the export address table one by one, by rising ordinals, also those without a name, each with its
-        forwarder. None is kept. Refused is raised where it would be of the exports."""
-        return self._export_entries(self._bytes())
+        forwarder. None is kept. With `steps` it raises OutOfSteps after so many. Refused is raised where the export directory
+        is refused, but not for the number of its name pointers, for which the exports are."""
+        return self._export_entries(self._bytes(), limit=_limit(steps))
 
-    def _export_entries(self, data: _Kept, first: int = 0) -> _t.Iterator[ExportEntry]:
-        # those from an index on
+    def _export_entries(self, data: _Kept, first: int = 0, limit: _t.Optional[int] = None) -> _t.Iterator[ExportEntry]:
+        # those from an index on, within so many steps
         directory, most = self._read_directory(data), self._batch()
         ordinals = _itertools.count(first + directory.table.ordinal_base if directory else 0)
         batches = _growing_batches(data, _room(records.ExportAddress, most), lambda address, length, *to: (
             _LIB.goblin_pe_raw_next_export_addresses(address, length, _c.byref(self._options), _c.byref(self._places), *to)),
-            _c.c_size_t(first), _LARGEST_BATCH if most > _BATCH else 0)
+            _c.c_size_t(first), _LARGEST_BATCH if most > _BATCH else 0, limit)
         for it in _itertools.chain.from_iterable(_laid_out.first_of(found, count) for _, count, found in batches):
             yield ExportEntry(next(ordinals), it.rva, it.forwards, self.forwarder_at(it.rva) if it.forwards else None)
 
@@ -740,11 +738,12 @@ class Layout(_File):
         table, and where the string table is not UTF-8, or says a length below 4."""
         return self._once("symbols", lambda: tuple(self.walk_symbols()))
 
-    def walk_symbols(self, tests_texts: bool = True) -> _t.Iterator[Symbol]:
-        """The symbols one by one, of which none is kept. Refused is raised as by `symbols`; without tests_texts not where the
-        string table is not UTF-8: a symbol whose name is not has none."""
+    def walk_symbols(self, tests_texts: bool = True, *, steps: _t.Optional[int] = None) -> _t.Iterator[Symbol]:
+        """The symbols one by one, of which none is kept. With `steps` it raises OutOfSteps after so many. Refused is raised as by
+        `symbols`; without tests_texts not where the string table is not UTF-8: a symbol whose name is not has none."""
         data = self._bytes()
-        return _walk_symbols(data, self._found_symbols(data) if tests_texts else _symbol_table(data, self.coff_header, False))
+        table = self._found_symbols(data) if tests_texts else _symbol_table(data, self.coff_header, False)
+        return _walk_symbols(data, table, steps)
 
     def string_at(self, offset: int) -> _t.Optional[bytes]:
         """The text at an offset of the string table, up to a NUL or the table's end; None where there is none that is UTF-8. The
@@ -768,7 +767,8 @@ class Layout(_File):
 
     @property
     def damage(self) -> Damage:
-        """What strict mode would refuse of the file, part by part."""
+        """What strict mode would refuse of the file, part by part. Refused is raised for the cause for which the file is refused as a
+        whole: of Parts, and of a Layout whose sections have raw names."""
         return self._once("damage", self._read_damage)
 
     def _read_damage(self) -> Damage:
@@ -799,6 +799,60 @@ class Layout(_File):
                 digest.update(b" %d %d " % (begin, begin + length))
                 digest.update(in_bytes[begin: begin + length])
         return digest.hexdigest()
+
+
+class Parts(Layout):
+    """What is there of an image whose header or sections are refused: Parts(data, options), where `data` are the file's bytes and
+    `options` are Options. Each part of the header is read by itself, and no file is refused: `refusal` tells why it is as a whole,
+    and `refused_parts` which part is, and why.
+
+    It is a Layout by the parts that are given, so all walks over tables and all that is looked up by addresses work. Of more than
+    sixteen data directories it has the first sixteen, of a section table that the file's end cuts the sections that are there;
+    these have their raw names. Its optional_header is None where the standard fields are refused, too. Without a magic that is
+    known no table has a place, and no address where the options map them.
+
+    What reads the file as a whole does so anew, and not by these parts. Of a file that is refused as a whole `damage` is refused
+    for the same cause; `checksum` is None where its header is refused; the Rich header and its entries may be refused where a
+    part up to the COFF header is, or the Rich header itself; and `footprint` and `fingerprint` tell of the refusal alone, so that
+    they are equal for files with other imports.
+    """
+
+    def __init__(self, data: Data, options: _t.Optional[Options] = None):
+        self._hold(data, options)
+        parts, directories = records.Parts(), (records.Directory * 16)()
+        with _held(self._bytes()) as (address, length):
+            for _ in range(2):
+                sections, count = _room(records.Section, parts.sections), parts.sections
+                _LIB.goblin_pe_raw_read_parts(
+                    address, length, _c.byref(self._options), _c.byref(parts), directories, 16, sections, count)
+        self._take_headers(parts, directories[: parts.directories])
+        self._counts = {"sections": count}
+        self._take_sections(sections, address)
+        self._missing_sections, self._refusal = parts.missing_sections, _refusal(parts.refusal)
+        faults = {"dos_header": parts.dos_header_fault, "coff_header": parts.coff_header_fault,
+                  "standard_fields": parts.standard_fields_fault, "windows_fields": parts.windows_fields_fault,
+                  "data_directories": parts.directories_fault}
+        self._refused_parts = {name: why for name, why in zip(faults, map(_refusal, faults.values())) if why}
+
+    @property
+    def refusal(self) -> _t.Optional[Refused]:
+        """Why the header or the sections are refused as a whole, by Layout and Pe with these Options; None where they are read."""
+        return self._refusal
+
+    @property
+    def refused_parts(self) -> _t.Mapping[str, Refused]:
+        """The parts that are refused, each by itself, of these: dos_header, coff_header, standard_fields, windows_fields and
+        data_directories. A part may be refused for the cause of another one, which alone tells where it lies. In place of refused
+        headers and fields there are zeros."""
+        return _types.MappingProxyType(self._refused_parts)
+
+    @property
+    def missing_sections(self) -> int:
+        """How many sections the COFF header says besides those that are there."""
+        return self._missing_sections
+
+    def __repr__(self) -> str:
+        return "<Parts machine=%#x sections=%d>" % (self.coff_header.machine, self._counts["sections"])
 
 
 class Pe(Layout):
@@ -964,7 +1018,7 @@ class Pe(Layout):
     def _test_room(self, file: bytearray, table: int, size: int) -> None:
         # whether so many bytes of records have room in the section table: past those of the file's own, zeros before all data
         own, end = table + 40 * self._counts["sections"], table + size
-        is_before_data = all(end <= s.pointer_to_raw_data for s in self._mapping if s.size_of_raw_data)
+        is_before_data = all(end <= s.pointer_to_raw_data for s in self._mapping if s.size_of_raw_data and s.pointer_to_raw_data)
         if end > own and not (is_before_data and end <= len(file) and not any(file[own: end])):
             raise ValueError("there is no room for so many sections")
 
@@ -1029,19 +1083,19 @@ class ObjectFile(_File):
         """The relocations of one of its sections, as section.relocations lists them: at most 65,535."""
         return section.relocations(self._bytes())
 
-    def walk_relocations(self, section: Section) -> _t.Iterator[Relocation]:
+    def walk_relocations(self, section: Section, *, steps: _t.Optional[int] = None) -> _t.Iterator[Relocation]:
         """All relocations of one of its sections, one by one, as by section.walk_relocations."""
-        return section.walk_relocations(self._bytes())
+        return section.walk_relocations(self._bytes(), steps=steps)
 
     @property
     def symbols(self) -> _t.Tuple[Symbol, ...]:
         """The symbols."""
         return self._once("symbols", lambda: tuple(self.walk_symbols()))
 
-    def walk_symbols(self) -> _t.Iterator[Symbol]:
+    def walk_symbols(self, *, steps: _t.Optional[int] = None) -> _t.Iterator[Symbol]:
         """The symbols one by one, of which none is kept. Their string table was tested once, so that a second walk costs no more
-        than what it gives."""
-        return _walk_symbols(self._bytes(), self._symbol_table)
+        than what it gives. With `steps` it raises OutOfSteps after so many."""
+        return _walk_symbols(self._bytes(), self._symbol_table, steps)
 
     def __getstate__(self) -> _t.Dict[str, _t.Any]:
         if self._data is not None:

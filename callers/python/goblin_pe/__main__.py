@@ -136,7 +136,7 @@ def describe(paths: List[str], read: Callable[[bytes], Any]) -> int:
 
 # What the words --raw-pointers say.
 RAW_POINTERS = {"stored": RawPointerRule.AS_STORED, "rounded": RawPointerRule.ROUNDED_TO512,
-                "by-file-alignment": RawPointerRule.BY_FILE_ALIGNMENT}
+                "by-alignment": RawPointerRule.BY_FILE_ALIGNMENT, "as-loaded": RawPointerRule.AS_LOADED}
 
 
 def asked_of(words: List[str]) -> argparse.Namespace:
@@ -148,7 +148,7 @@ def asked_of(words: List[str]) -> argparse.Namespace:
     parser.add_argument("--permissive", action="store_true", help="pass over damaged parts")
     parser.add_argument("--raw-pointers", choices=sorted(RAW_POINTERS), default="stored",
                         help="how the raw pointers of sections are taken: as stored (as by default), rounded down to 512, or "
-                             "rounded where the file alignment is at least 512, as pefile does")
+                             "rounded where the file alignment is at least 512, with the headers mapped, too, as Windows does")
     parser.add_argument("--no-imports", action="store_true", help="leave the imports out, of which a small file can list many")
     parser.add_argument("--json", action="store_true", help="write a line of JSON for each of many files")
     parser.add_argument("files", metavar="FILE", nargs="+")

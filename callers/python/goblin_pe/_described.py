@@ -4,11 +4,12 @@ import enum
 import json
 from typing import Any, Callable, Dict, Tuple, Union
 
-from . import Block, Layout, ObjectFile, Pe, Refused, Te
+from . import Block, Layout, ObjectFile, Parts, Pe, Refused, Status, Te
 
 # What a text tells of each that was read.
 FIELDS: Dict[Any, str] = {
     Layout: "dos_header coff_header optional_header data_directories sections damage",
+    Parts: "dos_header coff_header optional_header data_directories sections refusal refused_parts missing_sections",
     Pe: "dos_header coff_header optional_header rich_header rich_entries rich_rest data_directories sections import_table imports "
         "export_table exports export_directory export_addresses relocation_table blocks block_rest damage",
     ObjectFile: "coff_header sections symbols",
@@ -34,19 +35,30 @@ def plain(value: Any) -> Any:
     return [plain(it) for it in value] if isinstance(value, (list, tuple)) else value
 
 
+def told_of(found: Union[Layout, ObjectFile, Te], name: str) -> Any:
+    """An attribute, or why it is refused: the damage of a layout is, where it is read with raw names that refuse the file."""
+    try:
+        return plain(getattr(found, name))
+    except Refused as refused:
+        if name != "damage" or refused.status == Status.MEMORY:
+            raise
+        return {"refused": plain(refused)}
+
+
 def described(found: Union[Layout, ObjectFile, Te]) -> Dict[str, Any]:
     """What was read, by the names of its attributes; of an image with its damage, and of a Pe with the hash of its imports, which
     is None where the options left these out."""
     fields = next(FIELDS[it] for it in type(found).__mro__ if it in FIELDS)
-    told = {name: plain(getattr(found, name)) for name in fields.split()}
+    told = {name: told_of(found, name) for name in fields.split()}
     if isinstance(found, Pe):
         told["imphash"] = found.imphash() if found._options.parse_imports else None
     return told
 
 
 def to_json(found: Union[Layout, ObjectFile, Te]) -> str:
-    """What was read as an object of JSON, by the names of its attributes; of an image with its damage, and of a Pe with the hash
-    of its imports, which is null where the options left these out. Rows are objects by their fields, numbers that have names
+    """What was read as an object of JSON, by the names of its attributes; of an image with its damage, or why that is refused, where
+    its sections have raw names; of Parts with their refusals in place of it; and of a Pe with the hash of its imports, which is
+    null where the options left these out. Rows are objects by their fields, numbers that have names
     those, and of the words of a block it is told how many there are. Texts have a backslash, x and two digits for each byte that
     is not UTF-8."""
     return json.dumps(described(found))

@@ -82,7 +82,7 @@ Kept = Union[bytes, mmap.mmap, memoryview]
 def _view(data: Data) -> memoryview:
     # a view of the bytes of a buffer, which lie in one piece
     if isinstance(data, (str, os.PathLike)):
-        raise TypeError("the bytes of a file are wanted, not its path %r: Pe.open(path) reads them" % (data,))
+        raise TypeError("the bytes of a file are wanted, not its path %r: Pe.open(path), or that of the other readers, reads them" % (data,))
     view = memoryview(data)
     if not view.c_contiguous:
         raise BufferError("the bytes don't lie in one piece")

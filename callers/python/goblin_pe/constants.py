@@ -458,6 +458,8 @@ IMAGE_REL_ARM_GPREL7 = 0x07
 IMAGE_REL_ARM_BLX24 = 0x08
 # ARM: the distance of a branch that may switch from Thumb, 11 bits.
 IMAGE_REL_ARM_BLX11 = 0x09
+# ARM: the distance to the target from the byte after the field, 32 bits.
+IMAGE_REL_ARM_REL32 = 0x0A
 # ARM: the index of the target's section, 16 bits.
 IMAGE_REL_ARM_SECTION = 0x0E
 # ARM: the target's offset from its section's start, 32 bits.
@@ -472,6 +474,8 @@ IMAGE_REL_ARM_BRANCH20T = 0x12
 IMAGE_REL_ARM_BRANCH24T = 0x14
 # ARM: the distance of a Thumb call, 23 bits.
 IMAGE_REL_ARM_BLX23T = 0x15
+# ARM: the second half of a pair of relocations, whose symbol index is a displacement.
+IMAGE_REL_ARM_PAIR = 0x16
 # ARM64: nothing is changed.
 IMAGE_REL_ARM64_ABSOLUTE = 0x00
 # ARM64: the target's address, 32 bits.
@@ -504,6 +508,10 @@ IMAGE_REL_ARM64_SECTION = 0x0D
 IMAGE_REL_ARM64_ADDR64 = 0x0E
 # ARM64: the distance of a conditional branch, 19 bits.
 IMAGE_REL_ARM64_BRANCH19 = 0x0F
+# ARM64: the distance of a branch that tests a bit, 14 bits.
+IMAGE_REL_ARM64_BRANCH14 = 0x10
+# ARM64: the distance to the target from the byte after the field, 32 bits.
+IMAGE_REL_ARM64_REL32 = 0x11
 # Itanium: nothing is changed.
 IMAGE_REL_IA64_ABSOLUTE = 0x00
 # Itanium: an immediate of 14 bits.
@@ -597,7 +605,7 @@ IMAGE_REL_BASED_DIR64 = 0x0A
 # Base relocation: the top 16 bits of a 48-bit address.
 IMAGE_REL_BASED_HIGH3ADJ = 0x0B
 
-# The sizes of records, in bytes, and offsets in them.
+# The sizes of records, in bytes, offsets in them, and the most sections that take no index.
 
 # The size of a COFF header, in bytes.
 SIZEOF_COFF_HEADER = 20
@@ -637,3 +645,8 @@ SIZEOF_EXPORT_DIRECTORY_TABLE = 40
 SIZEOF_EXPORT_ADDRESS_TABLE_ENTRY = 4
 # The size of the head of a base relocation block, in bytes.
 RELOCATION_BLOCK_SIZE = 8
+# The most sections that are walked over for each address: as many as the Windows loader takes. Of
+# more an index is made, which takes memory.
+#
+# Source: PE Format, "COFF File Header (Object and Image)".
+MOST_WITHOUT_INDEX = 96

@@ -7,7 +7,7 @@ from typing import Annotated, Any, Dict, List, NamedTuple, Tuple
 from ._laid_out import Address, HandedOver, Record, header, record, tables, to
 
 # The sum of the interface that is declared here: of its records, the numbers in them, and its calls.
-INTERFACE = 0x726f9829
+INTERFACE = 0x55052f38
 
 
 @record
@@ -122,16 +122,21 @@ class Options(Record):
         strict mode would refuse of it, and how much is left out.
     resolve_rva: Whether an address is mapped to a file offset by the sections; where not, it is the
         offset.
-    raw_pointer_rule: Where the raw data of a section begins, for addresses, for the data of a
-        section of an image and for what a loader sees at an address: the number of a
-        `RawPointerRule`; any other number is taken as 0.
+    raw_pointer_rule: How addresses are mapped, and where the raw data of a section begins, for
+        addresses, for the data of a section of an image and for what is in memory at an address:
+        the number of a `RawPointerRule`; any other number is taken as 0.
     parse_imports: Whether the imports are read; where not, their table is absent.
+    raw_section_names: Whether the sections of a layout have their raw names alone, as the loader of
+        images takes them: no name is tested, none refuses the file, and none is looked up in the
+        string table. Else a name that begins with a slash is looked up there, in either mode. Only
+        a read of a layout looks at it: an open, the damage and a footprint test each name.
     """
 
     is_permissive: Annotated[bool, c.c_bool]
     resolve_rva: Annotated[bool, c.c_bool]
     raw_pointer_rule: Annotated[int, c.c_uint8]
     parse_imports: Annotated[bool, c.c_bool]
+    raw_section_names: Annotated[bool, c.c_bool]
 
 
 @record
@@ -142,12 +147,17 @@ class Fault(Record):
     cause: By the status a `Cause`, a `Counted` or a `ReadFault`; else 0.
     first: The number that the cause, or else the status, calls `first`; else 0.
     second: The number that the cause calls `second`; else 0.
+    part: The part of an image that is refused, by the numbers of `RefusedPart`, where the call
+        reads a whole image or a layout; else 0.
+    reserved: Zero. It stands where padding would be, so that each byte of the record is defined.
     """
 
     status: Annotated[int, c.c_uint32]
     cause: Annotated[int, c.c_uint32]
     first: Annotated[int, c.c_uint64]
     second: Annotated[int, c.c_uint64]
+    part: Annotated[int, c.c_uint32]
+    reserved: Annotated[int, c.c_uint32]
 
 
 @record
@@ -197,14 +207,17 @@ class Image(Record):
         `size_of_raw_data`, and for what a loader sees at an address their `characteristics`; all
         else may be zeros, a null pointer of their texts, too.
     file_alignment: Its file alignment, in bytes.
-    options: Whether addresses are mapped, and by which rule for raw pointers; all else is not
-        looked at.
+    size_of_headers: How many bytes its headers have, as its optional header says; 0 without one.
+        They are looked at where the options map as the Windows loader does, and where an address
+        lies.
+    options: Whether addresses are mapped, and by which rule; all else is not looked at.
     """
 
     bytes: Text
     sections: Address
     section_count: Annotated[int, c.c_size_t]
     file_alignment: Annotated[int, c.c_uint32]
+    size_of_headers: Annotated[int, c.c_uint32]
     options: Options
 
 
@@ -270,6 +283,9 @@ class Places(Record):
     relocations: The directory of base relocations; zeros where there is none.
     file_alignment: The file alignment of the sections' raw data, in bytes; 0 where there is no
         optional header.
+    size_of_headers: How many bytes the headers have, as the optional header says: so much of the
+        file's front the Windows loader maps at the image's base. 0 where there is no optional
+        header.
     number_of_sections: How many records the section table has.
     magic: The magic of the optional header: by 0x10B the entries of import tables have four bytes,
         else eight; 0 where there is no optional header.
@@ -283,6 +299,7 @@ class Places(Record):
     imports: DataDirectory
     relocations: DataDirectory
     file_alignment: Annotated[int, c.c_uint32]
+    size_of_headers: Annotated[int, c.c_uint32]
     number_of_sections: Annotated[int, c.c_uint16]
     magic: Annotated[int, c.c_uint16]
     has_exports: Annotated[bool, c.c_bool]
@@ -652,12 +669,13 @@ class ExportDirectoryTable(NamedTuple):
 
 @record
 class ExportDirectory(Record):
-    """What the export directory says of the library; zeros where the exports are not read.
+    """What the export directory says of the library; zeros where it is not read.
 
     name: The library's own name, as it was linked, where there is a text at its address.
     table: The record itself.
     has_name: Whether there is a text at the name's address.
-    is_read: Whether the exports are read.
+    is_read: Whether it is read: of a whole file with its exports; by itself also where these are
+        refused for the number of their name pointers alone.
     """
 
     name: Text
@@ -787,8 +805,8 @@ class WindowsFields(NamedTuple):
     size_of_heap_commit: How much of the heap to commit, in bytes, at 72; the rest follows page by
         page.
     loader_flags: Reserved, 0, at 80.
-    number_of_rva_and_sizes: How many data directories follow, at 84. Readers take at most sixteen;
-        directories past this number are not there, whatever bytes follow.
+    number_of_rva_and_sizes: How many data directories follow, at 84. Readers refuse a header that
+        says more than sixteen; directories past this number are not there, whatever bytes follow.
     """
 
     image_base: Annotated[int, c.c_uint64]
@@ -1034,6 +1052,49 @@ class Layout(Record):
 
 
 @record
+class Parts(Record):
+    """The parts of an image's header, each read by itself: what is there of a file that is refused
+    as a whole. Each part has a fault of the status 0 where it is given, or the file has no such
+    part; else why it is refused, perhaps for the cause of a part that alone tells where it lies.
+
+    optional_header: The optional header: the standard fields and the Windows fields, zeros in place
+        of those that are refused.
+    directories: How many data directories there are, whatever the room: sixteen, or none where
+        there is no optional header, or its standard fields are refused. Records past them are not
+        filled.
+    sections: How many sections there are, whatever the room: as many as the COFF header says, or as
+        the file has whole records, if these are fewer.
+    missing_sections: How many more the COFF header says.
+    places: Where the sections that are there and the tables lie, for walks over these.
+    dos_header: The DOS header, zeros where it is refused.
+    coff_header: The COFF header, zeros where it is refused.
+    refusal: Why the header or the sections are refused as a whole; the status 0 where they are
+        read.
+    dos_header_fault: Why the DOS header is refused, with the PE signature that it points to; so are
+        all parts then.
+    coff_header_fault: Why the COFF header is refused; so are then the parts after it.
+    standard_fields_fault: Why the standard fields are refused.
+    windows_fields_fault: Why the Windows fields are refused.
+    directories_fault: Why the data directories are refused. Of more than sixteen the first sixteen
+        are given.
+    """
+
+    optional_header: OptionalHeader
+    directories: Annotated[int, c.c_size_t]
+    sections: Annotated[int, c.c_size_t]
+    missing_sections: Annotated[int, c.c_size_t]
+    places: Places
+    dos_header: DosHeader
+    coff_header: CoffHeader
+    refusal: Fault
+    dos_header_fault: Fault
+    coff_header_fault: Fault
+    standard_fields_fault: Fault
+    windows_fields_fault: Fault
+    directories_fault: Fault
+
+
+@record
 class Damage(Record):
     """What strict mode would refuse of a file, part by part: for each part a fault of the status 0
     where strict mode would read it, or the file has no such part; else why not.
@@ -1131,7 +1192,7 @@ CALLS: Dict[str, Tuple[Any, List[Any]]] = {
     "goblin_pe_raw_available_at":
         (Fault, [to(Image), c.c_size_t, c.c_size_t, to(SectionData)]),
     "goblin_pe_raw_region_of":
-        (c.c_uint32, [to(Image), c.c_uint32, c.c_size_t, to(c.c_size_t)]),
+        (c.c_uint32, [to(Image), c.c_size_t, to(c.c_size_t)]),
     "goblin_pe_raw_read_object":
         (Fault, [c.c_void_p, c.c_size_t, to(Options), to(Object), to(Section), c.c_size_t]),
     "goblin_pe_raw_read_symbol_table":
@@ -1168,10 +1229,10 @@ CALLS: Dict[str, Tuple[Any, List[Any]]] = {
         (Fault, [c.c_void_p, c.c_size_t, to(Options), to(File), to(Directory), c.c_size_t, to(Tables)]),
     "goblin_pe_raw_read_layout":
         (Fault, [c.c_void_p, c.c_size_t, to(Options), to(Layout), to(Directory), c.c_size_t, to(Section), c.c_size_t]),
+    "goblin_pe_raw_read_parts":
+        (c.c_bool, [c.c_void_p, c.c_size_t, to(Options), to(Parts), to(Directory), c.c_size_t, to(Section), c.c_size_t]),
     "goblin_pe_raw_read_damage":
         (Fault, [c.c_void_p, c.c_size_t, to(Options), to(Damage)]),
-    "goblin_pe_raw_refused_part_of":
-        (Fault, [c.c_void_p, c.c_size_t, to(Options), to(c.c_uint32)]),
     "goblin_pe_raw_footprint":
         (Fault, [c.c_void_p, c.c_size_t, to(Options), to(Ranges)]),
     "goblin_pe_raw_write_header":

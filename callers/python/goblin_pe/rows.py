@@ -1,5 +1,6 @@
 """What was read of a file, as rows of Python: texts are bytes, and nothing points into the file."""
 import ctypes as c
+import functools
 import operator
 import struct
 from typing import Any, Callable, Dict, Iterator, List, NamedTuple, Optional, Tuple, Type, TypeVar, Union
@@ -70,19 +71,21 @@ class Section(NamedTuple):
     def available_data(self, file: Data) -> SectionData:
         """The same as far as the file has it, which is never refused: there are fewer bytes where the file ends before, and no
         zeros follow bytes of which some are missing."""
-        return available_of(self, kept(file), records.Options(), 0)
+        with viewed(file) as view:
+            return available_of(self, view, records.Options(), 0)
 
-    def walk_relocations(self, file: Data) -> Iterator[Relocation]:
+    def walk_relocations(self, file: Data, *, steps: Optional[int] = None) -> Iterator[Relocation]:
         """All its relocations in the object, one by one, also where there are more than number_of_relocations can say: then
-        without the first record, which has their number. Refused is raised where the file is too short for them, and where
-        they begin at or past its end, even if there are none."""
+        without the first record, which has their number. With `steps` it raises OutOfSteps after so many. Refused is raised where
+        the file is too short for them, and where they begin at or past its end, even if there are none."""
         (record, data), found = self._with_relocations(file), room(_laid_out.laid_out(Relocation), 256)
 
         def call(address: int, length: int, *to: Any) -> records.Fault:
             fault: records.Fault = LIB.goblin_pe_raw_next_relocations(address, length, c.byref(record), *to)
             return fault
 
-        return (_laid_out.read(Relocation, it) for _, count in batches(data, found, call, c.c_size_t()) for it in found[:count])
+        given = batches(data, found, call, c.c_size_t(), None if steps is None else size(steps))
+        return (_laid_out.read(Relocation, it) for _, count in given for it in found[:count])
 
     def relocations(self, file: Data) -> List[Relocation]:
         """Its relocations in the object: as many as number_of_relocations says, so at most 65,535. Where that is 65,535, and
@@ -294,7 +297,7 @@ def place_of(s: Section, file: Union[Kept, memoryview], options: records.Options
     many zeros follow them. No byte of the file is looked at."""
     found = records.SectionData()
     with held(file) as (address, length):
-        image = records.Image(records.Text(address, length), _laid_out.NOWHERE, 0, file_alignment, options)
+        image = records.Image(records.Text(address, length), _laid_out.NOWHERE, 0, file_alignment, 0, options)
         test(LIB.goblin_pe_raw_read_section_data(c.byref(image), c.byref(record_of(s)), c.byref(found)))
         return found.bytes.bytes - address if found.bytes.length else 0, found.bytes.length, found.zeros
 
@@ -311,13 +314,14 @@ def view_of(s: Section, file: Kept, options: records.Options, file_alignment: in
     return SectionView(memoryview(file)[begin: begin + length], zeros)
 
 
-def available_of(s: Section, file: Kept, options: records.Options, file_alignment: int) -> SectionData:
+def available_of(s: Section, file: Union[Kept, memoryview], options: records.Options, file_alignment: int) -> SectionData:
     """The same as far as the file has it."""
     found = records.SectionData()
     with held(file) as (address, length):
-        image = records.Image(records.Text(address, length), _laid_out.NOWHERE, 0, file_alignment, options)
+        image = records.Image(records.Text(address, length), _laid_out.NOWHERE, 0, file_alignment, 0, options)
         LIB.goblin_pe_raw_available_section_data(c.byref(image), c.byref(record_of(s)), c.byref(found))
-        return SectionData(Rows(file, address).text(found.bytes), found.zeros)
+        begin = found.bytes.bytes - address if found.bytes.length else 0
+        return SectionData(bytes(file[begin: begin + found.bytes.length]), found.zeros)
 
 
 def room(kind: Any, count: int) -> Any:
@@ -338,33 +342,60 @@ class OutOfSteps(Exception):
         return type(self), (self.steps,), self.__dict__
 
 
-def batches(data: Kept, found: Any, call: Callable[..., records.Fault], position: Any) -> Iterator[Tuple[int, int]]:
+def size(number: int) -> int:
+    """An address or a size, which the library takes without a look at what is past 64 bits."""
+    number = operator.index(number)
+    number.to_bytes(c.sizeof(c.c_size_t), "little")
+    return number
+
+
+def batches(data: Kept, found: Any, call: Callable[..., records.Fault], position: Any,
+            limit: Optional[int] = None) -> Iterator[Tuple[int, int]]:
     """What a walk gives into this room, as long as there is more: the address of the file's bytes, and how many records.
     `call` takes the address, the length, the position, the room, how much that is, the steps, and the count."""
-    return ((address, count) for address, count, _ in growing_batches(data, found, call, position, 0))
+    return ((address, count) for address, count, _ in growing_batches(data, found, call, position, 0, limit))
 
 
 def growing_batches(data: Kept, found: Any, call: Callable[..., records.Fault], position: Any,
-                    most: int, limit: Optional[int] = None) -> Iterator[Tuple[int, int, Any]]:
+                    most: int, limit: Optional[int] = None, is_permissive: bool = False) -> Iterator[Tuple[int, int, Any]]:
     """As `batches`, and the room that they are in: this one, and each time that it was full one for four times as many, up to so
-    many records. With a limit of steps no call takes more of them than it has room for: so over imports it takes all, but at
-    the end, and over others one for each record."""
-    count, left = c.c_size_t(), limit
+    many records. With a limit a call takes as many steps as it has room for, and more where the last ones gave little."""
+    count, left, least = c.c_size_t(), limit, 0
+    is_cursor, are_exports = isinstance(position, records.ImportCursor), found._type_ is records.Export
     while True:
-        steps = 0 if left is None else min(left, len(found) - 1)
+        before, size_of_room = 0 if is_cursor else position.value, len(found) - 1
+        steps = 0 if left is None else min(left, max(size_of_room, least))
         if limit is not None and left == 0:
             raise OutOfSteps(limit)
         with held(data) as (address, length):
-            test(call(address, length, c.byref(position), found, len(found) - 1, steps, c.byref(count)))
-        is_cursor = isinstance(position, records.ImportCursor)
+            given = functools.partial(call, address, length, c.byref(position), found, size_of_room)
+            steps, has_many = _go_on(given, position, count, size_of_room, steps, left if is_cursor else None, is_permissive)
+        taken = steps if is_cursor else position.value - before if are_exports else count.value
         if left is not None:
-            left -= steps if is_cursor else count.value
+            left -= taken
+        least = 0 if 2 * count.value >= steps else steps if has_many else 4 * steps
         if count.value:
             yield address, count.value, found
-        if (_is_end(position) if is_cursor and left is not None else not count.value):
+        if (_is_end(position) if is_cursor and left is not None else not count.value and not (are_exports and 0 < steps == taken)):
             return
-        if count.value == len(found) - 1 < most:
+        if count.value == size_of_room < most:
             found = _larger(found, most)
+
+
+def _go_on(call: Callable[..., records.Fault], position: Any, count: Any, most: int, steps: int, left: Optional[int],
+           is_permissive: bool) -> Tuple[int, bool]:
+    # calls with room for so many: within how many steps, and whether half the room was taken. A cursor does not tell how many steps
+    # a call has taken that gave as many as there is room for, or that a refusal may have ended: then it is put back, and half as
+    # many are tried, but where the refusal comes yet within those that are left
+    before, has_many = bytes(position), False
+    while True:
+        test(call(steps, c.byref(count)))
+        has_many = has_many or 2 * count.value >= most
+        is_told = left is None or (count.value < most and (is_permissive or 2 * steps <= left))
+        if is_told or count.value in (0, steps) or _is_end(position):
+            return steps, has_many
+        c.memmove(c.byref(position), before, len(before))
+        steps //= 2
 
 
 def _is_end(cursor: records.ImportCursor) -> bool:

@@ -70,12 +70,17 @@ impl<'a> Layout<'a> {
     }
 
     /// The pair (bytes in the file, how many zeros follow them) of the `size` bytes that a loader sees at an
-    /// address. They lie in the memory of the first section that holds the address, which has as many
-    /// bytes as its virtual size says, or its raw size where that is 0; a header lies in none. Where the
-    /// options say that addresses are offsets, they are the file's own.
+    /// address. Where the address has an offset inside the file, the first is the byte there, as
+    /// [`bytes_at`](Self::bytes_at) gives it, but in a section of uninitialized data whose raw pointer is 0.
+    ///
+    /// They lie in the memory of the first section whose window holds the address, or else of the first
+    /// whose memory does: as many bytes as its virtual size says, or its raw size where that is 0, and no
+    /// fewer than its window has. A header lies in none, but by
+    /// [`RawPointerRule::AsLoaded`](crate::RawPointerRule::AsLoaded) it is there, too. Where the options say
+    /// that addresses are offsets, the bytes are the file's own.
     ///
     /// # Errors
-    /// Where no section's memory holds the address, where the bytes pass the section's memory, and where
+    /// Where nothing in memory holds the address, where the bytes pass the memory of what does, and where
     /// the file does not have its bytes.
     ///
     /// ```no_run
@@ -96,7 +101,7 @@ impl<'a> Layout<'a> {
     /// No zeros follow bytes of which some are missing in the file, since it is not known what they are.
     ///
     /// # Errors
-    /// Where no section's memory holds the address, and where the options say that addresses are offsets, at or
+    /// Where nothing in memory holds the address, and where the options say that addresses are offsets, at or
     /// past the file's end.
     ///
     /// ```no_run
@@ -112,8 +117,9 @@ impl<'a> Layout<'a> {
         Ok((data.bytes.get(), data.zeros))
     }
 
-    /// Where an address lies, and its section, where it lies in the memory of one: the first that holds it, as for
-    /// [`memory_at`](Self::memory_at). The options are not looked at, nor whether the file has the section's bytes.
+    /// Where an address lies, and its section, where it lies in the memory of one, as for
+    /// [`memory_at`](Self::memory_at); or else in the headers, in whole file blocks, or nowhere. Whether addresses are
+    /// offsets is not looked at, nor whether the file has the section's bytes.
     ///
     /// ```no_run
     /// # use goblin_pe::Region;
@@ -125,8 +131,7 @@ impl<'a> Layout<'a> {
     /// ```
     #[must_use]
     pub fn region_of(&self, rva: usize) -> (Region, Option<Section<'a>>) {
-        let headers = self.file.optional_header.windows_fields.size_of_headers;
-        let (number, index) = raw::region_of(&self.image(), headers, rva);
+        let (number, index) = raw::region_of(&self.image(), rva);
         // (the library knows no other number)
         let region = Region::try_from(number).unwrap_or(Region::Nowhere);
         (region, self.sections().nth(index))
@@ -189,8 +194,14 @@ impl<'a> Layout<'a> {
     pub(crate) fn image(&self) -> raw::Image<'_, 'a> {
         raw::Image {
             bytes: raw::Slice::from(self.bytes),
-            sections: raw::Shared::from(self.sections.get()),
-            file_alignment: self.file.optional_header.windows_fields.file_alignment,
+            sections: raw::Shared::from(self.section_records()),
+            file_alignment: self.head.file.optional_header.windows_fields.file_alignment,
+            size_of_headers: self
+                .head
+                .file
+                .optional_header
+                .windows_fields
+                .size_of_headers,
             options: self.options,
         }
     }

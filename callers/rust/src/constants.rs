@@ -458,6 +458,8 @@ pub const IMAGE_REL_ARM_GPREL7: u16 = 0x07;
 pub const IMAGE_REL_ARM_BLX24: u16 = 0x08;
 /// ARM: the distance of a branch that may switch from Thumb, 11 bits.
 pub const IMAGE_REL_ARM_BLX11: u16 = 0x09;
+/// ARM: the distance to the target from the byte after the field, 32 bits.
+pub const IMAGE_REL_ARM_REL32: u16 = 0x0A;
 /// ARM: the index of the target's section, 16 bits.
 pub const IMAGE_REL_ARM_SECTION: u16 = 0x0E;
 /// ARM: the target's offset from its section's start, 32 bits.
@@ -472,6 +474,8 @@ pub const IMAGE_REL_ARM_BRANCH20T: u16 = 0x12;
 pub const IMAGE_REL_ARM_BRANCH24T: u16 = 0x14;
 /// ARM: the distance of a Thumb call, 23 bits.
 pub const IMAGE_REL_ARM_BLX23T: u16 = 0x15;
+/// ARM: the second half of a pair of relocations, whose symbol index is a displacement.
+pub const IMAGE_REL_ARM_PAIR: u16 = 0x16;
 /// ARM64: nothing is changed.
 pub const IMAGE_REL_ARM64_ABSOLUTE: u16 = 0x00;
 /// ARM64: the target's address, 32 bits.
@@ -504,6 +508,10 @@ pub const IMAGE_REL_ARM64_SECTION: u16 = 0x0D;
 pub const IMAGE_REL_ARM64_ADDR64: u16 = 0x0E;
 /// ARM64: the distance of a conditional branch, 19 bits.
 pub const IMAGE_REL_ARM64_BRANCH19: u16 = 0x0F;
+/// ARM64: the distance of a branch that tests a bit, 14 bits.
+pub const IMAGE_REL_ARM64_BRANCH14: u16 = 0x10;
+/// ARM64: the distance to the target from the byte after the field, 32 bits.
+pub const IMAGE_REL_ARM64_REL32: u16 = 0x11;
 /// Itanium: nothing is changed.
 pub const IMAGE_REL_IA64_ABSOLUTE: u16 = 0x00;
 /// Itanium: an immediate of 14 bits.
@@ -597,7 +605,7 @@ pub const IMAGE_REL_BASED_DIR64: u16 = 0x0A;
 /// Base relocation: the top 16 bits of a 48-bit address.
 pub const IMAGE_REL_BASED_HIGH3ADJ: u16 = 0x0B;
 
-// The sizes of records, in bytes, and offsets in them.
+// The sizes of records, in bytes, offsets in them, and the most sections that take no index.
 
 /// The size of a COFF header, in bytes.
 pub const SIZEOF_COFF_HEADER: usize = 20;
@@ -637,3 +645,8 @@ pub const SIZEOF_EXPORT_DIRECTORY_TABLE: usize = 40;
 pub const SIZEOF_EXPORT_ADDRESS_TABLE_ENTRY: usize = 4;
 /// The size of the head of a base relocation block, in bytes.
 pub const RELOCATION_BLOCK_SIZE: usize = 8;
+/// The most sections that are walked over for each address: as many as the Windows loader takes. Of
+/// more an index is made, which takes memory.
+///
+/// Source: PE Format, "COFF File Header (Object and Image)".
+pub const MOST_WITHOUT_INDEX: usize = 96;

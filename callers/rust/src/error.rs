@@ -1,12 +1,13 @@
 //! Why a file was refused.
 
+use std::hash::{Hash, Hasher};
 use std::{fmt, io};
 
-use crate::numbers::{Cause, Counted, DirectoryType, ErrorKind, ReadFault};
+use crate::numbers::{Cause, Counted, DirectoryType, ErrorKind, ReadFault, RefusedPart};
 use crate::raw;
 
 /// Why a file was refused. Its text says so; where a program has to tell refusals apart, it asks for
-/// the kind, and by the kind for the cause.
+/// the kind, and by the kind for the cause. Errors of the same kind and numbers are equal, whichever part they refuse.
 ///
 /// ```no_run
 /// use goblin_pe::{ErrorKind, Options, Pe};
@@ -18,7 +19,7 @@ use crate::raw;
 ///     Err(error) => println!("{error}: {:?}", error.named_cause()),
 /// }
 /// ```
-#[derive(Clone, Copy, PartialEq, Eq, Hash)]
+#[derive(Clone, Copy)]
 pub struct Error(raw::Fault);
 
 impl Error {
@@ -28,6 +29,8 @@ impl Error {
         cause: 0,
         first: 0,
         second: 0,
+        part: 0,
+        reserved: 0,
     });
 
     // That a walk has taken all the steps that it was given, so many.
@@ -37,12 +40,19 @@ impl Error {
             cause: 0,
             first: steps as u64,
             second: 0,
+            part: 0,
+            reserved: 0,
         })
     }
 
     // The refusal that a fault says, where it says one.
     pub(crate) fn of(fault: raw::Fault) -> Option<Error> {
         (fault.status != 0).then_some(Error(fault))
+    }
+
+    // The refusal that this fault says.
+    pub(crate) const fn refused(fault: raw::Fault) -> Error {
+        Error(fault)
     }
 
     // The refusal of a call, where there is one.
@@ -114,10 +124,45 @@ impl Error {
         self.named(ErrorKind::Read)
     }
 
+    /// The part of an image that is refused, where it is read as a whole or as a layout: the first that cannot be
+    /// read, in the order of the header, the sections, the imports, the exports and the base relocations.
+    ///
+    /// ```no_run
+    /// # let bytes = [];
+    /// if let Err(error) = goblin_pe::Pe::parse(&bytes) {
+    ///     println!("{:?}: {error}", error.part());
+    /// }
+    /// ```
+    #[must_use]
+    pub fn part(&self) -> Option<RefusedPart> {
+        let part = RefusedPart::try_from(self.0.part).ok()?;
+        (part != RefusedPart::Nothing).then_some(part)
+    }
+
+    // What tells it from others: its status and its numbers.
+    fn key(&self) -> (u32, (u32, u64, u64)) {
+        (self.0.status, self.numbers())
+    }
+
     // The cause by name, where the refusal is of this kind.
     fn named<T: TryFrom<u32>>(&self, kind: ErrorKind) -> Option<T> {
         let cause = (self.kind() == kind).then_some(self.0.cause)?;
         T::try_from(cause).ok()
+    }
+}
+
+impl PartialEq for Error {
+    /// Whether they have the same kind and numbers, whichever part they refuse.
+    fn eq(&self, other: &Error) -> bool {
+        self.key() == other.key()
+    }
+}
+
+impl Eq for Error {}
+
+impl Hash for Error {
+    fn hash<H: Hasher>(&self, state: &mut H) {
+        self.key().hash(state);
     }
 }
 
@@ -191,7 +236,28 @@ impl From<Error> for io::Error {
 
 #[cfg(test)]
 mod tests {
+    use std::collections::HashSet;
+
     use super::*;
+
+    #[test]
+    fn the_part_does_not_tell_errors_apart() {
+        let of = |first, part| {
+            Error::refused(raw::Fault {
+                status: ErrorKind::Malformed as u32,
+                cause: Cause::DosMagic as u32,
+                first,
+                second: 0,
+                part,
+                reserved: 0,
+            })
+        };
+        let (header, nothing) = (of(1, RefusedPart::Header as u32), of(1, 0));
+        assert_eq!(header, nothing);
+        assert_eq!(HashSet::from([header, nothing]).len(), 1);
+        assert_ne!(header.part(), nothing.part());
+        assert_ne!(of(1, 0), of(2, 0));
+    }
 
     #[test]
     fn a_status_that_is_not_known_is_no_other() {
@@ -200,6 +266,8 @@ mod tests {
             cause: 22,
             first: 0,
             second: 0,
+            part: 0,
+            reserved: 0,
         });
         let error = error.unwrap();
         assert_eq!(error.kind(), ErrorKind::Unknown);

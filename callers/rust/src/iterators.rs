@@ -5,10 +5,11 @@ use std::fmt;
 use std::iter::{Enumerate, FusedIterator, Zip};
 use std::ops::Range;
 use std::slice::{ChunksExact, Iter};
+use std::sync::OnceLock;
 
+use crate::constants::MOST_WITHOUT_INDEX;
 use crate::error::Error;
-use crate::layout::Layout;
-use crate::memory::make_room;
+use crate::parts::Parts;
 use crate::raw::{self, CoffHeader, Fault, Options, Relocation};
 use crate::rows::{Block, Export, ExportAddress, ExportEntry, Import, Library, Section, Symbol};
 use crate::text::Text;
@@ -90,7 +91,7 @@ impl<'p, 'a> Sections<'p, 'a> {
 const SECTION_RECORD: usize = 40;
 
 // The row of an entry, with its ordinal.
-fn export_address((ordinal, it): (usize, &raw::ExportAddress)) -> ExportAddress {
+pub(crate) fn export_address((ordinal, it): (usize, &raw::ExportAddress)) -> ExportAddress {
     ExportAddress {
         ordinal,
         rva: it.rva,
@@ -197,18 +198,32 @@ const FIRST_BYTES: usize = 1024;
 // index of them. At first it is the one number, and then each time four times as many, up to the other one.
 const INDEXED_BATCH: usize = 4096;
 const MOST_INDEXED: usize = 65536;
-const MOST_UNINDEXED: usize = 96;
 
 // Where a walk goes on.
-trait Position {
+trait Position: Clone {
     // Whether nothing follows the batch that ended here. It is full, or not.
     fn is_end(&self, is_full: bool) -> bool;
+
+    // At most so many records follow.
+    fn most_left(&self) -> usize {
+        usize::MAX
+    }
+
+    // How many steps a call took from another position to this one, which gave so many records; `None` where the
+    // positions do not tell.
+    fn taken_from(&self, _before: &Self, count: usize) -> Option<usize> {
+        Some(count)
+    }
 }
 
 impl Position for raw::ImportCursor {
     // (what follows a batch that is not full may be a refusal)
     fn is_end(&self, _is_full: bool) -> bool {
-        self.is_begun && !self.has_next && !self.has_place
+        self.is_begun && !self.has_next && !self.has_place && !self.is_untested
+    }
+
+    fn taken_from(&self, _before: &Self, _count: usize) -> Option<usize> {
+        None
     }
 }
 
@@ -234,6 +249,51 @@ impl Position for BlockPosition {
     }
 }
 
+// The index of a name pointer, and whether the last call looked at fewer than it had steps for.
+#[derive(Clone, Default)]
+struct ExportPosition {
+    index: usize,
+    is_short: bool,
+}
+
+impl Position for ExportPosition {
+    fn is_end(&self, is_full: bool) -> bool {
+        !is_full && self.is_short
+    }
+
+    fn taken_from(&self, before: &Self, _count: usize) -> Option<usize> {
+        Some(self.index - before.index)
+    }
+}
+
+// The index of a record of a table that has at most so many.
+#[derive(Clone)]
+struct CountedPosition {
+    index: usize,
+    most: usize,
+}
+
+impl CountedPosition {
+    // The first relocation of a section, which has more than its counter can say where that has its greatest number.
+    fn of_relocations(section: &raw::Section<'_>) -> Self {
+        let most = match section.number_of_relocations {
+            u16::MAX => usize::MAX,
+            count => count.into(),
+        };
+        CountedPosition { index: 0, most }
+    }
+}
+
+impl Position for CountedPosition {
+    fn is_end(&self, is_full: bool) -> bool {
+        !is_full || self.index >= self.most
+    }
+
+    fn most_left(&self) -> usize {
+        self.most.saturating_sub(self.index)
+    }
+}
+
 impl Position for usize {
     fn is_end(&self, is_full: bool) -> bool {
         !is_full
@@ -242,10 +302,9 @@ impl Position for usize {
 
 // Records that are read some at a time, each time by the same call from where the last one ended.
 #[derive(Clone)]
-struct Batches<T, P> {
+struct Batches<T: Copy, P> {
     // (none before the first are read)
-    records: Vec<T>,
-    next: usize,
+    records: raw::Rows<T>,
     // How many are read at once at first, then, and at last.
     first: usize,
     batch: usize,
@@ -254,31 +313,42 @@ struct Batches<T, P> {
     // How many steps may be taken, and how many are left, where there is a limit.
     limit: Option<usize>,
     left: usize,
+    // Within how many steps the next call goes on at least, where the last ones gave little.
+    steps: usize,
+    // Whether the records that were read last took half the room.
+    had_many: bool,
+    // Whether no refusal comes after records whose steps are not told.
+    is_permissive: bool,
     // Whether no more are read: after the last and a refusal, and where the file has no such table.
     is_over: bool,
 }
 
-impl<T, P: Position> Batches<T, P> {
+impl<T: Copy, P: Position> Batches<T, P> {
     // From a position on, so many at once.
     fn new(position: P, batch: usize) -> Self {
         Batches {
-            records: Vec::new(),
-            next: 0,
+            records: raw::Rows::new(),
             first: (FIRST_BYTES / size_of::<T>()).clamp(1, batch),
             batch,
             most: batch,
             position,
             limit: None,
             left: 0,
+            steps: 0,
+            had_many: false,
+            is_permissive: false,
             is_over: false,
         }
     }
 
-    // Takes no more steps than these from here on.
-    fn within(self, steps: usize) -> Self {
+    // Takes no more steps than these from here on; a record that was read already is one, too.
+    fn within(mut self, steps: usize) -> Self {
+        let read = self.records.len();
+        self.records.truncate(steps);
         Batches {
+            is_over: self.is_over && read <= steps,
             limit: Some(steps),
-            left: steps,
+            left: steps.saturating_sub(read),
             ..self
         }
     }
@@ -290,7 +360,7 @@ impl<T, P: Position> Batches<T, P> {
             is_over: !is_there,
             ..Self::new(position, batch)
         };
-        if usize::from(places.number_of_sections) <= MOST_UNINDEXED {
+        if usize::from(places.number_of_sections) <= MOST_WITHOUT_INDEX {
             return batches;
         }
         Batches {
@@ -303,53 +373,116 @@ impl<T, P: Position> Batches<T, P> {
 
     // The next record, or the refusal that ends the walk. Where those that were read are taken, and others may
     // follow, the call reads these, within so many steps; 0 is no limit.
+    #[inline]
     fn next(
         &mut self,
-        mut call: impl FnMut(&mut P, usize, &mut Vec<T>) -> Fault,
+        mut call: impl FnMut(&mut P, usize, &mut raw::Rows<T>) -> Fault,
     ) -> Option<Result<&T, Error>> {
         // (steps that give nothing may take more than one call)
-        while self.next == self.records.len() && !self.is_over {
+        while self.records.is_empty() {
+            if self.is_over {
+                return None;
+            }
             if let Err(error) = self.fill(&mut call) {
                 return Some(Err(error));
             }
         }
-        let record = self.records.get(self.next)?;
-        self.next += 1;
-        Some(Ok(record))
+        self.records.next().map(Ok)
     }
 
     // Gives no more.
     fn end(&mut self) {
         self.records.clear();
-        (self.next, self.is_over) = (0, true);
+        self.is_over = true;
     }
 
-    // Reads the next records, and answers whether that was refused. More are read than before where these took all the
-    // room; where memory for more of them is refused, it reads as many as before. With a limit it takes no more steps
-    // than it has room for: so it takes all of them, but at the end.
+    // Reads the next records, and answers whether that was refused, which ends the walk.
     fn fill(
         &mut self,
-        mut call: impl FnMut(&mut P, usize, &mut Vec<T>) -> Fault,
+        call: impl FnMut(&mut P, usize, &mut raw::Rows<T>) -> Fault,
     ) -> Result<(), Error> {
-        let had = self.records.capacity();
-        let room = match had {
-            0 => self.first,
-            _ if self.records.len() < had => had,
-            _ => (4 * had).clamp(self.batch, self.most),
-        };
-        self.end();
-        make_room(&mut self.records, room).or_else(|e| if had == 0 { Err(e) } else { Ok(()) })?;
-        let room = self.records.capacity();
-        let steps = self.limit.map_or(0, |_| self.left.min(room));
+        self.is_over = true;
+        self.make_room()?;
+        // (where nothing is expected, there is no room, and the end is told by a step)
+        let steps = self.records.room().max(1).max(self.steps);
+        let steps = self.limit.map_or(0, |_| self.left.min(steps));
         if let (Some(limit), 0) = (self.limit, steps) {
             return Err(Error::out_of_steps(limit));
         }
-        Error::test(call(&mut self.position, steps, &mut self.records))?;
-        let count = self.records.len();
-        self.left -= steps;
-        let is_full = count == if steps == 0 { room } else { steps };
-        self.is_over = (count == 0 && steps == 0) || self.position.is_end(is_full);
+        let taken = self.go_on(steps, call)?;
+        self.left -= taken;
         Ok(())
+    }
+
+    // Makes room for the next records: for more than before where these took half of it, or, where memory for more is
+    // refused, for as many.
+    fn make_room(&mut self) -> Result<(), Error> {
+        let had = self.records.room();
+        let room = match had {
+            0 => self.first,
+            _ if !self.had_many => had,
+            _ => (4 * had).clamp(self.batch, self.most),
+        };
+        // (of a section without relocations this is none, as of most)
+        let room = room.min(self.position.most_left());
+        if self.records.make_room(room) || had != 0 {
+            return Ok(());
+        }
+        Err(Error::MEMORY)
+    }
+
+    // Calls within so many steps, 0 for no limit, and answers how many the call has taken, where there is a limit. Where
+    // that is not known, the position is put back, and the call is made within half of them.
+    fn go_on(
+        &mut self,
+        mut steps: usize,
+        mut call: impl FnMut(&mut P, usize, &mut raw::Rows<T>) -> Fault,
+    ) -> Result<usize, Error> {
+        self.had_many = false;
+        loop {
+            let before = self.position.clone();
+            Error::test(call(&mut self.position, steps, &mut self.records))?;
+            let count = self.records.len();
+            self.had_many |= 2 * count >= self.records.room();
+            let taken = match self.position.taken_from(&before, count) {
+                _ if steps == 0 => Some(0),
+                None => self.has_taken(steps).then_some(steps),
+                told => told,
+            };
+            if let Some(taken) = taken {
+                self.is_over = (count == 0 && steps == 0) || self.is_end(steps);
+                self.steps = self.next_steps(steps);
+                return Ok(taken);
+            }
+            self.position = before;
+            steps /= 2;
+        }
+    }
+
+    // Within how many steps the next call goes on at least, after one within so many: where less than half of them, and
+    // of the room, gave something, four times as many.
+    fn next_steps(&self, steps: usize) -> usize {
+        match steps {
+            _ if 2 * self.records.len() >= steps => 0,
+            _ if self.had_many => steps,
+            _ => steps.saturating_mul(4),
+        }
+    }
+
+    // Whether the last call, within so many steps, has taken all of them or is at the end. It may have ended before, where
+    // the room is full, or a refusal follows the records: that comes yet where as many steps are left.
+    fn has_taken(&self, steps: usize) -> bool {
+        let count = self.records.len();
+        let comes_yet = self.is_permissive || steps <= self.left - steps;
+        let is_counted = count < self.records.room() && comes_yet;
+        count == 0 || count == steps || is_counted || self.is_end(steps)
+    }
+
+    // Whether nothing follows what the last call gave, within so many steps.
+    fn is_end(&self, steps: usize) -> bool {
+        let room = self.records.room();
+        let most = if steps == 0 { room } else { steps.min(room) };
+        self.position.is_end(self.records.len() == most)
     }
 }
 
@@ -369,13 +502,17 @@ macro_rules! walks {
             // From the beginning, in a file whose sections and tables lie there.
             pub(crate) fn of(bytes: &'a [u8], options: Options, places: raw::Places) -> Self {
                 let start: fn(&raw::Places) -> $position = $start;
-                let batches = Batches::of_table(&places, places.$is_there, start(&places), BATCH);
+                let batches = Batches {
+                    is_permissive: options.is_permissive,
+                    ..Batches::of_table(&places, places.$is_there, start(&places), BATCH)
+                };
                 $name { bytes, options, places, batches }
             }
 
             /// The walk from here on within so many steps: each looks at a record of its table, or at a slot, whether
             /// or not that gives something. Where more would be taken, it ends with an error of the kind
-            /// [`ErrorKind::OutOfSteps`](crate::ErrorKind::OutOfSteps).
+            /// [`ErrorKind::OutOfSteps`](crate::ErrorKind::OutOfSteps). Of a walk that has begun, some of what comes next
+            /// was read before: of that each row is one step.
             #[must_use]
             pub fn within(self, steps: usize) -> Self {
                 let batches = self.batches.within(steps);
@@ -415,7 +552,8 @@ walks! {
         has_imports => Library<'a>;
 
     /// A walk over the exports of an image, in constant memory. A copy is as that of [`WalkImports`].
-    WalkExports by raw::next_exports, Export from |_| 0 => usize, has_exports => Export<'a>;
+    WalkExports by next_exports, Export from |_| ExportPosition::default() => ExportPosition,
+        has_exports => Export<'a>;
 
     /// A walk over the blocks of base relocations of an image, in constant memory. A copy is as that of
     /// [`WalkImports`].
@@ -430,6 +568,22 @@ impl WalkImports<'_> {
     }
 }
 
+// The call of the walk over exports, in which a step looks at a name pointer, whether or not it gives one.
+#[allow(clippy::trivially_copy_pass_by_ref)]
+fn next_exports<'a>(
+    bytes: &'a [u8],
+    options: &Options,
+    places: &raw::Places,
+    position: &mut ExportPosition,
+    steps: usize,
+    exports: &mut raw::Rows<raw::Export<'a>>,
+) -> Fault {
+    let before = position.index;
+    let fault = raw::next_exports(bytes, options, places, &mut position.index, steps, exports);
+    position.is_short = steps == 0 || position.index - before < steps;
+    fault
+}
+
 // The call of the walk over blocks, as those of the other walks are.
 #[allow(clippy::trivially_copy_pass_by_ref)]
 fn next_blocks<'a>(
@@ -438,7 +592,7 @@ fn next_blocks<'a>(
     places: &raw::Places,
     position: &mut BlockPosition,
     steps: usize,
-    blocks: &mut Vec<raw::Block<'a>>,
+    blocks: &mut raw::Rows<raw::Block<'a>>,
 ) -> Fault {
     raw::next_blocks(bytes, options, places, &mut position.offset, steps, blocks)
 }
@@ -454,7 +608,7 @@ pub struct WalkExportAddresses<'a> {
     ordinal: usize,
     batches: Batches<raw::ExportAddress, usize>,
     // By which forwarders are read, once there is one. It is read anew, so that the walk owns what it needs.
-    layout: Option<Layout<'a>>,
+    parts: Option<Parts<'a>>,
 }
 
 impl<'a> WalkExportAddresses<'a> {
@@ -466,8 +620,16 @@ impl<'a> WalkExportAddresses<'a> {
             places,
             ordinal: 0,
             batches: Batches::of_table(&places, places.has_exports, 0, BATCH),
-            layout: None,
+            parts: None,
         }
+    }
+
+    /// The walk from here on within so many steps: each reads an entry. Where more would be taken, it ends with an error of
+    /// the kind [`ErrorKind::OutOfSteps`](crate::ErrorKind::OutOfSteps).
+    #[must_use]
+    pub fn within(self, steps: usize) -> Self {
+        let batches = self.batches.within(steps);
+        WalkExportAddresses { batches, ..self }
     }
 
     // The next entry without its forwarder. Before the first the ordinal base is read.
@@ -493,16 +655,17 @@ impl<'a> WalkExportAddresses<'a> {
         let raw::ExportAddress { rva, forwards } = entry;
         let ordinal = self.ordinal;
         self.ordinal += 1;
-        if forwards && self.layout.is_none() {
-            let layout = Layout::read(self.bytes, &self.options);
-            self.layout = Some(layout.inspect_err(|_| self.batches.end())?);
+        if forwards && self.parts.is_none() {
+            // (also of a file whose header is refused as a whole)
+            let parts = Parts::read(self.bytes, &self.options);
+            self.parts = Some(parts.inspect_err(|_| self.batches.end())?);
         }
-        let layout = self.layout.as_ref().filter(|_| forwards);
+        let parts = self.parts.as_ref().filter(|_| forwards);
         Ok(ExportEntry {
             ordinal,
             rva,
             forwards,
-            forwarder: layout.and_then(|it| it.forwarder_at(rva as usize).ok()),
+            forwarder: parts.and_then(|it| it.forwarder_at(rva as usize).ok()),
         })
     }
 }
@@ -530,17 +693,28 @@ impl fmt::Debug for WalkExportAddresses<'_> {
 pub struct WalkRelocations<'a> {
     bytes: &'a [u8],
     section: raw::Section<'static>,
-    batches: Batches<Relocation, usize>,
+    batches: Batches<Relocation, CountedPosition>,
 }
 
 impl<'a> WalkRelocations<'a> {
     // From the beginning.
     pub(crate) fn of(bytes: &'a [u8], section: raw::Section<'static>) -> Self {
+        let start = CountedPosition::of_relocations(&section);
         WalkRelocations {
             bytes,
             section,
-            batches: Batches::new(0, BATCH),
+            batches: Batches::new(start, BATCH),
         }
+    }
+}
+
+impl WalkRelocations<'_> {
+    /// The walk from here on within so many steps: each reads a relocation. Where more would be taken, it ends with an
+    /// error of the kind [`ErrorKind::OutOfSteps`](crate::ErrorKind::OutOfSteps).
+    #[must_use]
+    pub fn within(self, steps: usize) -> Self {
+        let batches = self.batches.within(steps);
+        WalkRelocations { batches, ..self }
     }
 }
 
@@ -549,7 +723,13 @@ impl Iterator for WalkRelocations<'_> {
 
     fn next(&mut self) -> Option<Result<Relocation, Error>> {
         let found = self.batches.next(|position, steps, records| {
-            raw::next_relocations(self.bytes, &self.section, position, steps, records)
+            raw::next_relocations(
+                self.bytes,
+                &self.section,
+                &mut position.index,
+                steps,
+                records,
+            )
         })?;
         Some(found.copied())
     }
@@ -566,20 +746,29 @@ impl fmt::Debug for WalkRelocations<'_> {
 // The size of a string table's length, in bytes.
 const TABLE_LENGTH: usize = 4;
 
-/// A walk over the symbols of an image or an object, in constant memory. A copy is as that of [`WalkImports`].
+/// A walk over the symbols of an image or an object, in constant memory. A copy is as that of [`WalkImports`]; one that
+/// is made before the first symbol is the cheap second walk.
 #[derive(Clone)]
 pub struct Symbols<'a> {
     bytes: &'a [u8],
     table: raw::SymbolTable,
-    batches: Batches<raw::NamedSymbol<'a>, usize>,
+    batches: Batches<raw::NamedSymbol<'a>, CountedPosition>,
 }
 
 impl<'a> Symbols<'a> {
-    // Those that a COFF header tells of, the first of them read.
-    pub(crate) fn of(bytes: &'a [u8], header: &CoffHeader) -> Result<Self, Error> {
+    // Those that a COFF header tells of, the first of them read. Where the tables lie stays in `tested`, so that no later
+    // call tests them.
+    pub(crate) fn of(
+        bytes: &'a [u8],
+        header: &CoffHeader,
+        tested: &OnceLock<raw::SymbolTable>,
+    ) -> Result<Self, Error> {
+        if let Some(table) = tested.get() {
+            return Symbols::by(bytes, *table);
+        }
         let mut table = raw::SymbolTable::default();
         Error::test(raw::read_symbol_table(bytes, header, &mut table))?;
-        Symbols::by(bytes, table)
+        Symbols::by(bytes, *tested.get_or_init(|| table))
     }
 
     // The same, whatever the texts of the string table are.
@@ -591,15 +780,43 @@ impl<'a> Symbols<'a> {
 
     // Those of a table, the first of them read.
     fn by(bytes: &'a [u8], table: raw::SymbolTable) -> Result<Self, Error> {
-        let mut batches = Batches::new(0, BATCH);
+        let most = table.record_count as usize;
+        let mut batches = Batches::new(CountedPosition { index: 0, most }, BATCH);
         batches.fill(|position, steps, records| {
-            raw::next_symbols(bytes, &table, position, steps, records)
+            raw::next_symbols(bytes, &table, &mut position.index, steps, records)
         })?;
         Ok(Symbols {
             bytes,
             table,
             batches,
         })
+    }
+
+    // Reads the next ones, if others may follow; what is refused is so at the first call. It stands apart from what is done
+    // for each symbol.
+    #[inline(never)]
+    fn go_on(&mut self) {
+        if !self.batches.is_over {
+            let _ = self.batches.fill(|position, steps, records| {
+                raw::next_symbols(self.bytes, &self.table, &mut position.index, steps, records)
+            });
+        }
+    }
+
+    /// The walk from here on within so many steps: each gives a symbol.
+    ///
+    /// ```no_run
+    /// # let bytes = [];
+    /// let object = goblin_pe::Object::read(&bytes, &goblin_pe::Options::default())?;
+    /// for symbol in object.symbols()?.within(1_000_000) {
+    ///     println!("{}", symbol?.name.unwrap_or_default());
+    /// }
+    /// # Ok::<(), goblin_pe::Error>(())
+    /// ```
+    #[must_use]
+    pub fn within(self, steps: usize) -> SymbolsWithin<'a> {
+        let batches = self.batches.within(steps);
+        SymbolsWithin(Symbols { batches, ..self })
     }
 
     /// How many records the symbol table has, wherever the walk is, auxiliary ones among them: each index is below it.
@@ -675,15 +892,43 @@ impl<'a> Iterator for Symbols<'a> {
     type Item = Symbol<'a>;
 
     fn next(&mut self) -> Option<Symbol<'a>> {
-        let found = self.batches.next(|position, steps, records| {
-            raw::next_symbols(self.bytes, &self.table, position, steps, records)
-        })?;
-        // (what is refused is so at the first call)
-        found.ok().map(Symbol::from)
+        if self.batches.records.is_empty() {
+            self.go_on();
+        }
+        self.batches.records.next().map(Symbol::from)
     }
 }
 
 impl FusedIterator for Symbols<'_> {}
+
+/// A walk over symbols that [`Symbols::within`] limits. Where more steps would be taken, it ends with an error of the kind
+/// [`ErrorKind::OutOfSteps`](crate::ErrorKind::OutOfSteps). A copy is as that of [`WalkImports`].
+#[derive(Clone)]
+pub struct SymbolsWithin<'a>(Symbols<'a>);
+
+impl<'a> Iterator for SymbolsWithin<'a> {
+    type Item = Result<Symbol<'a>, Error>;
+
+    fn next(&mut self) -> Option<Result<Symbol<'a>, Error>> {
+        let Symbols {
+            bytes,
+            table,
+            batches,
+        } = &mut self.0;
+        let found = batches.next(|position, steps, records| {
+            raw::next_symbols(bytes, table, &mut position.index, steps, records)
+        })?;
+        Some(found.map(Symbol::from))
+    }
+}
+
+impl FusedIterator for SymbolsWithin<'_> {}
+
+impl fmt::Debug for SymbolsWithin<'_> {
+    fn fmt(&self, f: &mut fmt::Formatter<'_>) -> fmt::Result {
+        f.debug_struct("SymbolsWithin").finish_non_exhaustive()
+    }
+}
 
 impl fmt::Debug for Symbols<'_> {
     /// What is still to come.
@@ -695,6 +940,7 @@ impl fmt::Debug for Symbols<'_> {
 #[cfg(test)]
 mod tests {
     use super::*;
+    use crate::numbers::ErrorKind;
 
     // What a call reads of a table of so many numbers, which a refusal may follow.
     fn read(
@@ -702,19 +948,14 @@ mod tests {
         refused: bool,
         position: &mut usize,
         steps: usize,
-        records: &mut Vec<usize>,
+        records: &mut raw::Rows<usize>,
     ) -> Fault {
-        let room = match steps {
-            0 => records.capacity(),
-            _ => records.capacity().min(steps),
-        };
-        records.extend((*position..total).take(room));
+        let most = if steps == 0 { total } else { steps };
+        let fault = records.put((*position..total).take(most));
         *position += records.len();
         Fault {
             status: u32::from(refused && records.is_empty()),
-            cause: 0,
-            first: 0,
-            second: 0,
+            ..fault
         }
     }
 
@@ -739,6 +980,125 @@ mod tests {
                 assert_eq!(rest(index + 1, &mut batches.clone(), total), total);
             }
             assert_eq!(rest(total, &mut batches, total), total);
+        }
+    }
+
+    // What a call gives of a table in which an `x` gives its place, a `!` is refused, and any other byte gives nothing.
+    // The library of the position is the place of the next byte.
+    fn look(
+        table: &[u8],
+        position: &mut raw::ImportCursor,
+        steps: usize,
+        records: &mut raw::Rows<usize>,
+    ) -> Fault {
+        let begin = position.library;
+        let end = table.len().min(begin.saturating_add(steps));
+        let mut found = Vec::new();
+        let mut at = begin;
+        while at < end && found.len() < records.room() {
+            if table[at] == b'!' {
+                let status = u32::from(found.is_empty());
+                position.library = found.last().map_or(begin, |last| last + 1);
+                return Fault {
+                    status,
+                    ..records.put(found.into_iter())
+                };
+            }
+            found.extend((table[at] == b'x').then_some(at));
+            at += 1;
+        }
+        *position = raw::ImportCursor {
+            library: at,
+            is_begun: true,
+            has_place: at < table.len(),
+            ..raw::ImportCursor::default()
+        };
+        records.put(found.into_iter())
+    }
+
+    // What a walk over a table gives within so many steps, and how many calls it made.
+    fn seen(table: &[u8], steps: usize) -> (Vec<Result<usize, u32>>, usize) {
+        let mut batches = Batches::new(raw::ImportCursor::default(), BATCH).within(steps);
+        let (mut found, mut calls) = (Vec::new(), 0);
+        while let Some(it) = batches.next(|at, steps, to| {
+            calls += 1;
+            look(table, at, steps, to)
+        }) {
+            found.push(it.copied().map_err(|error| error.kind() as u32));
+        }
+        (found, calls)
+    }
+
+    // The same, byte by byte.
+    fn expected(table: &[u8], steps: usize) -> Vec<Result<usize, u32>> {
+        let mut found = Vec::new();
+        for (at, byte) in table.iter().enumerate().take(steps) {
+            match byte {
+                b'x' => found.push(Ok(at)),
+                b'!' => {
+                    found.push(Err(1));
+                    return found;
+                }
+                _ => (),
+            }
+        }
+        if steps < table.len() || steps == 0 {
+            found.push(Err(ErrorKind::OutOfSteps as u32));
+        }
+        found
+    }
+
+    // Each table is a number in binary, and that repeated, perhaps with a refusal at its end.
+    #[test]
+    fn steps_that_give_nothing_are_counted() {
+        for number in 0..1 << 9 {
+            let bits = (0..9).map(|bit| b".x"[number >> bit & 1]);
+            let bits: Vec<u8> = bits.collect();
+            for (times, end) in [(1, ""), (1, "!"), (70, ""), (70, "!.x")] {
+                let mut table = bits.repeat(times);
+                table.extend_from_slice(end.as_bytes());
+                let step = if times == 1 { 1 } else { 61 };
+                for steps in (0..table.len() + 3).step_by(step) {
+                    assert_eq!(
+                        seen(&table, steps).0,
+                        expected(&table, steps),
+                        "{number} {steps}"
+                    );
+                }
+            }
+        }
+    }
+
+    // Each call may read a long name again.
+    #[test]
+    fn few_calls_take_many_steps() {
+        let (dead, half) = (b".".repeat(1 << 20), b"..x".repeat(1 << 18));
+        let runs = [b".".repeat(1000), b"x".repeat(100)].concat().repeat(500);
+        for (table, most) in [(dead, 12), (half, 250), (runs, 1000)] {
+            let (found, calls) = seen(&table, 100_000);
+            assert_eq!(found, expected(&table, 100_000));
+            assert!(calls <= most, "{calls}");
+        }
+    }
+
+    // What was read before is given, a step for each.
+    #[test]
+    fn a_limit_counts_what_was_read_before_it() {
+        let table = b"x".repeat(2000);
+        for (taken, steps) in [(1, 5), (1, 127), (1, 500), (128, 5), (130, 0)] {
+            let mut batches = Batches::new(raw::ImportCursor::default(), BATCH);
+            for index in 0..taken {
+                let found = batches.next(|at, _, to| look(&table, at, usize::MAX, to));
+                assert_eq!(found.and_then(Result::ok), Some(&index));
+            }
+            let mut batches = batches.within(steps);
+            for index in taken..taken + steps {
+                let found = batches.next(|at, steps, to| look(&table, at, steps, to));
+                assert_eq!(found.and_then(Result::ok), Some(&index));
+            }
+            let last = batches.next(|at, steps, to| look(&table, at, steps, to));
+            let last = last.and_then(Result::err).map(|it| it.kind());
+            assert_eq!(last, Some(ErrorKind::OutOfSteps));
         }
     }
 

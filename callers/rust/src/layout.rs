@@ -2,30 +2,32 @@
 
 use std::fmt;
 use std::io::{self, Write};
+use std::mem;
+use std::sync::OnceLock;
 
-use crate::constants::{IMAGE_FILE_DLL, MAGIC_64};
+use crate::constants::{IMAGE_FILE_DLL, MAGIC_64, PE_POINTER_OFFSET, SIZEOF_PE_MAGIC};
 use crate::error::Error;
 use crate::footprint::Footprint;
 use crate::imphash;
 use crate::iterators::{
     DataDirectories, Sections, Symbols, WalkBlocks, WalkExportAddresses, WalkExports, WalkImports,
-    WalkLibraries,
+    WalkLibraries, export_address,
 };
-use crate::memory::{make_room, room};
+use crate::memory::{expected_sections, room};
 use crate::numbers::DirectoryType;
 use crate::pe::Pe;
 use crate::raw::{
     self, CoffHeader, DataDirectory, DosHeader, OptionalHeader, Options, RichMetadata,
 };
 use crate::rows::{
-    DOS_HEADER, Damage, ExportDirectory, Header, Library, RichHeader, SIGNATURE_AND_COFF_HEADER,
-    Section, section_index, section_table,
+    DOS_HEADER, Damage, ExportAddress, ExportDirectory, Header, Library, RichHeader,
+    SIGNATURE_AND_COFF_HEADER, Section, section_index, section_table,
 };
 use crate::text::Text;
 
-/// An image by its header and its sections. Nothing of it is listed, so it takes memory for its sections alone,
-/// however much its tables list; these are walked over, or looked up. A copy has records of its own; where memory
-/// for them is refused, the process ends as it does for a [`Vec`].
+/// An image by its header and its sections. Nothing of it is listed, so it takes memory for these alone, however much
+/// its tables list; these are walked over, or looked up. A copy has records of its own; where memory for them is
+/// refused, the process ends as it does for a [`Vec`].
 ///
 /// ```no_run
 /// use goblin_pe::{Layout, Options};
@@ -58,36 +60,26 @@ use crate::text::Text;
 pub struct Layout<'a> {
     pub(crate) bytes: &'a [u8],
     pub(crate) options: Options,
-    pub(crate) file: raw::Layout<'a>,
-    pub(crate) directories: [raw::Directory; 16],
-    pub(crate) sections: SectionRecords<'a>,
+    pub(crate) head: Box<raw::Head<'a>>,
+    // Where the symbols and their names lie, once these were tested.
+    symbol_table: OnceLock<raw::SymbolTable>,
 }
 
-// How many sections a file may have that is read by one call; few have more.
-const FIRST: usize = 16;
-
-// The records of its sections: memory of this crate's, or a block that the library listed.
-#[derive(Clone)]
-pub(crate) enum SectionRecords<'a> {
-    Filled(Vec<raw::Section<'a>>),
-    Listed(raw::List<'a, raw::Section<'a>>),
-}
-
-impl<'a> SectionRecords<'a> {
-    pub(crate) fn get(&self) -> &[raw::Section<'a>] {
-        match self {
-            SectionRecords::Filled(records) => records,
-            SectionRecords::Listed(records) => records.get(),
-        }
-    }
+// How many sections the COFF header counts to which the DOS header leads, at most as many as there is room for.
+pub(crate) fn expected(bytes: &[u8]) -> usize {
+    let stored = bytes
+        .get(PE_POINTER_OFFSET as usize..)
+        .and_then(<[u8]>::first_chunk);
+    let signature = stored.map_or(0, |it| u32::from_le_bytes(*it)) as usize;
+    expected_sections(bytes, signature + SIZEOF_PE_MAGIC)
 }
 
 impl<'a> Layout<'a> {
     /// Reads the header and the sections of an image that lies in memory.
     ///
     /// # Errors
-    /// Memory for sixteen sections, which is asked for first; why the header or a section was refused; and memory for
-    /// more sections.
+    /// Memory, which is asked for first, for as many sections as the header counts; and why the header or a section was
+    /// refused.
     ///
     /// ```no_run
     /// # let bytes = [];
@@ -96,23 +88,26 @@ impl<'a> Layout<'a> {
     /// # Ok::<(), goblin_pe::Error>(())
     /// ```
     pub fn read(bytes: &'a [u8], options: &Options) -> Result<Layout<'a>, Error> {
-        let mut file = raw::Layout::default();
-        let mut directories = [raw::Directory::default(); 16];
-        let mut sections = room(FIRST)?;
-        let fault = raw::read_layout(bytes, options, &mut file, &mut directories, &mut sections);
-        Error::test(fault)?;
-        if sections.len() < file.sections {
-            make_room(&mut sections, file.sections)?;
-            let fault = raw::read_layout(bytes, options, &mut file, &mut [], &mut sections);
-            Error::test(fault)?;
+        let mut count = expected(bytes);
+        loop {
+            let block = raw::block().ok_or(Error::MEMORY)?;
+            let read = raw::read_layout(bytes, options, block, room(count)?);
+            let head = read.map_err(Error::refused)?;
+            count = head.file.sections;
+            if head.sections.len() == count {
+                return Ok(Layout::by(bytes, *options, head));
+            }
         }
-        Ok(Layout {
+    }
+
+    // The image of which so much was read.
+    pub(crate) fn by(bytes: &'a [u8], options: Options, head: Box<raw::Head<'a>>) -> Layout<'a> {
+        Layout {
             bytes,
-            options: *options,
-            file,
-            directories,
-            sections: SectionRecords::Filled(sections),
-        })
+            options,
+            head,
+            symbol_table: OnceLock::new(),
+        }
     }
 
     /// Reads the header and the sections of an image that lies in memory, by the default options: strictly.
@@ -209,7 +204,7 @@ impl<'a> Layout<'a> {
     /// ```
     #[must_use]
     pub fn dos_header(&self) -> &DosHeader {
-        &self.file.dos_header
+        &self.head.file.dos_header
     }
 
     /// The COFF header.
@@ -222,7 +217,7 @@ impl<'a> Layout<'a> {
     /// ```
     #[must_use]
     pub fn coff_header(&self) -> &CoffHeader {
-        &self.file.coff_header
+        &self.head.file.coff_header
     }
 
     /// The optional header; `None` where the file has none, and then it has no tables.
@@ -235,7 +230,7 @@ impl<'a> Layout<'a> {
     /// ```
     #[must_use]
     pub fn optional_header(&self) -> Option<&OptionalHeader> {
-        (self.file.directories != 0).then_some(&self.file.optional_header)
+        (self.head.file.directories != 0).then_some(&self.head.file.optional_header)
     }
 
     /// The data directory of a kind; `None` where the file has none, or one of zeros.
@@ -267,8 +262,8 @@ impl<'a> Layout<'a> {
     /// ```
     #[must_use]
     pub fn data_directories(&self) -> DataDirectories<'_> {
-        let count = self.file.directories.min(self.directories.len());
-        DataDirectories(self.directories[..count].iter().enumerate())
+        let count = self.head.file.directories.min(self.head.directories.len());
+        DataDirectories(self.head.directories[..count].iter().enumerate())
     }
 
     /// The sections. What follows the data of all of them in the file is its overlay; what is left of a section that the
@@ -285,8 +280,16 @@ impl<'a> Layout<'a> {
     /// ```
     #[must_use]
     pub fn sections(&self) -> Sections<'_, 'a> {
-        let table = section_table(&self.file.dos_header, &self.file.coff_header);
-        Sections::at(self.bytes, table, self.sections.get())
+        let table = section_table(&self.head.file.dos_header, &self.head.file.coff_header);
+        Sections::at(self.bytes, table, self.section_records())
+    }
+
+    // The records of the sections.
+    pub(crate) fn section_records(&self) -> &[raw::Section<'a>] {
+        match self.head.sections.as_slice() {
+            [] => self.head.tables.sections.get(),
+            filled => filled,
+        }
     }
 
     /// The first section of this name; `None` where there is none.
@@ -335,9 +338,9 @@ impl<'a> Layout<'a> {
             data_directories[index] = Some(directory);
         }
         Header {
-            dos_header: self.file.dos_header,
-            dos_stub: Text(self.file.dos_stub.get()),
-            coff_header: self.file.coff_header,
+            dos_header: self.head.file.dos_header,
+            dos_stub: Text(self.head.file.dos_stub.get()),
+            coff_header: self.head.file.coff_header,
             optional_header: self.optional_header().copied(),
             data_directories,
         }
@@ -425,7 +428,7 @@ impl<'a> Layout<'a> {
         WalkImports::of(
             self.bytes,
             self.options.with_parse_imports(true),
-            self.file.places,
+            self.head.file.places,
         )
     }
 
@@ -468,7 +471,7 @@ impl<'a> Layout<'a> {
         WalkLibraries::of(
             self.bytes,
             self.options.with_parse_imports(true),
-            self.file.places,
+            self.head.file.places,
         )
     }
 
@@ -484,11 +487,12 @@ impl<'a> Layout<'a> {
     /// ```
     #[must_use]
     pub fn walk_exports(&self) -> WalkExports<'a> {
-        WalkExports::of(self.bytes, self.options, self.file.places)
+        WalkExports::of(self.bytes, self.options, self.head.file.places)
     }
 
     /// The record of the exports, read anew by each call; `None` where there are none, and where permissive mode passes
-    /// over a refused directory. [`Pe::export_directory`] has it from the read.
+    /// over a refused directory. How many name pointers it counts does not matter, as it does to the exports.
+    /// [`Pe::export_directory`] has it from the read of these.
     ///
     /// # Errors
     /// Where strict mode refuses the directory, and memory, as of the walks.
@@ -501,10 +505,46 @@ impl<'a> Layout<'a> {
     /// ```
     pub fn export_directory(&self) -> Result<Option<ExportDirectory<'a>>, Error> {
         let mut directory = raw::ExportDirectory::default();
-        let places = &self.file.places;
+        let places = &self.head.file.places;
         let fault = raw::read_export_directory(self.bytes, &self.options, places, &mut directory);
         Error::test(fault)?;
         Ok(ExportDirectory::of(&directory))
+    }
+
+    /// The entry of the export address table for an ordinal, also of an export without a name, read anew by each call; `None`
+    /// where the table has none, or one that is not used. [`Pe::find_export_by_ordinal`] has it from the read.
+    ///
+    /// # Errors
+    /// As of [`export_directory`](Self::export_directory).
+    ///
+    /// ```no_run
+    /// # let bytes = [];
+    /// # let layout = goblin_pe::Layout::read(&bytes, &goblin_pe::Options::permissive())?;
+    /// let rva = layout.find_export_by_ordinal(115)?.map(|it| it.rva);
+    /// # Ok::<(), goblin_pe::Error>(())
+    /// ```
+    pub fn find_export_by_ordinal(&self, ordinal: usize) -> Result<Option<ExportAddress>, Error> {
+        let base = self.export_directory()?.map(|it| it.table.ordinal_base);
+        let index = base.and_then(|base| ordinal.checked_sub(base as usize));
+        let Some(mut index) = index else {
+            return Ok(None);
+        };
+        let mut records = raw::Rows::new();
+        if !records.make_room(1) {
+            return Err(Error::MEMORY);
+        }
+        let places = &self.head.file.places;
+        let fault = raw::next_export_addresses(
+            self.bytes,
+            &self.options,
+            places,
+            &mut index,
+            0,
+            &mut records,
+        );
+        Error::test(fault)?;
+        let found = records.next().filter(|it| it.rva != 0);
+        Ok(found.map(|it| export_address((ordinal, it))))
     }
 
     /// The name with which it was linked as a library; `None` where it has none. [`Pe::name`] has it from the read.
@@ -525,7 +565,7 @@ impl<'a> Layout<'a> {
     /// The Rich header, read anew by each call; `None` where the file has none. [`Pe::rich_header`] has it from the read.
     ///
     /// # Errors
-    /// [`ErrorKind::Memory`](crate::ErrorKind::Memory) alone.
+    /// [`ErrorKind::Memory`](crate::ErrorKind::Memory) alone, but of [`Parts`](crate::Parts) as these tell.
     ///
     /// ```no_run
     /// # let bytes = [];
@@ -542,7 +582,7 @@ impl<'a> Layout<'a> {
     /// The entries of the Rich header, read anew by each call. [`Pe::rich_entries`] has them from the read.
     ///
     /// # Errors
-    /// [`ErrorKind::Memory`](crate::ErrorKind::Memory) alone.
+    /// [`ErrorKind::Memory`](crate::ErrorKind::Memory) alone, but of [`Parts`](crate::Parts) as these tell.
     ///
     /// ```no_run
     /// # let bytes = [];
@@ -553,19 +593,19 @@ impl<'a> Layout<'a> {
     /// # Ok::<(), goblin_pe::Error>(())
     /// ```
     pub fn rich_entries(&self) -> Result<Vec<RichMetadata>, Error> {
-        let mut entries = Vec::new();
-        if let Some(front) = self.front()? {
-            let pe = Pe::read(&front, &Options::permissive())?;
-            make_room(&mut entries, pe.rich_entries().len())?;
-            entries.extend_from_slice(pe.rich_entries());
-        }
+        let Some(front) = self.front()? else {
+            return Ok(Vec::new());
+        };
+        let pe = Pe::read(&front, &Options::permissive())?;
+        let mut entries = room(pe.rich_entries().len())?;
+        entries.extend_from_slice(pe.rich_entries());
         Ok(entries)
     }
 
     // What stands before the PE signature, where there is room for a Rich header, as of an image without sections and
     // without an optional header.
     fn front(&self) -> Result<Option<Vec<u8>>, Error> {
-        let signature = self.file.dos_header.pe_pointer as usize;
+        let signature = self.head.file.dos_header.pe_pointer as usize;
         let stored = self.bytes.get(..signature + SIGNATURE_AND_COFF_HEADER);
         let Some(stored) = stored.filter(|_| signature >= DOS_HEADER) else {
             return Ok(None);
@@ -579,8 +619,8 @@ impl<'a> Layout<'a> {
     }
 
     /// A walk over the entries of the export address table, by rising ordinals, also those without a name, each with its
-    /// forwarder: for the first of these it reads the sections anew, of which it keeps the records. What is refused of
-    /// the exports ends it.
+    /// forwarder: for the first of these it reads the sections anew, of which it keeps the records. A directory that is
+    /// refused ends it, but not for the number of its name pointers, for which the exports are refused.
     ///
     /// ```no_run
     /// # let bytes = [];
@@ -593,7 +633,7 @@ impl<'a> Layout<'a> {
     /// ```
     #[must_use]
     pub fn walk_export_addresses(&self) -> WalkExportAddresses<'a> {
-        WalkExportAddresses::of(self.bytes, self.options, self.file.places)
+        WalkExportAddresses::of(self.bytes, self.options, self.head.file.places)
     }
 
     /// A walk over the blocks of base relocations, in constant memory, which reads the file as it goes on. Where a rest
@@ -610,11 +650,11 @@ impl<'a> Layout<'a> {
     /// ```
     #[must_use]
     pub fn walk_blocks(&self) -> WalkBlocks<'a> {
-        WalkBlocks::of(self.bytes, self.options, self.file.places)
+        WalkBlocks::of(self.bytes, self.options, self.head.file.places)
     }
 
-    /// The symbols, which few images have; they are read as the walk goes on. The whole string table is tested first, so
-    /// for a second walk take a copy before the first one, which tests nothing again.
+    /// The symbols, which few images have; they are read as the walk goes on. The first call tests the whole string table,
+    /// and no other one; see [`Object::symbols`](crate::Object::symbols).
     ///
     /// # Errors
     /// A file that is too short for the symbol table or its string table, and a string table that is not
@@ -629,7 +669,7 @@ impl<'a> Layout<'a> {
     /// # Ok::<(), goblin_pe::Error>(())
     /// ```
     pub fn symbols(&self) -> Result<Symbols<'a>, Error> {
-        Symbols::of(self.bytes, self.coff_header())
+        Symbols::of(self.bytes, self.coff_header(), &self.symbol_table)
     }
 
     /// The same, whatever the texts of the string table are; see
@@ -670,7 +710,8 @@ impl<'a> Layout<'a> {
     /// out of the imports and the exports.
     ///
     /// # Errors
-    /// [`ErrorKind::Memory`](crate::ErrorKind::Memory) alone.
+    /// [`ErrorKind::Memory`](crate::ErrorKind::Memory) alone; but why the file is refused as a whole, of
+    /// [`Parts`](crate::Parts) and of a layout whose sections have raw names.
     ///
     /// ```no_run
     /// # let bytes = [];
@@ -731,7 +772,7 @@ impl fmt::Debug for Layout<'_> {
     fn fmt(&self, f: &mut fmt::Formatter<'_>) -> fmt::Result {
         f.debug_struct("Layout")
             .field("machine", &self.coff_header().machine)
-            .field("sections", &self.file.sections)
+            .field("sections", &self.head.file.sections)
             .finish_non_exhaustive()
     }
 }
@@ -748,6 +789,12 @@ impl<'a> TryFrom<&'a [u8]> for Layout<'a> {
 impl<'a> From<Pe<'a>> for Layout<'a> {
     /// The image without its lists, whose memory is given back.
     fn from(pe: Pe<'a>) -> Layout<'a> {
-        pe.layout
+        let mut layout = pe.layout;
+        let sections = mem::take(&mut layout.head.tables.sections);
+        layout.head.tables = raw::Tables {
+            sections,
+            ..raw::Tables::default()
+        };
+        layout
     }
 }

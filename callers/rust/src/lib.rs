@@ -23,14 +23,16 @@
 //!
 //! | Call | Time | Memory |
 //! |---|---|---|
-//! | [`Pe::read`] | as long as the file and what it lists, some microseconds for a small one | a record for each row, of 8 to 96 bytes, and room for half as many more imports, exports and blocks; an index of more than 96 sections |
-//! | [`Layout::read`] | as long as the file, and the names of the sections | a record for each section, first for sixteen |
+//! | [`Pe::read`] | as long as the file and what it lists, some microseconds for a small one | a kilobyte, and a record for each row, of 8 to 96 bytes, and room for half as many more imports, exports and blocks, or for 32 of them; an index of more than 96 sections |
+//! | [`Layout::read`] | as long as the file, and the names of the sections | a kilobyte, and a record for each section |
+//! | [`Parts::read`] | as long as the file | a kilobyte, and a record for each section |
 //! | [`Layout::walk_imports`], [`Layout::walk_exports`], [`Layout::walk_blocks`] | as they go on, at most as many steps as [`WalkImports::within`] says; for each batch the name of the library that it is in, and of exports the image's own name once more | room for at most 256 rows; of more than 96 sections for 4,096 and up to 65,536, and an index |
 //! | [`Layout::walk_libraries`] | as it goes on; for each library its address table, and its lookup table up to the first import | as the walks above |
-//! | [`Layout::walk_export_addresses`] | as it goes on, a walk over the sections for each forwarder, and for the first a [`Layout::read`] | as the walks above, and of forwarders a record for each section |
+//! | [`Layout::walk_export_addresses`] | as it goes on, at most as many steps as [`WalkExportAddresses::within`] says; a walk over the sections for each forwarder, and for the first a [`Layout::read`] | as the walks above, and of forwarders a record for each section |
 //! | [`Layout::export_directory`], [`Layout::name`] | a walk over the sections, and a text | an index of more than 96 sections |
-//! | [`Layout::symbols`], [`Object::symbols`] | as long as the string table, then as they go on | room for 256 rows |
-//! | [`Section::walk_relocations`] | as it goes on | room for 256 rows |
+//! | [`Layout::find_export_by_ordinal`] | twice that | room for a row, and the same |
+//! | [`Layout::symbols`], [`Object::symbols`] | at first as long as the string table, then as they go on, at most as many steps as [`Symbols::within`] says | room for 256 rows |
+//! | [`Section::walk_relocations`] | as it goes on, at most as many steps as [`WalkRelocations::within`] says | room for at most 256 rows |
 //! | [`Layout::damage`] | as a read | an index of more than 96 sections |
 //! | [`Layout::footprint`], [`Layout::write_fingerprint_text`] | as two reads | a bit for each byte of the file, and the ranges; an index of more than 96 sections |
 //! | [`Layout::find_offset`] and what is at an address | a walk over the sections | none |
@@ -75,6 +77,7 @@ mod memory;
 mod names;
 mod numbers;
 mod object;
+mod parts;
 mod patch;
 mod pe;
 #[allow(unsafe_code)]
@@ -91,8 +94,8 @@ pub use footprint::Footprint;
 pub use imphash::{ordinal_name, write_imphash_text};
 pub use iterators::{
     Blocks, DataDirectories, ExportAddresses, Exports, FootprintRanges, Imports, IntoImports,
-    Sections, Symbols, WalkBlocks, WalkExportAddresses, WalkExports, WalkImports, WalkLibraries,
-    WalkRelocations, Words,
+    Sections, Symbols, SymbolsWithin, WalkBlocks, WalkExportAddresses, WalkExports, WalkImports,
+    WalkLibraries, WalkRelocations, Words,
 };
 pub use layout::Layout;
 pub use names::{
@@ -104,6 +107,7 @@ pub use numbers::{
     Region,
 };
 pub use object::Object;
+pub use parts::Parts;
 pub use pe::Pe;
 pub use records::{
     AuxBeginAndEndFunction, AuxFunctionDefinition, AuxSectionDefinition, AuxWeakExternal,
@@ -154,29 +158,6 @@ pub fn kind(bytes: &[u8]) -> Kind {
 #[must_use]
 pub fn checksum(bytes: &[u8], field: usize) -> u32 {
     raw::checksum(bytes, field)
-}
-
-/// The part for which a read of an image by these options is refused: the first that cannot be read, in the order
-/// of the header, the sections, the imports, the exports and the base relocations. It is
-/// [`RefusedPart::Nothing`] where the file is read, and in permissive mode never a table. So ask it after a
-/// refusal: it reads the file again.
-///
-/// # Errors
-/// Memory alone, which is taken only for an index of more than 96 sections.
-///
-/// ```no_run
-/// # use goblin_pe::{Options, Pe};
-/// let (bytes, options) = (std::fs::read("some.exe")?, Options::default());
-/// if let Err(error) = Pe::read(&bytes, &options) {
-///     println!("{:?}: {error}", goblin_pe::refused_part(&bytes, &options)?);
-/// }
-/// # Ok::<(), std::io::Error>(())
-/// ```
-pub fn refused_part(bytes: &[u8], options: &Options) -> Result<RefusedPart, Error> {
-    let mut part = 0;
-    Error::test(raw::refused_part_of(bytes, options, &mut part))?;
-    // (the library knows no other number)
-    Ok(RefusedPart::try_from(part).unwrap_or(RefusedPart::Nothing))
 }
 
 /// Whether the library that is linked has the interface that this crate declares. Each read asks so, and

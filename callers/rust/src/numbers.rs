@@ -57,13 +57,13 @@ impl From<Kind> for u32 {
     }
 }
 
-/// Where the raw data of a section begins: for addresses, for the data of a section of an image,
-/// and for what a loader sees at an address.
+/// How addresses are mapped, and where the raw data of a section begins: for addresses, for the
+/// data of a section of an image, and for what is in memory at an address.
 ///
 /// Where the raw pointer is a multiple of 512, as the PE/COFF specification asks for the usual file
-/// alignments, all rules say the same. Else rounding is right where `section_alignment` is 4,096 or
-/// more, and pointers as stored where it is less, since the Windows loader maps such an image as
-/// one flat view of the file.
+/// alignments, all rules say the same of sections. Else rounding is right where `section_alignment`
+/// is 4,096 or more, and pointers as stored where it is less, since the Windows loader maps such an
+/// image as one flat view of the file.
 #[repr(u32)]
 #[derive(Clone, Copy, Debug, PartialEq, Eq, PartialOrd, Ord, Hash)]
 #[non_exhaustive]
@@ -76,6 +76,12 @@ pub enum RawPointerRule {
     /// a lawful image it is below 512 only where it equals a `section_alignment` below 4,096, so
     /// this is right for each such image, without a look at its header before.
     ByFileAlignment = 2,
+    /// The same, and the file's front is mapped, too, where the window of no section holds an
+    /// address: the Windows loader maps the headers at the image's base, as many bytes as
+    /// `size_of_headers` says, in whole file blocks. Packers put names and tables there. Read an
+    /// image by the rule before it first: address 0 has an offset by this one, and so a library
+    /// whose record has no lookup table, which says 0 in its place, has one at the file's front.
+    AsLoaded = 3,
 }
 
 impl TryFrom<u32> for RawPointerRule {
@@ -90,6 +96,7 @@ impl TryFrom<u32> for RawPointerRule {
             0 => Ok(RawPointerRule::AsStored),
             1 => Ok(RawPointerRule::RoundedTo512),
             2 => Ok(RawPointerRule::ByFileAlignment),
+            3 => Ok(RawPointerRule::AsLoaded),
             _ => Err(UnknownNumber(number as usize)),
         }
     }
@@ -109,9 +116,10 @@ impl From<RawPointerRule> for u32 {
 pub enum Region {
     /// Neither in a section nor in the headers.
     Nowhere = 0,
-    /// In the headers, which are at the front of the file and of the memory.
+    /// In the headers, which are at the front of the file and of the memory, in whole file blocks.
     Headers = 1,
-    /// In the bytes of a section that are stored in the file, at its raw pointer.
+    /// In the bytes of a section that are stored in the file: its data, and what the file has of
+    /// the file blocks by which its addresses are mapped.
     Stored = 2,
     /// In the zeros that follow these up to the section's size in memory.
     Zeros = 3,

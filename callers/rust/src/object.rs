@@ -1,11 +1,12 @@
 //! Objects.
 
 use std::fmt;
+use std::sync::OnceLock;
 
 use crate::constants::SIZEOF_COFF_HEADER;
 use crate::error::Error;
 use crate::iterators::{Sections, Symbols};
-use crate::memory::make_room;
+use crate::memory::{expected_sections, read_all};
 use crate::raw::{self, CoffHeader, Options};
 use crate::rows::{Section, section_index};
 
@@ -27,6 +28,8 @@ pub struct Object<'a> {
     bytes: &'a [u8],
     found: raw::Object,
     sections: Vec<raw::Section<'a>>,
+    // Where the symbols and their names lie, once these were tested.
+    symbol_table: OnceLock<raw::SymbolTable>,
 }
 
 impl<'a> Object<'a> {
@@ -45,14 +48,16 @@ impl<'a> Object<'a> {
     /// ```
     pub fn read(bytes: &'a [u8], options: &Options) -> Result<Object<'a>, Error> {
         let mut found = raw::Object::default();
-        let mut sections = Vec::new();
-        Error::test(raw::read_object(bytes, options, &mut found, &mut sections))?;
-        make_room(&mut sections, found.sections)?;
-        Error::test(raw::read_object(bytes, options, &mut found, &mut sections))?;
+        let sections = read_all(expected_sections(bytes, 0), |sections, count| {
+            let fault = raw::read_object(bytes, options, &mut found, sections);
+            *count = found.sections;
+            fault
+        })?;
         Ok(Object {
             bytes,
             found,
             sections,
+            symbol_table: OnceLock::new(),
         })
     }
 
@@ -158,8 +163,8 @@ impl<'a> Object<'a> {
         section.data(self.bytes)
     }
 
-    /// The symbols, which are read as the walk goes on. The whole string table is tested first, so for a second walk take a
-    /// copy before the first one, which tests nothing again.
+    /// The symbols, which are read as the walk goes on. The first call tests the whole string table; another one, or one of
+    /// a copy of the object that was made later, does not test it again.
     ///
     /// # Errors
     /// A file that is too short for the symbol table or its string table, and a string table that is not
@@ -168,14 +173,12 @@ impl<'a> Object<'a> {
     /// ```no_run
     /// # let bytes = [];
     /// let object = goblin_pe::Object::read(&bytes, &goblin_pe::Options::default())?;
-    /// let symbols = object.symbols()?;
-    /// let again = symbols.clone();
-    /// let undefined = symbols.filter(|it| it.section_number == 0).count();
-    /// println!("{undefined} of {} are undefined", again.count());
+    /// let undefined = object.symbols()?.filter(|it| it.section_number == 0).count();
+    /// println!("{undefined} of {} are undefined", object.symbols()?.count());
     /// # Ok::<(), goblin_pe::Error>(())
     /// ```
     pub fn symbols(&self) -> Result<Symbols<'a>, Error> {
-        Symbols::of(self.bytes, self.coff_header())
+        Symbols::of(self.bytes, self.coff_header(), &self.symbol_table)
     }
 
     /// The same, whatever the texts of the string table are: also of a file of which one name is not UTF-8, which

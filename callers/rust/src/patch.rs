@@ -67,9 +67,11 @@ impl Layout<'_> {
 
     // Tests that so many records have room in the section table: past the file's own, zeros before all data.
     fn test_room(&self, table: usize, count: usize) -> io::Result<()> {
-        let present = table + SECTION_RECORD * self.file.sections;
+        let present = table + SECTION_RECORD * self.head.file.sections;
         let end = table.saturating_add(count.saturating_mul(SECTION_RECORD));
-        let mut with_data = self.sections().filter(|s| s.size_of_raw_data > 0);
+        let mut with_data = self
+            .sections()
+            .filter(|s| s.size_of_raw_data > 0 && s.pointer_to_raw_data > 0);
         let is_before_data = with_data.all(|s| end <= s.pointer_to_raw_data as usize);
         let more = self.bytes.get(present..end);
         let are_zeros = more.is_some_and(|it| it.iter().all(|&byte| byte == 0));

@@ -2,13 +2,12 @@
 
 use std::fmt;
 use std::io::{self, Write};
-use std::mem;
 use std::ops::Deref;
 
 use crate::error::Error;
 use crate::imphash;
 use crate::iterators::{Blocks, ExportAddresses, Exports, Imports, IntoImports};
-use crate::layout::{Layout, SectionRecords};
+use crate::layout::Layout;
 use crate::numbers::Part;
 use crate::raw::{self, Options, RichMetadata};
 use crate::rows::{Export, ExportAddress, ExportDirectory, RichHeader};
@@ -50,12 +49,6 @@ impl From<raw::Table> for Part {
 #[derive(Clone)]
 pub struct Pe<'a> {
     pub(crate) layout: Layout<'a>,
-    rich_header: raw::RichHeader,
-    imports: raw::Table,
-    exports: raw::Table,
-    relocations: raw::BaseRelocations,
-    // (without the sections, which the layout has)
-    tables: raw::Tables<'a>,
 }
 
 impl<'a> Pe<'a> {
@@ -73,33 +66,10 @@ impl<'a> Pe<'a> {
     /// # Ok::<(), goblin_pe::Error>(())
     /// ```
     pub fn read(bytes: &'a [u8], options: &Options) -> Result<Pe<'a>, Error> {
-        let mut file = raw::File::default();
-        let mut directories = [raw::Directory::default(); 16];
-        let mut tables = raw::Tables::default();
-        let fault = raw::open(bytes, options, &mut file, &mut directories, &mut tables);
-        Error::test(fault)?;
-        let layout = Layout {
-            bytes,
-            options: *options,
-            file: raw::Layout {
-                optional_header: file.optional_header,
-                directories: file.directories,
-                sections: file.sections,
-                places: file.places,
-                dos_header: file.dos_header,
-                coff_header: file.coff_header,
-                dos_stub: tables.dos_stub,
-            },
-            directories,
-            sections: SectionRecords::Listed(mem::take(&mut tables.sections)),
-        };
+        let block = raw::block().ok_or(Error::MEMORY)?;
+        let head = raw::open(bytes, options, block).map_err(Error::refused)?;
         Ok(Pe {
-            layout,
-            rich_header: file.rich_header,
-            imports: file.imports,
-            exports: file.exports,
-            relocations: file.relocations,
-            tables,
+            layout: Layout::by(bytes, *options, head),
         })
     }
 
@@ -172,7 +142,7 @@ impl<'a> Pe<'a> {
     /// ```
     #[must_use]
     pub fn rich_header(&self) -> Option<RichHeader> {
-        let rich = &self.rich_header;
+        let rich = &self.layout.head.rich_header;
         rich.is_present.then_some(RichHeader {
             key: rich.key,
             padding_size: rich.padding_size,
@@ -194,7 +164,7 @@ impl<'a> Pe<'a> {
     /// ```
     #[must_use]
     pub fn rich_entries(&self) -> &[RichMetadata] {
-        self.tables.rich_entries.get()
+        self.layout.head.tables.rich_entries.get()
     }
 
     /// Why the rest that follows the entries of the Rich header is no entry; `None` where there is
@@ -210,7 +180,7 @@ impl<'a> Pe<'a> {
     /// ```
     #[must_use]
     pub fn rich_rest(&self) -> Option<Error> {
-        Error::of(self.rich_header.rest)
+        Error::of(self.layout.head.rich_header.rest)
     }
 
     /// How the imports stand.
@@ -223,7 +193,7 @@ impl<'a> Pe<'a> {
     /// ```
     #[must_use]
     pub fn import_table(&self) -> Part {
-        Part::from(self.imports)
+        Part::from(self.layout.head.imports)
     }
 
     /// The imports.
@@ -240,7 +210,7 @@ impl<'a> Pe<'a> {
     /// ```
     #[must_use]
     pub fn imports(&self) -> Imports<'_, 'a> {
-        Imports(self.tables.imports.get().iter())
+        Imports(self.layout.head.tables.imports.get().iter())
     }
 
     /// The imports, for which the rest is given up: they may be handed on alone.
@@ -253,7 +223,7 @@ impl<'a> Pe<'a> {
     /// ```
     #[must_use]
     pub fn into_imports(self) -> IntoImports<'a> {
-        IntoImports::of(self.tables.imports)
+        IntoImports::of(self.layout.head.tables.imports)
     }
 
     /// Writes the text whose MD5 is the hash of the imports that analysts compare: nothing where there are no
@@ -288,7 +258,7 @@ impl<'a> Pe<'a> {
     /// ```
     #[must_use]
     pub fn export_table(&self) -> Part {
-        Part::from(self.exports)
+        Part::from(self.layout.head.exports)
     }
 
     /// The exports.
@@ -302,7 +272,7 @@ impl<'a> Pe<'a> {
     /// ```
     #[must_use]
     pub fn exports(&self) -> Exports<'_, 'a> {
-        Exports(self.tables.exports.get().iter())
+        Exports(self.layout.head.tables.exports.get().iter())
     }
 
     /// The first export of this name; `None` where there is none.
@@ -352,12 +322,12 @@ impl<'a> Pe<'a> {
     #[must_use]
     pub fn export_addresses(&self) -> ExportAddresses<'_> {
         let base = self.ordinal_base();
-        let records = self.tables.export_addresses.get();
+        let records = self.layout.head.tables.export_addresses.get();
         ExportAddresses((base..base + records.len()).zip(records.iter()))
     }
 
     fn ordinal_base(&self) -> usize {
-        self.tables.export_directory.table.ordinal_base as usize
+        self.layout.head.tables.export_directory.table.ordinal_base as usize
     }
 
     /// The record of the exports; `None` where these were not read.
@@ -370,7 +340,7 @@ impl<'a> Pe<'a> {
     /// ```
     #[must_use]
     pub fn export_directory(&self) -> Option<ExportDirectory<'a>> {
-        ExportDirectory::of(&self.tables.export_directory)
+        ExportDirectory::of(&self.layout.head.tables.export_directory)
     }
 
     /// How the base relocations stand.
@@ -383,7 +353,7 @@ impl<'a> Pe<'a> {
     /// ```
     #[must_use]
     pub fn relocation_table(&self) -> Part {
-        Part::from(self.relocations.blocks)
+        Part::from(self.layout.head.relocations.blocks)
     }
 
     /// The blocks of base relocations.
@@ -398,7 +368,7 @@ impl<'a> Pe<'a> {
     /// ```
     #[must_use]
     pub fn blocks(&self) -> Blocks<'_, 'a> {
-        Blocks(self.tables.blocks.get().iter())
+        Blocks(self.layout.head.tables.blocks.get().iter())
     }
 
     /// Why the rest that follows the blocks is no block; `None` where there is no rest.
@@ -414,7 +384,7 @@ impl<'a> Pe<'a> {
     /// ```
     #[must_use]
     pub fn block_rest(&self) -> Option<Error> {
-        Error::of(self.relocations.rest)
+        Error::of(self.layout.head.relocations.rest)
     }
 }
 

@@ -1,11 +1,12 @@
 //! The library's calls over slices, what a slice and a table are in its records, and all else that is
 //! unsafe.
 
+use crate::constants::NUM_DATA_DIRECTORIES;
 use crate::numbers::RawPointerRule;
 use std::alloc::{self, handle_alloc_error};
 use std::ffi::c_void;
 use std::marker::PhantomData;
-use std::mem::offset_of;
+use std::mem::{self, MaybeUninit, offset_of};
 use std::ptr::NonNull;
 use std::sync::Once;
 
@@ -56,7 +57,7 @@ impl Options {
     ///
     /// Neither mode passes over more than sixteen data directories, a magic that is neither of the two, a header or a
     /// section table that the file's end cuts, a section's name that is a slash and a text which is no number, or the
-    /// marker `Rich` of a Rich header without `DanS` before it.
+    /// marker `Rich` of a Rich header without `DanS` before it. [`Parts`](crate::Parts) has what is there of such a file.
     #[must_use]
     pub const fn permissive() -> Options {
         Options {
@@ -83,6 +84,16 @@ impl Options {
     #[must_use]
     pub const fn with_raw_pointer_rule(mut self, rule: RawPointerRule) -> Options {
         self.raw_pointer_rule = rule as u8;
+        self
+    }
+
+    /// The same options, with the raw names alone of the sections of a [`Layout`](crate::Layout), or with those from the
+    /// string table. Raw names refuse no file. Only [`Layout::read`](crate::Layout::read) looks at this: a file with a name
+    /// that cannot be read is refused by [`Pe::read`](crate::Pe::read) and by [`damage`](crate::Layout::damage) all the same,
+    /// and its footprint and fingerprint tell of that refusal alone.
+    #[must_use]
+    pub const fn with_raw_section_names(mut self, raw_section_names: bool) -> Options {
+        self.raw_section_names = raw_section_names;
         self
     }
 
@@ -260,6 +271,176 @@ fn fill<T>(records: &mut Vec<T>, call: impl FnOnce(*mut T, usize, &mut usize) ->
     fault
 }
 
+// A block of memory of this crate's own, which is given back with it. It names no lifetime, as `Memory` does.
+struct Own {
+    first: NonNull<u8>,
+    layout: alloc::Layout,
+}
+
+// SAFETY: nobody else has the block.
+unsafe impl Send for Own {}
+// SAFETY: by a shared reference it is not changed.
+unsafe impl Sync for Own {}
+
+impl Own {
+    // For no record (where each could stand).
+    const EMPTY: Own = Own {
+        first: NonNull::<u64>::dangling().cast(),
+        layout: alloc::Layout::new::<()>(),
+    };
+
+    // For so many records, at least one; `None` where memory is refused.
+    fn of<T>(room: usize) -> Option<Own> {
+        let layout = alloc::Layout::array::<T>(room).ok()?;
+        assert!(layout.size() != 0);
+        // SAFETY: it has a size.
+        let first = NonNull::new(unsafe { alloc::alloc(layout) })?;
+        Some(Own { first, layout })
+    }
+}
+
+impl Drop for Own {
+    fn drop(&mut self) {
+        if self.layout.size() != 0 {
+            // SAFETY: it was taken by this layout.
+            unsafe { alloc::dealloc(self.first.as_ptr(), self.layout) }
+        }
+    }
+}
+
+/// Room for records that a call fills, which are then taken one by one.
+pub struct Rows<T> {
+    block: Own,
+    room: usize,
+    // The records that are left, in the block.
+    next: NonNull<T>,
+    end: NonNull<T>,
+}
+
+// SAFETY: it is a `Vec<T>`.
+unsafe impl<T: Send> Send for Rows<T> {}
+// SAFETY: it is a `Vec<T>`.
+unsafe impl<T: Sync> Sync for Rows<T> {}
+
+impl<T: Copy> Rows<T> {
+    /// Room for no record.
+    pub const fn new() -> Self {
+        Rows {
+            block: Own::EMPTY,
+            room: 0,
+            next: NonNull::dangling(),
+            end: NonNull::dangling(),
+        }
+    }
+
+    /// For how many records there is room.
+    pub fn room(&self) -> usize {
+        self.room
+    }
+
+    /// How many are left.
+    pub fn len(&self) -> usize {
+        (self.end.addr().get() - self.next.addr().get()) / size_of::<T>()
+    }
+
+    /// Gives up what is left.
+    pub fn clear(&mut self) {
+        self.end = self.next;
+    }
+
+    /// Gives up what is left after so many.
+    pub fn truncate(&mut self, most: usize) {
+        let left = self.len().min(most);
+        // SAFETY: no more than are left.
+        self.end = unsafe { self.next.add(left) };
+    }
+
+    /// Makes room for so many records, where there is less, and gives up what is left. Answers whether there is room:
+    /// where memory for so many is refused, it is what it was.
+    pub fn make_room(&mut self, room: usize) -> bool {
+        self.clear();
+        if room <= self.room {
+            return true;
+        }
+        let Some(block) = Own::of::<T>(room) else {
+            return false;
+        };
+        let first = block.first.cast();
+        *self = Rows {
+            block,
+            room,
+            next: first,
+            end: first,
+        };
+        true
+    }
+
+    /// Whether none are left.
+    #[inline]
+    pub fn is_empty(&self) -> bool {
+        self.next == self.end
+    }
+
+    /// Takes the next record.
+    #[inline]
+    pub fn next(&mut self) -> Option<&T> {
+        if self.is_empty() {
+            return None;
+        }
+        let record = self.next;
+        // SAFETY: a record that is left lies in the block, and its end, too; nothing changes it while it is borrowed,
+        // since that borrows the rows.
+        unsafe {
+            self.next = record.add(1);
+            Some(record.as_ref())
+        }
+    }
+
+    // Fills the room with the records of a call, as `fill` does.
+    fn fill(&mut self, call: impl FnOnce(*mut T, usize, &mut usize) -> Fault) -> Fault {
+        let first = self.block.first.cast::<T>();
+        (self.next, self.end) = (first, first);
+        let mut count = 0;
+        let fault = call(first.as_ptr(), self.room, &mut count);
+        if fault.status == 0 {
+            // SAFETY: the library has filled so many records, which lie in the block.
+            self.end = unsafe { first.add(count.min(self.room)) };
+        }
+        fault
+    }
+}
+
+#[cfg(test)]
+impl<T: Copy> Rows<T> {
+    /// Fills the room with these, as a call does.
+    pub fn put(&mut self, records: impl Iterator<Item = T>) -> Fault {
+        self.fill(|first, room, count| {
+            for record in records.take(room) {
+                // SAFETY: there is room for it.
+                unsafe { first.add(*count).write(record) };
+                *count += 1;
+            }
+            Fault::default()
+        })
+    }
+}
+
+impl<T: Copy> Clone for Rows<T> {
+    /// A block of its own, with what is left. Where memory for it is refused, the process ends, as it does for a `Vec`.
+    fn clone(&self) -> Self {
+        let mut rows = Rows::new();
+        if !rows.make_room(self.room) {
+            handle_alloc_error(self.block.layout);
+        }
+        // SAFETY: what is left lies in one block, and the new one has room for as many.
+        unsafe {
+            rows.next.copy_from_nonoverlapping(self.next, self.len());
+            rows.end = rows.next.add(self.len());
+        }
+        rows
+    }
+}
+
 /// What a file is, by its first bytes: a `Kind`.
 pub fn kind(bytes: &[u8]) -> u32 {
     test_interface();
@@ -268,55 +449,200 @@ pub fn kind(bytes: &[u8]) -> u32 {
     unsafe { goblin_pe_raw_kind_of(bytes.as_ptr(), bytes.len()) }
 }
 
-/// Reads a whole file. The tables were empty before.
+/// What is read of an image: in one block of memory, which a call fills in place. It has 1,024 bytes; allocators are
+/// slower with blocks of more than 1,032.
+#[derive(Clone)]
+pub struct Head<'a> {
+    /// The image without its tables.
+    pub file: Layout<'a>,
+    /// Its data directories; zeros past those that there are.
+    pub directories: [Directory; NUM_DATA_DIRECTORIES],
+    /// The sections of a layout; an image with its lists has them among these.
+    pub sections: Vec<Section<'a>>,
+    /// The lists; none of a layout.
+    pub tables: Tables<'a>,
+    /// What is said of the lists.
+    pub rich_header: RichHeader,
+    pub imports: Table,
+    pub exports: Table,
+    pub relocations: BaseRelocations,
+}
+
+/// A block for a value that is not there yet; `None` where memory is refused.
+pub fn block<T>() -> Option<Box<MaybeUninit<T>>> {
+    let block = Own::of::<T>(1)?;
+    // SAFETY: the allocator of a `Box` gave the block, for one value, and nobody else has it.
+    let value = unsafe { Box::from_raw(block.first.cast().as_ptr()) };
+    mem::forget(block);
+    Some(value)
+}
+
+/// A block with this value; `None` where memory is refused.
+pub fn boxed<T>(value: T) -> Option<Box<T>> {
+    let mut place = block()?;
+    place.write(value);
+    // SAFETY: it was written just now.
+    Some(unsafe { place.assume_init() })
+}
+
+/// Memory for so many values, none of them there yet; `None` where it is refused.
+pub fn room<T>(count: usize) -> Option<Vec<T>> {
+    if count == 0 {
+        return Some(Vec::new());
+    }
+    let block = Own::of::<T>(count)?;
+    // SAFETY: the allocator of a `Vec` gave the block, for so many values, and nobody else has it.
+    let room = unsafe { Vec::from_raw_parts(block.first.cast().as_ptr(), 0, count) };
+    mem::forget(block);
+    Some(room)
+}
+
+/// Reads a whole file into a block.
 pub fn open<'a>(
     bytes: &'a [u8],
     options: &Options,
-    file: &mut File,
-    directories: &mut [Directory],
-    tables: &mut Tables<'a>,
-) -> Fault {
+    mut block: Box<MaybeUninit<Head<'a>>>,
+) -> Result<Box<Head<'a>>, Fault> {
     test_interface();
-    // SAFETY: as in `kind`; what is stored in the tables lives for `'a`.
-    unsafe {
+    let head = block.as_mut_ptr();
+    let mut file = MaybeUninit::<File>::uninit();
+    // SAFETY: as in `kind`, with pointers to fields in the block; what is stored in the tables lives for `'a`.
+    let fault = unsafe {
         goblin_pe_raw_open(
             bytes.as_ptr(),
             bytes.len(),
             options,
-            file,
-            directories.as_mut_ptr(),
-            directories.len(),
-            tables,
+            file.as_mut_ptr(),
+            (&raw mut (*head).directories).cast(),
+            NUM_DATA_DIRECTORIES,
+            &raw mut (*head).tables,
         )
+    };
+    if fault.status != 0 {
+        return Err(fault);
+    }
+    // SAFETY: of a file that is not refused the library has filled the record, the tables and as many directories as that
+    // says. All other fields of the block are written here.
+    unsafe {
+        let file = file.assume_init_ref();
+        let dos_stub = (*head).tables.dos_stub;
+        (&raw mut (*head).file).write(Layout {
+            optional_header: file.optional_header,
+            directories: file.directories,
+            sections: file.sections,
+            places: file.places,
+            dos_header: file.dos_header,
+            coff_header: file.coff_header,
+            dos_stub,
+        });
+        fill_up(&raw mut (*head).directories, file.directories);
+        (&raw mut (*head).sections).write(Vec::new());
+        (&raw mut (*head).rich_header).write(file.rich_header);
+        (&raw mut (*head).imports).write(file.imports);
+        (&raw mut (*head).exports).write(file.exports);
+        (&raw mut (*head).relocations).write(file.relocations);
+        Ok(block.assume_init())
     }
 }
 
-/// Reads the header and the sections of a file; fills the vector as far as it has room.
+/// Reads the header and the sections of a file into a block; of the sections as many as the vector has room for.
 pub fn read_layout<'a>(
     bytes: &'a [u8],
     options: &Options,
-    layout: &mut Layout<'a>,
-    directories: &mut [Directory],
-    sections: &mut Vec<Section<'a>>,
-) -> Fault {
+    mut block: Box<MaybeUninit<Head<'a>>>,
+    mut sections: Vec<Section<'a>>,
+) -> Result<Box<Head<'a>>, Fault> {
     test_interface();
-    fill(sections, |first, room, count| {
+    let head = block.as_mut_ptr();
+    let fault = fill(&mut sections, |first, room, count| {
         // SAFETY: as in `open`; there is room for as many records as it is told.
-        let fault = unsafe {
-            goblin_pe_raw_read_layout(
+        unsafe {
+            let fault = goblin_pe_raw_read_layout(
                 bytes.as_ptr(),
                 bytes.len(),
                 options,
-                layout,
+                &raw mut (*head).file,
+                (&raw mut (*head).directories).cast(),
+                NUM_DATA_DIRECTORIES,
+                first,
+                room,
+            );
+            if fault.status == 0 {
+                *count = (*head).file.sections;
+            }
+            fault
+        }
+    });
+    if fault.status != 0 {
+        return Err(fault);
+    }
+    // SAFETY: as in `open`.
+    unsafe {
+        fill_up(&raw mut (*head).directories, (*head).file.directories);
+        (&raw mut (*head).sections).write(sections);
+        (&raw mut (*head).tables).write(Tables::default());
+        (&raw mut (*head).rich_header).write(RichHeader::default());
+        (&raw mut (*head).imports).write(Table::default());
+        (&raw mut (*head).exports).write(Table::default());
+        (&raw mut (*head).relocations).write(BaseRelocations::default());
+        Ok(block.assume_init())
+    }
+}
+
+// Writes zeros for the directories past so many. The place is one for all of them.
+unsafe fn fill_up(directories: *mut [Directory; NUM_DATA_DIRECTORIES], count: usize) {
+    for index in count..NUM_DATA_DIRECTORIES {
+        // SAFETY: there is place for it.
+        unsafe { (&raw mut (*directories)[index]).write(Directory::default()) };
+    }
+}
+
+/// Reads the parts of a header, each by itself; of the sections as many as the vector has room for.
+pub fn read_parts<'a>(
+    bytes: &'a [u8],
+    options: &Options,
+    mut sections: Vec<Section<'a>>,
+) -> (Parts, Head<'a>) {
+    test_interface();
+    let mut parts = Parts::default();
+    let mut directories = [Directory::default(); NUM_DATA_DIRECTORIES];
+    fill(&mut sections, |first, room, count| {
+        // SAFETY: as in `read_layout`.
+        unsafe {
+            goblin_pe_raw_read_parts(
+                bytes.as_ptr(),
+                bytes.len(),
+                options,
+                &raw mut parts,
                 directories.as_mut_ptr(),
                 directories.len(),
                 first,
                 room,
-            )
-        };
-        *count = layout.sections;
-        fault
-    })
+            );
+        }
+        *count = parts.sections;
+        Fault::default()
+    });
+    let file = Layout {
+        optional_header: parts.optional_header,
+        directories: parts.directories,
+        sections: parts.sections,
+        places: parts.places,
+        dos_header: parts.dos_header,
+        coff_header: parts.coff_header,
+        dos_stub: Slice::default(),
+    };
+    let head = Head {
+        file,
+        directories,
+        sections,
+        tables: Tables::default(),
+        rich_header: RichHeader::default(),
+        imports: Table::default(),
+        exports: Table::default(),
+        relocations: BaseRelocations::default(),
+    };
+    (parts, head)
 }
 
 /// Tells what strict mode would refuse.
@@ -326,13 +652,6 @@ pub fn damage(bytes: &[u8], options: &Options, damage: &mut Damage) -> Fault {
     unsafe { goblin_pe_raw_read_damage(bytes.as_ptr(), bytes.len(), options, damage) }
 }
 
-/// The number of the part for which a file is refused.
-pub fn refused_part_of(bytes: &[u8], options: &Options, part: &mut u32) -> Fault {
-    test_interface();
-    // SAFETY: as in `kind`.
-    unsafe { goblin_pe_raw_refused_part_of(bytes.as_ptr(), bytes.len(), options, part) }
-}
-
 /// Lists the ranges on which a read depends. There were none before.
 pub fn footprint(bytes: &[u8], options: &Options, ranges: &mut Ranges<'_>) -> Fault {
     test_interface();
@@ -340,7 +659,7 @@ pub fn footprint(bytes: &[u8], options: &Options, ranges: &mut Ranges<'_>) -> Fa
     unsafe { goblin_pe_raw_footprint(bytes.as_ptr(), bytes.len(), options, ranges) }
 }
 
-// Walks that go on in a file whose tables lie at these places: each fills the vector as far as it has room, within so
+// Walks that go on in a file whose tables lie at these places: each fills the rows as far as they have room, within so
 // many steps; 0 is no limit.
 macro_rules! walks {
     ($($(#[$of:meta])* $name:ident by $call:ident from $position:ty => $record:ty;)*) => {$(
@@ -353,10 +672,10 @@ macro_rules! walks {
             places: &Places,
             position: &mut $position,
             steps: usize,
-            records: &mut Vec<$record>,
+            records: &mut Rows<$record>,
         ) -> Fault {
             test_interface();
-            fill(records, |first, room, count| {
+            records.fill(|first, room, count| {
                 let (file, length) = (bytes.as_ptr(), bytes.len());
                 // SAFETY: as in `read_layout`.
                 unsafe { $call(file, length, options, places, position, first, room, steps, count) }
@@ -445,21 +764,22 @@ pub fn string_at<'a>(bytes: &'a [u8], table: &SymbolTable, offset: usize) -> Opt
     test_interface();
     let mut text = Slice::default();
     // SAFETY: as in `open`.
-    let is_there =
-        unsafe { goblin_pe_raw_string_at(bytes.as_ptr(), bytes.len(), table, offset, &mut text) };
+    let is_there = unsafe {
+        goblin_pe_raw_string_at(bytes.as_ptr(), bytes.len(), table, offset, &raw mut text)
+    };
     is_there.then(|| text.get())
 }
 
-/// Goes on with the walk over symbols; fills the vector as far as it has room.
+/// Goes on with the walk over symbols; fills the rows as far as they have room.
 pub fn next_symbols<'a>(
     bytes: &'a [u8],
     table: &SymbolTable,
     position: &mut usize,
     steps: usize,
-    symbols: &mut Vec<NamedSymbol<'a>>,
+    symbols: &mut Rows<NamedSymbol<'a>>,
 ) -> Fault {
     test_interface();
-    fill(symbols, |first, room, count| {
+    symbols.fill(|first, room, count| {
         // SAFETY: as in `read_layout`.
         unsafe {
             goblin_pe_raw_next_symbols(
@@ -485,8 +805,9 @@ pub fn symbol_at<'a>(
     test_interface();
     let mut symbol = NamedSymbol::default();
     // SAFETY: as in `open`.
-    let is_there =
-        unsafe { goblin_pe_raw_symbol_at(bytes.as_ptr(), bytes.len(), table, index, &mut symbol) };
+    let is_there = unsafe {
+        goblin_pe_raw_symbol_at(bytes.as_ptr(), bytes.len(), table, index, &raw mut symbol)
+    };
     is_there.then_some(symbol)
 }
 
@@ -521,7 +842,7 @@ pub fn aux_file(auxiliary: &[u8]) -> Option<&[u8]> {
     let mut name = Slice::default();
     // SAFETY: as in `open`.
     let is_there =
-        unsafe { goblin_pe_raw_read_aux_file(auxiliary.as_ptr(), auxiliary.len(), &mut name) };
+        unsafe { goblin_pe_raw_read_aux_file(auxiliary.as_ptr(), auxiliary.len(), &raw mut name) };
     is_there.then(|| name.get())
 }
 
@@ -548,20 +869,20 @@ pub fn find_offset(image: &Image<'_, '_>, rva: usize) -> Option<usize> {
     test_interface();
     let mut offset = 0;
     // SAFETY: as in `kind`.
-    let is_there = unsafe { goblin_pe_raw_find_offset(image, rva, &mut offset) };
+    let is_there = unsafe { goblin_pe_raw_find_offset(image, rva, &raw mut offset) };
     is_there.then_some(offset)
 }
 
-/// All relocations of a section from an index on; fills the vector as far as it has room.
+/// All relocations of a section from an index on; fills the rows as far as they have room.
 pub fn next_relocations(
     bytes: &[u8],
     section: &Section<'_>,
     position: &mut usize,
     steps: usize,
-    relocations: &mut Vec<Relocation>,
+    relocations: &mut Rows<Relocation>,
 ) -> Fault {
     test_interface();
-    fill(relocations, |first, room, count| {
+    relocations.fill(|first, room, count| {
         // SAFETY: as in `read_layout`.
         unsafe {
             goblin_pe_raw_next_relocations(
@@ -590,7 +911,7 @@ pub fn section_at(image: &Image<'_, '_>, rva: usize) -> Option<usize> {
     test_interface();
     let mut index = 0;
     // SAFETY: as in `kind`.
-    let is_there = unsafe { goblin_pe_raw_section_at(image, rva, &mut index) };
+    let is_there = unsafe { goblin_pe_raw_section_at(image, rva, &raw mut index) };
     is_there.then_some(index)
 }
 
@@ -599,7 +920,7 @@ pub fn find_rva(image: &Image<'_, '_>, offset: usize) -> Option<usize> {
     test_interface();
     let mut rva = 0;
     // SAFETY: as in `kind`.
-    let is_there = unsafe { goblin_pe_raw_find_rva(image, offset, &mut rva) };
+    let is_there = unsafe { goblin_pe_raw_find_rva(image, offset, &raw mut rva) };
     is_there.then_some(rva)
 }
 
@@ -628,11 +949,11 @@ pub fn available_at<'a>(
 }
 
 /// The number of the region of an address, and the index of its section.
-pub fn region_of(image: &Image<'_, '_>, size_of_headers: u32, rva: usize) -> (u32, usize) {
+pub fn region_of(image: &Image<'_, '_>, rva: usize) -> (u32, usize) {
     test_interface();
     let mut section = usize::MAX;
     // SAFETY: as in `kind`.
-    let region = unsafe { goblin_pe_raw_region_of(image, size_of_headers, rva, &mut section) };
+    let region = unsafe { goblin_pe_raw_region_of(image, rva, &raw mut section) };
     (region, section)
 }
 
@@ -690,7 +1011,7 @@ pub fn file_checksum(bytes: &[u8], options: &Options) -> Option<u32> {
     let mut sum = 0;
     // SAFETY: as in `kind`.
     let is_there =
-        unsafe { goblin_pe_raw_file_checksum(bytes.as_ptr(), bytes.len(), options, &mut sum) };
+        unsafe { goblin_pe_raw_file_checksum(bytes.as_ptr(), bytes.len(), options, &raw mut sum) };
     is_there.then_some(sum)
 }
 

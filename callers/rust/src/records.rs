@@ -5,7 +5,7 @@ use crate::raw::{List, Shared, Slice};
 use std::mem::offset_of;
 
 /// The sum of the interface that is declared here: of its records, the numbers in them, and its calls.
-pub const INTERFACE: u32 = 0x726f_9829;
+pub const INTERFACE: u32 = 0x5505_2f38;
 
 /// What follows a symbol that defines a function.
 ///
@@ -98,12 +98,17 @@ pub struct Options {
     pub is_permissive: bool,
     /// Whether an address is mapped to a file offset by the sections; where not, it is the offset.
     pub resolve_rva: bool,
-    /// Where the raw data of a section begins, for addresses, for the data of a section of an image
-    /// and for what a loader sees at an address: the number of a `RawPointerRule`; any other number
-    /// is taken as 0.
+    /// How addresses are mapped, and where the raw data of a section begins, for addresses, for the
+    /// data of a section of an image and for what is in memory at an address: the number of a
+    /// `RawPointerRule`; any other number is taken as 0.
     pub raw_pointer_rule: u8,
     /// Whether the imports are read; where not, their table is absent.
     pub parse_imports: bool,
+    /// Whether the sections of a layout have their raw names alone, as the loader of images takes
+    /// them: no name is tested, none refuses the file, and none is looked up in the string table.
+    /// Else a name that begins with a slash is looked up there, in either mode. Only a read of a
+    /// layout looks at it: an open, the damage and a footprint test each name.
+    pub raw_section_names: bool,
 }
 
 /// Why a call gave no value, in numbers; the status 0 is that it gave one.
@@ -118,6 +123,11 @@ pub struct Fault {
     pub first: u64,
     /// The number that the cause calls `second`; else 0.
     pub second: u64,
+    /// The part of an image that is refused, by the numbers of `RefusedPart`, where the call reads
+    /// a whole image or a layout; else 0.
+    pub part: u32,
+    /// Zero. It stands where padding would be, so that each byte of the record is defined.
+    pub reserved: u32,
 }
 
 /// A section, as its record describes it.
@@ -168,7 +178,10 @@ pub struct Image<'p, 'a> {
     pub sections: Shared<'p, Section<'a>>,
     /// Its file alignment, in bytes.
     pub file_alignment: u32,
-    /// Whether addresses are mapped, and by which rule for raw pointers; all else is not looked at.
+    /// How many bytes its headers have, as its optional header says; 0 without one. They are looked
+    /// at where the options map as the Windows loader does, and where an address lies.
+    pub size_of_headers: u32,
+    /// Whether addresses are mapped, and by which rule; all else is not looked at.
     pub options: Options,
 }
 
@@ -232,6 +245,9 @@ pub struct Places {
     pub relocations: DataDirectory,
     /// The file alignment of the sections' raw data, in bytes; 0 where there is no optional header.
     pub file_alignment: u32,
+    /// How many bytes the headers have, as the optional header says: so much of the file's front
+    /// the Windows loader maps at the image's base. 0 where there is no optional header.
+    pub size_of_headers: u32,
     /// How many records the section table has.
     pub number_of_sections: u16,
     /// The magic of the optional header: by 0x10B the entries of import tables have four bytes,
@@ -568,7 +584,7 @@ pub struct ExportDirectoryTable {
     pub ordinal_table_rva: u32,
 }
 
-/// What the export directory says of the library; zeros where the exports are not read.
+/// What the export directory says of the library; zeros where it is not read.
 #[repr(C)]
 #[derive(Clone, Copy, Default)]
 pub struct ExportDirectory<'a> {
@@ -578,7 +594,8 @@ pub struct ExportDirectory<'a> {
     pub table: ExportDirectoryTable,
     /// Whether there is a text at the name's address.
     pub has_name: bool,
-    /// Whether the exports are read.
+    /// Whether it is read: of a whole file with its exports; by itself also where these are refused
+    /// for the number of their name pointers alone.
     pub is_read: bool,
 }
 
@@ -709,8 +726,8 @@ pub struct WindowsFields {
     pub size_of_heap_commit: u64,
     /// Reserved, 0, at 80.
     pub loader_flags: u32,
-    /// How many data directories follow, at 84. Readers take at most sixteen; directories past this
-    /// number are not there, whatever bytes follow.
+    /// How many data directories follow, at 84. Readers refuse a header that says more than
+    /// sixteen; directories past this number are not there, whatever bytes follow.
     pub number_of_rva_and_sizes: u32,
 }
 
@@ -917,6 +934,44 @@ pub struct Layout<'a> {
     pub dos_stub: Slice<'a>,
 }
 
+/// The parts of an image's header, each read by itself: what is there of a file that is refused as
+/// a whole. Each part has a fault of the status 0 where it is given, or the file has no such part;
+/// else why it is refused, perhaps for the cause of a part that alone tells where it lies.
+#[repr(C)]
+#[derive(Clone, Copy, Default, Debug, PartialEq, Eq, PartialOrd, Ord, Hash)]
+pub struct Parts {
+    /// The optional header: the standard fields and the Windows fields, zeros in place of those
+    /// that are refused.
+    pub optional_header: OptionalHeader,
+    /// How many data directories there are, whatever the room: sixteen, or none where there is no
+    /// optional header, or its standard fields are refused. Records past them are not filled.
+    pub directories: usize,
+    /// How many sections there are, whatever the room: as many as the COFF header says, or as the
+    /// file has whole records, if these are fewer.
+    pub sections: usize,
+    /// How many more the COFF header says.
+    pub missing_sections: usize,
+    /// Where the sections that are there and the tables lie, for walks over these.
+    pub places: Places,
+    /// The DOS header, zeros where it is refused.
+    pub dos_header: DosHeader,
+    /// The COFF header, zeros where it is refused.
+    pub coff_header: CoffHeader,
+    /// Why the header or the sections are refused as a whole; the status 0 where they are read.
+    pub refusal: Fault,
+    /// Why the DOS header is refused, with the PE signature that it points to; so are all parts
+    /// then.
+    pub dos_header_fault: Fault,
+    /// Why the COFF header is refused; so are then the parts after it.
+    pub coff_header_fault: Fault,
+    /// Why the standard fields are refused.
+    pub standard_fields_fault: Fault,
+    /// Why the Windows fields are refused.
+    pub windows_fields_fault: Fault,
+    /// Why the data directories are refused. Of more than sixteen the first sixteen are given.
+    pub directories_fault: Fault,
+}
+
 /// What strict mode would refuse of a file, part by part: for each part a fault of the status 0
 /// where strict mode would read it, or the file has no such part; else why not.
 #[repr(C)]
@@ -973,6 +1028,7 @@ impl Options {
         resolve_rva: true,
         raw_pointer_rule: 0,
         parse_imports: true,
+        raw_section_names: false,
     };
 }
 
@@ -1002,16 +1058,19 @@ const _: () = {
     assert!(offset_of!(AuxSectionDefinition, number) == 12);
     assert!(offset_of!(AuxSectionDefinition, selection) == 14);
     assert!(offset_of!(AuxSectionDefinition, unused) == 15);
-    assert!(size_of::<Options>() == 4 && align_of::<Options>() == 1);
+    assert!(size_of::<Options>() == 5 && align_of::<Options>() == 1);
     assert!(offset_of!(Options, is_permissive) == 0);
     assert!(offset_of!(Options, resolve_rva) == 1);
     assert!(offset_of!(Options, raw_pointer_rule) == 2);
     assert!(offset_of!(Options, parse_imports) == 3);
-    assert!(size_of::<Fault>() == 24 && align_of::<Fault>() == 8);
+    assert!(offset_of!(Options, raw_section_names) == 4);
+    assert!(size_of::<Fault>() == 32 && align_of::<Fault>() == 8);
     assert!(offset_of!(Fault, status) == 0);
     assert!(offset_of!(Fault, cause) == 4);
     assert!(offset_of!(Fault, first) == 8);
     assert!(offset_of!(Fault, second) == 16);
+    assert!(offset_of!(Fault, part) == 24);
+    assert!(offset_of!(Fault, reserved) == 28);
     assert!(size_of::<Section>() == 64 && align_of::<Section>() == 8);
     assert!(offset_of!(Section, real_name) == 0);
     assert!(offset_of!(Section, name) == 16);
@@ -1025,11 +1084,12 @@ const _: () = {
     assert!(offset_of!(Section, number_of_linenumbers) == 50);
     assert!(offset_of!(Section, characteristics) == 52);
     assert!(offset_of!(Section, has_real_name) == 56);
-    assert!(size_of::<Image>() == 40 && align_of::<Image>() == 8);
+    assert!(size_of::<Image>() == 48 && align_of::<Image>() == 8);
     assert!(offset_of!(Image, bytes) == 0);
     assert!(offset_of!(Image, sections) == 16);
     assert!(offset_of!(Image, file_alignment) == 32);
-    assert!(offset_of!(Image, options) == 36);
+    assert!(offset_of!(Image, size_of_headers) == 36);
+    assert!(offset_of!(Image, options) == 40);
     assert!(size_of::<Forwarder>() == 48 && align_of::<Forwarder>() == 8);
     assert!(offset_of!(Forwarder, lib) == 0);
     assert!(offset_of!(Forwarder, name) == 16);
@@ -1048,11 +1108,12 @@ const _: () = {
     assert!(offset_of!(Places, imports) == 16);
     assert!(offset_of!(Places, relocations) == 24);
     assert!(offset_of!(Places, file_alignment) == 32);
-    assert!(offset_of!(Places, number_of_sections) == 36);
-    assert!(offset_of!(Places, magic) == 38);
-    assert!(offset_of!(Places, has_exports) == 40);
-    assert!(offset_of!(Places, has_imports) == 41);
-    assert!(offset_of!(Places, has_relocations) == 42);
+    assert!(offset_of!(Places, size_of_headers) == 36);
+    assert!(offset_of!(Places, number_of_sections) == 40);
+    assert!(offset_of!(Places, magic) == 42);
+    assert!(offset_of!(Places, has_exports) == 44);
+    assert!(offset_of!(Places, has_imports) == 45);
+    assert!(offset_of!(Places, has_relocations) == 46);
     assert!(size_of::<ImportCursor>() == 56 && align_of::<ImportCursor>() == 8);
     assert!(offset_of!(ImportCursor, first_record) == 0);
     assert!(offset_of!(ImportCursor, next_record) == 8);
@@ -1072,16 +1133,16 @@ const _: () = {
     assert!(offset_of!(ImportDirectoryEntry, forwarder_chain) == 8);
     assert!(offset_of!(ImportDirectoryEntry, name_rva) == 12);
     assert!(offset_of!(ImportDirectoryEntry, import_address_table_rva) == 16);
-    assert!(size_of::<Library>() == 136 && align_of::<Library>() == 8);
+    assert!(size_of::<Library>() == 144 && align_of::<Library>() == 8);
     assert!(offset_of!(Library, name) == 0);
     assert!(offset_of!(Library, index) == 16);
     assert!(offset_of!(Library, record_offset) == 24);
     assert!(offset_of!(Library, cursor) == 32);
     assert!(offset_of!(Library, name_fault) == 88);
-    assert!(offset_of!(Library, import_directory_entry) == 112);
-    assert!(offset_of!(Library, is_left_out) == 132);
-    assert!(offset_of!(Library, has_imports) == 133);
-    assert!(offset_of!(Library, reserved) == 134);
+    assert!(offset_of!(Library, import_directory_entry) == 120);
+    assert!(offset_of!(Library, is_left_out) == 140);
+    assert!(offset_of!(Library, has_imports) == 141);
+    assert!(offset_of!(Library, reserved) == 142);
     assert!(size_of::<CoffHeader>() == 20 && align_of::<CoffHeader>() == 4);
     assert!(offset_of!(CoffHeader, machine) == 0);
     assert!(offset_of!(CoffHeader, number_of_sections) == 2);
@@ -1216,17 +1277,17 @@ const _: () = {
     assert!(size_of::<Table>() == 16 && align_of::<Table>() == 8);
     assert!(offset_of!(Table, count) == 0);
     assert!(offset_of!(Table, state) == 8);
-    assert!(size_of::<BaseRelocations>() == 40 && align_of::<BaseRelocations>() == 8);
+    assert!(size_of::<BaseRelocations>() == 48 && align_of::<BaseRelocations>() == 8);
     assert!(offset_of!(BaseRelocations, blocks) == 0);
     assert!(offset_of!(BaseRelocations, rest) == 16);
-    assert!(size_of::<RichHeader>() == 56 && align_of::<RichHeader>() == 8);
+    assert!(size_of::<RichHeader>() == 64 && align_of::<RichHeader>() == 8);
     assert!(offset_of!(RichHeader, entries) == 0);
     assert!(offset_of!(RichHeader, padding_size) == 8);
     assert!(offset_of!(RichHeader, rest) == 16);
-    assert!(offset_of!(RichHeader, key) == 40);
-    assert!(offset_of!(RichHeader, start_offset) == 44);
-    assert!(offset_of!(RichHeader, end_offset) == 48);
-    assert!(offset_of!(RichHeader, is_present) == 52);
+    assert!(offset_of!(RichHeader, key) == 48);
+    assert!(offset_of!(RichHeader, start_offset) == 52);
+    assert!(offset_of!(RichHeader, end_offset) == 56);
+    assert!(offset_of!(RichHeader, is_present) == 60);
     assert!(size_of::<DosHeader>() == 64 && align_of::<DosHeader>() == 4);
     assert!(offset_of!(DosHeader, signature) == 0);
     assert!(offset_of!(DosHeader, bytes_on_last_page) == 2);
@@ -1247,7 +1308,7 @@ const _: () = {
     assert!(offset_of!(DosHeader, oem_info) == 38);
     assert!(offset_of!(DosHeader, reserved2) == 40);
     assert!(offset_of!(DosHeader, pe_pointer) == 60);
-    assert!(size_of::<File>() == 424 && align_of::<File>() == 8);
+    assert!(size_of::<File>() == 440 && align_of::<File>() == 8);
     assert!(offset_of!(File, optional_header) == 0);
     assert!(offset_of!(File, directories) == 144);
     assert!(offset_of!(File, sections) == 152);
@@ -1255,9 +1316,9 @@ const _: () = {
     assert!(offset_of!(File, imports) == 208);
     assert!(offset_of!(File, exports) == 224);
     assert!(offset_of!(File, relocations) == 240);
-    assert!(offset_of!(File, rich_header) == 280);
-    assert!(offset_of!(File, dos_header) == 336);
-    assert!(offset_of!(File, coff_header) == 400);
+    assert!(offset_of!(File, rich_header) == 288);
+    assert!(offset_of!(File, dos_header) == 352);
+    assert!(offset_of!(File, coff_header) == 416);
     assert!(size_of::<Directory>() == 24 && align_of::<Directory>() == 8);
     assert!(offset_of!(Directory, end) == 0);
     assert!(offset_of!(Directory, directory) == 8);
@@ -1283,16 +1344,30 @@ const _: () = {
     assert!(offset_of!(Layout, dos_header) == 208);
     assert!(offset_of!(Layout, coff_header) == 272);
     assert!(offset_of!(Layout, dos_stub) == 296);
-    assert!(size_of::<Damage>() == 152 && align_of::<Damage>() == 8);
+    assert!(size_of::<Parts>() == 496 && align_of::<Parts>() == 8);
+    assert!(offset_of!(Parts, optional_header) == 0);
+    assert!(offset_of!(Parts, directories) == 144);
+    assert!(offset_of!(Parts, sections) == 152);
+    assert!(offset_of!(Parts, missing_sections) == 160);
+    assert!(offset_of!(Parts, places) == 168);
+    assert!(offset_of!(Parts, dos_header) == 216);
+    assert!(offset_of!(Parts, coff_header) == 280);
+    assert!(offset_of!(Parts, refusal) == 304);
+    assert!(offset_of!(Parts, dos_header_fault) == 336);
+    assert!(offset_of!(Parts, coff_header_fault) == 368);
+    assert!(offset_of!(Parts, standard_fields_fault) == 400);
+    assert!(offset_of!(Parts, windows_fields_fault) == 432);
+    assert!(offset_of!(Parts, directories_fault) == 464);
+    assert!(size_of::<Damage>() == 192 && align_of::<Damage>() == 8);
     assert!(offset_of!(Damage, dos_stub) == 0);
-    assert!(offset_of!(Damage, section_names) == 24);
-    assert!(offset_of!(Damage, imports) == 48);
-    assert!(offset_of!(Damage, exports) == 72);
-    assert!(offset_of!(Damage, relocations) == 96);
-    assert!(offset_of!(Damage, left_out_libraries) == 120);
-    assert!(offset_of!(Damage, left_out_entries) == 128);
-    assert!(offset_of!(Damage, unmapped_entries) == 136);
-    assert!(offset_of!(Damage, left_out_exports) == 144);
+    assert!(offset_of!(Damage, section_names) == 32);
+    assert!(offset_of!(Damage, imports) == 64);
+    assert!(offset_of!(Damage, exports) == 96);
+    assert!(offset_of!(Damage, relocations) == 128);
+    assert!(offset_of!(Damage, left_out_libraries) == 160);
+    assert!(offset_of!(Damage, left_out_entries) == 168);
+    assert!(offset_of!(Damage, unmapped_entries) == 176);
+    assert!(offset_of!(Damage, left_out_exports) == 184);
     assert!(size_of::<Range>() == 16 && align_of::<Range>() == 8);
     assert!(offset_of!(Range, offset) == 0);
     assert!(offset_of!(Range, length) == 8);
@@ -1308,31 +1383,31 @@ unsafe extern "C" {
     pub fn goblin_pe_raw_read_aux_function_definition(
         bytes: *const u8,
         byte_count: usize,
-        definition: &mut AuxFunctionDefinition,
+        definition: *mut AuxFunctionDefinition,
     ) -> bool;
 
     pub fn goblin_pe_raw_read_aux_begin_and_end_function(
         bytes: *const u8,
         byte_count: usize,
-        function: &mut AuxBeginAndEndFunction,
+        function: *mut AuxBeginAndEndFunction,
     ) -> bool;
 
     pub fn goblin_pe_raw_read_aux_weak_external(
         bytes: *const u8,
         byte_count: usize,
-        external: &mut AuxWeakExternal,
+        external: *mut AuxWeakExternal,
     ) -> bool;
 
     pub fn goblin_pe_raw_read_aux_section_definition(
         bytes: *const u8,
         byte_count: usize,
-        definition: &mut AuxSectionDefinition,
+        definition: *mut AuxSectionDefinition,
     ) -> bool;
 
     pub fn goblin_pe_raw_read_aux_file(
         bytes: *const u8,
         byte_count: usize,
-        name: &mut Slice<'_>,
+        name: *mut Slice<'_>,
     ) -> bool;
 
     pub fn goblin_pe_raw_checksum(bytes: *const u8, byte_count: usize, field: usize) -> u32;
@@ -1341,7 +1416,7 @@ unsafe extern "C" {
         bytes: *const u8,
         byte_count: usize,
         options: &Options,
-        sum: &mut u32,
+        sum: *mut u32,
     ) -> bool;
 
     pub fn goblin_pe_raw_fault_text(fault: &Fault, text: *mut u8, text_room: usize) -> usize;
@@ -1349,38 +1424,38 @@ unsafe extern "C" {
     pub fn goblin_pe_raw_forwarder_at<'a>(
         image: &Image<'_, 'a>,
         rva: usize,
-        forwarder: &mut Forwarder<'a>,
+        forwarder: *mut Forwarder<'a>,
     ) -> Fault;
 
     pub fn goblin_pe_raw_find_offset(
         image: &Image<'_, '_>,
         rva: usize,
-        offset: &mut usize,
+        offset: *mut usize,
     ) -> bool;
 
     pub fn goblin_pe_raw_text_at<'a>(
         image: &Image<'_, 'a>,
         rva: usize,
-        text: &mut Slice<'a>,
+        text: *mut Slice<'a>,
     ) -> Fault;
 
     pub fn goblin_pe_raw_bytes_at<'a>(
         image: &Image<'_, 'a>,
         rva: usize,
         size: usize,
-        text: &mut Slice<'a>,
+        text: *mut Slice<'a>,
     ) -> Fault;
 
     pub fn goblin_pe_raw_read_section_data<'a>(
         image: &Image<'_, 'a>,
         section: &Section<'_>,
-        contents: &mut SectionData<'a>,
+        contents: *mut SectionData<'a>,
     ) -> Fault;
 
     pub fn goblin_pe_raw_available_section_data<'a>(
         image: &Image<'_, 'a>,
         section: &Section<'_>,
-        contents: &mut SectionData<'a>,
+        contents: *mut SectionData<'a>,
     ) -> bool;
 
     pub fn goblin_pe_raw_next_libraries(
@@ -1388,43 +1463,38 @@ unsafe extern "C" {
         byte_count: usize,
         options: &Options,
         places: &Places,
-        cursor: &mut ImportCursor,
+        cursor: *mut ImportCursor,
         records: *mut Library<'_>,
         record_room: usize,
         steps: usize,
-        count: &mut usize,
+        count: *mut usize,
     ) -> Fault;
 
-    pub fn goblin_pe_raw_section_at(image: &Image<'_, '_>, rva: usize, index: &mut usize) -> bool;
+    pub fn goblin_pe_raw_section_at(image: &Image<'_, '_>, rva: usize, index: *mut usize) -> bool;
 
-    pub fn goblin_pe_raw_find_rva(image: &Image<'_, '_>, offset: usize, rva: &mut usize) -> bool;
+    pub fn goblin_pe_raw_find_rva(image: &Image<'_, '_>, offset: usize, rva: *mut usize) -> bool;
 
     pub fn goblin_pe_raw_memory_at<'a>(
         image: &Image<'_, 'a>,
         rva: usize,
         size: usize,
-        contents: &mut SectionData<'a>,
+        contents: *mut SectionData<'a>,
     ) -> Fault;
 
     pub fn goblin_pe_raw_available_at<'a>(
         image: &Image<'_, 'a>,
         rva: usize,
         size: usize,
-        contents: &mut SectionData<'a>,
+        contents: *mut SectionData<'a>,
     ) -> Fault;
 
-    pub fn goblin_pe_raw_region_of(
-        image: &Image<'_, '_>,
-        size_of_headers: u32,
-        rva: usize,
-        section: &mut usize,
-    ) -> u32;
+    pub fn goblin_pe_raw_region_of(image: &Image<'_, '_>, rva: usize, section: *mut usize) -> u32;
 
     pub fn goblin_pe_raw_read_object(
         bytes: *const u8,
         byte_count: usize,
         options: &Options,
-        object: &mut Object,
+        object: *mut Object,
         sections: *mut Section<'_>,
         section_room: usize,
     ) -> Fault;
@@ -1433,14 +1503,14 @@ unsafe extern "C" {
         bytes: *const u8,
         byte_count: usize,
         header: &CoffHeader,
-        table: &mut SymbolTable,
+        table: *mut SymbolTable,
     ) -> Fault;
 
     pub fn goblin_pe_raw_find_symbol_table(
         bytes: *const u8,
         byte_count: usize,
         header: &CoffHeader,
-        table: &mut SymbolTable,
+        table: *mut SymbolTable,
     ) -> Fault;
 
     pub fn goblin_pe_raw_string_at(
@@ -1448,18 +1518,18 @@ unsafe extern "C" {
         byte_count: usize,
         table: &SymbolTable,
         offset: usize,
-        text: &mut Slice<'_>,
+        text: *mut Slice<'_>,
     ) -> bool;
 
     pub fn goblin_pe_raw_next_symbols(
         bytes: *const u8,
         byte_count: usize,
         table: &SymbolTable,
-        position: &mut usize,
+        position: *mut usize,
         records: *mut NamedSymbol<'_>,
         record_room: usize,
         steps: usize,
-        count: &mut usize,
+        count: *mut usize,
     ) -> Fault;
 
     pub fn goblin_pe_raw_symbol_at(
@@ -1467,7 +1537,7 @@ unsafe extern "C" {
         byte_count: usize,
         table: &SymbolTable,
         index: usize,
-        symbol: &mut NamedSymbol<'_>,
+        symbol: *mut NamedSymbol<'_>,
     ) -> bool;
 
     pub fn goblin_pe_raw_read_relocations(
@@ -1476,13 +1546,13 @@ unsafe extern "C" {
         section: &Section<'_>,
         records: *mut Relocation,
         record_room: usize,
-        count: &mut usize,
+        count: *mut usize,
     ) -> Fault;
 
     pub fn goblin_pe_raw_read_te(
         bytes: *const u8,
         byte_count: usize,
-        header: &mut TeHeader,
+        header: *mut TeHeader,
         sections: *mut Section<'_>,
         section_room: usize,
     ) -> Fault;
@@ -1492,11 +1562,11 @@ unsafe extern "C" {
         byte_count: usize,
         options: &Options,
         places: &Places,
-        cursor: &mut ImportCursor,
+        cursor: *mut ImportCursor,
         records: *mut Import<'_>,
         record_room: usize,
         steps: usize,
-        count: &mut usize,
+        count: *mut usize,
     ) -> Fault;
 
     pub fn goblin_pe_raw_next_exports(
@@ -1504,11 +1574,11 @@ unsafe extern "C" {
         byte_count: usize,
         options: &Options,
         places: &Places,
-        position: &mut usize,
+        position: *mut usize,
         records: *mut Export<'_>,
         record_room: usize,
         steps: usize,
-        count: &mut usize,
+        count: *mut usize,
     ) -> Fault;
 
     pub fn goblin_pe_raw_read_export_directory(
@@ -1516,7 +1586,7 @@ unsafe extern "C" {
         byte_count: usize,
         options: &Options,
         places: &Places,
-        directory: &mut ExportDirectory<'_>,
+        directory: *mut ExportDirectory<'_>,
     ) -> Fault;
 
     pub fn goblin_pe_raw_next_export_addresses(
@@ -1524,11 +1594,11 @@ unsafe extern "C" {
         byte_count: usize,
         options: &Options,
         places: &Places,
-        position: &mut usize,
+        position: *mut usize,
         records: *mut ExportAddress,
         record_room: usize,
         steps: usize,
-        count: &mut usize,
+        count: *mut usize,
     ) -> Fault;
 
     pub fn goblin_pe_raw_next_blocks(
@@ -1536,27 +1606,27 @@ unsafe extern "C" {
         byte_count: usize,
         options: &Options,
         places: &Places,
-        position: &mut usize,
+        position: *mut usize,
         records: *mut Block<'_>,
         record_room: usize,
         steps: usize,
-        count: &mut usize,
+        count: *mut usize,
     ) -> Fault;
 
     pub fn goblin_pe_raw_next_relocations(
         bytes: *const u8,
         byte_count: usize,
         section: &Section<'_>,
-        position: &mut usize,
+        position: *mut usize,
         records: *mut Relocation,
         record_room: usize,
         steps: usize,
-        count: &mut usize,
+        count: *mut usize,
     ) -> Fault;
 
     pub fn goblin_pe_raw_next_words(
         block: &Block<'_>,
-        position: &mut usize,
+        position: *mut usize,
         words: *mut Word,
         word_room: usize,
         steps: usize,
@@ -1568,42 +1638,46 @@ unsafe extern "C" {
         bytes: *const u8,
         byte_count: usize,
         options: &Options,
-        file: &mut File,
+        file: *mut File,
         directories: *mut Directory,
         directory_room: usize,
-        tables: &mut Tables<'_>,
+        tables: *mut Tables<'_>,
     ) -> Fault;
 
     pub fn goblin_pe_raw_read_layout<'a>(
         bytes: *const u8,
         byte_count: usize,
         options: &Options,
-        layout: &mut Layout<'a>,
+        layout: *mut Layout<'a>,
         directories: *mut Directory,
         directory_room: usize,
         sections: *mut Section<'a>,
         section_room: usize,
     ) -> Fault;
 
+    pub fn goblin_pe_raw_read_parts(
+        bytes: *const u8,
+        byte_count: usize,
+        options: &Options,
+        parts: *mut Parts,
+        directories: *mut Directory,
+        directory_room: usize,
+        sections: *mut Section<'_>,
+        section_room: usize,
+    ) -> bool;
+
     pub fn goblin_pe_raw_read_damage(
         bytes: *const u8,
         byte_count: usize,
         options: &Options,
-        damage: &mut Damage,
-    ) -> Fault;
-
-    pub fn goblin_pe_raw_refused_part_of(
-        bytes: *const u8,
-        byte_count: usize,
-        options: &Options,
-        part: &mut u32,
+        damage: *mut Damage,
     ) -> Fault;
 
     pub fn goblin_pe_raw_footprint(
         bytes: *const u8,
         byte_count: usize,
         options: &Options,
-        ranges: &mut Ranges<'_>,
+        ranges: *mut Ranges<'_>,
     ) -> Fault;
 
     pub fn goblin_pe_raw_write_header(
@@ -1614,15 +1688,15 @@ unsafe extern "C" {
         stub_count: usize,
         out: *mut u8,
         out_room: usize,
-        written: &mut usize,
+        written: *mut usize,
     ) -> Fault;
 
     pub fn goblin_pe_raw_write_section(
         section: &Section<'_>,
         out: *mut u8,
         out_room: usize,
-        written: &mut usize,
+        written: *mut usize,
     ) -> Fault;
 
-    pub fn goblin_pe_raw_set_name_offset(section: &mut Section<'_>, offset: usize) -> Fault;
+    pub fn goblin_pe_raw_set_name_offset(section: *mut Section<'_>, offset: usize) -> Fault;
 }

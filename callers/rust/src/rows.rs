@@ -1,8 +1,9 @@
 //! What was read, row by row. Rows live as long as the bytes of the file.
 
+use crate::constants::COFF_RELOCATION_SIZE;
 use crate::error::Error;
 use crate::iterators::{WalkRelocations, Words};
-use crate::memory::make_room;
+use crate::memory::read_all;
 use crate::numbers::Forwards;
 use crate::raw::{
     self, AuxBeginAndEndFunction, AuxFunctionDefinition, AuxSectionDefinition, AuxWeakExternal,
@@ -353,13 +354,12 @@ impl<'a> Section<'a> {
     /// # Ok::<(), goblin_pe::Error>(())
     /// ```
     pub fn relocations(&self, bytes: &[u8]) -> Result<Vec<Relocation>, Error> {
-        let (section, mut count, mut relocations) = (self.record(), 0, Vec::new());
-        let fault = raw::read_relocations(bytes, &section, &mut relocations, &mut count);
-        Error::test(fault)?;
-        make_room(&mut relocations, count)?;
-        let fault = raw::read_relocations(bytes, &section, &mut relocations, &mut count);
-        Error::test(fault)?;
-        Ok(relocations)
+        let section = self.record();
+        let expected = usize::from(self.number_of_relocations);
+        read_all(
+            expected.min(bytes.len() / COFF_RELOCATION_SIZE),
+            |to, count| raw::read_relocations(bytes, &section, to, count),
+        )
     }
 
     /// A walk over all relocations of a section of the object `bytes`, also where there are more than

@@ -229,6 +229,7 @@ pub const ARM_RELOCATIONS: &[(&str, u32)] = &[
     ("IMAGE_REL_ARM_GPREL7", 0x07),
     ("IMAGE_REL_ARM_BLX24", 0x08),
     ("IMAGE_REL_ARM_BLX11", 0x09),
+    ("IMAGE_REL_ARM_REL32", 0x0A),
     ("IMAGE_REL_ARM_SECTION", 0x0E),
     ("IMAGE_REL_ARM_SECREL", 0x0F),
     ("IMAGE_REL_ARM_MOV32A", 0x10),
@@ -236,6 +237,7 @@ pub const ARM_RELOCATIONS: &[(&str, u32)] = &[
     ("IMAGE_REL_ARM_BRANCH20T", 0x12),
     ("IMAGE_REL_ARM_BRANCH24T", 0x14),
     ("IMAGE_REL_ARM_BLX23T", 0x15),
+    ("IMAGE_REL_ARM_PAIR", 0x16),
 ];
 
 pub const ARM64_RELOCATIONS: &[(&str, u32)] = &[
@@ -255,6 +257,8 @@ pub const ARM64_RELOCATIONS: &[(&str, u32)] = &[
     ("IMAGE_REL_ARM64_SECTION", 0x0D),
     ("IMAGE_REL_ARM64_ADDR64", 0x0E),
     ("IMAGE_REL_ARM64_BRANCH19", 0x0F),
+    ("IMAGE_REL_ARM64_BRANCH14", 0x10),
+    ("IMAGE_REL_ARM64_REL32", 0x11),
 ];
 
 pub const IA64_RELOCATIONS: &[(&str, u32)] = &[

@@ -4,7 +4,7 @@ use std::fmt;
 
 use crate::error::Error;
 use crate::iterators::Sections;
-use crate::memory::make_room;
+use crate::memory::read_all;
 use crate::raw::{self, TeHeader};
 use crate::rows::{Section, section_index};
 
@@ -40,10 +40,12 @@ impl<'a> Te<'a> {
     /// # Ok::<(), goblin_pe::Error>(())
     /// ```
     pub fn read(bytes: &'a [u8]) -> Result<Te<'a>, Error> {
-        let (mut header, mut sections) = (TeHeader::default(), Vec::new());
-        Error::test(raw::read_te(bytes, &mut header, &mut sections))?;
-        make_room(&mut sections, header.number_of_sections.into())?;
-        Error::test(raw::read_te(bytes, &mut header, &mut sections))?;
+        let mut header = TeHeader::default();
+        let sections = read_all(0, |sections, count| {
+            let fault = raw::read_te(bytes, &mut header, sections);
+            *count = header.number_of_sections.into();
+            fault
+        })?;
         Ok(Te {
             bytes,
             header,

@@ -1,5 +1,5 @@
 //! Where this crate itself is refused memory, a read answers so, and the process goes on.
-use goblin_pe::{Error, ErrorKind, Imported, Object, Options, Pe, Te, Text};
+use goblin_pe::{Error, ErrorKind, Imported, Object, Options, Parts, Pe, Te, Text};
 use std::alloc::{GlobalAlloc, Layout, System};
 use std::cell::Cell;
 use std::io::{self, Write};
@@ -7,16 +7,18 @@ use std::io::{self, Write};
 thread_local! {
     static IS_REFUSED: Cell<bool> = const { Cell::new(false) };
     static ASKED: Cell<usize> = const { Cell::new(0) };
+    static REFUSED_ONE: Cell<Option<usize>> = const { Cell::new(None) };
 }
 
-/// An allocator that refuses all that a thread asks for while it says so, and counts how often it asks.
+/// An allocator that refuses all that a thread asks for while it says so, or the one request of a number, and counts how
+/// often it asks.
 struct Refusing;
 
 // SAFETY: it is the system's, or answers that there is no memory.
 unsafe impl GlobalAlloc for Refusing {
     unsafe fn alloc(&self, layout: Layout) -> *mut u8 {
-        ASKED.set(ASKED.get() + 1);
-        if IS_REFUSED.get() {
+        let asked = ASKED.replace(ASKED.get() + 1);
+        if IS_REFUSED.get() || REFUSED_ONE.get() == Some(asked) {
             return std::ptr::null_mut();
         }
         unsafe { System.alloc(layout) }
@@ -72,15 +74,16 @@ fn refused_memory_is_an_error() {
     let layout = goblin_pe::Layout::read(&image, &options).unwrap();
     let read = || goblin_pe::Layout::read(&image, &options);
     assert_eq!(refused(read), memory);
+    assert_eq!(refused(|| Parts::read(&image, &options)), memory);
+    assert_eq!(refused(|| layout.find_export_by_ordinal(1)), memory);
     assert_eq!(refused(|| layout.damage()), None);
-    assert_eq!(refused(|| layout.symbols()), memory);
+    assert_eq!(refused(|| layout.symbols()), None); // (it has none)
     assert_eq!(refused(|| pe.footprint()), None); // (its ranges are in the library's memory)
     assert_eq!(refused(|| pe.damage()), None);
-    assert_eq!(refused(|| Pe::read(&image, &options)), None);
+    assert_eq!(refused(|| Pe::read(&image, &options)), memory);
     assert_eq!(refused(|| pe.walk_libraries().next().unwrap()), memory);
     assert!(without_memory(|| pe.write_imphash_text(&mut io::sink())).is_ok());
     assert_eq!(refused(|| pe.libraries()), memory);
-    assert_eq!(refused(|| pe.symbols()), memory);
     assert_eq!(refused(|| pe.walk_imports().next().unwrap()), memory);
     assert_eq!(refused(|| pe.walk_exports().next().unwrap()), memory);
     let walk = || pe.walk_export_addresses().next().unwrap();
@@ -100,6 +103,87 @@ fn refused_memory_is_an_error() {
     assert!(sections.sections().all(refused_relocations));
     assert_eq!(refused(|| sections.symbols()), memory);
     assert!(Object::read(&object, &options).is_ok() && Te::read(&te).is_ok());
+}
+
+// How often a call asks for memory, each of whose requests is refused alone: that is an error, and the call is repeated.
+fn requests<T>(call: impl Fn() -> Result<T, Error>) -> usize {
+    let asked = ASKED.get();
+    assert!(call().is_ok());
+    let count = ASKED.get() - asked;
+    for request in 0..count {
+        REFUSED_ONE.set(Some(ASKED.get() + request));
+        let answer = call().err().map(|error| error.kind());
+        REFUSED_ONE.set(None);
+        assert_eq!(answer, Some(ErrorKind::Memory));
+        assert!(call().is_ok());
+    }
+    count
+}
+
+// The sample with so many sections, as far as its header says.
+fn with_sections(count: u8) -> Vec<u8> {
+    let mut image = sample("imports_by_name_x64.dll");
+    let signature = usize::from(image[0x3C]);
+    image[signature + 6] = count;
+    image.resize(0x2000, 0);
+    image
+}
+
+#[test]
+fn each_block_that_is_refused_alone_is_an_error() {
+    let options = Options::permissive().with_resolve_rva(false);
+    let (object, te) = (sample("object_x64.obj"), sample("firmware_x64.te"));
+    for count in [1, 17, 97] {
+        let image = with_sections(count);
+        // (a block for the image, and one for its sections, which are read once)
+        let layout = || goblin_pe::Layout::read(&image, &options);
+        assert_eq!(layout().unwrap().sections().len(), usize::from(count));
+        assert_eq!(requests(layout), 2);
+        assert_eq!(requests(|| Pe::read(&image, &options)), 1);
+        assert_eq!(requests(|| Parts::read(&image, &options)), 2);
+    }
+    assert_eq!(requests(|| Object::read(&object, &options)), 1);
+    assert_eq!(requests(|| Te::read(&te)), 1);
+    let object = Object::read(&object, &options).unwrap();
+    for section in object.sections() {
+        let is_any = section.number_of_relocations != 0;
+        assert_eq!(
+            requests(|| section.relocations(object.bytes())),
+            usize::from(is_any)
+        );
+    }
+}
+
+#[test]
+fn a_layout_is_read_whatever_its_header_counts() {
+    let options = Options::default();
+    let mut image = sample("imports_by_name_x64.dll");
+    let signature = usize::from(image[0x3C]);
+    image[signature + 7] = 0xFF; // (more sections than there are)
+    assert!(goblin_pe::Layout::read(&image, &options).is_err());
+    for length in [0, 0x3C, 0x3F, 0x40, signature + 4, signature + 7] {
+        assert!(goblin_pe::Layout::read(&image[..length], &options).is_err());
+    }
+    image[0x3C..0x40].fill(0xFF); // (the signature past the end)
+    assert!(goblin_pe::Layout::read(&image, &options).is_err());
+}
+
+#[test]
+fn a_copy_has_what_was_read() {
+    let image = sample("forwarders_x64.dll");
+    let pe = Pe::read(&image, &Options::default()).unwrap();
+    let copy = pe.clone();
+    let layout = goblin_pe::Layout::from(copy.clone());
+    assert!(copy.exports().eq(pe.exports()) && copy.sections().eq(pe.sections()));
+    assert!(layout.sections().eq(pe.sections()) && layout.header() == pe.header());
+    drop(pe);
+    assert!(
+        layout
+            .clone()
+            .walk_exports()
+            .map(Result::unwrap)
+            .eq(copy.exports())
+    );
 }
 
 #[test]
@@ -186,10 +270,7 @@ fn a_walk_over_a_file_of_many_sections_gives_what_is_listed() {
 
 #[test]
 fn a_walk_over_libraries_of_a_file_of_many_sections() {
-    let mut image = sample("imports_by_name_x64.dll");
-    let signature = usize::from(image[0x3C]);
-    image[signature + 6] = 97;
-    image.resize(0x2000, 0);
+    let image = with_sections(97);
     let pe = Pe::read(&image, &Options::permissive()).unwrap();
     let mut records: Vec<_> = pe.imports().map(|it| it.library).collect();
     records.dedup();

@@ -2,7 +2,7 @@
 use goblin_pe::constants::{COFF_MACHINE_X86_64, IMAGE_SCN_LNK_NRELOC_OVFL};
 use goblin_pe::{
     Cause, DirectoryType, Error, ErrorKind, Forwarder, Imported, Kind, Layout, Object, Options,
-    Part, Pe, RawPointerRule, ReadFault, RefusedPart, Region, Te, Text, UnknownNumber,
+    Part, Parts, Pe, RawPointerRule, ReadFault, RefusedPart, Region, Te, Text, UnknownNumber,
 };
 
 fn sample(name: &str) -> Vec<u8> {
@@ -228,7 +228,6 @@ fn import_record(bytes: &[u8]) -> usize {
     pe.find_offset(directory.virtual_address as usize).unwrap()
 }
 
-// The directory goes on after its only block with the head of one that has four bytes.
 // A record, the slot of its one import, and that of its address table are a step each.
 #[test]
 fn a_walk_ends_after_so_many_steps() {
@@ -244,6 +243,71 @@ fn a_walk_ends_after_so_many_steps() {
     }
 }
 
+// What a walk within so many steps gives of these rows, which is as many, and then the error that says so; but the end,
+// where there are no more than `seen` steps show.
+fn test_steps<T, W>(rows: &[T], seen: usize, within: impl Fn(usize) -> W)
+where
+    T: PartialEq + std::fmt::Debug,
+    W: Iterator<Item = Result<T, goblin_pe::Error>>,
+{
+    for steps in 0..rows.len() + 3 {
+        let mut walk = within(steps);
+        for row in rows.iter().take(steps) {
+            assert_eq!(walk.next().unwrap().as_ref(), Ok(row));
+        }
+        let last = walk.next().map(|it| it.unwrap_err());
+        let out = last.map(|it| (it.kind(), it.numbers()));
+        let is_out = (ErrorKind::OutOfSteps, (0, steps as u64, 0));
+        assert_eq!(out, (steps < seen).then_some(is_out));
+        assert!(walk.next().is_none());
+    }
+}
+
+#[test]
+fn walks_over_export_addresses_relocations_and_symbols_end_after_so_many_steps() {
+    let (image, bytes) = (sample("forwarders_x64.dll"), sample("object_x64.obj"));
+    let layout = Layout::read(&image, &Options::default()).unwrap();
+    let walk = || layout.walk_export_addresses();
+    let rows: Vec<_> = walk().map(Result::unwrap).collect();
+    assert!(rows.iter().any(|it| it.forwarder.is_some()));
+    // (a walk over entries sees its end by a step)
+    test_steps(&rows, rows.len() + 1, |steps| walk().within(steps));
+    let object = Object::parse(&bytes).unwrap();
+    for section in object.sections() {
+        let rows = section.relocations(&bytes).unwrap();
+        let walk = || section.walk_relocations(&bytes);
+        test_steps(&rows, rows.len().max(1), |steps| walk().within(steps));
+    }
+    let walk = || object.symbols().unwrap();
+    let rows: Vec<_> = walk().collect();
+    assert!(rows.len() > 16); // (so many are read at first)
+    for begun in 0..rows.len() {
+        let (mut walk, left) = (walk(), &rows[begun..]);
+        assert_eq!(walk.by_ref().take(begun).count(), begun);
+        test_steps(left, left.len(), |steps| walk.clone().within(steps));
+    }
+}
+
+// Without addresses no name pointer gives an export. The end is seen by one step more.
+#[test]
+fn a_name_pointer_without_an_export_is_a_step() {
+    let mut bytes = sample("forwarders_x64.dll");
+    let layout = Layout::parse(&bytes).unwrap();
+    let (_, exports) = layout.data_directories().next().unwrap();
+    let record = layout.find_offset(exports.virtual_address as usize);
+    let record = record.unwrap();
+    bytes[record + 0x14..][..4].fill(0);
+    let pointers = u32::from_le_bytes(bytes[record + 0x18..][..4].try_into().unwrap()) as usize;
+    let layout = Layout::parse(&bytes).unwrap();
+    for steps in 0..pointers + 2 {
+        let last = layout.walk_exports().within(steps).last();
+        let out = last.map(|it| it.unwrap_err().kind());
+        let wanted = (steps <= pointers).then_some(ErrorKind::OutOfSteps);
+        assert_eq!(out, wanted, "{steps}");
+    }
+}
+
+// The directory goes on after its only block with the head of one that has four bytes.
 #[test]
 fn a_walk_over_blocks_ends_with_what_is_said_of_the_rest() {
     let mut bytes = sample("imports_by_name_x64.dll");
@@ -582,17 +646,28 @@ fn what_was_read_is_shared_and_shown() {
     let pe = Pe::read(&bytes, &Options::default()).unwrap();
     is_shared(&pe);
     is_shared(&pe.imports().next().unwrap());
+    is_shared(&pe.walk_imports());
     let shown = "Pe { machine: 34404, sections: 4, imports: (Read, 1), exports: (Read, 2), blocks: (Read, 1), .. }";
     assert_eq!(format!("{pe:?}"), shown);
     let bytes = sample("object_x64.obj");
     let object = Object::read(&bytes, &Options::default()).unwrap();
     is_shared(&object);
+    is_shared(&object.symbols().unwrap());
     assert!(format!("{object:?}").starts_with("Object { machine: 34404, "));
     let bytes = sample("firmware_x64.te");
     let te = Te::read(&bytes).unwrap();
     is_shared(&te);
     assert!(format!("{te:?}").starts_with("Te { machine: 34404, "));
     is_shared(&Te::read(b"").err().unwrap());
+}
+
+#[test]
+fn a_walk_may_be_dropped_after_the_bytes() {
+    let mut walk;
+    let bytes = sample("imports_by_name_x64.dll");
+    let layout = Layout::read(&bytes, &Options::default()).unwrap();
+    walk = layout.walk_imports();
+    assert!(walk.next().is_some());
 }
 
 #[test]
@@ -806,7 +881,11 @@ fn addresses_are_looked_up_both_ways() {
         let (data, zeros) = pe.memory_at(rva, size).unwrap();
         assert_eq!(place(&bytes, data), s.pointer_to_raw_data as usize);
         assert_eq!(data.len() + zeros, size);
-        assert!(pe.memory_at(rva, size + 1).is_err());
+        // (the memory goes on to the end of the window, at most to that of a page)
+        assert!(
+            pe.memory_at(rva, size.next_multiple_of(0x1000) + 1)
+                .is_err()
+        );
     }
     assert_eq!(pe.find_rva(bytes.len()), None);
 }
@@ -815,26 +894,257 @@ fn addresses_are_looked_up_both_ways() {
 fn a_refusal_is_of_a_part() {
     let bytes = sample("forwarders_x64.dll");
     for (options, wanted) in [
-        (Options::default(), RefusedPart::Exports),
-        (Options::permissive(), RefusedPart::Nothing),
+        (Options::default(), Some(Some(RefusedPart::Exports))),
+        (Options::permissive(), None),
     ] {
         let pe = Pe::read(&bytes, &Options::default()).unwrap();
         let (_, exports) = pe.data_directories().next().unwrap();
         let place = pe.find_offset(exports.virtual_address as usize).unwrap();
         let mut cut = bytes.clone();
         cut[place + 0x14..][..4].fill(0xFF); // (how many addresses there are)
-        assert_eq!(
-            Pe::read(&cut, &options).is_err(),
-            wanted != RefusedPart::Nothing
+        assert_eq!(Pe::read(&cut, &options).err().map(|it| it.part()), wanted);
+        let refused = Pe::read(b"MZ", &options).unwrap_err();
+        assert_eq!(refused.part(), Some(RefusedPart::Header));
+        let refused = Layout::read(b"MZ", &options).unwrap_err();
+        assert_eq!(refused.part(), Some(RefusedPart::Header));
+    }
+}
+
+// What is done to an image for 64 bits whose optional header and whose section table begin at these offsets, so that both
+// modes refuse it; which parts of its header are refused then, and how many sections are missing.
+type RefusedHeader = (
+    fn(&mut Vec<u8>, usize, usize),
+    &'static [&'static str],
+    usize,
+);
+const REFUSED_HEADERS: [RefusedHeader; 6] = [
+    // (seventeen data directories; a section whose name is a slash and no number)
+    (|bytes, header, _| bytes[header + 108] = 17, &[], 0),
+    (
+        |bytes, _, table| bytes[table..][..5].copy_from_slice(b"/abc\0"),
+        &[],
+        0,
+    ),
+    // (the magic of a ROM image; a header that is cut in its directories, and in its Windows fields)
+    (
+        |bytes, header, _| bytes[header..][..2].copy_from_slice(&[7, 1]),
+        &["standard_fields", "windows_fields", "data_directories"],
+        0,
+    ),
+    (
+        |bytes, header, _| bytes.truncate(header + 120),
+        &["data_directories"],
+        4,
+    ),
+    (
+        |bytes, header, _| bytes.truncate(header + 111),
+        &["windows_fields", "data_directories"],
+        4,
+    ),
+    // (a section table that is cut in its third record)
+    (|bytes, _, table| bytes.truncate(table + 100), &[], 2),
+];
+
+#[test]
+fn the_parts_of_a_refused_header_are_there() {
+    let bytes = sample("imports_by_name_x64.dll");
+    let whole = Pe::parse(&bytes).unwrap();
+    let header = whole.dos_header().pe_pointer as usize + 24;
+    let table = header + usize::from(whole.coff_header().size_of_optional_header);
+    for (change, refused, missing) in REFUSED_HEADERS {
+        let mut changed = bytes.clone();
+        change(&mut changed, header, table);
+        for options in [Options::default(), Options::permissive()] {
+            let parts = Parts::read(&changed, &options).unwrap();
+            assert_eq!(parts.refusal(), Layout::read(&changed, &options).err());
+            assert!(parts.refusal().is_some());
+            let names = parts.refused_parts().map(|(name, _)| name);
+            assert!(names.eq(refused.iter().copied()));
+            assert_eq!(parts.missing_sections(), missing);
+            let own = whole.sections().map(|s| s.virtual_address);
+            let found: Vec<_> = parts.sections().map(|s| s.virtual_address).collect();
+            assert!(own.take(4 - missing).eq(found));
+            if refused.is_empty() {
+                assert!(parts.data_directories().eq(whole.data_directories()));
+            }
+            if refused.is_empty() && missing == 0 {
+                assert!(parts.walk_imports().map(Result::unwrap).eq(whole.imports()));
+                assert_eq!(parts.text_at(0x2000), whole.text_at(0x2000));
+            }
+        }
+    }
+}
+
+// More sections are said than there are records in the file.
+#[test]
+fn sections_that_are_missing_are_counted() {
+    let mut bytes = sample("imports_by_name_x64.dll");
+    let count = usize::from(
+        Layout::parse(&bytes)
+            .unwrap()
+            .coff_header()
+            .number_of_sections,
+    );
+    let signature = Layout::parse(&bytes).unwrap().dos_header().pe_pointer as usize;
+    bytes[signature + 7] = 0xFF;
+    let parts = Parts::read(&bytes, &Options::default()).unwrap();
+    assert_eq!(
+        parts.sections().len() + parts.missing_sections(),
+        0xFF00 + count
+    );
+    assert!(parts.sections().len() > count && parts.walk_imports().next().is_some());
+}
+
+#[test]
+fn the_parts_of_a_sound_header_are_its_own() {
+    let bytes = sample("forwarders_x64.dll");
+    let (whole, parts) = (
+        Layout::parse(&bytes).unwrap(),
+        Parts::read(&bytes, &Options::default()).unwrap(),
+    );
+    assert_eq!(
+        (
+            parts.refusal(),
+            parts.refused_parts().count(),
+            parts.missing_sections()
+        ),
+        (None, 0, 0)
+    );
+    assert_eq!(parts.dos_header(), Some(whole.dos_header()));
+    assert_eq!(parts.coff_header(), Some(whole.coff_header()));
+    assert_eq!(parts.optional_header(), whole.optional_header());
+    let fields = whole
+        .optional_header()
+        .map(|it| (it.standard_fields, it.windows_fields));
+    assert_eq!(
+        parts
+            .standard_fields()
+            .copied()
+            .zip(parts.windows_fields().copied()),
+        fields
+    );
+    assert!(
+        parts
+            .sections()
+            .map(|s| s.virtual_address)
+            .eq(whole.sections().map(|s| s.virtual_address))
+    );
+    assert!(
+        parts
+            .walk_export_addresses()
+            .map(Result::unwrap)
+            .eq(whole.walk_export_addresses().map(Result::unwrap))
+    );
+}
+
+// Of more than sixteen data directories the first sixteen are written, so the file stays as it is.
+#[test]
+fn the_parts_of_a_header_are_written_with_its_stub() {
+    for (number, options) in [
+        (16, Options::default()),
+        (16, Options::permissive()),
+        (17, Options::permissive()),
+    ] {
+        let mut bytes = sample("imports_by_name_x64.dll");
+        let signature = Layout::parse(&bytes).unwrap().dos_header().pe_pointer as usize;
+        bytes[signature + 24 + 108] = number;
+        let parts = Parts::read(&bytes, &options).unwrap();
+        assert_eq!(parts.refusal().is_none(), number == 16);
+        let mut written = vec![0; parts.write_header(&mut []).unwrap()];
+        parts.write_header(&mut written).unwrap();
+        assert_eq!(written, bytes[..written.len()]);
+        let sections: Vec<_> = parts.sections().collect();
+        assert_eq!(parts.patched(&parts.header(), &sections).unwrap(), bytes);
+    }
+}
+
+// Its DOS header leads past the file.
+#[test]
+fn parts_have_no_stub_where_the_file_has_none() {
+    let mut bytes = sample("imports_by_name_x64.dll");
+    bytes[0x3C..][..4].copy_from_slice(&u32::MAX.to_le_bytes());
+    let parts = Parts::read(&bytes, &Options::permissive()).unwrap();
+    assert!(parts.header().dos_stub.is_empty());
+    assert!(parts.patched(&parts.header(), &[]).is_err());
+    assert!(parts.checksum().is_none() && parts.damage().err() == parts.refusal());
+}
+
+#[test]
+fn a_file_that_is_no_image_has_no_parts() {
+    let parts = Parts::read(b"no image", &Options::default()).unwrap();
+    assert_eq!(
+        parts.refusal().and_then(|it| it.named_cause()),
+        Some(Cause::DosMagic)
+    );
+    assert_eq!(parts.refused_parts().count(), 5);
+    assert_eq!(
+        (
+            parts.dos_header(),
+            parts.coff_header(),
+            parts.standard_fields()
+        ),
+        (None, None, None)
+    );
+    assert_eq!(
+        (
+            parts.windows_fields(),
+            parts.sections().len(),
+            parts.find_offset(0x1000)
+        ),
+        (None, 0, None)
+    );
+    assert!(parts.walk_imports().next().is_none() && parts.walk_blocks().next().is_none());
+}
+
+// Its header says one section, whose name is a slash and no number; the loader looks at no name.
+#[test]
+fn raw_names_refuse_no_file() {
+    let mut bytes = sample("imports_by_name_x64.dll");
+    let whole = Layout::parse(&bytes).unwrap();
+    let header = usize::from(whole.coff_header().size_of_optional_header);
+    let table = whole.dos_header().pe_pointer as usize + 24 + header;
+    let count = whole.sections().len();
+    bytes[table..][..8].copy_from_slice(b"/abc\0\0\0\0");
+    let refused = Layout::parse(&bytes).err().unwrap();
+    assert_eq!(refused.named_cause(), Some(Cause::NameDecimal));
+    let options = Options::default().with_raw_section_names(true);
+    let layout = Layout::read(&bytes, &options).unwrap();
+    assert_eq!(
+        (
+            layout.sections().next().unwrap().name,
+            layout.sections().len()
+        ),
+        (Text(b"/abc"), count)
+    );
+    assert_eq!(Pe::read(&bytes, &options).err(), Some(refused));
+}
+
+// More name pointers are counted than the file has bytes: the exports are refused, and an ordinal is found all the same.
+#[test]
+fn an_ordinal_is_found_without_the_names() {
+    let bytes = sample("forwarders_x64.dll");
+    let whole = Pe::parse(&bytes).unwrap();
+    let (_, exports) = whole.data_directories().next().unwrap();
+    let place = whole.find_offset(exports.virtual_address as usize).unwrap();
+    let mut changed = bytes.clone();
+    changed[place + 0x18..][..4].fill(0xFF); // (how many name pointers there are)
+    for options in [Options::default(), Options::permissive()] {
+        let layout = Layout::read(&changed, &options).unwrap();
+        let found = layout.walk_export_addresses().map(|it| it.unwrap());
+        assert!(
+            found
+                .map(|it| (it.ordinal, it.rva))
+                .eq(whole.export_addresses().map(|it| (it.ordinal, it.rva)))
         );
-        assert_eq!(goblin_pe::refused_part(&cut, &options), Ok(wanted));
+        let first = whole.export_addresses().find(|it| it.rva != 0).unwrap();
         assert_eq!(
-            goblin_pe::refused_part(&bytes, &options),
-            Ok(RefusedPart::Nothing)
+            layout.find_export_by_ordinal(first.ordinal),
+            Ok(Some(first))
         );
+        assert_eq!(layout.find_export_by_ordinal(usize::MAX), Ok(None));
         assert_eq!(
-            goblin_pe::refused_part(b"MZ", &options),
-            Ok(RefusedPart::Header)
+            Pe::read(&changed, &options).is_err(),
+            !options.is_permissive
         );
     }
 }
@@ -849,7 +1159,7 @@ fn an_address_has_a_region_and_the_first_bytes_there() {
         let rva = s.virtual_address as usize;
         let size = s.virtual_size as usize;
         assert_eq!(pe.region_of(rva), (Region::Stored, Some(s)));
-        assert_eq!(pe.available_at(rva, size + 1), pe.memory_at(rva, size));
+        assert_eq!(pe.available_at(rva, size), pe.memory_at(rva, size));
         assert_eq!(pe.available_section_data(&s), pe.section_data(&s).unwrap());
     }
     let cut = &bytes[..bytes.len() - 1];
@@ -1219,4 +1529,31 @@ fn symbols_are_walked_twice() {
         (stored, stored, None)
     );
     assert!(second.eq(object.symbols().unwrap()));
+}
+
+// The name of the first import, put into the headers, as packers do: the loader maps it, and goblin does not.
+#[test]
+fn names_in_the_headers_are_read_as_the_loader_maps_them() {
+    let mut bytes = sample("imports_by_name_x64.dll");
+    let layout = Layout::parse(&bytes).unwrap();
+    let directory = layout.data_directory(DirectoryType::ImportTable).unwrap();
+    let record = layout.find_offset(directory.virtual_address as usize);
+    let lookup = u32::from_le_bytes(bytes[record.unwrap()..][..4].try_into().unwrap());
+    let entry = layout.find_offset(lookup as usize).unwrap();
+    let header = layout.optional_header().unwrap();
+    let hint = header.windows_fields.size_of_headers as usize - 16;
+    bytes[entry..entry + 8].copy_from_slice(&(hint as u64).to_le_bytes());
+    bytes[hint..hint + 15].copy_from_slice(b"\0\0VirtualAlloc\0");
+    let loaded = Options::permissive().with_raw_pointer_rule(RawPointerRule::AsLoaded);
+    for (options, is_seen) in [(Options::permissive(), false), (loaded, true)] {
+        let pe = Pe::read(&bytes, &options).unwrap();
+        let first = pe.imports().next();
+        let wanted = is_seen.then(|| String::from("VirtualAlloc"));
+        assert_eq!(first.map(|it| it.name.to_string()), wanted);
+        assert_eq!(pe.walk_imports().next().transpose().unwrap(), first);
+        assert_eq!(pe.damage().unwrap().unmapped_entries, usize::from(!is_seen));
+        assert_eq!(pe.find_offset(hint).is_some(), is_seen);
+        assert_eq!(pe.memory_at(hint + 2, 12).is_ok(), is_seen);
+        assert_eq!(pe.region_of(hint), (Region::Headers, None));
+    }
 }

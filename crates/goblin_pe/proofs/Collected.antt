@@ -15,8 +15,8 @@ use Rattle.goblin_pe.specs.declared.whole.Part.{Part}
 use Rattle.goblin_pe.specs.declared.whole.Part.TheVariants.{Absent}
 use Rattle.goblin_pe.specs.Whole.{CollectedFileValue, CollectedParts, TableParts, TablePlaces}
 use Rattle.goblin_pe.specs.Whole.{both_import_parts, collected_exports, collected_file, export_part}
-use Rattle.goblin_pe.specs.Whole.{collected_imports, collected_tables, offset_by, part_at, part_map}
-use Rattle.goblin_pe.specs.Whole.{places_in, relocation_part, table_parts, whole_of}
+use Rattle.goblin_pe.specs.Whole.{collected_imports, collected_tables, part_at, part_map}
+use Rattle.goblin_pe.specs.Whole.{relocation_part, table_parts, whole_of}
 
 -- ---- parts
 
@@ -92,18 +92,13 @@ module _ {X Y : Type 0} (imports_of : Part (List ImportValue) → X) (exports_of
       ≡ file_with h sections (collected_tables imports_of exports_of parts)
   file-collected h sections parts = refl
 
-  module _ (opts : ParseOptions) (h : PeHeader) (sections : List Section) (bytes : List ℕ) where
-    abbrev tables_of : Option TableParts
-    tables_of =
-        let places = places_in h.optional_header in
-        (table_parts opts (offset_by opts sections places) places).value bytes
-
-    pub file_read : (t : CollectedParts X Y)
-        → option_map (collected_tables imports_of exports_of) tables_of ≡ Some t
-        → option_map (collected_file imports_of exports_of) (option_map (whole_of h sections) tables_of)
-        ≡ Some (file_with h sections t)
-    file_read t e =
-        let m = steps.mapped tables_of _ t e in
-        rw m.is
-        (ap (λ (x : CollectedFileValue X Y). Some x) (file-collected h sections m.value)
-        ∙ ap (λ (x : CollectedParts X Y). Some (file_with h sections x)) m.made)
+  pub file_read : (h : PeHeader) (sections : List Section) (tables : Option TableParts)
+      (t : CollectedParts X Y)
+      → option_map (collected_tables imports_of exports_of) tables ≡ Some t
+      → option_map (collected_file imports_of exports_of) (option_map (whole_of h sections) tables)
+      ≡ Some (file_with h sections t)
+  file_read h sections tables t e =
+      let m = steps.mapped tables _ t e in
+      rw m.is
+      (ap (λ (x : CollectedFileValue X Y). Some x) (file-collected h sections m.value)
+      ∙ ap (λ (x : CollectedParts X Y). Some (file_with h sections x)) m.made)

@@ -7,6 +7,7 @@ use Rattle.goblin_base.proofs.Footprints.{agree-below, agree-led, agree-left, ag
 use Rattle.goblin_base.proofs.Steps.{mapped, same_value, step}
 use Rattle.goblin_pe_sect.specs.declared.data_directories.DataDirectory.{DataDirectory}
 use Rattle.goblin_pe_sect.specs.declared.options.ParseOptions.{ParseOptions}
+use Rattle.goblin_pe_sect.specs.declared.options.View.{View}
 use Rattle.goblin_pe_sect.specs.Options.{is_strict}
 use Rattle.goblin_pe_sect.specs.SectionTable.{Section}
 use Rattle.goblin_pe_head.specs.HeaderReadings.{pe_header}
@@ -21,8 +22,8 @@ use Rattle.goblin_pe.specs.declared.whole.Part.{Part}
 use Rattle.goblin_pe.specs.declared.whole.Part.TheVariants.{Absent, Refused}
 use Rattle.goblin_pe.specs.declared.whole.Part.TheVariants as part
 use Rattle.goblin_pe.specs.Whole.{TableParts, TablePlaces, WholeFile, both_import_parts, export_part}
-use Rattle.goblin_pe.specs.Whole.{import_list, listed_in, offset_by, part_at, part_map, part_of, places_in, whole_of}
-use Rattle.goblin_pe.specs.Whole.{sections_after, table_parts, whole_after, whole_file, whole_with}
+use Rattle.goblin_pe.specs.Whole.{import_list, listed_in, mapped_in, offset_by, part_at, part_map, part_of, places_in, whole_of}
+use Rattle.goblin_pe.specs.Whole.{sections_after, table_parts, whole_after, whole_in, whole_with}
 
 -- the exports among the tables of a file
 pub exports-in : (opts : ParseOptions) (offset_of : ℕ → Option ℕ) (places : TablePlaces)
@@ -102,21 +103,21 @@ module _ (offset_of : ℕ → Option ℕ) (a b : List ℕ) where
 -- ---- what a read of the whole file reaches of its tables
 
 -- The tables that a file was made of; the other file agrees on what they reach.
-pub record MadeOf (opts : ParseOptions) (a b : List ℕ) (w : WholeFile) : Type 0 where
+pub record MadeOf (view : View) (opts : ParseOptions) (a b : List ℕ) (w : WholeFile) : Type 0 where
   pub header : PeHeader
   pub sections : List Section
   pub tables : TableParts
   pub read : let places = places_in header.optional_header in
-      (table_parts opts (offset_by opts sections places) places).value a ≡ Some tables
+      (table_parts opts (offset_by opts (mapped_in view header sections) places) places).value a ≡ Some tables
   pub within : let places = places_in header.optional_header in
-      Agree ((table_parts opts (offset_by opts sections places) places).reaches a) a b
+      Agree ((table_parts opts (offset_by opts (mapped_in view header sections) places) places).reaches a) a b
   pub made : whole_of header sections tables ≡ w
 
-pub made-of : (opts : ParseOptions) (a b : List ℕ) (w : WholeFile)
-    → (whole_file opts).value a ≡ Some w → Agree ((whole_file opts).reaches a) a b
-    → MadeOf opts a b w
-unfolding whole_file whole_with
-made-of opts a b w is agree =
+pub made-of : (view : View) (opts : ParseOptions) (a b : List ℕ) (w : WholeFile)
+    → (whole_in view opts).value a ≡ Some w → Agree ((whole_in view opts).reaches a) a b
+    → MadeOf view opts a b w
+unfolding whole_in whole_with
+made-of view opts a b w is agree =
     let strict = is_strict opts.parse_mode in
     let start = pe_header strict in
     let header = step (start.value a) _ w is in
@@ -124,10 +125,10 @@ made-of opts a b w is agree =
     let listed = sections_after strict h in
     let sections = step (listed.value a) _ w header.then in
     let places = places_in h.optional_header in
-    let offset_of = offset_by opts sections.value places in
+    let offset_of = offset_by opts (mapped_in view h sections.value) places in
     let all = mapped ((table_parts opts offset_of places).value a) _ w sections.then in
-    let after = agree-led (start.value a) (λ h. (whole_after opts h).reaches a) h a b header.is (agree-right (start.reaches a) _ a b agree) in
-    let within = agree-led (listed.value a) (λ s. (whole_with opts h s).reaches a) sections.value a b sections.is (agree-right (listed.reaches a) _ a b after) in
+    let after = agree-led (start.value a) (λ h. (whole_after view opts h).reaches a) h a b header.is (agree-right (start.reaches a) _ a b agree) in
+    let within = agree-led (listed.value a) (λ s. (whole_with view opts h s).reaches a) sections.value a b sections.is (agree-right (listed.reaches a) _ a b after) in
     record {
       header = h;
       sections = sections.value;
@@ -138,43 +139,43 @@ made-of opts a b w is agree =
     }
 
 -- two files have the same exports with their numbers, by the header and the sections of the first
-abbrev pub AreSame : ParseOptions → List ℕ → List ℕ → WholeFile → Type 0
-AreSame opts a b w =
-    let offset_of = offset_by opts w.sections (places_in w.header.optional_header) in
+abbrev pub AreSame : View → ParseOptions → List ℕ → List ℕ → WholeFile → Type 0
+AreSame view opts a b w =
+    let offset_of = offset_by opts (mapped_in view w.header w.sections) (places_in w.header.optional_header) in
     numbered_in offset_of a w.export_data ≡ numbered_in offset_of b w.export_data
 
-pub same-numbered : (opts : ParseOptions) (a b : List ℕ) (w : WholeFile)
-    → (whole_file opts).value a ≡ Some w → Agree ((whole_file opts).reaches a) a b
-    → AreSame opts a b w
+pub same-numbered : (view : View) (opts : ParseOptions) (a b : List ℕ) (w : WholeFile)
+    → (whole_in view opts).value a ≡ Some w → Agree ((whole_in view opts).reaches a) a b
+    → AreSame view opts a b w
 unfolding table_parts export_part
-same-numbered opts a b w is agree =
-    let of = made-of opts a b w is agree in
+same-numbered view opts a b w is agree =
+    let of = made-of view opts a b w is agree in
     let places = places_in of.header.optional_header in
-    let offset_of = offset_by opts of.sections places in
+    let offset_of = offset_by opts (mapped_in view of.header of.sections) places in
     let exports = exports-in opts offset_of places a of.tables of.read in
     let tables = (both_import_parts opts offset_of places).reaches a in
     let own = agree-right tables _ a b (agree-left (tables ++ (export_part opts offset_of places).reaches a) _ a b of.within) in
-    subst (AreSame opts a b) of.made
+    subst (AreSame view opts a b) of.made
     (at-same offset_of a b (is_strict opts.parse_mode) places.exports of.tables.exports exports own)
 
 -- and the same imports with their numbers
-abbrev pub AreListedAlike : ParseOptions → List ℕ → List ℕ → WholeFile → Type 0
-AreListedAlike opts a b w =
+abbrev pub AreListedAlike : View → ParseOptions → List ℕ → List ℕ → WholeFile → Type 0
+AreListedAlike view opts a b w =
     let places = places_in w.header.optional_header in
-    let offset_of = offset_by opts w.sections places in
+    let offset_of = offset_by opts (mapped_in view w.header w.sections) places in
     listed_in opts offset_of places a ≡ listed_in opts offset_of places b
 
-pub same-listed : (opts : ParseOptions) (a b : List ℕ) (w : WholeFile)
-    → (whole_file opts).value a ≡ Some w → Agree ((whole_file opts).reaches a) a b
-    → AreListedAlike opts a b w
+pub same-listed : (view : View) (opts : ParseOptions) (a b : List ℕ) (w : WholeFile)
+    → (whole_in view opts).value a ≡ Some w → Agree ((whole_in view opts).reaches a) a b
+    → AreListedAlike view opts a b w
 unfolding table_parts
-same-listed opts a b w is agree =
-    let of = made-of opts a b w is agree in
+same-listed view opts a b w is agree =
+    let of = made-of view opts a b w is agree in
     let places = places_in of.header.optional_header in
-    let offset_of = offset_by opts of.sections places in
+    let offset_of = offset_by opts (mapped_in view of.header of.sections) places in
     let tables = (both_import_parts opts offset_of places).reaches a in
     let own = agree-left tables _ a b (agree-left (tables ++ (export_part opts offset_of places).reaches a) _ a b of.within) in
     let list = import_list opts offset_of places in
     let reached = subst (λ (r : List Range). Agree r a b) (list_reach opts offset_of places a) own in
-    subst (AreListedAlike opts a b) of.made
+    subst (AreListedAlike view opts a b) of.made
     (ap (λ (o : Option (Part (List NumberedImport))). unwrap_or o Absent) (list.is_local a b reached))

@@ -15,6 +15,7 @@ use Rattle.readings.proofs.Modes.{as-beside, as-mapped, as-then, repeats-same}
 use Rattle.goblin_pe_sect.specs.declared.data_directories.DataDirectory.{DataDirectory}
 use Rattle.goblin_pe_sect.specs.declared.options.ParseOptions.{ParseOptions}
 use Rattle.goblin_pe_sect.specs.AddressReadings.{relocation_data}
+use Rattle.goblin_pe_sect.specs.declared.options.View.TheVariants.{Sections}
 use Rattle.goblin_pe_sect.specs.Mapping.{file_offset}
 use Rattle.goblin_pe_sect.specs.SectionTable.{Section}
 use Rattle.goblin_pe_head.specs.CoffHeader.{symbols_end}
@@ -41,7 +42,8 @@ use Rattle.goblin_pe.specs.Whole.{IfRead, TableParts, TablePlaces, WholeFile, en
 use Rattle.goblin_pe.specs.Whole.{import_data_part}
 use Rattle.goblin_pe.specs.Whole.{both_import_parts, listed_imports_part, offset_by, part_at, part_map, part_of}
 use Rattle.goblin_pe.specs.Whole.{part_then, places_in, relocation_part, section_table_offset}
-use Rattle.goblin_pe.specs.Whole.{sections_after, table_parts, whole_file, whole_of, whole_with}
+use Rattle.goblin_pe.specs.Whole.{sections_after, table_parts, whole_file, whole_in, whole_of}
+use Rattle.goblin_pe.specs.Whole.{whole_with}
 
 -- ---- answers
 
@@ -372,8 +374,8 @@ module _ (opts : ParseOptions) (header : PeHeader) where
 
   with_sections_repeat : (sections : List Section)
       → RepeatsAs (in_permissive_mode opts)
-      (whole_with (in_mode Strict opts) header sections)
-      (whole_with (in_mode Permissive opts) header sections)
+      (whole_with Sections (in_mode Strict opts) header sections)
+      (whole_with Sections (in_mode Permissive opts) header sections)
   unfolding whole_with in_permissive_mode file_offset
   with_sections_repeat sections =
       let places = places_in header.optional_header in
@@ -388,14 +390,14 @@ module _ (opts : ParseOptions) (header : PeHeader) where
 pub repeats-whole_file : (opts : ParseOptions)
     → RepeatsAs (in_permissive_mode opts) (whole_file (in_mode Strict opts))
     (whole_file (in_mode Permissive opts))
-unfolding whole_file
+unfolding whole_in
 repeats-whole_file opts =
     as-then (in_permissive_mode opts) (pe_header true) (pe_header false)
-    (λ h. reads.◌>>=◌ (sections_after true h) (whole_with (in_mode Strict opts) h))
-    (λ h. reads.◌>>=◌ (sections_after false h) (whole_with (in_mode Permissive opts) h))
+    (λ h. reads.◌>>=◌ (sections_after true h) (whole_with Sections (in_mode Strict opts) h))
+    (λ h. reads.◌>>=◌ (sections_after false h) (whole_with Sections (in_mode Permissive opts) h))
     repeats-header (λ h.
     as-then (in_permissive_mode opts) (sections_after true h) (sections_after false h)
-    (whole_with (in_mode Strict opts) h) (whole_with (in_mode Permissive opts) h)
+    (whole_with Sections (in_mode Strict opts) h) (whole_with Sections (in_mode Permissive opts) h)
     (sections_repeat opts h) (with_sections_repeat opts h))
 
 pub whole_in_modes : (opts : ParseOptions) (bytes : List ℕ)

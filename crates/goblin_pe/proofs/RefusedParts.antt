@@ -5,6 +5,7 @@ use Rattle.goblin_base.specs.Bytes.{IsBytes}
 use Rattle.goblin_base.proofs.Steps.{mapped, step}
 use Rattle.readings.specs.Reads.{pair_of}
 use Rattle.goblin_pe_sect.specs.declared.options.ParseOptions.{ParseOptions}
+use Rattle.goblin_pe_sect.specs.declared.options.View.{View}
 use Rattle.goblin_pe_sect.specs.Options.{is_strict}
 use Rattle.goblin_pe_sect.specs.SectionTable.{Section}
 use Rattle.goblin_pe_head.specs.HeaderReadings.{pe_header}
@@ -12,8 +13,8 @@ use Rattle.goblin_pe_head.specs.PeHeader.{PeHeader}
 use Rattle.goblin_pe.specs.declared.whole.refused.RefusedPart.{RefusedPart}
 use Rattle.goblin_pe.specs.declared.whole.refused.RefusedPart.TheVariants.{Exports, Imports, Nothing, Relocations}
 use Rattle.goblin_pe.specs.RefusedParts.{IsReadWithout, IsWithoutRead, refused_by, refused_part, refused_table, refused_with}
-use Rattle.goblin_pe.specs.Whole.{TablePlaces, WholeFile, both_import_parts, export_part, import_list, offset_by, places_in}
-use Rattle.goblin_pe.specs.Whole.{relocation_part, sections_after, table_parts, whole_after, whole_file, whole_of, whole_with}
+use Rattle.goblin_pe.specs.Whole.{TablePlaces, WholeFile, both_import_parts, export_part, import_list, mapped_in, offset_by, places_in}
+use Rattle.goblin_pe.specs.Whole.{relocation_part, sections_after, table_parts, whole_after, whole_in, whole_of, whole_with}
 use Rattle.goblin_pe.proofs.ImportParts.{list_value}
 use Rattle.goblin_pe.proofs.SoundFiles.{all-there, mapped-there, unmapped-there}
 
@@ -46,7 +47,7 @@ all-pass true false relocations none = absurd cc
 all-pass true true false none = absurd cc
 all-pass true true true none = record { imports = refl; exports = refl; relocations = refl }
 
-module _ (opts : ParseOptions) (bytes : List ℕ) (short : length bytes < 2 ^ 63) (fit : IsBytes bytes) where
+module _ (view : View) (opts : ParseOptions) (bytes : List ℕ) (short : length bytes < 2 ^ 63) (fit : IsBytes bytes) where
   -- ---- the tables
 
   tables-read : (offset_of : ℕ → Option ℕ) (places : TablePlaces) → refused_table opts offset_of places bytes ≡ Nothing → IsSome ((table_parts opts offset_of places).value bytes)
@@ -69,32 +70,32 @@ module _ (opts : ParseOptions) (bytes : List ℕ) (short : length bytes < 2 ^ 63
 
   -- ---- the file
 
-  with-read : (h : PeHeader) (sections : Option (List Section)) → (sections_after (is_strict opts.parse_mode) h).value bytes ≡ sections → refused_with opts h bytes sections ≡ Nothing → IsSome ((whole_after opts h).value bytes)
+  with-read : (h : PeHeader) (sections : Option (List Section)) → (sections_after (is_strict opts.parse_mode) h).value bytes ≡ sections → refused_with view opts h bytes sections ≡ Nothing → IsSome ((whole_after view opts h).value bytes)
   unfolding whole_with
   with-read h None is none = absurd cc
   with-read h (Some s) is none =
       let places = places_in h.optional_header in
-      rw is (mapped-there (whole_of h s) _ (tables-read (offset_by opts s places) places none))
+      rw is (mapped-there (whole_of h s) _ (tables-read (offset_by opts (mapped_in view h s) places) places none))
 
-  by-read : (header : Option PeHeader) → (pe_header (is_strict opts.parse_mode)).value bytes ≡ header → refused_by opts bytes header ≡ Nothing → IsSome ((whole_file opts).value bytes)
-  unfolding whole_file
+  by-read : (header : Option PeHeader) → (pe_header (is_strict opts.parse_mode)).value bytes ≡ header → refused_by view opts bytes header ≡ Nothing → IsSome ((whole_in view opts).value bytes)
+  unfolding whole_in
   by-read None is none = absurd cc
   by-read (Some h) is none = rw is (with-read h _ refl none)
 
-  pub read_without : IsReadWithout opts bytes
+  pub read_without : IsReadWithout view opts bytes
   unfolding refused_part
   read_without none = by-read _ refl none
 
-  read-some : (w : Option WholeFile) → (whole_file opts).value bytes ≡ w → IsSome w → refused_part opts bytes ≡ Nothing
-  unfolding refused_part whole_file whole_with
+  read-some : (w : Option WholeFile) → (whole_in view opts).value bytes ≡ w → IsSome w → refused_part view opts bytes ≡ Nothing
+  unfolding refused_part whole_in whole_with
   read-some None is some = absurd cc
   read-some (Some w) is some =
-      let header = step ((pe_header (is_strict opts.parse_mode)).value bytes) (λ h. (whole_after opts h).value bytes) w is in
-      let sections = step ((sections_after (is_strict opts.parse_mode) header.value).value bytes) (λ s. (whole_with opts header.value s).value bytes) w header.then in
+      let header = step ((pe_header (is_strict opts.parse_mode)).value bytes) (λ h. (whole_after view opts h).value bytes) w is in
+      let sections = step ((sections_after (is_strict opts.parse_mode) header.value).value bytes) (λ s. (whole_with view opts header.value s).value bytes) w header.then in
       let places = places_in header.value.optional_header in
-      let offset_of = offset_by opts sections.value places in
+      let offset_of = offset_by opts (mapped_in view header.value sections.value) places in
       let tables = mapped ((table_parts opts offset_of places).value bytes) (whole_of header.value sections.value) w sections.then in
       rw (header.is, sections.is) (no-table offset_of places (is-there _ tables.value tables.is))
 
-  pub without_read : IsWithoutRead opts bytes
+  pub without_read : IsWithoutRead view opts bytes
   without_read some = read-some _ refl some

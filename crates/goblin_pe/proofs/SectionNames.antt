@@ -10,12 +10,13 @@ use Rattle.goblin_base.specs.Reading.{IsRefused, Reading, Reads}
 use Rattle.goblin_base.proofs.Steps as steps
 use Rattle.readings.specs.Reads.{each, mapped}
 use Rattle.goblin_pe_sect.specs.declared.options.ParseOptions.{ParseOptions}
+use Rattle.goblin_pe_sect.specs.declared.options.View.{View}
 use Rattle.goblin_pe_sect.specs.Addresses.{AreMany, MapOfAddresses, map_by}
 use Rattle.goblin_pe_sect.specs.Options.{is_strict}
 use Rattle.goblin_pe_sect.specs.WindowIndex.{HasPieces}
 use Rattle.goblin_pe_sect.specs.SectionReadings.{named_section_at}
-use Rattle.goblin_pe_sect.specs.SectionTable.{Section, unnamed}
-use Rattle.goblin_pe_sect.proofs.AddressMaps.{unnamed_map}
+use Rattle.goblin_pe_sect.specs.SectionTable.{Section, unnamed, with_front}
+use Rattle.goblin_pe_sect.proofs.AddressMaps.{unnamed_map_with}
 use Rattle.goblin_pe_head.specs.declared.header.pe_header.Header.{Header}
 use Rattle.goblin_pe_head.specs.CoffHeader.{symbols_end}
 use Rattle.goblin_pe_head.specs.CoffReadings.{sections_at, with_room}
@@ -27,7 +28,7 @@ use Rattle.goblin_pe_import.proofs.ImportBound.{all_of-length}
 use Rattle.goblin_pe.specs.Damages.{IsDamage, IsDamaged, TellsDamage}
 use Rattle.goblin_pe.specs.Layouts.{IsLayoutOf, layout_map, layout_places}
 use Rattle.goblin_pe.specs.TakenMemory.{TakesIndex}
-use Rattle.goblin_pe.specs.Whole.{TablePlaces, layout, places_in, section_table_offset, sections_after}
+use Rattle.goblin_pe.specs.Whole.{TablePlaces, layout, mapped_in, places_in, section_table_offset, sections_after}
 
 -- ---- what is made of a value
 
@@ -82,34 +83,34 @@ takes_index opts h bytes records made fit pieces many =
 
 -- ---- the map of addresses
 
--- names change no address
-pub mapped_by_names : (opts : ParseOptions) (read : Option (List Section)) (records : List Section) (alignment : ℕ) (m : MapOfAddresses)
-    → option_map (map unnamed) read ≡ Some records → m ≡ map_by opts records alignment
-    → (sections : List Section) → read ≡ Some sections → m ≡ map_by opts sections alignment
-mapped_by_names opts None records alignment m made by sections is = absurd cc
-mapped_by_names opts (Some sections) records alignment m made by own is =
+-- names change no address, whether or not the file's front is mapped
+pub mapped_by_names : (opts : ParseOptions) (front : Option ℕ) (read : Option (List Section)) (records : List Section) (alignment : ℕ) (m : MapOfAddresses)
+    → option_map (map unnamed) read ≡ Some records → m ≡ map_by opts (with_front front records) alignment
+    → (sections : List Section) → read ≡ Some sections → m ≡ map_by opts (with_front front sections) alignment
+mapped_by_names opts front None records alignment m made by sections is = absurd cc
+mapped_by_names opts front (Some sections) records alignment m made by own is =
     let same : map unnamed sections ≡ records = steps.same_value (map unnamed sections) records made in
     let own_is : sections ≡ own = steps.same_value sections own is in
-    by ∙ ap (λ (xs : List Section). map_by opts xs alignment) (sym same) ∙ unnamed_map opts sections alignment
-    ∙ ap (λ (xs : List Section). map_by opts xs alignment) own_is
+    by ∙ ap (λ (xs : List Section). map_by opts (with_front front xs) alignment) (sym same) ∙ unnamed_map_with opts front sections alignment
+    ∙ ap (λ (xs : List Section). map_by opts (with_front front xs) alignment) own_is
 
 -- what holds of the map, the places and the bytes of a layout holds of its file's
-pub of_file : (opts : ParseOptions) (bytes : List ℕ) (header : Header) (l : Layout) → IsLayoutOf opts bytes header l
+pub of_file : (view : View) (opts : ParseOptions) (bytes : List ℕ) (header : Header) (l : Layout) → IsLayoutOf view opts bytes header l
     → (sections : List Section) → (sections_after (is_strict opts.parse_mode) (header_value header)).value bytes ≡ Some sections
     → (P : MapOfAddresses → TablePlaces → List ℕ → Type 0) → P (layout_map l) (layout_places l) l.bytes.now
-    → P (map_by opts sections (places_in header.optional_header).file_alignment) (places_in header.optional_header) bytes
-of_file opts bytes header l is sections read P holds =
+    → P (map_by opts (mapped_in view (header_value header) sections) (places_in header.optional_header).file_alignment) (places_in header.optional_header) bytes
+of_file view opts bytes header l is sections read P holds =
     subst (λ (m : MapOfAddresses). P m (places_in header.optional_header) bytes) (is.mapped sections read)
     (subst (λ (places : TablePlaces). P (layout_map l) places bytes) is.placed
     (subst (λ (b : List ℕ). P (layout_map l) (layout_places l) b) is.over holds))
 
 -- ---- the header and the sections
 
-module _ (opts : ParseOptions) (bytes : List ℕ) (h : PeHeader) (there : (pe_header (is_strict opts.parse_mode)).value bytes ≡ Some h) where
+module _ (view : View) (opts : ParseOptions) (bytes : List ℕ) (h : PeHeader) (there : (pe_header (is_strict opts.parse_mode)).value bytes ≡ Some h) where
   pub tells_damage : (read : Option (List Section)) (records : List Section) (d : Damage)
       → (sections_after (is_strict opts.parse_mode) h).value bytes ≡ read → option_map (map unnamed) read ≡ Some records
-      → ((sections : List Section) → (sections_after (is_strict opts.parse_mode) h).value bytes ≡ Some sections → IsDamaged opts h sections bytes d)
-      → TellsDamage opts bytes (Ok d)
+      → ((sections : List Section) → (sections_after (is_strict opts.parse_mode) h).value bytes ≡ Some sections → IsDamaged view opts h sections bytes d)
+      → TellsDamage view opts bytes (Ok d)
   unfolding layout
   tells_damage None records d is made damaged = absurd cc
   tells_damage (Some sections) records d is made damaged = rw (there, is) (damaged sections is)

@@ -8,6 +8,7 @@ use Rattle.goblin_base.specs.Reading.{Reading}
 use Rattle.goblin_base.proofs.Steps.{mapped, step}
 use Rattle.readings.specs.Reads.{◌beside◌, in_its_place, pair_of}
 use Rattle.goblin_pe_sect.specs.declared.options.ParseOptions.{ParseOptions}
+use Rattle.goblin_pe_sect.specs.declared.options.View.TheVariants.{Sections}
 use Rattle.goblin_pe_sect.specs.Mapping.{file_offset}
 use Rattle.goblin_pe_sect.specs.Options.{is_strict}
 use Rattle.goblin_pe_sect.specs.SectionTable.{Section}
@@ -19,7 +20,7 @@ use Rattle.goblin_pe.specs.declared.whole.damage.Damage.{Damage}
 use Rattle.goblin_pe.specs.Damages.{AreDamaged, IsDamage, IsDamaged, IsReadByBoth, IsSound, TellsDamage, left_out_of}
 use Rattle.goblin_pe.specs.Modes.{in_mode, in_permissive_mode}
 use Rattle.goblin_pe.specs.Whole.{TableParts, TablePlaces, both_import_parts, export_part, import_list, layout, offset_by}
-use Rattle.goblin_pe.specs.Whole.{places_in, relocation_part, sections_after, table_parts, whole_file}
+use Rattle.goblin_pe.specs.Whole.{places_in, relocation_part, sections_after, table_parts, whole_file, whole_in}
 use Rattle.goblin_pe.specs.Whole.{whole_of, whole_with}
 use Rattle.goblin_pe.proofs.ImportParts.{list_value}
 use Rattle.goblin_pe.proofs.PermissiveReads.{permissive_tables, repeats-whole_file, sections_repeat, tables_same}
@@ -87,7 +88,7 @@ module _ (opts : ParseOptions) (bytes : List ℕ) (short : length bytes < 2 ^ 63
       (there (relocation_part (in_mode Strict opts) offset_of places) bytes relocations no_relocations damage.relocations))
 
   -- strict mode reads a file of these tables, and permissive mode the same
-  alike : (h : PeHeader) (s : List Section) (tables : Option TableParts) → (table_parts (in_mode Strict opts) (offset_by opts s (places_in h.optional_header)) (places_in h.optional_header)).value bytes ≡ tables → IsSome tables → (left_out_of opts (offset_by opts s (places_in h.optional_header)) (places_in h.optional_header) bytes).libraries ≡ 0 → (whole_file (in_mode Strict opts)).value bytes ≡ (whole_with (in_mode Strict opts) h s).value bytes → IsReadByBoth opts bytes
+  alike : (h : PeHeader) (s : List Section) (tables : Option TableParts) → (table_parts (in_mode Strict opts) (offset_by opts s (places_in h.optional_header)) (places_in h.optional_header)).value bytes ≡ tables → IsSome tables → (left_out_of opts (offset_by opts s (places_in h.optional_header)) (places_in h.optional_header) bytes).libraries ≡ 0 → (whole_file (in_mode Strict opts)).value bytes ≡ (whole_with Sections (in_mode Strict opts) h s).value bytes → IsReadByBoth Sections opts bytes
   unfolding whole_with in_permissive_mode file_offset
   alike h s None is some none whole = absurd cc
   alike h s (Some t) is some none whole =
@@ -96,8 +97,8 @@ module _ (opts : ParseOptions) (bytes : List ℕ) (short : length bytes < 2 ^ 63
       let same : permissive_tables opts (offset_by opts s places) places t ≡ t = tables_same opts (offset_by opts s places) places bytes none t is in
       rw made ((repeats-whole_file opts).kept bytes (whole_of h s t) made ∙ ap (λ (tables : TableParts). Some (whole_of h s tables)) same)
 
-  sound_read : (l : PeHeader × List Section) (d : Damage) → (layout opts).value bytes ≡ Some l → IsDamaged opts l.0 l.1 bytes d → IsSound d → IsReadByBoth opts bytes
-  unfolding layout whole_file
+  sound_read : (l : PeHeader × List Section) (d : Damage) → (layout opts).value bytes ≡ Some l → IsDamaged Sections opts l.0 l.1 bytes d → IsSound d → IsReadByBoth Sections opts bytes
+  unfolding layout whole_in
   sound_read l d found damaged sound =
       let strict = is_strict opts.parse_mode in
       let first = step ((pe_header strict).value bytes) (λ h. option_map (λ s. (h, s)) ((sections_after strict h).value bytes)) l found in
@@ -108,15 +109,15 @@ module _ (opts : ParseOptions) (bytes : List ℕ) (short : length bytes < 2 ^ 63
       let own : (sections_after strict l.0).value bytes ≡ Some l.1 = subst (λ (x : PeHeader). (sections_after strict x).value bytes ≡ Some l.1) h (subst (λ (y : List Section). (sections_after strict first.value).value bytes ≡ Some y) s second.is) in
       let sections = same-sections bytes opts strict l.0 l.1 own _ refl (there (sections_after true l.0) bytes d.section_names sound.section_names damaged.section_names) in
       let parts = tables-there (offset_by opts l.1 (places_in l.0.optional_header)) (places_in l.0.optional_header) d.imports d.exports d.relocations d.left_out sound.imports sound.exports sound.relocations damaged.tables in
-      let whole : (whole_file (in_mode Strict opts)).value bytes ≡ (whole_with (in_mode Strict opts) l.0 l.1).value bytes = rw (header, sections) refl in
+      let whole : (whole_file (in_mode Strict opts)).value bytes ≡ (whole_with Sections (in_mode Strict opts) l.0 l.1).value bytes = rw (header, sections) refl in
       let left_out = ap (λ (x : LeftOut). x.libraries) damaged.tables.left_out in
       alike l.0 l.1 _ refl parts (sym left_out ∙ sound.libraries) whole
 
-  told : (o : Option (PeHeader × List Section)) (d : Damage) → (layout opts).value bytes ≡ o → IsSomeAnd o (λ l. IsDamaged opts l.0 l.1 bytes d) → IsSound d → IsReadByBoth opts bytes
+  told : (o : Option (PeHeader × List Section)) (d : Damage) → (layout opts).value bytes ≡ o → IsSomeAnd o (λ l. IsDamaged Sections opts l.0 l.1 bytes d) → IsSound d → IsReadByBoth Sections opts bytes
   told None d is damaged sound = absurd damaged
   told (Some l) d is damaged sound = sound_read l d is damaged sound
 
   -- what a call tells of a file in which nothing is damaged
-  pub sound_told : (result : Result Damage ErrorOf) → TellsDamage opts bytes result → IfOk result (λ d. IsSound d → IsReadByBoth opts bytes)
+  pub sound_told : (result : Result Damage ErrorOf) → TellsDamage Sections opts bytes result → IfOk result (λ d. IsSound d → IsReadByBoth Sections opts bytes)
   sound_told (Ok d) tells = told ((layout opts).value bytes) d refl tells
   sound_told (Err e) tells = tt

@@ -4,6 +4,7 @@ use Rattle.std.specs.Option.{option_map}
 use Rattle.goblin_base.specs.Marks.{marked}
 use Rattle.goblin_base.proofs.Marks.{marked_append}
 use Rattle.goblin_pe_sect.specs.declared.options.ParseOptions.{ParseOptions}
+use Rattle.goblin_pe_sect.specs.declared.options.View.{View}
 use Rattle.goblin_pe_sect.specs.Addresses.{offset_of}
 use Rattle.goblin_pe_sect.specs.Options.{is_strict}
 use Rattle.goblin_pe_sect.specs.SectionTable.{Section, unnamed}
@@ -14,26 +15,26 @@ use Rattle.goblin_pe.specs.Layouts.{IsLayoutOf, layout_map, layout_places}
 use Rattle.goblin_pe.specs.Whole.{sections_after, table_parts, whole_after, whole_with}
 use Rattle.goblin_pe.proofs.SectionNames.{of_file}
 
-module _ (opts : ParseOptions) (bytes : List ℕ) (header : Header) (old new : List Bool) where
+module _ (view : View) (opts : ParseOptions) (bytes : List ℕ) (header : Header) (old new : List Bool) where
   abbrev reached : List (ℕ × ℕ)
   reached = (sections_after (is_strict opts.parse_mode) (header_value header)).reaches bytes
 
   -- of a file with sections, its tables too
   pub layout_reached : (read : Option (List Section)) (records : List Section) (l : Layout)
       → (sections_after (is_strict opts.parse_mode) (header_value header)).value bytes ≡ read
-      → option_map (map unnamed) read ≡ Some records → IsLayoutOf opts bytes header l
+      → option_map (map unnamed) read ≡ Some records → IsLayoutOf view opts bytes header l
       → new ≡ marked (marked old reached) ((table_parts (layout_map l).opts (offset_of (layout_map l)) (layout_places l)).reaches l.bytes.now)
-      → new ≡ marked old ((whole_after opts (header_value header)).reaches bytes)
+      → new ≡ marked old ((whole_after view opts (header_value header)).reaches bytes)
   unfolding whole_with
   layout_reached None records l read made is all = absurd cc
   layout_reached (Some sections) records l read made is all =
-      let own = of_file opts bytes header l is sections read (λ m places b. new ≡ marked (marked old reached) ((table_parts m.opts (offset_of m) places).reaches b)) all in
+      let own = of_file view opts bytes header l is sections read (λ m places b. new ≡ marked (marked old reached) ((table_parts m.opts (offset_of m) places).reaches b)) all in
       rw read (own ∙ marked_append old reached _)
 
   -- of another, its sections alone
   pub sections_reached : (read : Option (List Section))
       → (sections_after (is_strict opts.parse_mode) (header_value header)).value bytes ≡ read
       → option_map (map unnamed) read ≡ None → new ≡ marked old reached
-      → new ≡ marked old ((whole_after opts (header_value header)).reaches bytes)
+      → new ≡ marked old ((whole_after view opts (header_value header)).reaches bytes)
   sections_reached (Some sections) read none all = absurd cc
   sections_reached None read none all = rw read (all ∙ ap (marked old) (sym (append-nil reached)))

@@ -8,6 +8,7 @@ use Rattle.goblin_base.specs.Reading.{IsRefused, Reading}
 use Rattle.goblin_base.specs.Tables.{Format}
 use Rattle.goblin_pe_sect.specs.declared.data_directories.DataDirectory.{DataDirectory}
 use Rattle.goblin_pe_sect.specs.declared.options.ParseOptions.{ParseOptions}
+use Rattle.goblin_pe_sect.specs.declared.options.View.{View}
 use Rattle.goblin_pe_sect.specs.SectionTable.{Section}
 use Rattle.goblin_pe_head.specs.HeaderReadings.{stub_at}
 use Rattle.goblin_pe_head.specs.PeHeader.{PeHeader}
@@ -20,7 +21,8 @@ use Rattle.goblin_pe_export.specs.LeftOutExports.{pointers_left_out}
 use Rattle.goblin_pe.specs.declared.whole.damage.Damage.{Damage}
 use Rattle.goblin_pe.specs.Modes.{in_mode}
 use Rattle.goblin_pe.specs.Whole.{TablePlaces, entry_format, export_part, import_list, layout}
-use Rattle.goblin_pe.specs.Whole.{offset_by, places_in, relocation_part, sections_after, whole_file}
+use Rattle.goblin_pe.specs.Whole.{mapped_in, offset_by, places_in, relocation_part, sections_after}
+use Rattle.goblin_pe.specs.Whole.{whole_in}
 
 -- There is a value and no damage, or there is none and the cause is true.
 abbrev pub IsDamageOf : {A : Type 0} → Option A → (ErrorOf → Type 0) → Option ErrorOf → Type 0
@@ -70,23 +72,24 @@ pub record AreDamaged (opts : ParseOptions) (offset_of : ℕ → Option ℕ) (pl
       of_relocations
   pub left_out : of_left_out ≡ left_out_of opts offset_of places bytes
 
--- What strict mode would refuse of a file with this header and these sections.
-pub record IsDamaged (opts : ParseOptions) (h : PeHeader) (sections : List Section)
+-- What strict mode would refuse of a file with this header and these sections, in a view.
+pub record IsDamaged (view : View) (opts : ParseOptions) (h : PeHeader) (sections : List Section)
     (bytes : List ℕ) (d : Damage) : Type 0 where
   pub dos_stub : IsDamage (stub_at h.dos_header.pe_pointer) bytes d.dos_stub
   pub section_names : IsDamage (sections_after true h) bytes d.section_names
   pub tables : let places = places_in h.optional_header in
-      AreDamaged opts (offset_by opts sections places) places bytes
+      AreDamaged opts (offset_by opts (mapped_in view h sections) places) places bytes
       d.imports d.exports d.relocations d.left_out
   pub left_out_exports : let places = places_in h.optional_header in
-      d.left_out_exports ≡ exports_left_out (offset_by opts sections places) places bytes
+      d.left_out_exports
+      ≡ exports_left_out (offset_by opts (mapped_in view h sections) places) places bytes
 
 -- A call tells the damage of a file that has a header and sections in its own mode; or these are
 -- refused, or memory.
-abbrev pub TellsDamage : ParseOptions → List ℕ → Result Damage ErrorOf → Type 0
-TellsDamage opts bytes (Ok d) =
-    IsSomeAnd ((layout opts).value bytes) (λ l. IsDamaged opts l.0 l.1 bytes d)
-TellsDamage opts bytes (Err e) =
+abbrev pub TellsDamage : View → ParseOptions → List ℕ → Result Damage ErrorOf → Type 0
+TellsDamage view opts bytes (Ok d) =
+    IsSomeAnd ((layout opts).value bytes) (λ l. IsDamaged view opts l.0 l.1 bytes d)
+TellsDamage view opts bytes (Err e) =
     ¬ IsMemory e → IsRefused (layout opts) bytes e
 
 -- nothing is damaged, and no library is left out
@@ -99,7 +102,7 @@ pub record IsSound (d : Damage) : Type 0 where
   pub libraries : d.left_out.libraries ≡ 0
 
 -- Both modes read the file, and read the same.
-abbrev pub IsReadByBoth : ParseOptions → List ℕ → Type 0
-IsReadByBoth opts bytes =
-    IsSomeAnd ((whole_file (in_mode Strict opts)).value bytes) (λ w.
-    (whole_file (in_mode Permissive opts)).value bytes ≡ Some w)
+abbrev pub IsReadByBoth : View → ParseOptions → List ℕ → Type 0
+IsReadByBoth view opts bytes =
+    IsSomeAnd ((whole_in view (in_mode Strict opts)).value bytes) (λ w.
+    (whole_in view (in_mode Permissive opts)).value bytes ≡ Some w)

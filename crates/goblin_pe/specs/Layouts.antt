@@ -4,9 +4,11 @@ use Rattle.goblin_base.specs.declared.error.ErrorOf.{ErrorOf}
 use Rattle.goblin_base.specs.Reading.{IsRefused, Reading}
 use Rattle.readings.specs.Walks.{IsWalkOf}
 use Rattle.goblin_pe_sect.specs.declared.options.ParseOptions.{ParseOptions}
+use Rattle.goblin_pe_sect.specs.declared.options.View.{View}
 use Rattle.goblin_pe_head.specs.declared.header.pe_header.Header.{Header}
 use Rattle.goblin_pe_sect.specs.Addresses.{MapOfAddresses, map_by, map_of, offset_of}
 use Rattle.goblin_pe_export.specs.declared.export.exports.Exports.{Exports}
+use Rattle.goblin_pe_export.specs.ExportReadings.{export_addresses}
 use Rattle.goblin_pe_export.specs.ExportRecords.{ExportRow, ExportTables}
 use Rattle.goblin_pe_export.specs.ExportWalks.{AreExportsOver, exports_left, numbered_from}
 use Rattle.goblin_pe_export.specs.ExportWalks.{walked_tables}
@@ -22,7 +24,8 @@ use Rattle.goblin_pe.specs.declared.whole.layout.Layout.{Layout}
 use Rattle.goblin_pe_sect.specs.Options.{is_strict}
 use Rattle.goblin_pe_sect.specs.SectionTable.{Section, recorded_sections}
 use Rattle.goblin_pe_head.specs.PeHeader.{header_value}
-use Rattle.goblin_pe.specs.Whole.{TablePlaces, places_in, sections_after, table_places}
+use Rattle.goblin_pe.specs.Whole.{TablePlaces, mapped_in, part_at, places_in, sections_after}
+use Rattle.goblin_pe.specs.Whole.{table_places}
 
 -- ---- what all tables are read by
 
@@ -42,17 +45,20 @@ layout_places l = table_places l.places
 abbrev pub layout_map : Layout → MapOfAddresses
 layout_map l = map_of l.address_map
 
--- It is that of these bytes with this header: its tables lie where the header says, and its
--- addresses are mapped by the file's sections, by the header's file alignment and by these options.
-pub record IsLayoutOf (opts : ParseOptions) (bytes : List ℕ) (header : Header) (l : Layout) : Type 0
-  where
-    pub over : layout_bytes l ≡ bytes
-    pub by : (layout_map l).opts ≡ opts
-    pub placed : layout_places l ≡ places_in header.optional_header
-    pub mapped : (sections : List Section)
-        → (sections_after (is_strict opts.parse_mode) (header_value header)).value bytes
-        ≡ Some sections
-        → layout_map l ≡ map_by opts sections (places_in header.optional_header).file_alignment
+-- It is that of these bytes with this header, in a view: its tables lie where the header says, and
+-- its addresses are mapped by the file's sections, with the file's front in the loader's view, by the
+-- header's file alignment and by these options.
+pub record IsLayoutOf (view : View) (opts : ParseOptions) (bytes : List ℕ) (header : Header)
+    (l : Layout) : Type 0 where
+  pub over : layout_bytes l ≡ bytes
+  pub by : (layout_map l).opts ≡ opts
+  pub placed : layout_places l ≡ places_in header.optional_header
+  pub mapped : (sections : List Section)
+      → (sections_after (is_strict opts.parse_mode) (header_value header)).value bytes
+      ≡ Some sections
+      → layout_map l
+      ≡ map_by opts (mapped_in view (header_value header) sections)
+      (places_in header.optional_header).file_alignment
 
 -- ---- tables as walks
 
@@ -89,6 +95,12 @@ file_imports_bound (Wide imports) = imports_bound imports
 -- what an export directory leads to, and the exports that are still to come
 abbrev pub walked_exports : Exports → ExportTables × List ExportRow
 walked_exports walk = (walked_tables walk, map (λ x. x.row) (exports_left walk))
+
+-- what the export directory leads to besides the names of exports
+unfoldable pub address_part : ParseOptions → (ℕ → Option ℕ) → TablePlaces
+    → Reading (Part ExportTables)
+address_part opts offset_of places =
+    part_at (is_strict opts.parse_mode) (export_addresses offset_of) places.exports
 
 -- A walk over these bytes, whose addresses are mapped so: all exports are still to come, with their
 -- numbers.

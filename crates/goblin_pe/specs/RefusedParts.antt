@@ -2,14 +2,15 @@
 use Rattle.std.specs.Prelude.{◌≡◌, ℕ, if◌then◌else◌, List, Option, None, Some, IsSome}
 use Rattle.std.specs.Option.{is_some}
 use Rattle.goblin_pe_sect.specs.declared.options.ParseOptions.{ParseOptions}
+use Rattle.goblin_pe_sect.specs.declared.options.View.{View}
 use Rattle.goblin_pe_sect.specs.Options.{is_strict}
 use Rattle.goblin_pe_sect.specs.SectionTable.{Section}
 use Rattle.goblin_pe_head.specs.HeaderReadings.{pe_header}
 use Rattle.goblin_pe_head.specs.PeHeader.{PeHeader}
 use Rattle.goblin_pe.specs.declared.whole.refused.RefusedPart.{RefusedPart}
 use Rattle.goblin_pe.specs.declared.whole.refused.RefusedPart.TheVariants as refused
-use Rattle.goblin_pe.specs.Whole.{TablePlaces, export_part, import_list, offset_by, places_in}
-use Rattle.goblin_pe.specs.Whole.{relocation_part, sections_after, whole_file}
+use Rattle.goblin_pe.specs.Whole.{TablePlaces, export_part, import_list, mapped_in, offset_by}
+use Rattle.goblin_pe.specs.Whole.{places_in, relocation_part, sections_after, whole_in}
 
 -- the number of a part
 abbrev pub refused_number : RefusedPart → ℕ
@@ -32,31 +33,32 @@ refused_table opts offset_of places bytes =
     else refused.Imports
 
 -- of a file with this header, by its sections, if they have a value
-abbrev pub refused_with : ParseOptions → PeHeader → List ℕ → Option (List Section) → RefusedPart
-refused_with opts h bytes None = refused.Sections
-refused_with opts h bytes (Some sections) =
+abbrev pub refused_with : View → ParseOptions → PeHeader → List ℕ → Option (List Section)
+    → RefusedPart
+refused_with view opts h bytes None = refused.Sections
+refused_with view opts h bytes (Some sections) =
     let places = places_in h.optional_header in
-    refused_table opts (offset_by opts sections places) places bytes
+    refused_table opts (offset_by opts (mapped_in view h sections) places) places bytes
 
-abbrev pub refused_after : ParseOptions → List ℕ → PeHeader → RefusedPart
-refused_after opts bytes h =
-    refused_with opts h bytes ((sections_after (is_strict opts.parse_mode) h).value bytes)
+abbrev pub refused_after : View → ParseOptions → List ℕ → PeHeader → RefusedPart
+refused_after view opts bytes h =
+    refused_with view opts h bytes ((sections_after (is_strict opts.parse_mode) h).value bytes)
 
 -- of a file, by its header, if it has a value
-abbrev pub refused_by : ParseOptions → List ℕ → Option PeHeader → RefusedPart
-refused_by opts bytes None = refused.Header
-refused_by opts bytes (Some h) = refused_after opts bytes h
+abbrev pub refused_by : View → ParseOptions → List ℕ → Option PeHeader → RefusedPart
+refused_by view opts bytes None = refused.Header
+refused_by view opts bytes (Some h) = refused_after view opts bytes h
 
-unfoldable pub refused_part : ParseOptions → List ℕ → RefusedPart
-refused_part opts bytes =
-    refused_by opts bytes ((pe_header (is_strict opts.parse_mode)).value bytes)
+unfoldable pub refused_part : View → ParseOptions → List ℕ → RefusedPart
+refused_part view opts bytes =
+    refused_by view opts bytes ((pe_header (is_strict opts.parse_mode)).value bytes)
 
 -- a file of which no part is refused is read
-abbrev pub IsReadWithout : ParseOptions → List ℕ → Type 0
-IsReadWithout opts bytes =
-    refused_part opts bytes ≡ refused.Nothing → IsSome ((whole_file opts).value bytes)
+abbrev pub IsReadWithout : View → ParseOptions → List ℕ → Type 0
+IsReadWithout view opts bytes =
+    refused_part view opts bytes ≡ refused.Nothing → IsSome ((whole_in view opts).value bytes)
 
 -- of a file that is read no part is refused
-abbrev pub IsWithoutRead : ParseOptions → List ℕ → Type 0
-IsWithoutRead opts bytes =
-    IsSome ((whole_file opts).value bytes) → refused_part opts bytes ≡ refused.Nothing
+abbrev pub IsWithoutRead : View → ParseOptions → List ℕ → Type 0
+IsWithoutRead view opts bytes =
+    IsSome ((whole_in view opts).value bytes) → refused_part view opts bytes ≡ refused.Nothing

@@ -13,12 +13,14 @@ use Rattle.goblin_base.proofs.Picks.{by_cases-not_memory}
 use Rattle.readings.specs.Reads.{◌>>=◌, ◌beside◌, checked, given, mapped, pair_of, pick, turned}
 use Rattle.goblin_pe_sect.specs.declared.data_directories.DataDirectory.{DataDirectory}
 use Rattle.goblin_pe_sect.specs.declared.options.ParseOptions.{ParseOptions}
+use Rattle.goblin_pe_sect.specs.declared.options.View.{View}
+use Rattle.goblin_pe_sect.specs.declared.options.View.TheVariants.{Sections}
 use Rattle.goblin_pe_sect.specs.AddressReadings.{relocation_data}
 use Rattle.goblin_pe_sect.specs.BaseRelocations.{relocation_bytes}
 use Rattle.goblin_pe_sect.specs.DataDirectories.{directory_in}
 use Rattle.goblin_pe_sect.specs.Mapping.{file_offset}
-use Rattle.goblin_pe_sect.specs.Options.{is_strict}
-use Rattle.goblin_pe_sect.specs.SectionTable.{Section}
+use Rattle.goblin_pe_sect.specs.Options.{front_of, is_strict}
+use Rattle.goblin_pe_sect.specs.SectionTable.{Section, with_front}
 use Rattle.goblin_pe_head.specs.declared.optional_header.OptionalHeader.{OptionalHeader}
 use Rattle.goblin_pe_head.specs.HeaderReadings.{pe_header}
 use Rattle.goblin_pe_head.specs.PeHeader.{PeHeader}
@@ -120,6 +122,15 @@ places_in (Some h) = record {
 -- the entries of the import tables: of four bytes by the magic of 32 bits, else of eight
 unfoldable pub entry_format : ℕ → Format EntryValue
 entry_format magic = if magic == 0x10B then entries_32 else entries_64
+
+-- how many bytes the headers have, by an optional header; 0 without one
+abbrev pub size_of_headers : Option OptionalHeader → ℕ
+size_of_headers None = 0
+size_of_headers (Some h) = h.windows_fields.size_of_headers
+
+-- what addresses of a file with this header and these sections are mapped by, in a view
+abbrev pub mapped_in : View → PeHeader → List Section → List Section
+mapped_in view h sections = with_front (front_of view (size_of_headers h.optional_header)) sections
 
 -- the file offset of an address
 abbrev pub offset_by : ParseOptions → List Section → TablePlaces → ℕ → Option ℕ
@@ -277,20 +288,26 @@ layout opts =
     let strict = is_strict opts.parse_mode in
     pe_header strict >>= λ h. mapped (λ sections. (h, sections)) (sections_after strict h)
 
--- the file with this header and these sections
-unfoldable pub whole_with : ParseOptions → PeHeader → List Section → Reading WholeFile
-whole_with opts h sections =
+-- the file with this header and these sections, in a view
+unfoldable pub whole_with : View → ParseOptions → PeHeader → List Section → Reading WholeFile
+whole_with view opts h sections =
     let places = places_in h.optional_header in
-    mapped (whole_of h sections) (table_parts opts (offset_by opts sections places) places)
+    let offset_of = offset_by opts (mapped_in view h sections) places in
+    mapped (whole_of h sections) (table_parts opts offset_of places)
 
 -- the file that begins with this header
-abbrev pub whole_after : ParseOptions → PeHeader → Reading WholeFile
-whole_after opts h =
-    sections_after (is_strict opts.parse_mode) h >>= λ sections. whole_with opts h sections
+abbrev pub whole_after : View → ParseOptions → PeHeader → Reading WholeFile
+whole_after view opts h =
+    sections_after (is_strict opts.parse_mode) h >>= λ sections. whole_with view opts h sections
 
--- a whole file: its header and its sections, which both modes require, and its tables
-unfoldable pub whole_file : ParseOptions → Reading WholeFile
-whole_file opts = pe_header (is_strict opts.parse_mode) >>= λ h. whole_after opts h
+-- a whole file: its header and its sections, which both modes require, and its tables, whose
+-- addresses are mapped as the view says
+unfoldable pub whole_in : View → ParseOptions → Reading WholeFile
+whole_in view opts = pe_header (is_strict opts.parse_mode) >>= λ h. whole_after view opts h
+
+-- a whole file, by its sections
+abbrev pub whole_file : ParseOptions → Reading WholeFile
+whole_file opts = whole_in Sections opts
 
 -- ---- what a caller makes of a file, of its imports and of the export tables
 

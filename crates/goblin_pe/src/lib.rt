@@ -22,5 +22,5 @@ pub use goblin_pe_symbol::symbol;
 pub use image_checksum::{checksum, checksum_field, file_checksum};
 pub use whole::{
     Damage, FileImports, Layout, Part, Places, RefusedPart, Whole, section_records_of,
-    section_table_offset, sections_of,
+    section_table_offset, sections_of, size_of_headers,
 };

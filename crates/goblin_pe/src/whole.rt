@@ -35,7 +35,7 @@ pub use damage::Damage;
 pub use imports::FileImports;
 pub use layout::{Layout, section_records_of, section_table_offset, sections_of};
 use listed::{ListedTables, export_parts};
-pub use places::Places;
+pub use places::{Places, size_of_headers};
 pub use refused::RefusedPart;
 
 /// A table of a file, as [`Whole::read`] found it.
@@ -109,7 +109,7 @@ impl<'a> Whole<'a> {
     /// [`CoffHeader::sections_with_opts`](goblin_pe_head::CoffHeader::sections_with_opts); in
     /// strict mode as the readers of the tables; [`Error::Memory`] if memory is refused, in both
     /// modes, and only of a file that has sections, or a table of which something is kept.
-    #[tactic(auto, unfolding(crate::specs::Whole::whole_file, crate::specs::Whole::whole_with), using(goblin_pe_head::proofs::HeaderFaults::header_there))]
+    #[tactic(auto, unfolding(crate::specs::Whole::whole_in, crate::specs::Whole::whole_with), using(goblin_pe_head::proofs::HeaderFaults::header_there))]
     pub fn read(alloc: Global, bytes: &'a [u8], opts: &ParseOptions) -> Result<Whole<'a>>
         ensures value { ReadsOrMemory (λ x. x) result (whole_file opts.now) bytes.now }
         ensures first { let found = (pe_header (is_strict opts.now.parse_mode)).value bytes.now in

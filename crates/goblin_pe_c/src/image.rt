@@ -21,8 +21,9 @@ use goblin_pe_records::section::PeSection;
 use goblin_pe_records::section_data::{self, PeSectionData, read_data, stored_size};
 
 /// Puts the file offset of the address `rva` into `offset`, and answers whether it has one: that of
-/// the first section whose window holds the address, as the file's readers map it. It has none
-/// where no section maps it or the alignment is not a power of two. Where the options say that
+/// the first section whose window holds the address, as the file's readers map it, or else of the
+/// headers, where the options map as the Windows loader does. It has none where neither maps it or
+/// the alignment is not a power of two. Where the options say that
 /// addresses are offsets, it is `rva` itself. The offset may lie past the file.
 #[unsafe(no_mangle)]
 pub extern "C" fn goblin_pe_raw_find_offset(image: &PeImage, rva: usize, offset: &mut usize) -> bool
@@ -69,12 +70,11 @@ pub extern "C" fn goblin_pe_raw_bytes_at<'a>(
     status_of(image.read_bytes(rva, size, text))
 }
 
-/// Reads the data of a section in memory: the bytes at its raw pointer, as many as its raw size
-/// says, and how many zeros follow them up to the virtual size. There are none where the raw size
-/// is at least that; the bytes are then not cut at the virtual size, as those of
-/// [`goblin_pe_raw_memory_at`](crate::look_up::goblin_pe_raw_memory_at) are. The raw pointer is
-/// taken as stored or rounded down to 512, by the rule of the image's options and its file
-/// alignment; its sections are not looked at. A section of uninitialized data
+/// Reads the data of a section in memory: the bytes from its raw pointer on, and how many zeros
+/// follow them up to the virtual size. The raw pointer is taken as stored or rounded down to 512, by
+/// the rule of the image's options and its file alignment; the bytes end where the raw data does as
+/// stored, so a pointer that is rounded cuts none of its end. There are no zeros where they reach to
+/// the virtual size, and they are not cut there. The image's sections are not looked at. A section of uninitialized data
 /// (`IMAGE_SCN_CNT_UNINITIALIZED_DATA`) whose raw pointer is 0, as an object's `.bss`, has no
 /// bytes, and its size as zeros: the virtual size, or the raw size where that is 0.
 ///
@@ -106,9 +106,10 @@ pub extern "C" fn goblin_pe_raw_available_section_data<'a>(
     ensures bytes { let opts = options_at image.now.options image.now.file_alignment in
         (available_data opts (section_view section.now)).value image.now.bytes.now
         ≡ Some (data_view contents.new) }
-    ensures all { result
-        ≡ (length contents.new.bytes.now == stored_size (section_view section.now)) }
+    ensures all { let opts = options_at image.now.options image.now.file_alignment in
+        result
+        ≡ (length contents.new.bytes.now == stored_size opts (section_view section.now)) }
 {
     *contents = section_data::available_data(image, section);
-    contents.bytes.len() == stored_size(section) as usize
+    contents.bytes.len() == stored_size(image, section)
 }

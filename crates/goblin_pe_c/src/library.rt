@@ -3,13 +3,12 @@
 ghost use Rattle.goblin_pe_calls.specs.Batches.{GivesRecords};
 ghost use Rattle.goblin_pe_calls.specs.Libraries.{GivesLibraries, IsLibrariesFault, LibraryBatch};
 ghost use Rattle.goblin_pe_records.specs.Calls.{Reported};
-ghost use Rattle.goblin_pe_records.specs.Options.{options_at};
 
 use goblin_pe_calls::batch::give;
 use goblin_pe_calls::library::PeLibrary;
 use goblin_pe_calls::next::PeImportCursor;
 use goblin_pe_records::fault::{PeFault, status_of};
-use goblin_pe_records::options::{PeOptions, options_at};
+use goblin_pe_records::options::PeOptions;
 use goblin_pe_records::places::PePlaces;
 use std::alloc::Global;
 
@@ -38,10 +37,8 @@ pub extern "C" fn goblin_pe_raw_next_libraries<'a>(
 ) -> PeFault
     ensures { let old : LibraryBatch = record { position = cursor.old; records = records.old } in
         let new : LibraryBatch = record { position = cursor.new; records = records.new } in
-        let opts = options_at options.now places.now.file_alignment in
-        Reported result (GivesRecords opts places.now bytes.now GivesLibraries IsLibrariesFault
+        Reported result (GivesRecords options.now places.now bytes.now GivesLibraries IsLibrariesFault
         steps old new count.old count.new) }
 {
-    let opts = options_at(options, places.file_alignment);
-    status_of(give::<PeLibrary>(alloc, bytes, &opts, places, cursor, steps, records, count))
+    status_of(give::<PeLibrary>(alloc, bytes, options, places, cursor, steps, records, count))
 }

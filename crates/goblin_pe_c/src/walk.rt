@@ -6,13 +6,13 @@ ghost use Rattle.std.specs.Prelude.{◌≡◌, drop, length, take};
 ghost use Rattle.goblin_pe_calls.specs.Batches.{AddressBatch, BlockBatch, ExportBatch};
 ghost use Rattle.goblin_pe_calls.specs.Batches.{GivesAddresses, GivesBatch, GivesBlocks};
 ghost use Rattle.goblin_pe_calls.specs.Batches.{GivesExports, GivesImports, GivesRecords};
-ghost use Rattle.goblin_pe_calls.specs.Batches.{ImportBatch, IsBlocksFault, IsExportBatchFault};
-ghost use Rattle.goblin_pe_calls.specs.Batches.{IsExportsFault, IsImportsFault, SaysDirectory};
+ghost use Rattle.goblin_pe_calls.specs.Batches.{ImportBatch, IsAddressBatchFault, IsAddressesFault};
+ghost use Rattle.goblin_pe_calls.specs.Batches.{IsBlocksFault, IsExportBatchFault, IsImportsFault};
+ghost use Rattle.goblin_pe_calls.specs.Batches.{SaysDirectory};
 ghost use Rattle.goblin_pe_calls.specs.Batches.{room_within};
 ghost use Rattle.goblin_pe_calls.specs.ExportDirectories.{directory_view};
 ghost use Rattle.goblin_pe_records.specs.Calls.{ReadsWithout, Reported};
 ghost use Rattle.goblin_pe_records.specs.Onward.{GivesOnward};
-ghost use Rattle.goblin_pe_records.specs.Options.{options_at};
 ghost use Rattle.goblin_pe_records.specs.Relocations.{all_relocations};
 ghost use Rattle.goblin_pe_records.specs.Sections.{section_view};
 ghost use Rattle.goblin_pe_records.specs.Words.{block_words};
@@ -24,7 +24,7 @@ use goblin_pe_calls::import::PeImport;
 use goblin_pe_calls::next::PeImportCursor;
 use goblin_pe_records::block::PeBlock;
 use goblin_pe_records::fault::{PeFault, status_of};
-use goblin_pe_records::options::{PeOptions, options_at};
+use goblin_pe_records::options::PeOptions;
 use goblin_pe_records::places::PePlaces;
 use goblin_pe_records::relocation::next_relocations;
 use goblin_pe_records::section::PeSection;
@@ -72,19 +72,18 @@ pub extern "C" fn goblin_pe_raw_next_imports<'a>(
 ) -> PeFault
     ensures { let old : ImportBatch = record { position = cursor.old; records = records.old } in
         let new : ImportBatch = record { position = cursor.new; records = records.new } in
-        let opts = options_at options.now places.now.file_alignment in
-        Reported result (GivesRecords opts places.now bytes.now GivesImports IsImportsFault steps
+        Reported result (GivesRecords options.now places.now bytes.now GivesImports IsImportsFault steps
         old new count.old count.new) }
 {
-    let opts = options_at(options, places.file_alignment);
-    status_of(give::<PeImport>(alloc, bytes, &opts, places, cursor, steps, records, count))
+    status_of(give::<PeImport>(alloc, bytes, options, places, cursor, steps, records, count))
 }
 
 /// Fills `records` with the exports of a file from a position on, as many as there is room for,
 /// says in `count` how many, and leaves in `position` where the next call goes on: an index in the
-/// name pointer table from which the others come, at first 0. With room for any, a `count` of 0 is
-/// the end; the position then stays. No more than `steps` come, 0 for no limit; name pointers that
-/// have no export are passed over without a step. A file without an export directory, and in
+/// name pointer table from which the others come, at first 0. Each step looks at a name pointer,
+/// whether or not it gives an export: so as many were taken as the position went on. Where fewer
+/// came than there is room for, and it went on by fewer than `steps` (0 for no limit), that is the
+/// end. A file without an export directory, and in
 /// permissive mode one whose directory is refused, has none. The sections and the directory lie
 /// where `places` says, as for [`goblin_pe_raw_next_imports`].
 ///
@@ -103,19 +102,20 @@ pub extern "C" fn goblin_pe_raw_next_exports<'a>(
 ) -> PeFault
     ensures { let old : ExportBatch = record { position = position.old; records = records.old } in
         let new : ExportBatch = record { position = position.new; records = records.new } in
-        let opts = options_at options.now places.now.file_alignment in
-        Reported result (GivesRecords opts places.now bytes.now GivesExports IsExportBatchFault
+        Reported result (GivesRecords options.now places.now bytes.now GivesExports IsExportBatchFault
         steps old new count.old count.new) }
 {
-    let opts = options_at(options, places.file_alignment);
-    status_of(give::<PeExport>(alloc, bytes, &opts, places, position, steps, records, count))
+    status_of(give::<PeExport>(
+        alloc, bytes, options, places, position, steps, records, count,
+    ))
 }
 
 /// Puts into `directory` what the export directory of a file says, and lists no export: the record
 /// that [`goblin_pe_raw_open`](crate::whole_file::goblin_pe_raw_open) has beside its lists. Of a
 /// file without an export directory, and in permissive mode of one whose directory is refused, it
-/// is zeros, and no name. The sections and the directory lie where `places` says, as for
-/// [`goblin_pe_raw_next_imports`].
+/// is zeros, and no name. The names of exports are not looked at: how many name pointers the record
+/// counts does not matter here, for which that call refuses the exports. The sections and the
+/// directory lie where `places` says, as for [`goblin_pe_raw_next_imports`].
 ///
 /// Refused, with nothing changed, are sections as by that call, and in strict mode the export
 /// directory. Memory as there.
@@ -127,23 +127,23 @@ pub extern "C" fn goblin_pe_raw_read_export_directory<'a>(
     places: &PePlaces,
     directory: &mut PeExportDirectory<'a>,
 ) -> PeFault
-    ensures { let opts = options_at options.now places.now.file_alignment in
-        Reported result
-        (GivesBatch opts places.now bytes.now
+    ensures { Reported result
+        (GivesBatch options.now places.now bytes.now
         (λ m places. SaysDirectory m places bytes.now (directory_view directory.new))
-        (λ m places. IsExportsFault m places bytes.now)
+        (λ m places. IsAddressesFault m places bytes.now)
         (directory.new ≡ directory.old)) }
 {
-    let opts = options_at(options, places.file_alignment);
-    status_of(give_directory(alloc, bytes, &opts, places, directory))
+    status_of(give_directory(alloc, bytes, options, places, directory))
 }
 
 /// Fills `records` with the entries of the export address table of a file from the index `position`
 /// on, as many as there is room for, but no more than `steps`, where these are not 0; says in
 /// `count` how many, and moves `position` past them. With room for any, a `count` of 0 is the end.
 /// The index and the ordinal base are the ordinal that an entry stands for. A file without an
-/// export directory, and in permissive mode one whose directory is refused, has none. The sections
-/// and the directory lie where `places` says, as for [`goblin_pe_raw_next_imports`].
+/// export directory, and in permissive mode one whose directory is refused, has none. The names of
+/// exports are not looked at: how many name pointers the record counts does not matter here, as it
+/// does not to a loader that looks for an ordinal. The sections and the directory lie where
+/// `places` says, as for [`goblin_pe_raw_next_imports`].
 ///
 /// Refused, with nothing changed, are sections as by that call, and in strict mode the export
 /// directory. Memory as there.
@@ -160,12 +160,12 @@ pub extern "C" fn goblin_pe_raw_next_export_addresses(
 ) -> PeFault
     ensures { let old : AddressBatch = record { position = position.old; records = records.old } in
         let new : AddressBatch = record { position = position.new; records = records.new } in
-        let opts = options_at options.now places.now.file_alignment in
-        Reported result (GivesRecords opts places.now bytes.now GivesAddresses IsExportBatchFault
+        Reported result (GivesRecords options.now places.now bytes.now GivesAddresses IsAddressBatchFault
         steps old new count.old count.new) }
 {
-    let opts = options_at(options, places.file_alignment);
-    status_of(give::<PeExportAddress>(alloc, bytes, &opts, places, position, steps, records, count))
+    status_of(give::<PeExportAddress>(
+        alloc, bytes, options, places, position, steps, records, count,
+    ))
 }
 
 /// Fills `records` with the blocks of base relocations of a file from a position on, as many as
@@ -192,12 +192,12 @@ pub extern "C" fn goblin_pe_raw_next_blocks<'a>(
 ) -> PeFault
     ensures { let old : BlockBatch = record { position = position.old; records = records.old } in
         let new : BlockBatch = record { position = position.new; records = records.new } in
-        let opts = options_at options.now places.now.file_alignment in
-        Reported result (GivesRecords opts places.now bytes.now GivesBlocks IsBlocksFault steps old
+        Reported result (GivesRecords options.now places.now bytes.now GivesBlocks IsBlocksFault steps old
         new count.old count.new) }
 {
-    let opts = options_at(options, places.file_alignment);
-    status_of(give::<PeBlock>(alloc, bytes, &opts, places, position, steps, records, count))
+    status_of(give::<PeBlock>(
+        alloc, bytes, options, places, position, steps, records, count,
+    ))
 }
 
 /// Fills `records` with all relocations of a section of an object from the index `position` on, as

@@ -1,30 +1,33 @@
 //! The calls that read a whole file.
 
-ghost use Rattle.std.specs.Prelude.{◌≡◌, length};
+ghost use Rattle.std.specs.Prelude.{◌≡◌, ◌==◌, length};
 ghost use Rattle.goblin_pe_sect.specs.Options.{is_strict};
 ghost use Rattle.goblin_pe_head.specs.HeaderReadings.{pe_header};
-ghost use Rattle.goblin_pe.specs.Reads.{given};
 ghost use Rattle.goblin_pe.specs.RefusedParts.{refused_number, refused_part};
 ghost use Rattle.goblin_pe.specs.Whole.{layout as file_layout};
-ghost use Rattle.goblin_pe_records.specs.Calls.{ReadsInto, ReadsWithout, Reported};
-ghost use Rattle.goblin_pe_calls.specs.FileLayouts.{LayoutRecords, SaysLayout};
+ghost use Rattle.goblin_pe_records.specs.Calls.{ReadsInto, ReadsWithout, Reported, ReportedOf};
+ghost use Rattle.goblin_pe_calls.specs.FileLayouts.{LayoutRecords, SaysLayout, layout_as};
+ghost use Rattle.goblin_pe_calls.specs.FileLayouts.{layout_part};
+ghost use Rattle.goblin_pe_calls.specs.Parts.{PartsRecords, SaysParts};
 ghost use Rattle.goblin_pe.specs.TakenMemory.{TakesIndex};
 ghost use Rattle.goblin_pe_calls.specs.Damages.{RecordsDamage};
 ghost use Rattle.goblin_pe_calls.specs.Footprints.{Lists};
 ghost use Rattle.goblin_pe_calls.specs.Growth.{TakesRecords};
 ghost use Rattle.goblin_pe_records.specs.Kinds.{kind_number, kind_of};
 ghost use Rattle.goblin_pe_calls.specs.Opened.{Opened, Opens, opened_in};
-ghost use Rattle.goblin_pe_records.specs.Options.{header_options, options_in};
+ghost use Rattle.goblin_pe_records.specs.Options.{header_options, options_in, view_of};
 
+use goblin_pe::RefusedPart;
 use goblin_pe_calls::damage::{self, PeDamage};
 use goblin_pe_calls::layout::{self, PeLayout};
 use goblin_pe_calls::open::{self, PeTables};
+use goblin_pe_calls::parts::{self, PeParts};
 use goblin_pe_calls::ranges::{PeRanges, list as list_ranges};
 use goblin_pe_records::directory::PeDirectory;
-use goblin_pe_records::fault::{PeFault, status_of};
+use goblin_pe_records::fault::{PeFault, status_of, status_of_part};
 use goblin_pe_records::file::PeFile;
 use goblin_pe_records::kind;
-use goblin_pe_records::options::{PeOptions, header_options, options_in};
+use goblin_pe_records::options::{PeOptions, header_options, options_in, view_of};
 use goblin_pe_records::section::PeSection;
 use std::alloc::Global;
 
@@ -41,11 +44,11 @@ pub extern "C" fn goblin_pe_raw_kind_of(bytes: &[u8]) -> u32
 /// far as there is room, and puts into `tables` its Rich header's entries, sections, imports,
 /// exports, export addresses and base relocation blocks, all of them, with what the export
 /// directory says and the DOS stub. Each table that is not empty is a block of memory that the
-/// caller frees. After a refusal nothing is changed, and nothing is to be freed;
-/// memory is refused (the status 5) only where the file has a header, and room for as many sections
-/// as that says; of a file that can be read only where it has a section, or a table of it an entry;
-/// and of one that is refused only where its header says that there are sections, or a table begins
-/// with an entry before the refusal.
+/// caller frees. After a refusal, whose `part` says which part of the file is refused, nothing is
+/// changed, and nothing is to be freed; memory is refused (the status 5) only where the file has a
+/// header, and room for as many sections as that says; of a file that can be read only where it has
+/// a section, or a table of it an entry; and of one that is refused only where its header says that
+/// there are sections, or a table begins with an entry before the refusal.
 #[unsafe(no_mangle)]
 pub extern "C" fn goblin_pe_raw_open<'a>(
     alloc: Global,
@@ -60,19 +63,33 @@ pub extern "C" fn goblin_pe_raw_open<'a>(
         let new : Opened =
         record { file = file.new; directories = directories.new; tables = tables.new } in
         let opts = options_in options.now bytes.now in
-        Reported result
-        (ReadsInto (pe_header (is_strict opts.parse_mode)) (TakesRecords opts bytes.now)
+        ReportedOf (refused_number (refused_part (view_of options.now) opts bytes.now)) result
+        (ReadsInto (pe_header (is_strict opts.parse_mode))
+        (TakesRecords (view_of options.now) opts bytes.now)
         (opened_in options.now) bytes.now (λ read. Opens read old new) (new ≡ old)) }
 {
     let opts = options_in(bytes, options);
-    status_of(open::open(alloc, bytes, &opts, file, directories, tables))
+    let mut part = RefusedPart::Nothing;
+    let answer = open::open(
+        alloc,
+        bytes,
+        view_of(options),
+        &opts,
+        file,
+        directories,
+        tables,
+        &mut part,
+    );
+    status_of_part(answer, part as u32)
 }
 
 /// Reads an image without its tables: says in `layout` what it is, and fills the records of its
 /// data directories and of its sections as far as there is room. It takes no memory, however much
-/// the tables list: these are walked over, or looked up, by other calls. After a refusal nothing is
-/// changed; it is refused where [`goblin_pe_raw_open`](crate::whole_file::goblin_pe_raw_open)
-/// refuses the header or the sections.
+/// the tables list: these are walked over, or looked up, by other calls. It is refused where
+/// [`goblin_pe_raw_open`](crate::whole_file::goblin_pe_raw_open) refuses the header or the sections,
+/// whichever the refusal's `part` says; nothing is then changed. With `raw_section_names` no name of
+/// a section is tested, and none looked up: the sections have their raw names, and none is refused
+/// for its name.
 #[unsafe(no_mangle)]
 pub extern "C" fn goblin_pe_raw_read_layout<'a>(
     bytes: &'a [u8],
@@ -92,11 +109,62 @@ pub extern "C" fn goblin_pe_raw_read_layout<'a>(
           sections = sections.new;
         } in
         let opts = header_options options.now in
-        Reported result
-        (ReadsWithout (file_layout opts) bytes.now (λ l. SaysLayout l old new) (new ≡ old)) }
+        ReportedOf (refused_number (layout_part opts bytes.now)) result
+        (ReadsWithout (layout_as options.now.raw_section_names opts) bytes.now
+        (λ l. SaysLayout l old new) (new ≡ old)) }
 {
     let opts = header_options(options);
-    status_of(layout::read(bytes, &opts, layout, directories, sections))
+    let has_raw_names = options.raw_section_names;
+    let mut part = RefusedPart::Nothing;
+    let answer = layout::read(
+        bytes,
+        &opts,
+        has_raw_names,
+        layout,
+        directories,
+        sections,
+        &mut part,
+    );
+    status_of_part(answer, part as u32)
+}
+
+/// Reads the parts of an image's header, each by itself, whatever the others are: says in `parts`
+/// what is there, fills the records of its data directories and of its sections as far as there is
+/// room, and answers whether the header and the sections can be read as a whole. The walks over the
+/// tables, and what is looked up by addresses, go by these as by those of
+/// [`goblin_pe_raw_read_layout`]. It takes no memory, and no file is refused: what that call
+/// answers by these options is the `refusal` of the parts, and each part that is not given has its
+/// own fault. Of a header that can be read as a whole, the parts are its parts.
+///
+/// Of more than sixteen data directories the first sixteen are given. The sections are as many as
+/// the COFF header says, or as the file has whole records, if these are fewer; they have their raw
+/// names, and no name is tested. Without a magic that is known, neither the fields of the optional
+/// header nor data directories are given: no table has a place, and no section maps an address.
+#[unsafe(no_mangle)]
+pub extern "C" fn goblin_pe_raw_read_parts<'a>(
+    bytes: &'a [u8],
+    options: &PeOptions,
+    parts: &mut PeParts,
+    directories: &mut [PeDirectory],
+    sections: &mut [PeSection<'a>],
+) -> bool
+    ensures read { result ≡ (parts.new.refusal.status == 0) }
+    ensures parts { let old : PartsRecords = record {
+      parts = parts.old;
+      directories = directories.old;
+      sections = sections.old;
+    } in
+        let new : PartsRecords = record {
+          parts = parts.new;
+          directories = directories.new;
+          sections = sections.new;
+        } in
+        SaysParts options.now.raw_section_names (header_options options.now) bytes.now old new }
+{
+    let opts = header_options(options);
+    let has_raw_names = options.raw_section_names;
+    parts::read(bytes, &opts, has_raw_names, parts, directories, sections);
+    parts.refusal.status == 0
 }
 
 /// Tells in `damage` what strict mode would refuse of a file, part by part, where its header and
@@ -119,32 +187,10 @@ pub extern "C" fn goblin_pe_raw_read_damage(
         Reported result
         (ReadsInto (pe_header (is_strict opts.parse_mode)) (TakesIndex opts bytes.now)
         (file_layout opts) bytes.now
-        (λ l. RecordsDamage opts l.0 l.1 bytes.now damage.new) (damage.new ≡ damage.old)) }
+        (λ l. RecordsDamage (view_of options.now) opts l.0 l.1 bytes.now damage.new) (damage.new ≡ damage.old)) }
 {
-    status_of(damage::tell(alloc, bytes, &options_in(bytes, options), damage))
-}
-
-/// Puts into `part` the part for which a read by these options refuses a file, as a
-/// [`RefusedPart`](goblin_pe::RefusedPart): the first that cannot be read, in the order of the
-/// header, the sections, the imports, the exports and the base relocations. It is 0 where nothing
-/// is refused, and in permissive mode never a table.
-///
-/// Each part is read up to the refusal, and no table is listed. Refused is memory alone (the status
-/// 5), as of [`goblin_pe_raw_read_damage`]; nothing is then changed.
-#[unsafe(no_mangle)]
-pub extern "C" fn goblin_pe_raw_refused_part_of(
-    alloc: Global,
-    bytes: &[u8],
-    options: &PeOptions,
-    part: &mut u32,
-) -> PeFault
-    ensures { let opts = options_in options.now bytes.now in
-        Reported result
-        (ReadsInto (pe_header (is_strict opts.parse_mode)) (TakesIndex opts bytes.now)
-        (given (refused_part opts bytes.now)) bytes.now
-        (λ p. part.new ≡ refused_number p) (part.new ≡ part.old)) }
-{
-    status_of(damage::tell_refused(alloc, bytes, &options_in(bytes, options), part))
+    let opts = options_in(bytes, options);
+    status_of(damage::tell(alloc, bytes, view_of(options), &opts, damage))
 }
 
 /// Puts into `ranges` the positions of a file on which all that
@@ -166,5 +212,6 @@ pub extern "C" fn goblin_pe_raw_footprint<'a>(
     ensures { let footprint = (opened_in options.now).reaches bytes.now in
         Reported result (Lists (length bytes.now) footprint ranges.old ranges.new) }
 {
-    status_of(list_ranges(alloc, bytes, &options_in(bytes, options), ranges))
+    let opts = options_in(bytes, options);
+    status_of(list_ranges(alloc, bytes, view_of(options), &opts, ranges))
 }

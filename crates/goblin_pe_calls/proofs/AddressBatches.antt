@@ -2,10 +2,10 @@
 use Rattle.std.proofs.Common.{◌≡◌, ◌∙◌, ◌⊎◌, ℕ, List, [], Option, Some, ap, arith, inl, inr, map, subst, sym, IsSomeAnd}
 use Rattle.goblin_pe_export.specs.declared.export.exports.Exports.{Exports}
 use Rattle.goblin_pe.specs.Addresses.{MapOfAddresses, offset_of}
-use Rattle.goblin_pe.specs.ExportRecords.{ExportRow, ExportTables}
+use Rattle.goblin_pe.specs.ExportRecords.{ExportTables}
 use Rattle.goblin_pe.specs.ExportWalks.{walked_tables}
-use Rattle.goblin_pe.specs.Layouts.{walked_exports}
-use Rattle.goblin_pe.specs.Whole.{TablePlaces, export_part, part_map}
+use Rattle.goblin_pe.specs.Layouts.{address_part}
+use Rattle.goblin_pe.specs.Whole.{TablePlaces, part_map}
 use Rattle.goblin_pe.specs.declared.whole.Part.{Part}
 use Rattle.goblin_pe.specs.declared.whole.Part.TheVariants.{Absent, Refused}
 use Rattle.goblin_pe.specs.declared.whole.Part.TheVariants as part
@@ -16,24 +16,24 @@ use Rattle.goblin_pe_calls.specs.Batches.{GivesAddresses, addresses_in}
 use Rattle.goblin_pe_calls.specs.ExportDirectories.{address_said}
 
 module _ (m : MapOfAddresses) (places : TablePlaces) (bytes : List ℕ) (found : Part Exports)
-    (read : (export_part m.opts (offset_of m) places).value bytes ≡ Some (part_map walked_exports found))
+    (read : (address_part m.opts (offset_of m) places).value bytes ≡ Some (part_map walked_tables found))
     (x : ℕ) (old : List PeExportAddress) where
-  given : (p : Part (ExportTables × List ExportRow)) → part_map walked_exports found ≡ p
+  given : (p : Part ExportTables) → part_map walked_tables found ≡ p
       → (y count : ℕ) (new : List PeExportAddress) → GivesOnward (addresses_in p) x old y new count
       → GivesAddresses m places bytes 0 (record { position = x; records = old }) (record { position = y; records = new }) count
   given p is y count new gives =
-      subst (λ (v : Option (Part (ExportTables × List ExportRow))). IsSomeAnd v (λ p. GivesOnward (addresses_in p) x old y new count))
-      (sym (read ∙ ap (λ (p : Part (ExportTables × List ExportRow)). Some p) is)) gives
+      subst (λ (v : Option (Part ExportTables)). IsSomeAnd v (λ p. GivesOnward (addresses_in p) x old y new count))
+      (sym (read ∙ ap (λ (p : Part ExportTables). Some p) is)) gives
 
   -- where the directory was read
   pub addresses-given : (walk : Exports) → found ≡ part.Read walk → (y count : ℕ) (new : List PeExportAddress)
       → GivesOnward (map address_said (walked_tables walk).export_address_table) x old y new count
       → GivesAddresses m places bytes 0 (record { position = x; records = old }) (record { position = y; records = new }) count
   addresses-given walk is y count new gives =
-      given (part.Read (walked_exports walk)) (ap (part_map walked_exports) is) y count new gives
+      given (part.Read (walked_tables walk)) (ap (part_map walked_tables) is) y count new gives
 
   -- where there are none
   pub addresses-none : (found ≡ Absent) ⊎ (found ≡ Refused)
       → GivesAddresses m places bytes 0 (record { position = x; records = old }) (record { position = x; records = old }) 0
-  addresses-none (inl none) = given Absent (ap (part_map walked_exports) none) x 0 old (onward-none [] x old (omega arith))
-  addresses-none (inr none) = given Refused (ap (part_map walked_exports) none) x 0 old (onward-none [] x old (omega arith))
+  addresses-none (inl none) = given Absent (ap (part_map walked_tables) none) x 0 old (onward-none [] x old (omega arith))
+  addresses-none (inr none) = given Refused (ap (part_map walked_tables) none) x 0 old (onward-none [] x old (omega arith))

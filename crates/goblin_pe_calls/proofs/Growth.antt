@@ -9,6 +9,7 @@ use Rattle.readings.specs.Reads.{pair_of}
 use Rattle.readings.specs.Walks.{IsBegun}
 use Rattle.goblin_pe.specs.Walks.{IsWalkOf}
 use Rattle.goblin_pe_sect.specs.declared.options.ParseOptions.{ParseOptions}
+use Rattle.goblin_pe_sect.specs.declared.options.View.{View}
 use Rattle.goblin_pe_sect.specs.Options.{is_strict}
 use Rattle.goblin_pe_sect.specs.SectionTable.{Section}
 use Rattle.goblin_pe_head.specs.HeaderReadings.{pe_header}
@@ -28,8 +29,8 @@ use Rattle.goblin_pe.specs.declared.whole.Part.{Part}
 use Rattle.goblin_pe.specs.declared.whole.Part.TheVariants as part
 use Rattle.goblin_pe_import.specs.Imports.{NumberedImport}
 use Rattle.goblin_pe.specs.Whole.{AreListed, TableParts, TablePlaces, WholeFile, import_list}
-use Rattle.goblin_pe.specs.Whole.{both_import_parts, offset_by, places_in, sections_after, table_parts}
-use Rattle.goblin_pe.specs.Whole.{whole_file, whole_of, whole_with, without_numbers}
+use Rattle.goblin_pe.specs.Whole.{both_import_parts, mapped_in, offset_by, places_in, sections_after, table_parts}
+use Rattle.goblin_pe.specs.Whole.{whole_in, whole_of, whole_with, without_numbers}
 use Rattle.goblin_pe.proofs.Layouts.{tables-value}
 use Rattle.goblin_pe_calls.specs.Blocks.{blocks_in}
 use Rattle.goblin_pe_calls.specs.Growth.{FileBegins, HasEntries, HasRecords, HasTables}
@@ -167,40 +168,40 @@ by-tables : (h : PeHeader) (s : List Section) (tables : Option TableParts)
 by-tables h s None some = tt
 by-tables h s (Some parts) some = omega (arith, some)
 
-module _ (opts : ParseOptions) (bytes : List ℕ) (h : PeHeader)
+module _ (view : View) (opts : ParseOptions) (bytes : List ℕ) (h : PeHeader)
     (header : (pe_header (is_strict opts.parse_mode)).value bytes ≡ Some h) where
   pub sections-kept : 0 < h.coff_header.number_of_sections
-      → IfSome ((whole_file opts).value bytes) HasRecords
-  unfolding whole_file whole_with
+      → IfSome ((whole_in view opts).value bytes) HasRecords
+  unfolding whole_in whole_with
   sections-kept some =
       rw header (by-sections h ((sections_after (is_strict opts.parse_mode) h).value bytes)
-      (λ s. (table_parts opts (offset_by opts s (places_in h.optional_header)) (places_in h.optional_header)).value bytes) some)
+      (λ s. (table_parts opts (offset_by opts (mapped_in view h s) (places_in h.optional_header)) (places_in h.optional_header)).value bytes) some)
 
   pub tables-kept : (s : List Section)
       → (sections_after (is_strict opts.parse_mode) h).value bytes ≡ Some s
-      → IfSome ((table_parts opts (offset_by opts s (places_in h.optional_header)) (places_in h.optional_header)).value bytes) HasTables
-      → IfSome ((whole_file opts).value bytes) HasRecords
+      → IfSome ((table_parts opts (offset_by opts (mapped_in view h s) (places_in h.optional_header)) (places_in h.optional_header)).value bytes) HasTables
+      → IfSome ((whole_in view opts).value bytes) HasRecords
   unfolding whole_with
   tables-kept s sections some =
-      rw (tables-value opts bytes h header s sections) (by-tables h s _ some)
+      rw (tables-value view opts bytes h header s sections) (by-tables h s _ some)
 
   pub takes-records : HasRoom bytes h
-      → MatchOption ((whole_file opts).value bytes) (FileBegins opts bytes h) HasRecords
-      → IsSomeAnd ((pe_header (is_strict opts.parse_mode)).value bytes) (TakesRecords opts bytes)
+      → MatchOption ((whole_in view opts).value bytes) (FileBegins view opts bytes h) HasRecords
+      → IsSomeAnd ((pe_header (is_strict opts.parse_mode)).value bytes) (TakesRecords view opts bytes)
   takes-records room kept =
-      subst (λ (o : Option PeHeader). IsSomeAnd o (TakesRecords opts bytes)) (sym header) (room, kept)
+      subst (λ (o : Option PeHeader). IsSomeAnd o (TakesRecords view opts bytes)) (sym header) (room, kept)
 
 -- what is read by a layout is read of its file
-pub layout-kept : (opts : ParseOptions) (bytes : List ℕ) (h : Header)
+pub layout-kept : (view : View) (opts : ParseOptions) (bytes : List ℕ) (h : Header)
     → (pe_header (is_strict opts.parse_mode)).value bytes ≡ Some (header_value h) → (l : Layout) (s : List Section)
     → (sections_after (is_strict opts.parse_mode) (header_value h)).value bytes ≡ Some s
-    → IsLayoutOf opts bytes h l
+    → IsLayoutOf view opts bytes h l
     → IfSome ((table_parts (layout_map l).opts (offset_of (layout_map l)) (layout_places l)).value l.bytes.now) HasTables
-    → IfSome ((whole_file opts).value bytes) HasRecords
-layout-kept opts bytes h header l s sections of some =
+    → IfSome ((whole_in view opts).value bytes) HasRecords
+layout-kept view opts bytes h header l s sections of some =
     let places = places_in h.optional_header in
-    let m = map_by opts s places.file_alignment in
-    tables-kept opts bytes (header_value h) header s sections
+    let m = map_by opts (mapped_in view (header_value h) s) places.file_alignment in
+    tables-kept view opts bytes (header_value h) header s sections
     (subst (λ (file : List ℕ). IfSome ((table_parts m.opts (offset_of m) places).value file) HasTables) of.over
     (subst (λ (at : TablePlaces). IfSome ((table_parts m.opts (offset_of m) at).value l.bytes.now) HasTables) of.placed
     (subst (λ (m : MapOfAddresses). IfSome ((table_parts m.opts (offset_of m) (layout_places l)).value l.bytes.now) HasTables) (of.mapped s sections) some)))
@@ -211,11 +212,11 @@ by-counts count zero others counted some = omega (arith, some)
 by-counts count (suc sections) others counted some = omega (arith, counted (omega arith))
 
 -- the sections, the entries of the Rich header and the blocks of a file that was read
-pub made-kept : (opts : ParseOptions) (bytes : List ℕ) (v : RecordsOfFile) → IsOf opts bytes v
+pub made-kept : (view : View) (opts : ParseOptions) (bytes : List ℕ) (v : RecordsOfFile) → IsOf view opts bytes v
     → (0 < length v.sections → 0 < v.header.coff_header.number_of_sections)
     → 0 < length v.sections + length (entries_of_rich v.header.rich_header) + length (blocks_in v.relocations)
-    → IfSome ((whole_file opts).value bytes) HasRecords
-made-kept opts bytes v of counted some =
+    → IfSome ((whole_in view opts).value bytes) HasRecords
+made-kept view opts bytes v of counted some =
     let others = length (entries_of_rich v.header.rich_header) + length (blocks_in v.relocations) in
     let n = by-counts v.header.coff_header.number_of_sections (length v.sections) others counted (omega (arith, some)) in
     subst (λ (o : Option WholeFile). IfSome o HasRecords) (sym of.read)
@@ -238,19 +239,19 @@ no-sections [] none = refl
 no-sections (s ∷ sections) none = absurd (none (omega arith))
 
 -- what begins by a layout begins in its file
-pub layout-begins : (opts : ParseOptions) (bytes : List ℕ) (h : Header) (l : Layout) (s : List Section)
+pub layout-begins : (view : View) (opts : ParseOptions) (bytes : List ℕ) (h : Header) (l : Layout) (s : List Section)
     → (sections_after (is_strict opts.parse_mode) (header_value h)).value bytes ≡ Some s
-    → IsLayoutOf opts bytes h l → TablesBegin (layout_map l) (layout_places l) l.bytes.now
-    → FileBegins opts bytes (header_value h)
-layout-begins opts bytes h l s sections of begun =
+    → IsLayoutOf view opts bytes h l → TablesBegin (layout_map l) (layout_places l) l.bytes.now
+    → FileBegins view opts bytes (header_value h)
+layout-begins view opts bytes h l s sections of begun =
     let count = (header_value h).coff_header.number_of_sections in
     let places = places_in h.optional_header in
     let counted = sections_counted (is_strict opts.parse_mode) (header_value h) bytes s sections in
-    elim count as (λ n. count ≡ n → FileBegins opts bytes (header_value h)) [
+    elim count as (λ n. count ≡ n → FileBegins view opts bytes (header_value h)) [
       | zero ↦ λ none.
           let empty : s ≡ [] = no-sections s (λ some. omega (arith, none, counted some)) in
           inr
-          (subst (λ (s : List Section). TablesBegin (map_by opts s places.file_alignment) places bytes) empty
+          (subst (λ (s : List Section). TablesBegin (map_by opts (mapped_in view (header_value h) s) places.file_alignment) places bytes) empty
           (subst (λ (m : MapOfAddresses). TablesBegin m places bytes) (of.mapped s sections)
           (subst (λ (at : TablePlaces). TablesBegin (layout_map l) at bytes) of.placed
           (subst (λ (file : List ℕ). TablesBegin (layout_map l) (layout_places l) file) of.over begun))))

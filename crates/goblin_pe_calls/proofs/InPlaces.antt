@@ -3,27 +3,27 @@ use Rattle.std.proofs.Common.{◌≡◌, ℕ, List, Some, subst, IsSomeAnd}
 use Rattle.goblin_base.specs.declared.error.ErrorOf.{ErrorOf}
 use Rattle.goblin_base.specs.Answers.{FirstFault}
 use Rattle.goblin_base.specs.Reading.{IsRefused}
-use Rattle.goblin_pe_sect.specs.declared.options.ParseOptions.{ParseOptions}
 use Rattle.goblin_pe_sect.specs.SectionTable.{Section}
 use Rattle.goblin_pe.specs.declared.whole.layout.Layout.{Layout}
 use Rattle.goblin_pe.specs.Addresses.{MapOfAddresses}
 use Rattle.goblin_pe.specs.Layouts.{layout_bytes, layout_map, layout_places, layout_sections}
 use Rattle.goblin_pe.specs.Whole.{TablePlaces}
+use Rattle.goblin_pe_records.specs.declared.options.PeOptions.{PeOptions}
 use Rattle.goblin_pe_records.specs.declared.places.PePlaces.{PePlaces}
 use Rattle.goblin_pe_calls.specs.Places.{map_at, placed_sections, places_said}
 
 -- The layout by these places.
-pub record IsAt (opts : ParseOptions) (p : PePlaces) (bytes : List ℕ) (l : Layout) : Type 0 where
+pub record IsAt (o : PeOptions) (p : PePlaces) (bytes : List ℕ) (l : Layout) : Type 0 where
   pub read : (placed_sections p).value bytes ≡ Some (layout_sections l)
   pub over : layout_bytes l ≡ bytes
   pub placed : layout_places l ≡ places_said p
-  pub mapped : layout_map l ≡ map_at opts p (layout_sections l)
+  pub mapped : layout_map l ≡ map_at o p (layout_sections l)
 
-module _ (opts : ParseOptions) (p : PePlaces) (bytes : List ℕ) (l : Layout) (at : IsAt opts p bytes l)
+module _ (o : PeOptions) (p : PePlaces) (bytes : List ℕ) (l : Layout) (at : IsAt o p bytes l)
     (P : MapOfAddresses → TablePlaces → List ℕ → Type 0) where
   -- what holds of it holds of what the places say
   pub holds-at : P (layout_map l) (layout_places l) (layout_bytes l)
-      → P (map_at opts p (layout_sections l)) (places_said p) bytes
+      → P (map_at o p (layout_sections l)) (places_said p) bytes
   holds-at holds =
       subst (λ (m : MapOfAddresses). P m (places_said p) bytes) at.mapped
       (subst (λ (places : TablePlaces). P (layout_map l) places bytes) at.placed
@@ -31,17 +31,17 @@ module _ (opts : ParseOptions) (p : PePlaces) (bytes : List ℕ) (l : Layout) (a
 
   -- so it is given
   pub given-at : P (layout_map l) (layout_places l) (layout_bytes l)
-      → IsSomeAnd ((placed_sections p).value bytes) (λ s. P (map_at opts p s) (places_said p) bytes)
+      → IsSomeAnd ((placed_sections p).value bytes) (λ s. P (map_at o p s) (places_said p) bytes)
   given-at holds = rw at.read (holds-at holds)
 
 -- and so is a fault
-pub fault-at : (opts : ParseOptions) (p : PePlaces) (bytes : List ℕ) (l : Layout) → IsAt opts p bytes l
+pub fault-at : (o : PeOptions) (p : PePlaces) (bytes : List ℕ) (l : Layout) → IsAt o p bytes l
     → (IsFault : MapOfAddresses → TablePlaces → List ℕ → ErrorOf → Type 0) (e : ErrorOf)
     → IsFault (layout_map l) (layout_places l) (layout_bytes l) e
     → FirstFault ((placed_sections p).value bytes) ((placed_sections p).IsCause bytes)
-    (λ s. IsFault (map_at opts p s) (places_said p) bytes) e
-fault-at opts p bytes l at IsFault e fault =
-    rw at.read (holds-at opts p bytes l at (λ m places b. IsFault m places b e) fault)
+    (λ s. IsFault (map_at o p s) (places_said p) bytes) e
+fault-at o p bytes l at IsFault e fault =
+    rw at.read (holds-at o p bytes l at (λ m places b. IsFault m places b e) fault)
 
 -- where the records of the sections are not there, nothing is read
 pub nothing-at : (p : PePlaces) (bytes : List ℕ)

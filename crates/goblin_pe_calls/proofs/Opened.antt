@@ -7,6 +7,7 @@ use Rattle.goblin_base.specs.Reading.{IsRefused, ReadsOrMemory}
 use Rattle.goblin_base.proofs.Steps as steps
 use Rattle.readings.specs.Reads.{mapped}
 use Rattle.goblin_pe_sect.specs.declared.options.ParseOptions.{ParseOptions}
+use Rattle.goblin_pe_sect.specs.declared.options.View.{View}
 use Rattle.goblin_pe_sect.specs.Options.{is_strict}
 use Rattle.goblin_pe_sect.specs.SectionTable.{Section, recorded_sections, unnamed}
 use Rattle.goblin_pe_head.specs.declared.header.pe_header.Header.{Header}
@@ -21,9 +22,9 @@ use Rattle.goblin_pe.specs.declared.whole.Part.TheVariants as part
 use Rattle.goblin_pe.specs.declared.whole.layout.Layout.{Layout}
 use Rattle.goblin_pe.specs.Layouts.{IsLayoutOf, layout_map, layout_places}
 use Rattle.goblin_pe.specs.Whole.{AreListed, TableParts, TablePlaces, WholeFile, both_import_parts}
-use Rattle.goblin_pe.specs.Whole.{collected_file, collected_tables, import_list, offset_by, part_map}
+use Rattle.goblin_pe.specs.Whole.{collected_file, collected_tables, import_list, mapped_in, offset_by, part_map}
 use Rattle.goblin_pe.specs.Whole.{places_in, sections_after, without_numbers}
-use Rattle.goblin_pe.specs.Whole.{table_parts, whole_file, whole_of, whole_with}
+use Rattle.goblin_pe.specs.Whole.{table_parts, whole_in, whole_of, whole_with}
 use Rattle.goblin_pe.proofs.Collected.{file_read}
 use Rattle.goblin_pe.proofs.Layouts.{tables-cause, tables-value}
 use Rattle.goblin_pe.proofs.NumberedExports.{rows_of_file}
@@ -90,25 +91,25 @@ rows-table offset_of bytes Refused = refl
 -- ---- a file whose records were collected
 
 -- The file of which these are the records.
-pub record IsOf (opts : ParseOptions) (bytes : List ℕ) (v : RecordsOfFile) : Type 0 where
+pub record IsOf (view : View) (opts : ParseOptions) (bytes : List ℕ) (v : RecordsOfFile) : Type 0 where
   pub whole : WholeFile
-  pub read : (whole_file opts).value bytes ≡ Some whole
+  pub read : (whole_in view opts).value bytes ≡ Some whole
   pub header : whole.header ≡ v.header
   pub sections : map unnamed whole.sections ≡ v.sections
   pub relocations : whole.relocations ≡ v.relocations
-  pub imports : file_imports opts bytes whole ≡ v.imports
-  pub exports : file_exports opts bytes whole ≡ v.exports
+  pub imports : file_imports view opts bytes whole ≡ v.imports
+  pub exports : file_exports view opts bytes whole ≡ v.exports
   pub exports_table : table_of whole.exports ≡ table_of v.exports.exports
 
-pub file-of-records : (opts : ParseOptions) (bytes : List ℕ) (v : RecordsOfFile)
-    → option_map (records_of_file opts bytes) ((whole_file opts).value bytes) ≡ Some v
-    → IsOf opts bytes v
-file-of-records opts bytes v is =
-    let m = steps.mapped ((whole_file opts).value bytes) (records_of_file opts bytes) v is in
+pub file-of-records : (view : View) (opts : ParseOptions) (bytes : List ℕ) (v : RecordsOfFile)
+    → option_map (records_of_file view opts bytes) ((whole_in view opts).value bytes) ≡ Some v
+    → IsOf view opts bytes v
+file-of-records view opts bytes v is =
+    let m = steps.mapped ((whole_in view opts).value bytes) (records_of_file view opts bytes) v is in
     let w = m.value in
-    let imports : file_imports opts bytes w ≡ v.imports =
+    let imports : file_imports view opts bytes w ≡ v.imports =
     ap (λ (x : RecordsOfFile). x.imports) m.made in
-    let exports : file_exports opts bytes w ≡ v.exports =
+    let exports : file_exports view opts bytes w ≡ v.exports =
     ap (λ (x : RecordsOfFile). x.exports) m.made in
     record {
       whole = w;
@@ -119,17 +120,17 @@ file-of-records opts bytes v is =
       imports = imports;
       exports = exports;
       exports_table =
-          ap table_of (rows_of_file opts bytes w m.is)
-          ∙ rows-table (offset_by opts w.sections (places_in w.header.optional_header)) bytes w.export_data
+          ap table_of (rows_of_file view opts bytes w m.is)
+          ∙ rows-table (offset_by opts (mapped_in view w.header w.sections) (places_in w.header.optional_header)) bytes w.export_data
           ∙ ap (λ (x : ExportsSaid). table_of x.exports) exports;
     }
 
 -- a file that is refused is not opened, for the same cause
-pub unopened : (opts : ParseOptions) (bytes : List ℕ) (e : ErrorOf)
-    → IsRefused (whole_file opts) bytes e
-    → IsRefused (opened_file opts) bytes e
-unopened opts bytes e refused =
-    (ap (option_map (opened_of opts bytes)) refused.0, refused.1)
+pub unopened : (view : View) (opts : ParseOptions) (bytes : List ℕ) (e : ErrorOf)
+    → IsRefused (whole_in view opts) bytes e
+    → IsRefused (opened_file view opts) bytes e
+unopened view opts bytes e refused =
+    (ap (option_map (opened_of view opts bytes)) refused.0, refused.1)
 
 -- ---- the records of a file's tables
 
@@ -137,23 +138,23 @@ abbrev without_names : RecordsOfFile → RecordsOfFile
 without_names x = record x { sections = map unnamed x.sections }
 
 -- what is collected of a file with these sections
-collected-whole : (opts : ParseOptions) (bytes : List ℕ) (h : PeHeader) (s : List Section)
+collected-whole : (view : View) (opts : ParseOptions) (bytes : List ℕ) (h : PeHeader) (s : List Section)
     (tables : Option TableParts)
-    → option_map (records_of_file opts bytes) (option_map (whole_of h s) tables)
+    → option_map (records_of_file view opts bytes) (option_map (whole_of h s) tables)
     ≡ option_map without_names
     (option_map
     (collected_file
-    (λ _. imports_said opts (offset_by opts s (places_in h.optional_header)) (places_in h.optional_header) bytes)
-    (exports_said (offset_by opts s (places_in h.optional_header)) bytes))
+    (λ _. imports_said opts (offset_by opts (mapped_in view h s) (places_in h.optional_header)) (places_in h.optional_header) bytes)
+    (exports_said (offset_by opts (mapped_in view h s) (places_in h.optional_header)) bytes))
     (option_map (whole_of h s) tables))
-collected-whole opts bytes h s None = refl
-collected-whole opts bytes h s (Some tables) = refl
+collected-whole view opts bytes h s None = refl
+collected-whole view opts bytes h s (Some tables) = refl
 
-module _ (opts : ParseOptions) (bytes : List ℕ) (h : Header)
+module _ (view : View) (opts : ParseOptions) (bytes : List ℕ) (h : Header)
     (header : (pe_header (is_strict opts.parse_mode)).value bytes ≡ Some (header_value h))
     (l : Layout) (s : List Section)
     (sections : (sections_after (is_strict opts.parse_mode) (header_value h)).value bytes ≡ Some s)
-    (of : IsLayoutOf opts bytes h l) where
+    (of : IsLayoutOf view opts bytes h l) where
   abbrev places : TablePlaces
   places = places_in h.optional_header
 
@@ -165,9 +166,9 @@ module _ (opts : ParseOptions) (bytes : List ℕ) (h : Header)
 
   makes : (result : Result FileRecords ErrorOf)
       → MakesTables result (layout_map l) (layout_places l) l.bytes.now
-      → MakesTables result (map_by opts s places.file_alignment) places bytes
+      → MakesTables result (map_by opts (mapped_in view (header_value h) s) places.file_alignment) places bytes
   makes result made =
-      let m = map_by opts s places.file_alignment in
+      let m = map_by opts (mapped_in view (header_value h) s) places.file_alignment in
       subst (λ (file : List ℕ). MakesTables result m places file) of.over
       (subst (λ (at : TablePlaces). MakesTables result m at l.bytes.now) of.placed
       (subst (λ (m : MapOfAddresses). MakesTables result m (layout_places l) l.bytes.now) (of.mapped s sections) made))
@@ -175,13 +176,13 @@ module _ (opts : ParseOptions) (bytes : List ℕ) (h : Header)
   -- they are those of the file
   pub records-read : map unnamed s ≡ recorded_sections l.records → (r : FileRecords)
       → MakesTables (Ok r) (layout_map l) (layout_places l) l.bytes.now
-      → option_map (records_of_file opts bytes) ((whole_file opts).value bytes)
+      → option_map (records_of_file view opts bytes) ((whole_in view opts).value bytes)
       ≡ Some (records_view h l r)
   unfolding whole_with
   records-read names r made =
-      ap (option_map (records_of_file opts bytes)) (tables-value opts bytes (header_value h) header s sections)
-      ∙ collected-whole opts bytes (header_value h) s _
-      ∙ ap (option_map without_names) (file_read (λ _. imports_said opts (offset_by opts s places) places bytes) (exports_said (offset_by opts s places) bytes) opts (header_value h) s bytes (tables_view r) (makes (Ok r) made))
+      ap (option_map (records_of_file view opts bytes)) (tables-value view opts bytes (header_value h) header s sections)
+      ∙ collected-whole view opts bytes (header_value h) s _
+      ∙ ap (option_map without_names) (file_read (λ _. imports_said opts (offset_by opts (mapped_in view (header_value h) s) places) places bytes) (exports_said (offset_by opts (mapped_in view (header_value h) s) places) bytes) (header_value h) s _ (tables_view r) (makes (Ok r) made))
       ∙ ap (λ (x : List Section). Some (record (records_view h l r) { sections = x })) names
 
   abbrev ListsTables : MapOfAddresses → TablePlaces → List ℕ → Type 0
@@ -189,28 +190,28 @@ module _ (opts : ParseOptions) (bytes : List ℕ) (h : Header)
 
   -- there are as many records of imports as imports
   pub imports-counted : ListsTables (layout_map l) (layout_places l) l.bytes.now → (w : WholeFile)
-      → (whole_file opts).value bytes ≡ Some w
-      → table_of w.imports ≡ table_of (file_imports opts bytes w)
+      → (whole_in view opts).value bytes ≡ Some w
+      → table_of w.imports ≡ table_of (file_imports view opts bytes w)
   unfolding whole_with
   imports-counted listed w is =
-      let m = map_by opts s places.file_alignment in
+      let m = map_by opts (mapped_in view (header_value h) s) places.file_alignment in
       let of_file : ListsTables m places bytes =
       subst (λ (file : List ℕ). ListsTables m places file) of.over
       (subst (λ (at : TablePlaces). ListsTables m at l.bytes.now) of.placed
       (subst (λ (m : MapOfAddresses). ListsTables m (layout_places l) l.bytes.now) (of.mapped s sections) listed)) in
       let all = steps.mapped _ (whole_of (header_value h) s) w
-      (sym (tables-value opts bytes (header_value h) header s sections) ∙ is) in
-      subst (λ (w : WholeFile). table_of w.imports ≡ table_of (file_imports opts bytes w)) all.made
-      (imports-table opts (offset_by opts s places) places bytes all.value of_file all.is)
+      (sym (tables-value view opts bytes (header_value h) header s sections) ∙ is) in
+      subst (λ (w : WholeFile). table_of w.imports ≡ table_of (file_imports view opts bytes w)) all.made
+      (imports-table opts (offset_by opts (mapped_in view (header_value h) s) places) places bytes all.value of_file all.is)
 
   -- and a file is refused as they are
   pub records-refused : (e : ErrorOf)
       → MakesTables (Err e) (layout_map l) (layout_places l) l.bytes.now → ¬ IsMemory e
-      → IsRefused (whole_file opts) bytes e
+      → IsRefused (whole_in view opts) bytes e
   unfolding whole_with
   records-refused e made other =
       let none = makes (Err e) made other in (
-        tables-value opts bytes (header_value h) header s sections
+        tables-value view opts bytes (header_value h) header s sections
             ∙ ap (option_map (whole_of (header_value h) s)) (steps.unmapped _ _ none.0),
-        tables-cause opts bytes (header_value h) header s sections e none.1,
+        tables-cause view opts bytes (header_value h) header s sections e none.1,
       )

@@ -1,19 +1,29 @@
 -- The places of a header lead back to the sections after it and to its tables.
-use Rattle.std.proofs.Common.{◌≡◌, ◌≢◌, ◌∙◌, ℕ, zero, suc, ◌+◌, ◌*◌, ◌<◌, ◌≤◌, Bool, true, false, List, Option, None, Some, ap, arith, length, map, refl, rules, subst, sym, tests, ◌==◌, nat_le, nat_lt, option_map, slice_range, unwrap_or, ne_eqb, is_some}
+use Rattle.std.proofs.Common.{◌≡◌, ◌≢◌, ◌∙◌, ℕ, zero, suc, ◌+◌, ◌-◌, ◌*◌, ◌/◌, ◌<◌, ◌≤◌, Bool, true, false, List, Option, None, Some, Result, Ok, Err, ap, arith, length, map, refl, rules, subst, sym, tests, ◌==◌, nat_le, nat_lt, option_map, slice_range, unwrap_or, ne_eqb, is_some, min}
+use Rattle.goblin_base.specs.declared.error.ErrorOf.{ErrorOf}
 use Rattle.goblin_base.specs.Answers.{all_at}
 use Rattle.goblin_base.specs.Bytes.{slice_at}
-use Rattle.goblin_base.proofs.Steps.{all_at-each, all_at-zero}
+use Rattle.goblin_base.specs.Reading.{Reads}
+use Rattle.goblin_base.proofs.Steps.{all_at-each, all_at-zero, same_value}
 use Rattle.goblin_pe_sect.specs.declared.data_directories.DataDirectory.{DataDirectory}
 use Rattle.goblin_pe_sect.specs.DataDirectories.{no_directory}
 use Rattle.goblin_pe_sect.specs.SectionReadings.{named_section_at}
-use Rattle.goblin_pe_sect.specs.SectionTable.{Section, unnamed}
-use Rattle.goblin_pe_sect.proofs.AddressMaps.{unnamed_map}
+use Rattle.goblin_pe_sect.specs.declared.section_table.records.SectionRecords.{SectionRecords}
+use Rattle.goblin_pe_sect.specs.SectionTable.{Section, recorded_sections, unnamed}
+use Rattle.goblin_pe_sect.proofs.AddressMaps.{unnamed_map_with}
 use Rattle.goblin_pe_head.specs.CoffHeader.{symbols_end}
 use Rattle.goblin_pe_head.specs.CoffReadings.{sections_at}
+use Rattle.goblin_pe_head.specs.declared.header.parts.HeaderParts.{HeaderParts}
+use Rattle.goblin_pe_head.specs.HeaderReadings.{pe_header}
 use Rattle.goblin_pe_head.specs.PeHeader.{PeHeader}
 use Rattle.goblin_pe_head.proofs.SectionRecords.{section_end, section_more, sections_from, sections_of_slice, unnamed_from}
-use Rattle.goblin_pe.specs.Whole.{TablePlaces, places_in, section_table_offset, sections_after}
-use Rattle.goblin_pe_calls.specs.Places.{LeadsBack, directory_if, places_numbers, places_said, sections_there}
+use Rattle.goblin_pe.specs.Whole.{TablePlaces, places_in, section_table_offset, sections_after, size_of_headers}
+use Rattle.goblin_pe_sect.specs.Options.{front_of}
+use Rattle.goblin_pe_records.specs.Options.{options_at, view_of}
+use Rattle.goblin_pe_calls.specs.Places.{LeadsBack, directory_if, places_numbers, places_said}
+use Rattle.goblin_pe_calls.specs.Parts.{AreOfLayout, sections_of}
+use Rattle.goblin_pe_head.specs.HeaderParts.{ArePartsOf, sections_part, sections_there, whole_sections}
+use Rattle.goblin_pe_head.proofs.WholeParts.{whole_placed}
 
 -- ---- where the tables lie
 
@@ -22,8 +32,8 @@ directory-back : (o : Option DataDirectory)
 directory-back None = refl
 directory-back (Some d) = refl
 
-said-back : (table count : ℕ) (t : TablePlaces) → places_said (places_numbers table count t) ≡ t
-said-back table count t =
+said-back : (table headers count : ℕ) (t : TablePlaces) → places_said (places_numbers table headers count t) ≡ t
+said-back table headers count t =
     rw (directory-back t.exports, directory-back t.imports, directory-back t.relocations) refl
 
 -- ---- the sections
@@ -70,14 +80,39 @@ module _ (strict : Bool) (table : ℕ) (bytes : List ℕ) (p : ℕ) where
       (ap (λ (xs : List Section). Some xs) (sections_of_slice bytes p (suc n) (within n all read))
       ∙ sym (first (suc n) all read (suc n) (omega arith)) ∙ ap (option_map (map unnamed)) read)
 
+  -- all of them are there
+  pub whole : (n : ℕ) (all : List Section) → all_at value n ≡ Some all → (whole_sections n p).value bytes ≡ Some (map unnamed all)
+  whole zero all read = placed zero all read (min 0 ((length bytes - p) / 40)) (omega arith)
+  whole (suc n) all read =
+      let end = within n all read in
+      placed (suc n) all read (min (suc n) ((length bytes - p) / 40)) (omega (arith, end))
+
 -- ---- a header
+
+-- the sections of a header that is read as a whole are those that are there
+pub whole_part : (strict : Bool) (bytes : List ℕ) (h : PeHeader) (all : List Section) → (pe_header strict).value bytes ≡ Some h
+    → (sections_after strict h).value bytes ≡ Some all → sections_part.value bytes ≡ Some (map unnamed all)
+unfolding sections_after sections_at sections_part
+whole_part strict bytes h all header read =
+    rw (whole_placed strict bytes h header)
+    (whole strict (symbols_end h.coff_header) bytes (section_table_offset h) h.coff_header.number_of_sections all read)
+
+given_are : (r : Result SectionRecords ErrorOf) (bytes : List ℕ) (xs : List Section) → Reads recorded_sections r sections_part bytes → sections_part.value bytes ≡ Some xs
+    → sections_of r ≡ xs
+given_are (Ok records) bytes xs reads e = same_value (recorded_sections records) xs (sym reads ∙ e)
+given_are (Err error) bytes xs reads e = absurd (cc (reads.0, e))
+
+pub whole_given : (bytes : List ℕ) (parts : HeaderParts) → ArePartsOf bytes parts → AreOfLayout bytes parts
+whole_given bytes parts are strict h all header read =
+    given_are parts.section_records bytes (map unnamed all) are.section_records (whole_part strict bytes h all header read)
 
 pub leads_back : (h : PeHeader) → LeadsBack h
 unfolding sections_after sections_at
 leads_back h = record {
-  tables = said-back (section_table_offset h) h.coff_header.number_of_sections (places_in h.optional_header);
-  sections = λ strict bytes sections read opts.
+  tables = said-back (section_table_offset h) (size_of_headers h.optional_header) h.coff_header.number_of_sections (places_in h.optional_header);
+  sections = λ strict bytes sections read o.
       let n = h.coff_header.number_of_sections in
       let found = placed strict (symbols_end h.coff_header) bytes (section_table_offset h) n sections read n refl in
-      rw found (unnamed_map opts sections (places_in h.optional_header).file_alignment);
+      let alignment = (places_in h.optional_header).file_alignment in
+      rw found (unnamed_map_with (options_at o alignment) (front_of (view_of o) (size_of_headers h.optional_header)) sections alignment);
 }

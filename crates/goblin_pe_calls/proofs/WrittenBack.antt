@@ -7,6 +7,7 @@ use Rattle.goblin_base.proofs.Steps.{mapped, same_value, step}
 use Rattle.readings.specs.Reads.{each}
 use Rattle.goblin_pe_sect.specs.declared.data_directories.DataDirectory.{DataDirectory}
 use Rattle.goblin_pe_sect.specs.declared.options.ParseOptions.{ParseOptions}
+use Rattle.goblin_pe_sect.specs.declared.options.View.{View}
 use Rattle.goblin_pe_sect.specs.Options.{is_strict}
 use Rattle.goblin_pe_sect.specs.DirectoryReadings.{directories_at, directory_at, sixteen}
 use Rattle.goblin_pe_head.specs.declared.optional_header.OptionalHeader.{OptionalHeader}
@@ -14,7 +15,7 @@ use Rattle.goblin_pe_head.specs.HeaderLaws.{HeaderWritesBack}
 use Rattle.goblin_pe_head.specs.HeaderReadings.{fixed_fields, optional_at, optional_header, pe_header}
 use Rattle.goblin_pe_head.specs.PeHeader.{PeHeader, header_bytes, header_parts}
 use Rattle.goblin_pe_head.proofs.PeHeaderRoundTrip.{dos_of, header_back, parts_of}
-use Rattle.goblin_pe.specs.Whole.{TablePlaces, WholeFile, offset_by, places_in, sections_after, table_parts, whole_file, whole_of, whole_with}
+use Rattle.goblin_pe.specs.Whole.{TablePlaces, WholeFile, mapped_in, offset_by, places_in, sections_after, table_parts, whole_in, whole_of, whole_with}
 use Rattle.goblin_pe_records.specs.declared.file.PeFile.{PeFile}
 use Rattle.goblin_pe_records.specs.Directories.{directories_of, entry_record}
 use Rattle.goblin_pe_calls.specs.Files.{file_of}
@@ -100,15 +101,15 @@ without-rich : (h : PeHeader) → header_bytes Little (record h { rich_header = 
 unfolding header_bytes header_parts
 without-rich h = refl
 
-header-read : (opts : ParseOptions) (bytes : List ℕ) (w : WholeFile) → (whole_file opts).value bytes ≡ Some w
+header-read : (view : View) (opts : ParseOptions) (bytes : List ℕ) (w : WholeFile) → (whole_in view opts).value bytes ≡ Some w
     → (pe_header (is_strict opts.parse_mode)).value bytes ≡ Some w.header
-unfolding whole_file whole_with
-header-read opts bytes w e =
+unfolding whole_in whole_with
+header-read view opts bytes w e =
     let strict = is_strict opts.parse_mode in
     let header = step ((pe_header strict).value bytes) _ w e in
     let sections = step ((sections_after strict header.value).value bytes) _ w header.then in
     let places : TablePlaces = places_in header.value.optional_header in
-    let tables = mapped ((table_parts opts (offset_by opts sections.value places) places).value bytes) (whole_of header.value sections.value) w sections.then in
+    let tables = mapped ((table_parts opts (offset_by opts (mapped_in view header.value sections.value) places) places).value bytes) (whole_of header.value sections.value) w sections.then in
     subst (λ (x : WholeFile). (pe_header strict).value bytes ≡ Some x.header) tables.made header.is
 
 -- the records of a header that strict mode read say the same header
@@ -126,7 +127,7 @@ said-back bytes w e =
 
 pub opened_back : OpenedWritesBack
 unfolding OpenedWritesBack HeaderWritesBack
-opened_back opts bytes w fits strict read =
+opened_back view opts bytes w fits strict read =
     let e : (pe_header true).value bytes ≡ Some w.header =
-    subst (λ (mode : Bool). (pe_header mode).value bytes ≡ Some w.header) strict (header-read opts bytes w read) in
+    subst (λ (mode : Bool). (pe_header mode).value bytes ≡ Some w.header) strict (header-read view opts bytes w read) in
     ap (header_bytes Little) (said-back bytes w e) ∙ without-rich w.header ∙ (header_back bytes w.header fits e).1

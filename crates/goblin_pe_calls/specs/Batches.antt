@@ -1,12 +1,11 @@
 -- Batches: as many records of what comes from a position on as there is room for.
 use Rattle.std.specs.Prelude.{◌≡◌, ◌≢◌, ◌⊎◌, ℕ, zero, suc, ◌<◌, ◌≤◌, ⊤, true, if◌then◌else◌, List}
 use Rattle.std.specs.Prelude.{[], ◌∷◌}
-use Rattle.std.specs.Prelude.{◌+◌, ◌++◌, map, drop, take, length, min, Option, Some, None}
+use Rattle.std.specs.Prelude.{◌+◌, ◌++◌, map, drop, take, length, max, min, Option, Some, None}
 use Rattle.std.specs.Prelude.{Bool, is_some, option_map, Result, Ok, Err, IsSomeAnd, sum_by, unwrap_or}
 use Rattle.goblin_base.specs.declared.error.ErrorOf.{ErrorOf}
 use Rattle.goblin_base.specs.Answers.{FirstFault, IsMemory}
 use Rattle.goblin_base.specs.Reading.{IsRefused, Reading}
-use Rattle.goblin_pe_sect.specs.declared.options.ParseOptions.{ParseOptions}
 use Rattle.goblin_pe_sect.specs.BaseRelocations.{Block, block_items}
 use Rattle.goblin_pe_import.specs.ImportLookup.{entries_32, entries_64}
 use Rattle.goblin_pe_import.specs.declared.import.imports.ImportCursor.{ImportCursor}
@@ -19,7 +18,7 @@ use Rattle.goblin_pe.specs.LayoutCursors.{IsFileCursorCause, IsImportWalk, file_
 use Rattle.goblin_pe.specs.LayoutCursors.{file_ahead, file_cursor_ahead, import_begin}
 use Rattle.goblin_pe.specs.LeftOut.{amount_of}
 use Rattle.goblin_pe.specs.Reads.{given, pick}
-use Rattle.goblin_pe.specs.Layouts.{file_imports_left}
+use Rattle.goblin_pe.specs.Layouts.{address_part, file_imports_left}
 use Rattle.goblin_pe.specs.Whole.{TablePlaces, export_part, relocation_part}
 use Rattle.goblin_pe.specs.declared.whole.Part.{Part}
 use Rattle.goblin_pe.specs.declared.whole.Part.TheVariants.{Absent, Refused}
@@ -40,6 +39,7 @@ use Rattle.goblin_pe_records.specs.Filled.{Filled}
 use Rattle.goblin_pe_records.specs.Items.{values_of}
 use Rattle.goblin_pe_records.specs.Onward.{GivesOnward}
 use Rattle.goblin_pe_records.specs.declared.block.PeBlock.{PeBlock}
+use Rattle.goblin_pe_records.specs.declared.options.PeOptions.{PeOptions}
 use Rattle.goblin_pe_records.specs.declared.places.PePlaces.{PePlaces}
 
 -- ---- what a batch holds
@@ -226,19 +226,35 @@ exports_in m bytes x Absent = []
 exports_in m bytes x (part.Read read) = numbered_from (offset_of m) bytes read.0 x
 exports_in m bytes x Refused = []
 
+-- how many name pointers tables have
+abbrev pub pointers_in : Part (ExportTables × List ExportRow) → ℕ
+pointers_in Absent = 0
+pointers_in (part.Read read) = length read.0.export_name_pointer_table
+pointers_in Refused = 0
+
 abbrev pub ExportBatch : Type 0
 ExportBatch = Batch ℕ PeExport
 
--- The records hold the exports from the old position on, and from the new one on come the others.
--- Where there are none, the position stays.
+-- Of these that are left the records hold those that come first, and those come later that come from
+-- the new position on. If more would come, the steps have run out. A step looks at one of so many
+-- name pointers, from the old position up to the new one; without room none is looked at.
+pub record FillsExports (steps pointers : ℕ) (left later : List NumberedExport)
+    (old new : ExportBatch) (count : ℕ) : Type 0 where
+  pub batch : IsBatch export_view export_said (take count left) old.records new.records count
+  pub rest : later ≡ drop count left
+  pub whole : IsOutOfSteps steps new.position old.position
+      ⊎ (count ≡ min (length old.records) (length left))
+  pub further : old.position ≤ new.position
+  pub within : new.position ≤ max old.position pointers
+  pub looked : steps ≢ 0 → new.position ≤ old.position + steps
+  pub stays : length old.records ≡ 0 → new.position ≡ old.position
+
 abbrev pub GivesExports : MapOfAddresses → TablePlaces → List ℕ → ℕ → ExportBatch → ExportBatch → ℕ
     → Type 0
 GivesExports m places bytes steps old new count =
     IsSomeAnd ((export_part m.opts (offset_of m) places).value bytes) (λ p.
-    let left = exports_in m bytes old.position p in
-    IsBatch export_view export_said left old.records new.records count
-    × (exports_in m bytes new.position p ≡ drop count left)
-    × (count ≡ 0 → new.position ≡ old.position))
+    FillsExports steps (pointers_in p) (exports_in m bytes old.position p)
+    (exports_in m bytes new.position p) old new count)
 
 -- the export directory is refused
 abbrev pub IsExportsFault : MapOfAddresses → TablePlaces → List ℕ → ErrorOf → Type 0
@@ -246,29 +262,38 @@ IsExportsFault m places bytes e =
     let read = export_part m.opts (offset_of m) places in
     IsRefused read bytes e
 
--- why a batch of exports or of entries is refused, wherever it begins
+-- why a batch of exports is refused, wherever it begins
 abbrev pub IsExportBatchFault : {R : Type 0} → MapOfAddresses → TablePlaces → List ℕ → Batch ℕ R
     → ErrorOf → Type 0
 IsExportBatchFault m places bytes old e = IsExportsFault m places bytes e
 
 -- ---- what the export directory says
 
--- its record, zeros where the exports are not read
-abbrev pub directory_record_in : Part (ExportTables × List ExportRow) → DirectorySaid
+-- its record, zeros where it is not read; the names of exports have no say in that
+abbrev pub directory_record_in : Part ExportTables → DirectorySaid
 directory_record_in Absent = no_export_directory
-directory_record_in (part.Read read) = directory_said read.0
+directory_record_in (part.Read tables) = directory_said tables
 directory_record_in Refused = no_export_directory
 
 abbrev pub SaysDirectory : MapOfAddresses → TablePlaces → List ℕ → DirectorySaid → Type 0
 SaysDirectory m places bytes said =
-    IsSomeAnd ((export_part m.opts (offset_of m) places).value bytes) (λ p. said ≡ directory_record_in p)
+    IsSomeAnd ((address_part m.opts (offset_of m) places).value bytes) (λ p. said ≡ directory_record_in p)
+
+-- it is refused, for another reason than the number of its name pointers
+abbrev pub IsAddressesFault : MapOfAddresses → TablePlaces → List ℕ → ErrorOf → Type 0
+IsAddressesFault m places bytes e = IsRefused (address_part m.opts (offset_of m) places) bytes e
+
+-- why a batch of entries is refused, wherever it begins
+abbrev pub IsAddressBatchFault : {R : Type 0} → MapOfAddresses → TablePlaces → List ℕ → Batch ℕ R
+    → ErrorOf → Type 0
+IsAddressBatchFault m places bytes old e = IsAddressesFault m places bytes e
 
 -- ---- entries of the export address table
 
--- their records, none where the exports are not read
-abbrev pub addresses_in : Part (ExportTables × List ExportRow) → List PeExportAddress
+-- their records, none where the directory is not read
+abbrev pub addresses_in : Part ExportTables → List PeExportAddress
 addresses_in Absent = []
-addresses_in (part.Read read) = map address_said read.0.export_address_table
+addresses_in (part.Read tables) = map address_said tables.export_address_table
 addresses_in Refused = []
 
 abbrev pub AddressBatch : Type 0
@@ -278,7 +303,7 @@ AddressBatch = Batch ℕ PeExportAddress
 abbrev pub GivesAddresses : MapOfAddresses → TablePlaces → List ℕ → ℕ → AddressBatch → AddressBatch
     → ℕ → Type 0
 GivesAddresses m places bytes steps old new count =
-    IsSomeAnd ((export_part m.opts (offset_of m) places).value bytes) (λ p.
+    IsSomeAnd ((address_part m.opts (offset_of m) places).value bytes) (λ p.
     GivesOnward (addresses_in p) old.position old.records new.position new.records count)
 
 -- ---- blocks of base relocations
@@ -327,27 +352,27 @@ IsBlocksFault m places bytes old e =
 -- A call has given what comes next by these places; or the records of the sections are not there,
 -- or what comes next is refused, or memory for an index of many sections, and everything is
 -- unchanged.
-abbrev pub GivesBatch : ParseOptions → PePlaces → List ℕ
+abbrev pub GivesBatch : PeOptions → PePlaces → List ℕ
     → (MapOfAddresses → TablePlaces → Type 0)
     → (MapOfAddresses → TablePlaces → ErrorOf → Type 0) → Type 0 → Result Unit ErrorOf → Type 0
-GivesBatch opts p bytes Gives IsFault Left (Ok x) =
+GivesBatch o p bytes Gives IsFault Left (Ok x) =
     IsSomeAnd ((placed_sections p).value bytes)
-    (λ sections. Gives (map_at opts p sections) (places_said p))
-GivesBatch opts p bytes Gives IsFault Left (Err e) =
+    (λ sections. Gives (map_at o p sections) (places_said p))
+GivesBatch o p bytes Gives IsFault Left (Err e) =
     (¬ IsMemory e → FirstFault ((placed_sections p).value bytes) ((placed_sections p).IsCause bytes)
-    (λ sections. IsFault (map_at opts p sections) (places_said p)) e)
-    × (IsMemory e → TakesIndexAt opts p bytes)
+    (λ sections. IsFault (map_at o p sections) (places_said p)) e)
+    × (IsMemory e → TakesIndexAt o p bytes)
     × Left
 
 -- A call has given the records of a table that come next, so many, or is refused. As each record is
 -- a step, only the front of the records is filled where the steps are fewer.
-abbrev pub GivesRecords : {P R : Type 0} → ParseOptions → PePlaces → List ℕ
+abbrev pub GivesRecords : {P R : Type 0} → PeOptions → PePlaces → List ℕ
     → (MapOfAddresses → TablePlaces → List ℕ → ℕ → Batch P R → Batch P R → ℕ → Type 0)
     → (MapOfAddresses → TablePlaces → List ℕ → Batch P R → ErrorOf → Type 0)
     → ℕ → Batch P R → Batch P R → ℕ → ℕ → Result Unit ErrorOf → Type 0
-GivesRecords opts p bytes Gives IsFault steps old new before count result =
+GivesRecords o p bytes Gives IsFault steps old new before count result =
     let room = room_within steps (length old.records) in
-    GivesBatch opts p bytes
+    GivesBatch o p bytes
     (λ m places. Gives m places bytes steps (front room old) (front room new) count)
     (λ m places. IsFault m places bytes (front room old)) ((new ≡ old) × (count ≡ before)) result
     × (drop room new.records ≡ drop room old.records)

@@ -2,6 +2,7 @@
 use Rattle.std.specs.Prelude.{◌≡◌, ℕ, List, Option, None, Some}
 use Rattle.goblin_base.specs.declared.error.ErrorOf.{ErrorOf}
 use Rattle.goblin_pe_sect.specs.declared.options.ParseOptions.{ParseOptions}
+use Rattle.goblin_pe_sect.specs.declared.options.View.{View}
 use Rattle.goblin_pe_sect.specs.SectionTable.{Section}
 use Rattle.goblin_pe.specs.Damages.{IsDamaged}
 use Rattle.goblin_pe.specs.PeHeader.{PeHeader}
@@ -30,6 +31,7 @@ damage_record d = record {
 }
 
 -- the record tells the damage of a file with this header and these sections
-abbrev pub RecordsDamage : ParseOptions → PeHeader → List Section → List ℕ → PeDamage → Type 0
-RecordsDamage opts h sections bytes told =
-    (d : Damage) × IsDamaged opts h sections bytes d × (told ≡ damage_record d)
+abbrev pub RecordsDamage : View → ParseOptions → PeHeader → List Section → List ℕ → PeDamage
+    → Type 0
+RecordsDamage view opts h sections bytes told =
+    (d : Damage) × IsDamaged view opts h sections bytes d × (told ≡ damage_record d)

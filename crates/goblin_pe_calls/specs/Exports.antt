@@ -2,6 +2,7 @@
 use Rattle.std.specs.Prelude.{ℕ, Bool, List, [], Option, Some, None, Vec, map, unwrap_or, is_some}
 use Rattle.std.specs.Global.{Global}
 use Rattle.goblin_pe_sect.specs.declared.options.ParseOptions.{ParseOptions}
+use Rattle.goblin_pe_sect.specs.declared.options.View.{View}
 use Rattle.goblin_pe.specs.ExportRecords.{ExportTables}
 use Rattle.goblin_pe.specs.ExportWalks.{NumberedExport, numbered_from}
 use Rattle.goblin_pe.specs.Forwarders.{Forwarder}
@@ -9,7 +10,7 @@ use Rattle.goblin_pe.specs.Forwarders.Forwarder.{ByName, ByOrdinal}
 use Rattle.goblin_pe.specs.declared.whole.Part.{Part}
 use Rattle.goblin_pe.specs.declared.whole.Part.TheVariants.{Absent, Refused}
 use Rattle.goblin_pe.specs.declared.whole.Part.TheVariants as part
-use Rattle.goblin_pe.specs.Whole.{WholeFile, offset_by, part_map, places_in}
+use Rattle.goblin_pe.specs.Whole.{WholeFile, mapped_in, offset_by, part_map, places_in}
 use Rattle.goblin_pe_calls.specs.declared.export.ExportRecords.{ExportRecords}
 use Rattle.goblin_pe_calls.specs.declared.export.Forwards.{Forwards}
 use Rattle.goblin_pe_calls.specs.declared.export.Forwards.TheVariants as forwards
@@ -132,9 +133,9 @@ exports_said offset_of bytes (part.Read tables) =
 exports_said offset_of bytes Refused = unread_said Refused
 
 -- those of a file
-abbrev pub file_exports : ParseOptions → List ℕ → WholeFile → ExportsSaid
-file_exports opts bytes w =
-    exports_said (offset_by opts w.sections (places_in w.header.optional_header)) bytes
+abbrev pub file_exports : View → ParseOptions → List ℕ → WholeFile → ExportsSaid
+file_exports view opts bytes w =
+    exports_said (offset_by opts (mapped_in view w.header w.sections) (places_in w.header.optional_header)) bytes
     w.export_data
 
 -- what the records hold

@@ -1,9 +1,19 @@
 -- What a call reports of an image without its tables.
-use Rattle.std.specs.Prelude.{◌≡◌, ℕ, List, length, map}
+use Rattle.std.specs.Prelude.{◌≡◌, ℕ, Bool, if◌then◌else◌, List, length, map}
+use Rattle.std.specs.Option.{is_some}
+use Rattle.goblin_base.specs.Reading.{Reading}
+use Rattle.readings.specs.Reads.{◌>>=◌, mapped, pick}
+use Rattle.goblin_pe_sect.specs.declared.options.ParseOptions.{ParseOptions}
+use Rattle.goblin_pe_sect.specs.Options.{is_strict}
 use Rattle.goblin_pe_sect.specs.SectionTable.{Section}
 use Rattle.goblin_pe_head.specs.declared.header.coff.CoffHeader.{CoffHeader}
 use Rattle.goblin_pe_head.specs.declared.header.dos.DosHeader.{DosHeader}
+use Rattle.goblin_pe_head.specs.HeaderParts.{unnamed_sections}
+use Rattle.goblin_pe_head.specs.HeaderReadings.{pe_header}
 use Rattle.goblin_pe_head.specs.PeHeader.{PeHeader}
+use Rattle.goblin_pe.specs.declared.whole.refused.RefusedPart.{RefusedPart}
+use Rattle.goblin_pe.specs.declared.whole.refused.RefusedPart.TheVariants as refused
+use Rattle.goblin_pe.specs.Whole.{layout, section_table_offset}
 use Rattle.goblin_pe_records.specs.declared.directory.PeDirectory.{PeDirectory}
 use Rattle.goblin_pe_records.specs.declared.headers.PeOptionalHeader.{PeOptionalHeader}
 use Rattle.goblin_pe_records.specs.declared.places.PePlaces.{PePlaces}
@@ -14,6 +24,25 @@ use Rattle.goblin_pe_records.specs.Headers.{optional_record}
 use Rattle.goblin_pe_records.specs.Sections.{section_said}
 use Rattle.goblin_pe_calls.specs.declared.layout.PeLayout.{PeLayout}
 use Rattle.goblin_pe_calls.specs.Places.{places_record}
+
+-- the header and the sections, of which no name is tested or looked up
+unfoldable pub raw_layout : ParseOptions → Reading (PeHeader × List Section)
+raw_layout opts =
+    pe_header (is_strict opts.parse_mode)
+    >>= λ h. mapped (λ sections. (h, sections))
+    (unnamed_sections h.coff_header.number_of_sections (section_table_offset h))
+
+-- the header and the sections, with their raw names where these are asked for
+abbrev pub layout_as : Bool → ParseOptions → Reading (PeHeader × List Section)
+layout_as has_raw_names opts = pick has_raw_names (raw_layout opts) (layout opts)
+
+-- the part for which such a layout is refused: the header, where that cannot be read, else the
+-- sections
+abbrev pub layout_part : ParseOptions → List ℕ → RefusedPart
+layout_part opts bytes =
+    if is_some ((pe_header (is_strict opts.parse_mode)).value bytes)
+    then refused.Sections
+    else refused.Header
 
 -- an image as a whole: its header, by how many directories and sections it has
 pub record LayoutSaid : Type 0 where

@@ -2,6 +2,7 @@
 use Rattle.std.specs.Prelude.{ℕ, ◌+◌, ◌<◌, ◌⊎◌, List, [], IsSome}
 use Rattle.std.specs.Prelude.{IsSomeAnd, MatchOption, length}
 use Rattle.goblin_pe_sect.specs.declared.options.ParseOptions.{ParseOptions}
+use Rattle.goblin_pe_sect.specs.declared.options.View.{View}
 use Rattle.goblin_pe.specs.Addresses.{MapOfAddresses, map_by, offset_of}
 use Rattle.goblin_pe.specs.declared.whole.Part.{Part}
 use Rattle.goblin_pe.specs.LayoutCursors.{file_cursor_left, import_begin}
@@ -9,7 +10,7 @@ use Rattle.goblin_pe.specs.ExportRecords.{ExportRow, ExportTables}
 use Rattle.goblin_pe.specs.PeHeader.{PeHeader}
 use Rattle.goblin_pe_head.specs.SectionRoom.{HasRoom}
 use Rattle.goblin_pe.specs.Whole.{TableParts, TablePlaces, WholeFile, both_import_parts}
-use Rattle.goblin_pe.specs.Whole.{export_part, part_map, places_in, whole_file}
+use Rattle.goblin_pe.specs.Whole.{export_part, mapped_in, part_map, places_in, whole_in}
 use Rattle.goblin_pe_calls.specs.Blocks.{blocks_in}
 use Rattle.goblin_pe_calls.specs.Files.{entries_of}
 use Rattle.goblin_pe_records.specs.RichHeaders.{entries_of_rich}
@@ -59,16 +60,16 @@ TablesBegin m places bytes =
     × IsSomeAnd ((export_part m.opts (offset_of m) places).value bytes) HasExports)
 
 -- a file with this header has sections, or its tables begin without any
-abbrev pub FileBegins : ParseOptions → List ℕ → PeHeader → Type 0
-FileBegins opts bytes h =
+abbrev pub FileBegins : View → ParseOptions → List ℕ → PeHeader → Type 0
+FileBegins view opts bytes h =
     let places = places_in h.optional_header in
     (0 < h.coff_header.number_of_sections)
-    ⊎ TablesBegin (map_by opts [] places.file_alignment) places bytes
+    ⊎ TablesBegin (map_by opts (mapped_in view h []) places.file_alignment) places bytes
 
 -- Memory is taken for a file with this header: it has room for as many sections as that says; and
 -- if the file can be read, records of it are kept, and else something of it came before the
 -- refusal.
-abbrev pub TakesRecords : ParseOptions → List ℕ → PeHeader → Type 0
-TakesRecords opts bytes h =
+abbrev pub TakesRecords : View → ParseOptions → List ℕ → PeHeader → Type 0
+TakesRecords view opts bytes h =
     HasRoom bytes h
-    × MatchOption ((whole_file opts).value bytes) (FileBegins opts bytes h) HasRecords
+    × MatchOption ((whole_in view opts).value bytes) (FileBegins view opts bytes h) HasRecords

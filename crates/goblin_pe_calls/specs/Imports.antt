@@ -11,8 +11,9 @@ use Rattle.goblin_pe_import.specs.StepsAhead.{imports_ahead}
 use Rattle.goblin_pe_import.specs.declared.import.imports.Imports.{Imports}
 use Rattle.goblin_pe_import.specs.Imports.{NumberedImport}
 use Rattle.goblin_pe_sect.specs.declared.options.ParseOptions.{ParseOptions}
+use Rattle.goblin_pe_sect.specs.declared.options.View.{View}
 use Rattle.goblin_pe.specs.declared.whole.Part.{Part}
-use Rattle.goblin_pe.specs.Whole.{TablePlaces, WholeFile, listed_in, offset_by, part_map, places_in}
+use Rattle.goblin_pe.specs.Whole.{TablePlaces, WholeFile, listed_in, mapped_in, offset_by, part_map, places_in}
 use Rattle.goblin_pe_calls.specs.declared.import.PeImport.{PeImport}
 
 -- a record of an import, its slices as lists
@@ -48,10 +49,10 @@ imports_said opts offset_of places bytes =
     part_map (map import_said) (listed_in opts offset_of places bytes)
 
 -- those of a file
-abbrev pub file_imports : ParseOptions → List ℕ → WholeFile → Part (List ImportSaid)
-file_imports opts bytes w =
+abbrev pub file_imports : View → ParseOptions → List ℕ → WholeFile → Part (List ImportSaid)
+file_imports view opts bytes w =
     let places = places_in w.header.optional_header in
-    imports_said opts (offset_by opts w.sections places) places bytes
+    imports_said opts (offset_by opts (mapped_in view w.header w.sections) places) places bytes
 
 -- what a record holds
 abbrev pub import_view : PeImport → ImportSaid

@@ -13,5 +13,6 @@ pub mod Growth
 pub mod Imports
 pub mod Libraries
 pub mod Opened
+pub mod Parts
 pub mod Places
 pub mod Written

@@ -5,6 +5,7 @@ use Rattle.goblin_base.specs.Footprints.{Agree, led_to}
 use Rattle.goblin_base.specs.Reading.{Reading}
 use Rattle.goblin_base.proofs.Footprints.{agree-left}
 use Rattle.goblin_pe_sect.specs.declared.options.ParseOptions.{ParseOptions}
+use Rattle.goblin_pe_sect.specs.declared.options.View.{View}
 use Rattle.goblin_pe_sect.specs.Options.{is_strict}
 use Rattle.goblin_pe_sect.specs.SectionTable.{unnamed}
 use Rattle.goblin_pe_head.specs.HeaderReadings.{pe_header}
@@ -16,7 +17,7 @@ use Rattle.goblin_pe.specs.declared.whole.Part.TheVariants.{Absent, Refused}
 use Rattle.goblin_pe.specs.declared.whole.Part.TheVariants as part
 use Rattle.goblin_pe.specs.Layouts.{layout_sections}
 use Rattle.goblin_pe.specs.Whole.{CollectedFileValue, CollectedParts, WholeFile, collected_file}
-use Rattle.goblin_pe.specs.Whole.{offset_by, part_map, places_in, whole_after, whole_file}
+use Rattle.goblin_pe.specs.Whole.{mapped_in, offset_by, part_map, places_in, whole_after, whole_in}
 use Rattle.goblin_pe.proofs.NumberedFootprints.{same-listed, same-numbered}
 use Rattle.goblin_pe.specs.declared.whole.layout.Layout.{Layout}
 use Rattle.goblin_pe.specs.BaseRelocations.{relocation_bytes}
@@ -34,7 +35,7 @@ use Rattle.goblin_pe_calls.specs.Exports.{ExportsSaid, export_view, exports_said
 use Rattle.goblin_pe_calls.specs.Exports.{file_exports, read_said}
 use Rattle.goblin_pe_calls.specs.Files.{entries_of, file_of}
 use Rattle.goblin_pe_records.specs.Filled.{Filled, without_text}
-use Rattle.goblin_pe_records.specs.Options.{alignment_in, alignment_of, options_at, options_in}
+use Rattle.goblin_pe_records.specs.Options.{alignment_in, alignment_of, options_at, options_in, view_of}
 use Rattle.goblin_pe_records.specs.declared.options.PeOptions.{PeOptions}
 use Rattle.goblin_pe_calls.specs.Imports.{ImportSaid, file_imports, import_said, import_view}
 use Rattle.goblin_pe_calls.specs.Imports.{import_views}
@@ -72,32 +73,32 @@ pub record OpenedFile : Type 0 where
   pub imports : Part (List ImportSaid)
   pub exports : ExportsSaid
 
-abbrev pub opened_of : ParseOptions → List ℕ → WholeFile → OpenedFile
-opened_of opts bytes w = record {
+abbrev pub opened_of : View → ParseOptions → List ℕ → WholeFile → OpenedFile
+opened_of view opts bytes w = record {
   whole = w;
-  imports = file_imports opts bytes w;
-  exports = file_exports opts bytes w;
+  imports = file_imports view opts bytes w;
+  exports = file_exports view opts bytes w;
 }
 
 -- what is opened reaches what the file does
-abbrev pub opened_file : ParseOptions → Reading OpenedFile
-opened_file opts =
-    let whole = whole_file opts in
+abbrev pub opened_file : View → ParseOptions → Reading OpenedFile
+opened_file view opts =
+    let whole = whole_in view opts in
     record {
-      value = λ bytes. option_map (opened_of opts bytes) (whole.value bytes);
+      value = λ bytes. option_map (opened_of view opts bytes) (whole.value bytes);
       IsCause = whole.IsCause;
       reaches = whole.reaches;
       is_local = λ a b agree.
-          made-same (whole.value a) (whole.value b) (opened_of opts a) (opened_of opts b)
+          made-same (whole.value a) (whole.value b) (opened_of view opts a) (opened_of view opts b)
           (whole.is_local a b agree)
           (λ w is.
-          let offset_of = offset_by opts w.sections (places_in w.header.optional_header) in
-          ap (λ (exports : ExportsSaid). record (opened_of opts a w) { exports = exports })
-          (said-same offset_of a b w.export_data (same-numbered opts a b w is agree))
+          let offset_of = offset_by opts (mapped_in view w.header w.sections) (places_in w.header.optional_header) in
+          ap (λ (exports : ExportsSaid). record (opened_of view opts a w) { exports = exports })
+          (said-same offset_of a b w.export_data (same-numbered view opts a b w is agree))
           ∙ ap
           (λ (list : Part (List NumberedImport)).
-          record (opened_of opts b w) { imports = part_map (map import_said) list })
-          (same-listed opts a b w is agree));
+          record (opened_of view opts b w) { imports = part_map (map import_said) list })
+          (same-listed view opts a b w is agree));
       is_inside = whole.is_inside;
       not_memory = whole.not_memory;
     }
@@ -106,26 +107,27 @@ opened_file opts =
 
 -- Files that agree on what a read of the first reaches have one header, so by one file alignment.
 pub same-options : (o : PeOptions) (a b : List ℕ)
-    → Agree ((whole_file (options_in o a)).reaches a) a b → options_in o a ≡ options_in o b
-unfolding whole_file alignment_in
+    → Agree ((whole_in (view_of o) (options_in o a)).reaches a) a b → options_in o a ≡ options_in o b
+unfolding whole_in alignment_in
 same-options o a b agree =
     let opts = options_in o a in
     let header = pe_header (is_strict opts.parse_mode) in
-    let later = led_to (header.value a) (λ h. (whole_after opts h).reaches a) in
+    let later = led_to (header.value a) (λ h. (whole_after (view_of o) opts h).reaches a) in
     ap (λ (h : Option PeHeader). options_at o (alignment_of h))
     (header.is_local a b (agree-left (header.reaches a) later a b agree))
 
--- what is opened by these options, of which the file's own alignment may decide one
+-- what is opened by these options, of which the file's own alignment may decide one, and in the view
+-- that they say
 abbrev pub opened_in : PeOptions → Reading OpenedFile
 opened_in o = record {
-  value = λ bytes. (opened_file (options_in o bytes)).value bytes;
-  IsCause = λ bytes. (opened_file (options_in o bytes)).IsCause bytes;
-  reaches = λ bytes. (opened_file (options_in o bytes)).reaches bytes;
+  value = λ bytes. (opened_file (view_of o) (options_in o bytes)).value bytes;
+  IsCause = λ bytes. (opened_file (view_of o) (options_in o bytes)).IsCause bytes;
+  reaches = λ bytes. (opened_file (view_of o) (options_in o bytes)).reaches bytes;
   is_local = λ a b agree.
-      (opened_file (options_in o a)).is_local a b agree
-      ∙ ap (λ (opts : ParseOptions). (opened_file opts).value b) (same-options o a b agree);
-  is_inside = λ bytes. (opened_file (options_in o bytes)).is_inside bytes;
-  not_memory = λ bytes. (opened_file (options_in o bytes)).not_memory bytes;
+      (opened_file (view_of o) (options_in o a)).is_local a b agree
+      ∙ ap (λ (opts : ParseOptions). (opened_file (view_of o) opts).value b) (same-options o a b agree);
+  is_inside = λ bytes. (opened_file (view_of o) (options_in o bytes)).is_inside bytes;
+  not_memory = λ bytes. (opened_file (view_of o) (options_in o bytes)).not_memory bytes;
 }
 
 -- ---- what a caller passes in to be filled
@@ -166,10 +168,10 @@ Opens read old new =
 abbrev pub RecordsOfFile : Type 0
 RecordsOfFile = CollectedFileValue (Part (List ImportSaid)) ExportsSaid
 
-abbrev pub records_of_file : ParseOptions → List ℕ → WholeFile → RecordsOfFile
-records_of_file opts bytes w =
-    let offset_of = offset_by opts w.sections (places_in w.header.optional_header) in
-    record (collected_file (λ _. file_imports opts bytes w) (exports_said offset_of bytes) w)
+abbrev pub records_of_file : View → ParseOptions → List ℕ → WholeFile → RecordsOfFile
+records_of_file view opts bytes w =
+    let offset_of = offset_by opts (mapped_in view w.header w.sections) (places_in w.header.optional_header) in
+    record (collected_file (λ _. file_imports view opts bytes w) (exports_said offset_of bytes) w)
     { sections = map unnamed w.sections }
 
 -- the tables as records

@@ -3,10 +3,11 @@ use Rattle.std.specs.Prelude.{◌≡◌, ◌++◌, List, ℕ, map, Some, take, t
 use Rattle.goblin_base.specs.declared.endian.Endian.TheVariants.{Little}
 use Rattle.goblin_base.specs.Bytes.{IsBytes}
 use Rattle.goblin_pe_sect.specs.declared.options.ParseOptions.{ParseOptions}
+use Rattle.goblin_pe_sect.specs.declared.options.View.{View}
 use Rattle.goblin_pe_sect.specs.Options.{is_strict}
 use Rattle.goblin_pe_head.specs.HeaderLaws.{filling_after, header_end}
 use Rattle.goblin_pe_head.specs.PeHeader.{header_bytes}
-use Rattle.goblin_pe.specs.Whole.{WholeFile, whole_file}
+use Rattle.goblin_pe.specs.Whole.{WholeFile, whole_in}
 use Rattle.goblin_pe_records.specs.Directories.{directories_of, entry_record}
 use Rattle.goblin_pe_records.specs.Written.{header_said}
 use Rattle.goblin_pe_calls.specs.Files.{file_of}
@@ -15,8 +16,8 @@ use Rattle.goblin_pe_calls.specs.Files.{file_of}
 -- end, with zeros for the missing directories after them.
 unfoldable pub OpenedWritesBack : Type 0
 OpenedWritesBack =
-    (opts : ParseOptions) (bytes : List ℕ) (w : WholeFile) → IsBytes bytes
-    → is_strict opts.parse_mode ≡ true → (whole_file opts).value bytes ≡ Some w
+    (view : View) (opts : ParseOptions) (bytes : List ℕ) (w : WholeFile) → IsBytes bytes
+    → is_strict opts.parse_mode ≡ true → (whole_in view opts).value bytes ≡ Some w
     → header_bytes Little
     (header_said (file_of w) (map entry_record (directories_of w.header.optional_header))
     w.header.dos_stub)

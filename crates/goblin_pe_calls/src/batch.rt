@@ -9,8 +9,8 @@ ghost use Rattle.goblin_pe.specs.Whole.{TablePlaces};
 ghost use Rattle.goblin_pe_calls.specs.Batches.{Batch, GivesRecords, front, room_within};
 
 use crate::places::layout_at;
-use goblin_pe::options::ParseOptions;
 use goblin_pe::{Layout, ResultOf};
+use goblin_pe_records::options::PeOptions;
 use goblin_pe_records::places::PePlaces;
 use std::alloc::Global;
 
@@ -110,7 +110,7 @@ fn next_within<'a, 'e, T: Batched<'a>>(
 pub fn give<'a, 'e, T: Batched<'a>>(
     alloc: Global,
     bytes: &'a [u8],
-    opts: &ParseOptions,
+    options: &PeOptions,
     places: &PePlaces,
     position: &mut T::Position,
     steps: usize,
@@ -125,10 +125,10 @@ pub fn give<'a, 'e, T: Batched<'a>>(
           position = position.new;
           records = records.new;
         } in
-        GivesRecords opts.now places.now bytes.now T.gives T.is_fault steps old new count.old
+        GivesRecords options.now places.now bytes.now T.gives T.is_fault steps old new count.old
         count.new result }
 {
-    let layout = layout_at(alloc, bytes, places, opts)?;
+    let layout = layout_at(alloc, bytes, places, options)?;
     *count = next_within(&layout, position, steps, records)?;
     Ok(())
 }

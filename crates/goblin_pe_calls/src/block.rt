@@ -63,18 +63,26 @@ fn fill_blocks<'a, 'e>(
     ensures refused { IfErr result (λ e. ¬ IsMemory e) }
 {
     let mut count = 0;
+    let mut offset = *position; // (a place behind a pointer is stored for each block)
     'items: while count < records.len() {
-        match relocations.block_at(*position) {
+        match relocations.block_at(offset) {
             Some(Ok(block)) => {
                 records[count] = block_record(&block);
-                *position += block.size as usize;
+                offset += block.size as usize;
                 count += 1;
             }
             Some(Err(error)) if count == 0 => return Err(error),
-            Some(Err(_)) => return Ok(count),
-            None => return Ok(count),
+            Some(Err(_)) => {
+                *position = offset;
+                return Ok(count);
+            }
+            None => {
+                *position = offset;
+                return Ok(count);
+            }
         }
     }
+    *position = offset;
     Ok(count)
 }
 

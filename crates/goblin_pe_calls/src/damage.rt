@@ -3,14 +3,12 @@
 ghost use Rattle.std.specs.Prelude.{◌≡◌};
 ghost use Rattle.goblin_pe_sect.specs.Options.{is_strict};
 ghost use Rattle.goblin_pe_head.specs.HeaderReadings.{pe_header};
-ghost use Rattle.goblin_pe.specs.Reads.{given};
-ghost use Rattle.goblin_pe.specs.RefusedParts.{refused_number, refused_part};
 ghost use Rattle.goblin_pe.specs.Whole.{layout};
 ghost use Rattle.goblin_pe_records.specs.Calls.{ReadsInto};
 ghost use Rattle.goblin_pe.specs.TakenMemory.{TakesIndex};
 ghost use Rattle.goblin_pe_calls.specs.Damages.{RecordsDamage, damage_record, part_fault};
 
-use goblin_pe::options::ParseOptions;
+use goblin_pe::options::{ParseOptions, View};
 use goblin_pe::{Damage, Error, Result, Whole};
 use goblin_pe_records::fault::{PeFault, fault_of, no_fault};
 use std::alloc::Global;
@@ -78,28 +76,19 @@ fn damage_record(damage: &Damage) -> PeDamage
 ///
 /// # Errors
 /// What these options refuse of the header or the sections, and memory; nothing is then changed.
-pub fn tell(alloc: Global, bytes: &[u8], opts: &ParseOptions, damage: &mut PeDamage) -> Result<()>
+pub fn tell(
+    alloc: Global,
+    bytes: &[u8],
+    view: View,
+    opts: &ParseOptions,
+    damage: &mut PeDamage,
+) -> Result<()>
     ensures { ReadsInto (pe_header (is_strict opts.now.parse_mode)) (TakesIndex opts.now bytes.now)
         (layout opts.now) bytes.now
-        (λ l. RecordsDamage opts.now l.0 l.1 bytes.now damage.new)
+        (λ l. RecordsDamage view opts.now l.0 l.1 bytes.now damage.new)
         (damage.new ≡ damage.old) result }
 {
-    let told = Whole::damage(alloc, bytes, opts)?;
+    let told = Whole::damage_in(alloc, bytes, view, opts)?;
     *damage = damage_record(&told);
-    Ok(())
-}
-
-/// Puts into `part` the number of the part for which these options refuse a file: the first that
-/// cannot be read. It is 0 where the file is read.
-///
-/// # Errors
-/// Memory; nothing is then changed.
-pub fn tell_refused(alloc: Global, bytes: &[u8], opts: &ParseOptions, part: &mut u32) -> Result<()>
-    ensures { ReadsInto (pe_header (is_strict opts.now.parse_mode)) (TakesIndex opts.now bytes.now)
-        (given (refused_part opts.now bytes.now)) bytes.now
-        (λ p. part.new ≡ refused_number p) (part.new ≡ part.old) result }
-{
-    let refused = Whole::refused_part(alloc, bytes, opts)?;
-    *part = refused as u32;
     Ok(())
 }

@@ -1,7 +1,7 @@
 //! The records of exports.
 
 ghost use Rattle.std.specs.Prelude.{◌≡◌, ◌≤◌, ◌<◌, ◌+◌, ◌++◌, ◌∷◌, [], IfErr, IfOk, IfSome, OnErr};
-ghost use Rattle.std.specs.Prelude.{OnOk, ◌/◌, IsSomeAnd, None, Some, length, map, max};
+ghost use Rattle.std.specs.Prelude.{OnOk, IsSomeAnd, None, Some, length, map};
 ghost use Rattle.std.specs.Prelude.{vec_capacity, vec_len};
 ghost use Rattle.goblin_base.specs.Answers.{GivesOrMemory, IsMemory};
 ghost use Rattle.goblin_base.specs.Reading.{ReadsOrMemory};
@@ -12,7 +12,7 @@ ghost use Rattle.goblin_pe_export.specs.Forwarders.{forwarder_value};
 ghost use Rattle.goblin_pe.specs.Callers.{layout_table};
 ghost use Rattle.goblin_pe.specs.Layouts.{layout_bytes, layout_map};
 ghost use Rattle.goblin_pe.specs.Whole.{collected_exports, export_part, part_map};
-ghost use Rattle.goblin_pe_records.specs.Blocked.{HasLittleRoom};
+ghost use Rattle.goblin_pe_records.specs.Blocked.{HasLittleRoom, more_room};
 ghost use Rattle.goblin_pe_calls.specs.Blocked.{HasLittleRoomIn, HaveLittleRoom};
 ghost use Rattle.goblin_pe_calls.specs.Exports.{export_said, export_view, export_views};
 ghost use Rattle.goblin_pe_calls.specs.Exports.{exports_said, exports_view, read_said};
@@ -203,7 +203,8 @@ fn push_export<'a>(
         (map export_view records.old.items ++ made) }
     ensures room { OnOk result (HasLittleRoom records.old → HasLittleRoom records.new) }
     ensures more { OnOk result (vec_capacity records.old ≡ vec_len records.old
-        → vec_capacity records.new ≡ vec_len records.old + max expected (vec_len records.old / 2)) }
+        → vec_capacity records.new
+        ≡ vec_len records.old + more_room expected (vec_len records.old)) }
     ensures same { OnOk result (vec_len records.old < vec_capacity records.old
         → vec_capacity records.new ≡ vec_capacity records.old) }
 {

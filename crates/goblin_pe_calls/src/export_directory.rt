@@ -7,7 +7,7 @@ ghost use Rattle.goblin_base.specs.Answers.{GivesOrMemory};
 ghost use Rattle.goblin_pe_export.specs.ExportWalks.{walked_tables};
 ghost use Rattle.goblin_pe.specs.Layouts.{layout_bytes, layout_map, layout_places};
 ghost use Rattle.goblin_pe_calls.specs.Batches.{GivesAddresses, GivesBatch};
-ghost use Rattle.goblin_pe_calls.specs.Batches.{IsExportBatchFault, IsExportsFault, SaysDirectory};
+ghost use Rattle.goblin_pe_calls.specs.Batches.{IsAddressBatchFault, IsAddressesFault, SaysDirectory};
 ghost use Rattle.goblin_pe_records.specs.Blocked.{HasNoSpareRoom};
 ghost use Rattle.goblin_pe_records.specs.Onward.{GivesOnward};
 ghost use Rattle.goblin_pe_calls.specs.ExportDirectories.{address_said, directory_said};
@@ -16,9 +16,9 @@ ghost use Rattle.goblin_pe_calls.specs.ExportDirectories.{directory_view, no_exp
 use crate::batch::Batched;
 use crate::places::layout_at;
 use goblin_pe::export::{ExportAddressTableEntry, ExportDirectoryTable, Exports};
-use goblin_pe::options::ParseOptions;
 use goblin_pe::{Layout, Part, Result, ResultOf};
 use goblin_pe_records::onward::fill_onward;
+use goblin_pe_records::options::PeOptions;
 use goblin_pe_records::places::PePlaces;
 use std::alloc::Global;
 
@@ -34,7 +34,7 @@ pub struct PeExportAddress {
     pub forwards: bool,
 }
 
-/// What the export directory says of the library; zeros where the exports are not read.
+/// What the export directory says of the library; zeros where it is not read.
 #[repr(C)]
 #[derive(Copy, Clone)]
 pub struct PeExportDirectory<'a> {
@@ -44,7 +44,8 @@ pub struct PeExportDirectory<'a> {
     pub table: ExportDirectoryTable,
     /// Whether there is a text at the name's address.
     pub has_name: bool,
-    /// Whether the exports are read.
+    /// Whether it is read: of a whole file with its exports; by itself also where these are refused
+    /// for the number of their name pointers alone.
     pub is_read: bool,
 }
 
@@ -116,32 +117,32 @@ fn directory_of<'a>(layout: &Layout<'a>) -> Result<PeExportDirectory<'a>>
         let places = layout_places layout.now in
         let bytes = layout_bytes layout.now in
         MatchResult result (λ d. SaysDirectory m places bytes (directory_view d))
-        (λ e. IsExportsFault m places bytes e) }
+        (λ e. IsAddressesFault m places bytes e) }
 {
-    match layout.exports()? {
+    match layout.export_addresses()? {
         Part::Read(exports) => Ok(directory_record(layout.bytes(), &exports)),
         Part::Absent | Part::Refused => Ok(no_export_directory(layout.bytes())),
     }
 }
 
 /// Puts into `directory` what the export directory says of a file whose tables lie at these places;
-/// zeros where its exports are not read.
+/// zeros where it is not read. How many name pointers it counts does not matter.
 ///
 /// # Errors
 /// As [`layout_at`]; in strict mode the export directory. Nothing is then changed.
 pub fn give_directory<'a>(
     alloc: Global,
     bytes: &'a [u8],
-    opts: &ParseOptions,
+    options: &PeOptions,
     places: &PePlaces,
     directory: &mut PeExportDirectory<'a>,
 ) -> Result<()>
-    ensures { GivesBatch opts.now places.now bytes.now
+    ensures { GivesBatch options.now places.now bytes.now
         (λ m places. SaysDirectory m places bytes.now (directory_view directory.new))
-        (λ m places. IsExportsFault m places bytes.now)
+        (λ m places. IsAddressesFault m places bytes.now)
         (directory.new ≡ directory.old) result }
 {
-    let layout = layout_at(alloc, bytes, places, opts)?;
+    let layout = layout_at(alloc, bytes, places, options)?;
     *directory = directory_of(&layout)?;
     Ok(())
 }
@@ -175,7 +176,7 @@ impl<'a> Batched<'a> for PeExportAddress {
 
     ghost gives = { GivesAddresses };
 
-    ghost is_fault = { IsExportBatchFault };
+    ghost is_fault = { IsAddressBatchFault };
 
     fn next<'e>(
         layout: &Layout<'a>,
@@ -183,7 +184,7 @@ impl<'a> Batched<'a> for PeExportAddress {
         _steps: usize,
         records: &mut [PeExportAddress],
     ) -> ResultOf<'e, usize> {
-        match layout.exports()? {
+        match layout.export_addresses()? {
             Part::Read(exports) => Ok(fill_addresses(&exports, position, records)),
             Part::Absent | Part::Refused => Ok(0),
         }

@@ -2,7 +2,7 @@
 
 ghost use Rattle.std.specs.Prelude.{◌≡◌, ◌<◌, ◌+◌, ◌++◌, ◌∷◌, [], IfErr, IfOk, IfSome, OnErr, OnOk};
 ghost use Rattle.std.specs.Prelude.{length, map};
-ghost use Rattle.std.specs.Prelude.{◌/◌, max, vec_capacity, vec_len};
+ghost use Rattle.std.specs.Prelude.{vec_capacity, vec_len};
 ghost use Rattle.std.specs.Prelude.{option_map};
 ghost use Rattle.goblin_base.specs.Answers.{AnswersOrMemory, GivesOrMemory, IsMemory, all_of};
 ghost use Rattle.goblin_base.specs.Reading.{ReadsOrMemory};
@@ -17,7 +17,7 @@ ghost use Rattle.goblin_pe.specs.LayoutCursors.{file_map};
 ghost use Rattle.goblin_pe.specs.Whole.{AreListed, both_import_parts, collected_imports};
 ghost use Rattle.goblin_pe.specs.Whole.{import_list};
 ghost use Rattle.goblin_pe.specs.Whole.{part_map};
-ghost use Rattle.goblin_pe_records.specs.Blocked.{HasLittleRoom};
+ghost use Rattle.goblin_pe_records.specs.Blocked.{HasLittleRoom, more_room};
 ghost use Rattle.goblin_pe_calls.specs.Blocked.{HasLittleRoomIn};
 ghost use Rattle.readings.specs.Walks.{IsBegun};
 ghost use Rattle.goblin_pe_calls.specs.Growth.{HasEntries, ImportsBegin};
@@ -109,8 +109,9 @@ pub fn put_import<'a>(place: &mut PeImport<'a>, bytes: &'a [u8], import: &Walked
     }
 }
 
-// For how many records room is made first.
-const FIRST_ROOM: usize = 4;
+// For how many records room is made first: 1,024 bytes, which an allocator has at hand. So a usual
+// file's table is seldom moved.
+const FIRST_ROOM: usize = 16;
 
 // Adds the record of an import, for which there is room.
 #[inline(always)]
@@ -145,7 +146,7 @@ fn push_import<'a, 'e>(
         (map import_view records.old.items ++ made) }
     ensures room { OnOk result (HasLittleRoom records.old → HasLittleRoom records.new) }
     ensures more { OnOk result (vec_capacity records.old ≡ vec_len records.old
-        → vec_capacity records.new ≡ vec_len records.old + max 4 (vec_len records.old / 2)) }
+        → vec_capacity records.new ≡ vec_len records.old + more_room 16 (vec_len records.old)) }
     ensures same { OnOk result (vec_len records.old < vec_capacity records.old
         → vec_capacity records.new ≡ vec_capacity records.old) }
 {

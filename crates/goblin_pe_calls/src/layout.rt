@@ -3,14 +3,14 @@
 ghost use Rattle.std.specs.Prelude.{◌≡◌};
 ghost use Rattle.goblin_pe_head.specs.PeHeader.{header_value};
 ghost use Rattle.goblin_pe.specs.Whole.{layout as file_layout};
-ghost use Rattle.goblin_pe_records.specs.Calls.{ReadsWithout};
+ghost use Rattle.goblin_pe_records.specs.Calls.{IsRefusedFor, ReadsWithout};
 ghost use Rattle.goblin_pe_calls.specs.FileLayouts.{LayoutRecords, SaysLayout, layout_said};
-ghost use Rattle.goblin_pe_calls.specs.FileLayouts.{layout_view};
+ghost use Rattle.goblin_pe_calls.specs.FileLayouts.{layout_as, layout_part, layout_view, raw_layout};
 
 use crate::places::places_record;
-use goblin_pe::header::{CoffHeader, DosHeader, Header};
+use goblin_pe::header::{CoffHeader, DosHeader, Header, unnamed_records};
 use goblin_pe::options::ParseOptions;
-use goblin_pe::{Result, section_records_of};
+use goblin_pe::{RefusedPart, Result, section_records_of, section_table_offset};
 use goblin_pe_records::directory::{PeDirectory, directories_of, fill_directories};
 use goblin_pe_records::headers::{PeOptionalHeader, fill_optional};
 use goblin_pe_records::places::PePlaces;
@@ -51,21 +51,17 @@ fn fill_layout<'a>(layout: &mut PeLayout<'a>, header: &Header<'a>, sections: usi
     layout.dos_stub = header.dos_stub.bytes;
 }
 
-/// Reads an image without its tables: says in `layout` what it is, and fills the records of its
-/// data directories and of its sections as far as there is room. It takes no memory: each name is
-/// where it lies in the file.
-///
-/// # Errors
-/// What these options refuse of the header and the sections; nothing is then changed.
+// Reads an image whose sections have their names from its string table.
 #[tactic(auto, unfolding(goblin_pe::specs::Whole::layout))]
-pub fn read<'a>(
+fn read_named<'a>(
     bytes: &'a [u8],
     opts: &ParseOptions,
     layout: &mut PeLayout<'a>,
     directories: &mut [PeDirectory],
     sections: &mut [PeSection<'a>],
+    part: &mut RefusedPart,
 ) -> Result<()>
-    ensures { let old : LayoutRecords = record {
+    ensures read { let old : LayoutRecords = record {
       layout = layout.old;
       directories = directories.old;
       sections = sections.old;
@@ -77,13 +73,89 @@ pub fn read<'a>(
         } in
         ReadsWithout (file_layout opts.now) bytes.now (λ l. SaysLayout l old new) (new ≡ old)
         result }
+    ensures part { IsRefusedFor (layout_part opts.now bytes.now) part.new result }
 {
     let mut header = Header::default();
+    *part = RefusedPart::Header;
     header.read_with_opts(bytes, opts)?;
+    *part = RefusedPart::Sections;
     let records = section_records_of(bytes, &header, opts)?;
     let strings = header.coff_header.symbols_end();
     fill_directories(directories, directories_of(&header.optional_header));
-    fill_sections(sections, bytes, records, None, strings, opts);
+    fill_sections(sections, bytes, records, None, Some(strings), opts);
     fill_layout(layout, &header, records.len());
     Ok(())
+}
+
+// Reads an image whose sections have their raw names.
+#[tactic(auto, unfolding(crate::specs::FileLayouts::raw_layout))]
+fn read_raw<'a>(
+    bytes: &'a [u8],
+    opts: &ParseOptions,
+    layout: &mut PeLayout<'a>,
+    directories: &mut [PeDirectory],
+    sections: &mut [PeSection<'a>],
+    part: &mut RefusedPart,
+) -> Result<()>
+    ensures read { let old : LayoutRecords = record {
+      layout = layout.old;
+      directories = directories.old;
+      sections = sections.old;
+    } in
+        let new : LayoutRecords = record {
+          layout = layout.new;
+          directories = directories.new;
+          sections = sections.new;
+        } in
+        ReadsWithout (raw_layout opts.now) bytes.now (λ l. SaysLayout l old new) (new ≡ old)
+        result }
+    ensures part { IsRefusedFor (layout_part opts.now bytes.now) part.new result }
+{
+    let mut header = Header::default();
+    *part = RefusedPart::Header;
+    header.read_with_opts(bytes, opts)?;
+    *part = RefusedPart::Sections;
+    let count = header.coff_header.number_of_sections;
+    let records = unnamed_records(bytes, section_table_offset(&header), count)?;
+    fill_directories(directories, directories_of(&header.optional_header));
+    fill_sections(sections, bytes, records, None, None, opts);
+    fill_layout(layout, &header, records.len());
+    Ok(())
+}
+
+/// Reads an image without its tables: says in `layout` what it is, and fills the records of its
+/// data directories and of its sections as far as there is room. It takes no memory: each name is
+/// where it lies in the file. With raw names no name is tested, and none looked up.
+///
+/// # Errors
+/// What these options refuse of the header and the sections; but for `part`, which becomes that one
+/// of the two, nothing is then changed.
+pub fn read<'a>(
+    bytes: &'a [u8],
+    opts: &ParseOptions,
+    has_raw_names: bool,
+    layout: &mut PeLayout<'a>,
+    directories: &mut [PeDirectory],
+    sections: &mut [PeSection<'a>],
+    part: &mut RefusedPart,
+) -> Result<()>
+    ensures read { let old : LayoutRecords = record {
+      layout = layout.old;
+      directories = directories.old;
+      sections = sections.old;
+    } in
+        let new : LayoutRecords = record {
+          layout = layout.new;
+          directories = directories.new;
+          sections = sections.new;
+        } in
+        ReadsWithout (layout_as has_raw_names opts.now) bytes.now (λ l. SaysLayout l old new) (new ≡ old)
+        result }
+    ensures part { IsRefusedFor (layout_part opts.now bytes.now) part.new result }
+{
+    if has_raw_names {
+        read_raw(bytes, opts, layout, directories, sections, part)
+    } else {
+        read_named(bytes, opts, layout, directories, sections, part)
+    }
 }

@@ -22,6 +22,7 @@ pub mod layout;
 pub mod library;
 pub mod next;
 pub mod open;
+pub mod parts;
 pub mod places;
 pub mod ranges;
 mod records;

@@ -1,12 +1,13 @@
 //! Imports and exports in batches.
 
-ghost use Rattle.std.specs.Prelude.{◌≡◌, ◌+◌, ◌<◌, ◌≤◌, IfErr, IfSome, MatchResult, drop, length};
+ghost use Rattle.std.specs.Prelude.{◌≡◌, ◌≢◌, ◌⊎◌, ◌+◌, ◌<◌, ◌≤◌, IfErr, IfSome, MatchResult, drop};
+ghost use Rattle.std.specs.Prelude.{◌-◌, length, max, min, take};
 ghost use Rattle.goblin_base.specs.Answers.{IsMemory};
 ghost use Rattle.goblin_base.specs.Reading.{Reads};
 ghost use Rattle.goblin_pe.specs.LayoutCursors.{file_ahead};
 ghost use Rattle.goblin_pe.specs.StepsAhead.{AreCounted};
-ghost use Rattle.goblin_pe_export.specs.ExportWalks.{KeepsOver, exports_at, exports_left};
-ghost use Rattle.goblin_pe_export.specs.ExportWalks.{exports_position};
+ghost use Rattle.goblin_pe_export.specs.ExportWalks.{KeepsOver, exports_left, exports_position};
+ghost use Rattle.goblin_pe_export.specs.ExportWalks.{pointer_count};
 ghost use Rattle.goblin_pe.specs.Layouts.{IsFileImportsCause, file_imports_left, layout_map};
 ghost use Rattle.goblin_pe.specs.Layouts.{layout_bytes, layout_places};
 ghost use Rattle.goblin_pe_calls.specs.Batches.{Fills, FillsImports, GivesExports, GivesImports};
@@ -275,26 +276,55 @@ impl<'a> Batched<'a> for PeImport<'a> {
     }
 }
 
-// Fills records with the exports that come next, as far as there is room, and answers how many.
-// Those that are plain come by a loop of their own, in which all goes in line.
+// The index of a name pointer, of so many, before which a batch ends that begins at a position.
+fn end_after(pointers: usize, position: usize, steps: usize) -> usize
+    ensures within { result ≤ pointers }
+    ensures limit { steps ≢ 0 → result ≤ position + steps }
+    ensures whole { (result ≡ pointers) ⊎ ((steps ≢ 0) × (result ≡ position + steps)) }
+{
+    if steps == 0 {
+        pointers
+    } else {
+        pointers.min(position.saturating_add(steps))
+    }
+}
+
+// How many name pointers before `end` are still to be looked at.
+fn pointers_before(end: usize, exports: &Exports) -> usize
+    ensures { result ≡ end - exports_position exports.now }
+{
+    end.saturating_sub(exports.position())
+}
+
+// Fills records with the exports that come next of the name pointers before `end`, as far as there
+// is room, and answers how many. Those that are plain come by a loop of their own, in which all goes
+// in line.
 fn fill_exports<'a, 'm>(
     bytes: &'a [u8],
     exports: &mut Exports<'a, 'm>,
+    end: usize,
     records: &mut [PeExport<'a>],
 ) -> usize
-    ensures filled { IsBatch export_view export_said (exports_left exports.old) records.old
-        records.new result }
+    ensures filled { IsBatch export_view export_said (take result (exports_left exports.old))
+        records.old records.new result }
     ensures later { exports_left exports.new ≡ drop result (exports_left exports.old) }
     ensures over { KeepsOver exports.old exports.new }
+    ensures further { exports_position exports.old ≤ exports_position exports.new }
+    ensures within { exports_position exports.new ≤ max (exports_position exports.old) end }
+    ensures whole { ((end < pointer_count exports.old) × (end ≤ exports_position exports.new))
+        ⊎ (result ≡ min (length records.old) (length (exports_left exports.old))) }
+    ensures stays { length records.old ≡ 0 → exports.new ≡ exports.old }
 {
     let mut count = 0;
     'exports: while count < records.len() {
-        let Some(export) = exports.next() else {
+        let Some(export) = exports.next_before(end) else {
             return count;
         };
         put_export(&mut records[count], bytes, &export);
         count += 1;
-        'plain: while count < records.len() {
+        let left = pointers_before(end, exports);
+        let stop = end_within(records.len(), count, &Some(left));
+        'plain: while count < stop {
             let Some(export) = exports.next_plain() else {
                 break;
             };
@@ -303,19 +333,6 @@ fn fill_exports<'a, 'm>(
         }
     }
     count
-}
-
-// A position from which the others come after so many exports; it stays where none came.
-fn position_after(position: usize, exports: &Exports, count: usize) -> usize
-    ensures stays { count ≡ 0 → result ≡ position }
-    ensures at { 0 < count → result ≡ exports_position exports.now }
-    ensures later { 0 < count → exports_left exports.now ≡ exports_at exports.now result }
-{
-    if count == 0 {
-        position
-    } else {
-        exports.position()
-    }
 }
 
 impl<'a> Batched<'a> for PeExport<'a> {
@@ -328,14 +345,15 @@ impl<'a> Batched<'a> for PeExport<'a> {
     fn next<'e>(
         layout: &Layout<'a>,
         position: &mut usize,
-        _steps: usize,
+        steps: usize,
         records: &mut [PeExport<'a>],
     ) -> ResultOf<'e, usize> {
         match layout.exports()? {
             Part::Read(exports) => {
                 let mut exports = exports.from_position(*position);
-                let count = fill_exports(layout.bytes(), &mut exports, records);
-                *position = position_after(*position, &exports, count);
+                let end = end_after(exports.pointer_count(), *position, steps);
+                let count = fill_exports(layout.bytes(), &mut exports, end, records);
+                *position = exports.position();
                 Ok(count)
             }
             Part::Absent | Part::Refused => Ok(0),

@@ -6,12 +6,13 @@ ghost use Rattle.goblin_base.specs.Answers.{IsMemory};
 ghost use Rattle.goblin_pe_sect.specs.Options.{is_strict};
 ghost use Rattle.goblin_pe_head.specs.HeaderReadings.{pe_header};
 ghost use Rattle.goblin_pe_head.specs.PeHeader.{header_value};
-ghost use Rattle.goblin_pe.specs.Whole.{WholeFile, part_map, whole_file};
+ghost use Rattle.goblin_pe.specs.RefusedParts.{refused_part};
+ghost use Rattle.goblin_pe.specs.Whole.{WholeFile, part_map, whole_in};
 ghost use Rattle.goblin_pe_records.specs.Blocks.{block_view};
 ghost use Rattle.goblin_pe_calls.specs.Blocks.{base_relocations_of, blocks_in};
 ghost use Rattle.goblin_pe_records.specs.Blocked.{HasLittleRoom, HasNoSpareRoom};
 ghost use Rattle.goblin_pe_calls.specs.Blocked.{HasLittleRoomIn, HaveLittleRoom};
-ghost use Rattle.goblin_pe_records.specs.Calls.{ReadsInto};
+ghost use Rattle.goblin_pe_records.specs.Calls.{IsRefusedFor, ReadsInto};
 ghost use Rattle.goblin_pe_calls.specs.Exports.{export_view, export_views, exports_view};
 ghost use Rattle.goblin_pe_calls.specs.Files.{entries_of};
 ghost use Rattle.goblin_pe_records.specs.Filled.{without_text};
@@ -29,8 +30,8 @@ use crate::import::PeImport;
 use crate::records::{FileRecords, file_records};
 use crate::whole_file::fill_file;
 use goblin_pe::header::{Header, RichMetadata};
-use goblin_pe::options::ParseOptions;
-use goblin_pe::{Layout, Part, Result};
+use goblin_pe::options::{ParseOptions, View};
+use goblin_pe::{Layout, Part, RefusedPart, Result};
 use goblin_pe_records::block::{PeBaseRelocations, PeBlock};
 use goblin_pe_records::directory::{PeDirectory, directories_of, fill_directories};
 use goblin_pe_records::file::PeFile;
@@ -80,10 +81,11 @@ fn made_of<'a>(
     layout: &Layout<'a>,
     records: &FileRecords<'a>,
     bytes: &'a [u8],
+    view: View,
     opts: &ParseOptions,
 ) -> Result<Made<'a>>
-    requires { let records_of = records_of_file opts.now bytes.now in
-        option_map records_of ((whole_file opts.now).value bytes.now)
+    requires { let records_of = records_of_file view opts.now bytes.now in
+        option_map records_of ((whole_in view opts.now).value bytes.now)
         ≡ Some (records_view header.now layout.now records.now) }
     ensures refused { IfErr result IsMemory }
     ensures rich_header { let v = records_view header.now layout.now records.now in
@@ -92,7 +94,7 @@ fn made_of<'a>(
         IfOk result (λ m. m.relocations ≡ base_relocations_of v.relocations) }
     ensures rich_entries { let v = records_view header.now layout.now records.now in
         IfOk result (λ m. m.rich_entries.items ≡ entries_of_rich v.header.rich_header) }
-    ensures sections { (w : WholeFile) → (whole_file opts.now).value bytes.now ≡ Some w
+    ensures sections { (w : WholeFile) → (whole_in view opts.now).value bytes.now ≡ Some w
         → IfOk result (λ m. map section_said m.sections.items ≡ map without_text w.sections) }
     ensures blocks { let v = records_view header.now layout.now records.now in
         IfOk result (λ m. map block_view m.blocks.items ≡ blocks_in v.relocations) }
@@ -173,27 +175,32 @@ fn handed_over<'a>(
 
 // As `open`, of a file whose header was read.
 #[inline(always)]
+#[tactic(auto, unfolding(goblin_pe::specs::RefusedParts::refused_part))]
 fn open_by<'a>(
     alloc: Global,
     bytes: &'a [u8],
+    view: View,
     opts: &ParseOptions,
     header: &Header<'a>,
     file: &mut PeFile,
     directories: &mut [PeDirectory],
     tables: &mut PeTables<'a>,
+    part: &mut RefusedPart,
 ) -> Result<()>
     requires { (pe_header (is_strict opts.now.parse_mode)).value bytes.now
         ≡ Some (header_value header.now) }
-    ensures { let old : Opened =
+    ensures opened { let old : Opened =
         record { file = file.old; directories = directories.old; tables = tables.old } in
         let new : Opened =
         record { file = file.new; directories = directories.new; tables = tables.new } in
-        ReadsInto (pe_header (is_strict opts.now.parse_mode)) (TakesRecords opts.now bytes.now)
-        (opened_file opts.now) bytes.now (λ read. Opens read old new) (new ≡ old) result }
+        ReadsInto (pe_header (is_strict opts.now.parse_mode)) (TakesRecords view opts.now bytes.now)
+        (opened_file view opts.now) bytes.now (λ read. Opens read old new) (new ≡ old) result }
+    ensures part { IsRefusedFor (refused_part view opts.now bytes.now) part.new result }
 {
-    let layout = Layout::of(alloc, bytes, header, opts)?;
-    let records = file_records(alloc, &layout)?;
-    let made = made_of(alloc, header, &layout, &records, bytes, opts)?;
+    *part = RefusedPart::Sections;
+    let layout = Layout::in_view(alloc, bytes, header, view, opts)?;
+    let records = file_records(alloc, &layout, part)?;
+    let made = made_of(alloc, header, &layout, &records, bytes, view, opts)?;
     fill_directories(directories, directories_of(&header.optional_header));
     fill_file(
         file,
@@ -208,28 +215,43 @@ fn open_by<'a>(
     Ok(())
 }
 
-/// Reads a whole file: says in `file` what it is, fills the records of its data directories as far
+/// Reads a whole file, whose addresses are mapped as the view says: says in `file` what it is, fills the records of its data directories as far
 /// as there is room, and puts its tables into `tables`, each a block of memory of its own.
 ///
 /// # Errors
-/// What these options refuse of the file, and memory; nothing is then changed, and no block is
-/// left.
+/// What these options refuse of the file, and memory; but for `part`, which becomes the part for
+/// which they refuse it, nothing is then changed, and no block is left.
+#[tactic(auto, unfolding(goblin_pe::specs::RefusedParts::refused_part))]
 pub fn open<'a>(
     alloc: Global,
     bytes: &'a [u8],
+    view: View,
     opts: &ParseOptions,
     file: &mut PeFile,
     directories: &mut [PeDirectory],
     tables: &mut PeTables<'a>,
+    part: &mut RefusedPart,
 ) -> Result<()>
-    ensures { let old : Opened =
+    ensures opened { let old : Opened =
         record { file = file.old; directories = directories.old; tables = tables.old } in
         let new : Opened =
         record { file = file.new; directories = directories.new; tables = tables.new } in
-        ReadsInto (pe_header (is_strict opts.now.parse_mode)) (TakesRecords opts.now bytes.now)
-        (opened_file opts.now) bytes.now (λ read. Opens read old new) (new ≡ old) result }
+        ReadsInto (pe_header (is_strict opts.now.parse_mode)) (TakesRecords view opts.now bytes.now)
+        (opened_file view opts.now) bytes.now (λ read. Opens read old new) (new ≡ old) result }
+    ensures part { IsRefusedFor (refused_part view opts.now bytes.now) part.new result }
 {
     let mut header = Header::default();
+    *part = RefusedPart::Header;
     header.read_with_opts(bytes, opts)?;
-    open_by(alloc, bytes, opts, &header, file, directories, tables)
+    open_by(
+        alloc,
+        bytes,
+        view,
+        opts,
+        &header,
+        file,
+        directories,
+        tables,
+        part,
+    )
 }

@@ -3,22 +3,53 @@
 
 ghost use Rattle.std.specs.Prelude.{◌≡◌, IfErr, IfOk};
 ghost use Rattle.goblin_base.specs.Answers.{IsMemory};
-ghost use Rattle.goblin_base.specs.Reading.{Reads, ReadsOrMemory};
-ghost use Rattle.goblin_pe_sect.specs.SectionTable.{recorded_sections};
+ghost use Rattle.goblin_base.specs.Reading.{ReadsOrMemory};
 ghost use Rattle.goblin_pe_head.specs.PeHeader.{header_value};
 ghost use Rattle.goblin_pe.specs.Layouts.{layout_bytes, layout_map, layout_places, layout_sections};
-ghost use Rattle.goblin_pe.specs.Whole.{table_places};
+ghost use Rattle.goblin_pe.specs.Whole.{places_in, size_of_headers, table_places};
 ghost use Rattle.goblin_pe_calls.specs.Places.{TakesIndexAt, directory_if, map_at, placed_sections};
-ghost use Rattle.goblin_pe_calls.specs.Places.{LeadsBack, places_record, places_said};
+ghost use Rattle.goblin_pe_calls.specs.Places.{LeadsBack, places_numbers, places_record};
+ghost use Rattle.goblin_pe_calls.specs.Places.{places_said};
 
+use goblin_pe::address_map::MappedRecords;
 use goblin_pe::data_directories::DataDirectory;
-use goblin_pe::header::Header;
-use goblin_pe::options::ParseOptions;
-use goblin_pe::read::pread_slice;
-use goblin_pe::section_table::{SIZEOF_SECTION_TABLE, SectionRecords};
-use goblin_pe::{Layout, Places, ResultOf, section_table_offset};
+use goblin_pe::header::{Header, section_records_at};
+use goblin_pe::optional_header::OptionalHeader;
+use goblin_pe::{Layout, Places, ResultOf, section_table_offset, size_of_headers};
+use goblin_pe_records::options::{PeOptions, options_at, view_of};
 use goblin_pe_records::places::PePlaces;
 use std::alloc::Global;
+
+/// Where so many sections and the tables of a file lie, by the offset of its section table and by
+/// its optional header.
+pub fn places_by(
+    section_table: usize,
+    number_of_sections: u16,
+    header: &Option<OptionalHeader>,
+) -> PePlaces
+    ensures { result
+        ≡ places_numbers section_table (size_of_headers header.now) number_of_sections
+        (places_in header.now) }
+{
+    let places = Places::of(header);
+    let none = DataDirectory {
+        virtual_address: 0,
+        size: 0,
+    };
+    PePlaces {
+        section_table,
+        exports: places.exports.unwrap_or(none),
+        imports: places.imports.unwrap_or(none),
+        relocations: places.relocations.unwrap_or(none),
+        file_alignment: places.file_alignment,
+        size_of_headers: size_of_headers(header),
+        number_of_sections,
+        magic: places.magic,
+        has_exports: places.exports.is_some(),
+        has_imports: places.imports.is_some(),
+        has_relocations: places.relocations.is_some(),
+    }
+}
 
 /// Where the sections and the tables of a file with this header lie. What is read by these places
 /// is read of that file.
@@ -26,23 +57,8 @@ pub fn places_record(header: &Header) -> PePlaces
     ensures made { result ≡ places_record (header_value header.now) }
     ensures back { LeadsBack (header_value header.now) }
 {
-    let places = Places::of(&header.optional_header);
-    let none = DataDirectory {
-        virtual_address: 0,
-        size: 0,
-    };
-    PePlaces {
-        section_table: section_table_offset(header),
-        exports: places.exports.unwrap_or(none),
-        imports: places.imports.unwrap_or(none),
-        relocations: places.relocations.unwrap_or(none),
-        file_alignment: places.file_alignment,
-        number_of_sections: header.coff_header.number_of_sections,
-        magic: places.magic,
-        has_exports: places.exports.is_some(),
-        has_imports: places.imports.is_some(),
-        has_relocations: places.relocations.is_some(),
-    }
+    let count = header.coff_header.number_of_sections;
+    places_by(section_table_offset(header), count, &header.optional_header)
 }
 
 // A directory, if there is one.
@@ -65,41 +81,32 @@ fn places_said(places: &PePlaces) -> Places
     }
 }
 
-// The records of the sections that stand where a record says.
-#[tactic(auto, using(goblin_pe_sect::proofs::SectionRecords::sections_none))]
-fn records_at<'a, 'e>(bytes: &'a [u8], places: &PePlaces) -> ResultOf<'e, SectionRecords<'a>>
-    ensures { Reads recorded_sections result (placed_sections places.now) bytes.now }
-{
-    if places.number_of_sections == 0 {
-        return Ok(SectionRecords::of(&[]));
-    }
-    let length = SIZEOF_SECTION_TABLE * places.number_of_sections as usize;
-    let records = pread_slice(bytes, places.section_table, length)?;
-    Ok(SectionRecords::of(records))
-}
-
-/// What all tables of a file are read by, where these and the sections lie as a record says,
-/// whatever the file's header says. Of the sections' records nothing is tested but that the file
-/// has them.
+/// What all tables of a file are read by, where these and the sections lie as a record says, and
+/// addresses are mapped as the options say, whatever the file's header says. Of the sections'
+/// records nothing is tested but that the file has them.
 ///
 /// # Errors
 /// [`Error::Read`](goblin_pe::Error::Read) where there are sections and the file is too short for
 /// their records; [`Error::Memory`](goblin_pe::Error::Memory) only of more than 96 sections, by
 /// whose windows addresses are mapped.
+#[inline(always)]
 pub fn layout_at<'a, 'e>(
     alloc: Global,
     bytes: &'a [u8],
     places: &PePlaces,
-    opts: &ParseOptions,
+    options: &PeOptions,
 ) -> ResultOf<'e, Layout<'a>>
     ensures value { ReadsOrMemory layout_sections result (placed_sections places.now) bytes.now }
     ensures over { IfOk result (λ l. layout_bytes l ≡ bytes.now) }
     ensures placed { IfOk result (λ l. layout_places l ≡ places_said places.now) }
     ensures mapped { IfOk result
-        (λ l. layout_map l ≡ map_at opts.now places.now (layout_sections l)) }
-    ensures grown { IfErr result (λ e. IsMemory e → TakesIndexAt opts.now places.now bytes.now) }
+        (λ l. layout_map l ≡ map_at options.now places.now (layout_sections l)) }
+    ensures grown { IfErr result (λ e. IsMemory e → TakesIndexAt options.now places.now bytes.now) }
 {
-    let records = records_at(bytes, places)?;
-    let layout = Layout::by(alloc, bytes, places_said(places), records, opts)?;
+    let records = section_records_at(bytes, places.section_table, places.number_of_sections)?;
+    let front = view_of(options).front(places.size_of_headers);
+    let mapped = MappedRecords { records, front };
+    let opts = options_at(options, places.file_alignment);
+    let layout = Layout::by(alloc, bytes, places_said(places), mapped, &opts)?;
     Ok(layout)
 }

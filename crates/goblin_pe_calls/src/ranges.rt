@@ -3,13 +3,13 @@
 ghost use Rattle.std.specs.Prelude.{◌≡◌, ◌<◌, IfErr, IfOk, OnErr, length, map};
 ghost use Rattle.goblin_base.specs.Answers.{IsMemory};
 ghost use Rattle.goblin_base.specs.Marks.{joined};
-ghost use Rattle.goblin_pe.specs.Whole.{whole_file};
+ghost use Rattle.goblin_pe.specs.Whole.{whole_in};
 ghost use Rattle.goblin_pe_records.specs.Blocked.{HasNoSpareRoom};
 ghost use Rattle.goblin_pe_calls.specs.Footprints.{Lists, range_record_of};
 ghost use Rattle.goblin_pe_calls.specs.Opened.{opened_file};
 
 use goblin_pe::laws::mark_whole;
-use goblin_pe::options::ParseOptions;
+use goblin_pe::options::{ParseOptions, View};
 use goblin_pe::{Result, ResultOf};
 use std::alloc::Global;
 
@@ -42,15 +42,20 @@ fn range_record(range: (usize, usize)) -> PeRange
 }
 
 // The records of the ranges on which a read of the whole file depends.
-fn range_records<'e>(alloc: Global, bytes: &[u8], opts: &ParseOptions) -> ResultOf<'e, Vec<PeRange>>
-    ensures listed { let footprint = (whole_file opts.now).reaches bytes.now in
+fn range_records<'e>(
+    alloc: Global,
+    bytes: &[u8],
+    view: View,
+    opts: &ParseOptions,
+) -> ResultOf<'e, Vec<PeRange>>
+    ensures listed { let footprint = (whole_in view opts.now).reaches bytes.now in
         IfOk result
         (λ v. v.items ≡ map range_record_of (joined (length bytes.now) footprint)) }
     ensures room { IfOk result HasNoSpareRoom }
     ensures refused { IfErr result IsMemory }
     ensures grown { OnErr result (0 < length bytes.now) }
 {
-    let marks = mark_whole(alloc, bytes, opts)?;
+    let marks = mark_whole(alloc, bytes, view, opts)?;
     marks.list(alloc, |range| range_record(range))
 }
 
@@ -72,13 +77,14 @@ fn handed_over<'a>(records: Vec<PeRange>) -> PeRanges<'a>
 pub fn list<'a>(
     alloc: Global,
     bytes: &[u8],
+    view: View,
     opts: &ParseOptions,
     ranges: &mut PeRanges<'a>,
 ) -> Result<()>
-    ensures { let footprint = (opened_file opts.now).reaches bytes.now in
+    ensures { let footprint = (opened_file view opts.now).reaches bytes.now in
         Lists (length bytes.now) footprint ranges.old ranges.new result }
 {
-    let records = range_records(alloc, bytes, opts)?;
+    let records = range_records(alloc, bytes, view, opts)?;
     *ranges = handed_over(records);
     Ok(())
 }

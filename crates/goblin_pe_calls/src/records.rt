@@ -8,6 +8,8 @@ ghost use Rattle.goblin_pe_sect.specs.Addresses.{offset_of};
 ghost use Rattle.goblin_pe.specs.Callers.{layout_table};
 ghost use Rattle.goblin_pe.specs.Layouts.{layout_bytes, layout_map, layout_places};
 ghost use Rattle.goblin_pe.specs.Whole.{AreListed, collected_tables, table_parts};
+ghost use Rattle.goblin_pe.specs.RefusedParts.{refused_table};
+ghost use Rattle.goblin_pe_records.specs.Calls.{IsRefusedFor};
 ghost use Rattle.goblin_pe_calls.specs.Blocked.{HasLittleRoomIn, HaveLittleRoom};
 ghost use Rattle.goblin_pe_calls.specs.Exports.{exports_said};
 ghost use Rattle.goblin_pe_calls.specs.Growth.{HasTables, TablesBegin};
@@ -17,7 +19,7 @@ ghost use Rattle.goblin_pe_calls.specs.Opened.{tables_view};
 use crate::export::{ExportRecords, export_records};
 use crate::import::{PeImport, import_records};
 use goblin_pe::relocation::RelocationData;
-use goblin_pe::{Layout, Part, Result};
+use goblin_pe::{Layout, Part, RefusedPart, Result};
 use std::alloc::Global;
 
 /// The imports and exports of a file as records, and the bytes of its base relocations.
@@ -31,8 +33,12 @@ pub struct FileRecords<'a> {
     pub relocations: Part<RelocationData<'a>>,
 }
 
-/// Reads the tables of a file, in this order.
-pub fn file_records<'a>(alloc: Global, layout: &Layout<'a>) -> Result<FileRecords<'a>>
+/// Reads the tables of a file, in this order, and leaves in `part` that for which it is refused.
+pub fn file_records<'a>(
+    alloc: Global,
+    layout: &Layout<'a>,
+    part: &mut RefusedPart,
+) -> Result<FileRecords<'a>>
     ensures value { let m = layout_map layout.now in
         ReadsOrMemory tables_view result
         (mapped (collected_tables (λ _. imports_said m.opts (offset_of m)
@@ -50,11 +56,18 @@ pub fn file_records<'a>(alloc: Global, layout: &Layout<'a>) -> Result<FileRecord
     ensures begun { let m = layout_map layout.now in
         IfErr result
         (λ e. IsMemory e → TablesBegin m (layout_places layout.now) (layout_bytes layout.now)) }
+    ensures part { let m = layout_map layout.now in
+        let places = layout_places layout.now in
+        IsRefusedFor (refused_table m.opts (offset_of m) places (layout_bytes layout.now)) part.new
+        result }
 {
     // Exports often lie beside the imports; what the finder has of these takes no search.
     let mut finder = layout.finder();
+    *part = RefusedPart::Imports;
     let imports = import_records(alloc, layout, &mut finder)?;
+    *part = RefusedPart::Exports;
     let exports = export_records(alloc, layout, finder)?;
+    *part = RefusedPart::Relocations;
     let relocations = layout.relocations()?;
     Ok(FileRecords {
         imports,

@@ -14,7 +14,11 @@ use Rattle.goblin_pe_sect.specs.declared.data_directories.DataDirectory.{DataDir
 use Rattle.goblin_pe_export.specs.ExportReadings as reading
 use Rattle.goblin_pe_export.specs.ExportRecords.{ExportRow, ExportTables, export_directory_record}
 use Rattle.goblin_pe_export.specs.Exports.{export_data, export_row}
-use Rattle.goblin_pe_export.specs.ExportWalks.{NumberedExport, numbered_export, numbered_from}
+use Rattle.goblin_pe_export.specs.ExportRecords.{name_pointers}
+use Rattle.goblin_pe_export.specs.ExportWalks.{GivesExport, GivesExportBefore, NumberedExport, exports_position, numbered_export, numbered_from, walked_tables}
+use Rattle.goblin_pe_export.specs.declared.export.exports.Exports.{Exports}
+use Rattle.goblin_pe_export.specs.declared.export.exports.WalkedExport.{WalkedExport}
+use Rattle.goblin_pe_export.proofs.WholeEntries.{entry_count}
 use Rattle.goblin_pe_export.proofs.ExportRows.{rows_listed}
 
 -- ---- what is kept of a list of indexes
@@ -117,6 +121,19 @@ module _ (offset_of : ℕ → Option ℕ) (bytes : List ℕ) (tables : ExportTab
   unfolding numbered_from
   from_most x =
       omega (arith, length-kept numbered (range_with_len x (count - x)), length-range_with_len x (count - x))
+
+-- ---- a call of the walk
+
+-- before an end that no name pointer passes, the next of all is given
+pub given-all : (end : ℕ) (s t : Exports) (result : Option WalkedExport)
+    → GivesExportBefore end s result t → length (walked_tables s).export_name_pointer_table ≤ end
+    → GivesExport s result t
+given-all end s t (Some x) given all = given.0
+given-all end s t None given all =
+    let first = entry_count 4 name_pointers.value_of s.tables.name_pointers.now in
+    let same = ap (λ (tables : ExportTables). length tables.export_name_pointer_table) given.0.1 in
+    let past = from_end _ _ (walked_tables t) (exports_position t) (omega (arith, given.2, first, same, all)) in
+    ((sym given.1 ∙ past, past), given.0, tt)
 
 -- ---- a directory that was read
 

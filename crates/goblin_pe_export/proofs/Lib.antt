@@ -1,3 +1,4 @@
+pub mod ExportAddresses
 pub mod ExportDirectoryRoundTrip
 mod ExportRanges
 mod ExportRoom

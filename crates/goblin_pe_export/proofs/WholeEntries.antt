@@ -15,7 +15,7 @@ use Rattle.goblin_base.specs.Tables.{records_in, whole_entries}
 use Rattle.goblin_base.proofs.Below.{least-is}
 use Rattle.goblin_base.proofs.Numbers.{slice-of_slice, slice_at-inside, slice_at-past}
 use Rattle.goblin_base.proofs.RecordItems.{length-records_in, records_in-none}
-use Rattle.goblin_pe_export.specs.ExportRecords.{entries_in, table_bytes}
+use Rattle.goblin_pe_export.specs.ExportRecords.{entries_in, name_pointers, ordinals, table_bytes}
 
 -- ---- entries of w bytes among n bytes
 
@@ -157,5 +157,16 @@ unfolding counted_table_if
 counted_is format count bytes None wide =
     sym (records_in-none format.width format.value_of [] (zero-div format.width))
 counted_is format count bytes (Some o) wide = some-is format count bytes o wide
+
+-- no bytes hold no entries
+pub no_pointers : entries_in name_pointers [] ≡ []
+unfolding records_in
+no_pointers = refl
+
+pub no_ordinals : entries_in ordinals [] ≡ []
+unfolding records_in
+no_ordinals = refl
+
+pub ruleset no_names = (no_pointers, no_ordinals)
 
 pub ruleset entries = (entry_inside, entry_outside)

@@ -1,6 +1,7 @@
 -- The exports: the export directory, its tables, and a row for each name pointer, over a map of
 -- addresses to file offsets.
-use Rattle.std.specs.Prelude.{ℕ, ◌==◌, if◌then◌else◌, List, [], length, slice_get}
+use Rattle.std.specs.Prelude.{◌≡◌, ℕ, ◌==◌, if◌then◌else◌, nat_le, List, [], length, slice_get}
+use Rattle.std.specs.Prelude.{IfSome}
 use Rattle.std.specs.Prelude.{Option, Some, None}
 use Rattle.goblin_base.specs.declared.endian.Endian.TheVariants.{Little}
 use Rattle.goblin_base.specs.declared.error.CauseOf.TheVariants.{ExportTable}
@@ -8,7 +9,8 @@ use Rattle.goblin_base.specs.Reading.{Reading}
 use Rattle.readings.specs.Reads.{◌>>=◌, ◌beside◌, because, counted_if, each_kept, file_length}
 use Rattle.readings.specs.Reads.{given, mapped, needs_by, or_none, record_at, taken}
 use Rattle.goblin_pe_sect.specs.declared.data_directories.DataDirectory.{DataDirectory}
-use Rattle.goblin_pe_export.specs.ExportRecords.{ExportRow, ExportTables, IsCountFault, addresses}
+use Rattle.goblin_pe_export.specs.ExportRecords.{ExportRow, ExportTables, IsAddressCountFault}
+use Rattle.goblin_pe_export.specs.ExportRecords.{IsCountFault, address_count-not_memory, addresses}
 use Rattle.goblin_pe_export.specs.ExportRecords.{count-not_memory, counts_fit, name_pointers}
 use Rattle.goblin_pe_export.specs.ExportRecords.{export_directory_record, ordinals, rva_of}
 use Rattle.goblin_pe_export.specs.Forwarders.{Forwarder, forwarder_at}
@@ -57,6 +59,49 @@ tables_if offset_of d t = fitting t >>= export_tables offset_of d
 unfoldable pub export_data : (ℕ → Option ℕ) → DataDirectory → Reading ExportTables
 export_data offset_of d =
     at_address offset_of d.virtual_address (λ p. export_record_at p >>= tables_if offset_of d)
+
+-- ---- the address table alone
+
+-- a record, if it counts no more addresses than the file has bytes
+abbrev pub fitting_addresses : ExportDirectoryTable → Reading ExportDirectoryTable
+fitting_addresses t =
+    file_length
+    >>= (λ n.
+    needs_by (if nat_le t.address_table_entries n then Some t else None) (IsAddressCountFault n t)
+    (address_count-not_memory n t))
+
+-- what a record leads to besides the names of exports, whose tables are left out: the library's name
+-- and the address table
+unfoldable pub address_tables : (ℕ → Option ℕ) → DataDirectory → ExportDirectoryTable
+    → Reading ExportTables
+address_tables offset_of d t =
+    mapped (λ parts. record {
+      name = parts.0;
+      export_directory_table = t;
+      export_name_pointer_table = [];
+      export_ordinal_table = [];
+      export_address_table = parts.1;
+    })
+    (or_none (name_at offset_of t.name_rva)
+    beside counted_if (addresses d) t.address_table_entries (offset_of t.export_address_table_rva))
+
+-- what the record at a directory's address leads to besides the names, whatever it says of these: a
+-- loader finds an export by its ordinal without them
+unfoldable pub export_addresses : (ℕ → Option ℕ) → DataDirectory → Reading ExportTables
+export_addresses offset_of d =
+    at_address offset_of d.virtual_address
+    (λ p. export_record_at p >>= λ t. fitting_addresses t >>= address_tables offset_of d)
+
+-- tables without those of the names
+abbrev pub without_names : ExportTables → ExportTables
+without_names tables =
+    record tables { export_name_pointer_table = []; export_ordinal_table = [] }
+
+-- Where the export data are read, these are their addresses.
+abbrev pub RepeatsAddresses : (ℕ → Option ℕ) → DataDirectory → List ℕ → Type 0
+RepeatsAddresses offset_of d bytes =
+    IfSome ((export_data offset_of d).value bytes)
+    (λ tables. (export_addresses offset_of d).value bytes ≡ Some (without_names tables))
 
 -- ---- the exports
 

@@ -53,24 +53,32 @@ export_directory_fields t =
 abbrev pub counts_fit : ℕ → ExportDirectoryTable → Bool
 counts_fit n t = nat_le t.number_of_name_pointers n && nat_le t.address_table_entries n
 
+-- it counts more than n addresses
+abbrev pub IsAddressCountFault : ℕ → ExportDirectoryTable → ErrorOf → Type 0
+IsAddressCountFault n t e = IsTooShort t.address_table_entries (codes "address table entries") n e
+
 -- Which cause is true of a record that says more than n entries: there are too many name pointers,
 -- or, where these fit, too many addresses.
 abbrev pub IsCountFault : ℕ → ExportDirectoryTable → ErrorOf → Type 0
 IsCountFault n t e =
     IsTooShort t.number_of_name_pointers (codes "name pointers") n e
-    ⊎ ((t.number_of_name_pointers ≤ n)
-    × IsTooShort t.address_table_entries (codes "address table entries") n e)
+    ⊎ ((t.number_of_name_pointers ≤ n) × IsAddressCountFault n t e)
 
 too_short-not_memory : (count : ℕ) (kind : List ℕ) (n : ℕ) (e : ErrorOf)
     → IsTooShort count kind n e → ¬ IsMemory e
 too_short-not_memory count kind n = by_cases-not_memory (IsTooShort count kind n) (λ m h. h)
+
+pub address_count-not_memory : (n : ℕ) (t : ExportDirectoryTable) (e : ErrorOf)
+    → IsAddressCountFault n t e → ¬ IsMemory e
+address_count-not_memory n t =
+    too_short-not_memory t.address_table_entries (codes "address table entries") n
 
 pub count-not_memory : (n : ℕ) (t : ExportDirectoryTable) (e : ErrorOf)
     → IsCountFault n t e → ¬ IsMemory e
 count-not_memory n t e (inl h) =
     too_short-not_memory t.number_of_name_pointers (codes "name pointers") n e h
 count-not_memory n t e (inr h) =
-    too_short-not_memory t.address_table_entries (codes "address table entries") n e h.1
+    address_count-not_memory n t e h.1
 
 -- ---- the tables
 

@@ -1,6 +1,6 @@
 -- The walk over the exports of an image: what is still to come.
-use Rattle.std.specs.Prelude.{◌≡◌, ℕ, ◌+◌, ◌-◌, ◌/◌, IfSome, List, Option, filter_map, length}
-use Rattle.std.specs.Prelude.{option_map, slice_get, unwrap_or}
+use Rattle.std.specs.Prelude.{◌≡◌, ℕ, ◌+◌, ◌-◌, ◌/◌, ◌<◌, ◌≤◌, IfSome, List, MatchOption, Option}
+use Rattle.std.specs.Prelude.{Some, filter_map, length, max, min, option_map, slice_get, unwrap_or}
 use Rattle.std.specs.Iterator.{YieldsFirstBy}
 use Rattle.std.specs.List.{range_with_len}
 use Rattle.goblin_pe_sect.specs.Addresses.{MapOfAddresses, map_of, offset_of}
@@ -88,6 +88,17 @@ GivesExport s result t =
 -- how many name pointers the file has
 abbrev pub pointer_count : Exports → ℕ
 pointer_count walk = length walk.tables.name_pointers.now / 4
+
+-- A call of `next_before` gives the next export, if its name pointer has an index below this end.
+-- Else the same is still to come, and the walk is at the end, or where the name pointers end before.
+abbrev pub GivesExportBefore : ℕ → Exports → Option WalkedExport → Exports → Type 0
+GivesExportBefore end s result t =
+    let last = min end (pointer_count s) in
+    MatchOption result
+    (KeepsOver s t × (exports_left t ≡ exports_left s)
+    × (exports_position t ≡ max (exports_position s) last))
+    (λ x. GivesExport s (Some x) t × (exports_position s < exports_position t)
+    × (exports_position t ≤ last))
 
 -- no more than this comes
 abbrev pub exports_bound : Exports → ℕ

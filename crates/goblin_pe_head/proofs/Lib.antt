@@ -15,5 +15,6 @@ pub mod RichPlaces
 pub mod SectionRecords
 pub mod Sections
 pub mod TeHeaderRoundTrip
+pub mod WholeParts
 pub mod WordPlaces
 pub mod WrittenForm

@@ -41,15 +41,15 @@ pub record IsHeaderOf (bytes : List ℕ) (h : PeHeader) : Type 0 where
   pub optional : (optional_at h.coff_header.size_of_optional_header (h.dos_header.pe_pointer + 24)).value bytes ≡ Some h.optional_header
 
 -- the parts from a signature on
-record ArePartsOf (bytes : List ℕ) (p : ℕ) (parts : SignedParts) : Type 0 where
-  signature : number_at Little 4 bytes p ≡ Some parts.signature
-  coff : record_at 20 (coff_header Little) bytes (p + 4) ≡ Some parts.coff_header
-  optional : (optional_at parts.coff_header.size_of_optional_header (p + 24)).value bytes ≡ Some parts.optional_header
+pub record ArePartsOf (bytes : List ℕ) (p : ℕ) (parts : SignedParts) : Type 0 where
+  pub signature : number_at Little 4 bytes p ≡ Some parts.signature
+  pub coff : record_at 20 (coff_header Little) bytes (p + 4) ≡ Some parts.coff_header
+  pub optional : (optional_at parts.coff_header.size_of_optional_header (p + 24)).value bytes ≡ Some parts.optional_header
 
 abbrev parts_with : ℕ → CoffHeader × Option OptionalHeader → SignedParts
 parts_with signature both = record { signature = signature; coff_header = both.0; optional_header = both.1 }
 
-signed_parts : (bytes : List ℕ) (p : ℕ) (parts : SignedParts) → (parts_at p).value bytes ≡ Some parts → ArePartsOf bytes p parts
+pub signed_parts : (bytes : List ℕ) (p : ℕ) (parts : SignedParts) → (parts_at p).value bytes ≡ Some parts → ArePartsOf bytes p parts
 unfolding parts_at
 signed_parts bytes p parts e =
     let all = mapped (pair_of (number_at Little 4 bytes p) ((coff_parts p).value bytes)) _ parts e in

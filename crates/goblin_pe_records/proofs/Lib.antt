@@ -2,12 +2,12 @@ pub mod Filling
 pub mod GivenOnward
 pub mod Items
 pub mod Making
+pub mod SeenBytes
 pub mod Named
 pub mod NamedObject
 pub mod NamedTe
 pub mod Names
 pub mod Puts
-pub mod Symbols
 pub mod SymbolTables
-pub mod Viewed
+pub mod Symbols
 pub mod Written

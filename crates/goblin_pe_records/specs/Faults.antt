@@ -27,8 +27,14 @@ use Rattle.goblin_pe_records.specs.declared.fault.Status.{Status}
 use Rattle.goblin_pe_records.specs.declared.fault.Status.TheVariants as status
 
 abbrev pub fault : ℕ → ℕ → ℕ → ℕ → PeFault
-fault status cause first second =
-    record { status = status; cause = cause; first = first; second = second }
+fault status cause first second = record {
+  status = status;
+  cause = cause;
+  first = first;
+  second = second;
+  part = 0;
+  reserved = 0;
+}
 
 -- the number of a status
 abbrev pub number_of : Status → ℕ
@@ -109,6 +115,12 @@ fault_of (Memory e) = fault 5 0 0 0
 abbrev pub status_of : {A : Type 0} → Result A ErrorOf → PeFault
 status_of (Ok x) = no_fault
 status_of (Err e) = fault_of e
+
+-- the same, where this part of an image is refused; refused memory is of no part
+abbrev pub status_of_part : {A : Type 0} → ℕ → Result A ErrorOf → PeFault
+status_of_part part (Ok x) = no_fault
+status_of_part part (Err (Memory m)) = fault_of (Memory m)
+status_of_part part (Err e) = record (fault_of e) { part = part }
 
 -- The causes from number 2 on, in the order of their numbers, with these numbers of their own.
 -- Number 1 is a message of the caller's, which has no numbers.

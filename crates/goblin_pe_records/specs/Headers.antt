@@ -2,7 +2,7 @@
 use Rattle.std.specs.Prelude.{Option, Some, None}
 use Rattle.goblin_pe_head.specs.declared.optional_header.OptionalHeader.{OptionalHeader}
 use Rattle.goblin_pe_head.specs.declared.optional_header.standard_fields.StandardFields.{StandardFields}
-use Rattle.goblin_pe_head.specs.declared.optional_header.windows_fields.WindowsFields64.{WindowsFields64}
+use Rattle.goblin_pe_head.specs.HeaderParts.{no_windows_fields}
 use Rattle.goblin_pe_records.specs.declared.headers.PeOptionalHeader.{PeOptionalHeader}
 
 -- standard fields of zeros
@@ -17,32 +17,6 @@ no_standard_fields = record {
   address_of_entry_point = 0;
   base_of_code = 0;
   base_of_data = 0;
-}
-
--- Windows fields of zeros
-abbrev pub no_windows_fields : WindowsFields64
-no_windows_fields = record {
-  image_base = 0;
-  section_alignment = 0;
-  file_alignment = 0;
-  major_operating_system_version = 0;
-  minor_operating_system_version = 0;
-  major_image_version = 0;
-  minor_image_version = 0;
-  major_subsystem_version = 0;
-  minor_subsystem_version = 0;
-  win32_version_value = 0;
-  size_of_image = 0;
-  size_of_headers = 0;
-  check_sum = 0;
-  subsystem = 0;
-  dll_characteristics = 0;
-  size_of_stack_reserve = 0;
-  size_of_stack_commit = 0;
-  size_of_heap_reserve = 0;
-  size_of_heap_commit = 0;
-  loader_flags = 0;
-  number_of_rva_and_sizes = 0;
 }
 
 -- the fields of an optional header, zeros where there is none

@@ -4,6 +4,8 @@ use Rattle.goblin_base.specs.declared.permissive.ParseMode.TheVariants.{Strict, 
 use Rattle.goblin_pe_sect.specs.declared.options.ParseOptions.{ParseOptions}
 use Rattle.goblin_pe_sect.specs.declared.options.RawPointerRule.{RawPointerRule}
 use Rattle.goblin_pe_sect.specs.declared.options.RawPointerRule.TheVariants.{AsStored, RoundedTo512}
+use Rattle.goblin_pe_sect.specs.declared.options.View.{View}
+use Rattle.goblin_pe_sect.specs.declared.options.View.TheVariants.{Loader, Sections}
 use Rattle.goblin_pe_sect.specs.Options.{default_options, is_strict, rule_by_alignment}
 use Rattle.goblin_pe_head.specs.declared.optional_header.OptionalHeader.{OptionalHeader}
 use Rattle.goblin_pe_head.specs.HeaderReadings.{pe_header}
@@ -15,7 +17,12 @@ abbrev pub rule_at : ℕ → ℕ → RawPointerRule
 rule_at number alignment =
     if number == 1 then RoundedTo512
     else if number == 2 then rule_by_alignment alignment
+    else if number == 3 then rule_by_alignment alignment
     else AsStored
+
+-- what addresses are mapped by: with the rule of the number 3 as the Windows loader does
+abbrev pub view_of : PeOptions → View
+view_of o = if o.raw_pointer_rule == 3 then Loader else Sections
 
 -- the options by which a header is read: the mode
 abbrev pub header_options : PeOptions → ParseOptions

@@ -5,7 +5,7 @@ use Rattle.goblin_base.specs.Reading.{Reading}
 use Rattle.readings.specs.Reads.{◌>>=◌, bytes_between, file_length, given, mapped, pick}
 use Rattle.goblin_pe_sect.specs.declared.options.ParseOptions.{ParseOptions}
 use Rattle.goblin_pe_sect.specs.Mapping.{raw_begin}
-use Rattle.goblin_pe_sect.specs.SectionReadings.{raw_data}
+use Rattle.goblin_pe_sect.specs.SectionReadings.{raw_bytes}
 use Rattle.goblin_pe_sect.specs.SectionTable.{Section}
 use Rattle.goblin_pe_records.specs.declared.section_data.PeSectionData.{PeSectionData}
 
@@ -22,29 +22,29 @@ memory_size s = if s.virtual_size == 0 then s.size_of_raw_data else s.virtual_si
 abbrev pub is_unstored : Section → Bool
 is_unstored s = not (bit_and s.characteristics 0x80 == 0) && s.pointer_to_raw_data == 0
 
--- how many bytes the file has of a section
-abbrev pub stored_size : Section → ℕ
-stored_size s = if is_unstored s then 0 else s.size_of_raw_data
+-- how many bytes the file has of a section: from where its raw data begins, by the rule of the
+-- options, to where it ends as stored
+abbrev pub stored_size : ParseOptions → Section → ℕ
+stored_size opts s =
+    if is_unstored s
+    then 0
+    else s.pointer_to_raw_data + s.size_of_raw_data - raw_begin opts s
 
 -- how many zeros follow these up to the size in memory
-abbrev pub zeros_after : Section → ℕ
-zeros_after s = memory_size s - stored_size s
+abbrev pub zeros_after : ParseOptions → Section → ℕ
+zeros_after opts s = memory_size s - stored_size opts s
 
 -- what a record says: bytes, and how many zeros follow them
 abbrev pub data_view : PeSectionData → List ℕ × ℕ
 data_view d = (d.bytes.now, d.zeros)
 
--- a section whose data begins at its raw pointer by the rule of the options
-abbrev pub placed : ParseOptions → Section → Section
-placed opts s = record s { pointer_to_raw_data = raw_begin opts s }
-
 -- the bytes that the file has of a section
 abbrev pub stored_data : ParseOptions → Section → Reading (List ℕ)
-stored_data opts s = pick (is_unstored s) (given []) (raw_data (placed opts s))
+stored_data opts s = raw_bytes (raw_begin opts s) (stored_size opts s)
 
 -- these, and how many zeros follow them
 abbrev pub data_of : ParseOptions → Section → Reading (List ℕ × ℕ)
-data_of opts s = mapped (λ bytes. (bytes, zeros_after s)) (stored_data opts s)
+data_of opts s = mapped (λ bytes. (bytes, zeros_after opts s)) (stored_data opts s)
 
 -- ---- data of which the file may have less
 
@@ -60,4 +60,4 @@ available p n zeros =
 
 -- the data of a section as far as the file has it
 abbrev pub available_data : ParseOptions → Section → Reading (List ℕ × ℕ)
-available_data opts s = available (raw_begin opts s) (stored_size s) (zeros_after s)
+available_data opts s = available (raw_begin opts s) (stored_size opts s) (zeros_after opts s)

@@ -2,7 +2,7 @@
 use Rattle.std.specs.Prelude.{ℕ, Bool, if◌then◌else◌, List, [], Option, Some, None, option_and_then}
 use Rattle.goblin_pe_sect.specs.SectionName.{name_value}
 use Rattle.goblin_pe_sect.specs.SectionReadings.{text_in_table}
-use Rattle.goblin_pe_sect.specs.SectionTable.{Section}
+use Rattle.goblin_pe_sect.specs.SectionTable.{Section, unnamed}
 use Rattle.goblin_pe_records.specs.declared.section.PeSection.{PeSection}
 
 -- the name that the eight bytes of a name lead to in the string table
@@ -13,6 +13,11 @@ real_name_in strict bytes table name =
 -- a section with its name from the string table at `table`
 abbrev pub named_in : Bool → List ℕ → ℕ → Section → Section
 named_in strict bytes table s = record s { real_name = real_name_in strict bytes table s.name }
+
+-- with its name from a string table where there is one, else with its raw name alone
+abbrev pub named_where : Bool → List ℕ → Option ℕ → Section → Section
+named_where strict bytes None s = unnamed s
+named_where strict bytes (Some table) s = named_in strict bytes table s
 
 -- what a record holds of a section
 abbrev pub section_view : PeSection → Section

@@ -1,10 +1,10 @@
 //! The records of base relocation blocks.
 
-ghost use Rattle.std.specs.Prelude.{◌≡◌, ◌<◌, ◌+◌, ◌/◌, ◌++◌, ◌∷◌, [], IfErr, IfOk, OnErr, OnOk};
-ghost use Rattle.std.specs.Prelude.{length, map, max, vec_capacity, vec_len};
+ghost use Rattle.std.specs.Prelude.{◌≡◌, ◌<◌, ◌+◌, ◌++◌, ◌∷◌, [], IfErr, IfOk, OnErr, OnOk};
+ghost use Rattle.std.specs.Prelude.{length, map, vec_capacity, vec_len};
 ghost use Rattle.goblin_base.specs.Answers.{IsMemory};
 ghost use Rattle.goblin_pe_sect.specs.BaseRelocations.{block_items, block_value, relocation_bytes};
-ghost use Rattle.goblin_pe_records.specs.Blocked.{HasLittleRoom};
+ghost use Rattle.goblin_pe_records.specs.Blocked.{HasLittleRoom, more_room};
 ghost use Rattle.goblin_pe_records.specs.Blocks.{block_view};
 ghost use Rattle.goblin_pe_records.specs.Items.{rest_of, values_of};
 
@@ -51,8 +51,9 @@ pub fn block_record<'a>(block: &RelocationBlock<'a>) -> PeBlock<'a>
     }
 }
 
-// For how many records room is made first.
-const FIRST_ROOM: usize = 4;
+// For how many records room is made first: 768 bytes, which an allocator has at hand. So a usual
+// file's table is seldom moved.
+const FIRST_ROOM: usize = 32;
 
 // Adds the record of a block.
 #[inline(always)]
@@ -61,7 +62,7 @@ fn push_block<'a>(records: &mut Vec<PeBlock<'a>>, block: PeBlock<'a>) -> Result<
     ensures items { OnOk result (records.new.items ≡ records.old.items ++ block.entry ∷ []) }
     ensures room { OnOk result (HasLittleRoom records.old → HasLittleRoom records.new) }
     ensures more { OnOk result (vec_capacity records.old ≡ vec_len records.old
-        → vec_capacity records.new ≡ vec_len records.old + max 4 (vec_len records.old / 2)) }
+        → vec_capacity records.new ≡ vec_len records.old + more_room 32 (vec_len records.old)) }
     ensures same { OnOk result (vec_len records.old < vec_capacity records.old
         → vec_capacity records.new ≡ vec_capacity records.old) }
 {

@@ -60,6 +60,7 @@ fn fill(records: &mut [PeDirectory], directories: &[Option<(usize, DataDirectory
 }
 
 /// Fills the records of data directories, as far as there is room.
+#[inline(never)]
 pub fn fill_directories(records: &mut [PeDirectory], directories: &[Option<(usize, DataDirectory)>])
     ensures { Filled (λ d. d) (map entry_record directories.now) records.old records.new }
 {

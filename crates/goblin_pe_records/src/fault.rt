@@ -5,11 +5,13 @@ ghost use Rattle.std.specs.Fmt.InlineText.{inline_text};
 ghost use Rattle.goblin_base.specs.declared.error.ErrorOf.TheVariants.{Malformed, Read};
 ghost use Rattle.goblin_base.specs.ErrorText.{error_text};
 ghost use Rattle.goblin_pe_records.specs.Faults.{IsNumbered, IsTextOf, cause_of, causes, fault};
-ghost use Rattle.goblin_pe_records.specs.Faults.{fault_of, number_of, status_of, status_with};
+ghost use Rattle.goblin_pe_records.specs.Faults.{fault_of, number_of, status_of, status_of_part};
+ghost use Rattle.goblin_pe_records.specs.Faults.{status_with};
 ghost use Rattle.goblin_pe_records.specs.Faults.{no_fault, read_fault_of, refusal_text};
 ghost use Rattle.goblin_pe_records.specs.Faults.{word_number, word_of};
 ghost use Rattle.goblin_pe_records.specs.Filled.{Filled};
 
+use goblin_base::permissive::is_passed_over;
 use goblin_base::{Cause, Error, ReadFault, Result};
 use std::alloc::AllocError;
 use std::fmt::InlineText;
@@ -259,6 +261,11 @@ pub struct PeFault {
     pub first: u64,
     /// The number that the cause calls `second`; else 0.
     pub second: u64,
+    /// The part of an image that is refused, by the numbers of `RefusedPart`, where the call reads a
+    /// whole image or a layout; else 0.
+    pub part: u32,
+    /// Zero. It stands where padding would be, so that each byte of the record is defined.
+    pub reserved: u32,
 }
 
 // A fault of this status.
@@ -270,6 +277,8 @@ fn fault(status: Status, cause: u32, first: u64, second: u64) -> PeFault
         cause,
         first,
         second,
+        part: 0,
+        reserved: 0,
     }
 }
 
@@ -437,6 +446,19 @@ pub fn status_of(answer: Result<()>) -> PeFault
     match answer {
         Ok(()) => no_fault(),
         Err(error) => fault_of(&error),
+    }
+}
+
+/// The same, where this part of an image is refused; refused memory is of no part.
+pub fn status_of_part(answer: Result<()>, part: u32) -> PeFault
+    ensures { result ≡ status_of_part part answer.entry }
+{
+    match answer {
+        Err(error) if is_passed_over(&error, true) => PeFault {
+            part,
+            ..fault_of(&error)
+        },
+        other => status_of(other),
     }
 }
 

@@ -28,7 +28,10 @@ pub struct PeImage<'a> {
     pub sections: &'a [PeSection<'a>],
     /// Its file alignment, in bytes.
     pub file_alignment: u32,
-    /// Whether addresses are mapped, and by which rule for raw pointers; all else is not looked at.
+    /// How many bytes its headers have, as its optional header says; 0 without one. They are looked
+    /// at where the options map as the Windows loader does, and where an address lies.
+    pub size_of_headers: u32,
+    /// Whether addresses are mapped, and by which rule; all else is not looked at.
     pub options: PeOptions,
 }
 

@@ -1,14 +1,17 @@
-//! What a loader sees at an address of an image.
+//! What is in memory at an address of an image: as a loader maps it.
 
-ghost use Rattle.std.specs.Prelude.{◌≡◌, IfSome, Some, find, map, option_copied, option_map};
-ghost use Rattle.std.specs.Prelude.{position};
+ghost use Rattle.std.specs.Prelude.{[], ◌≡◌, ◌^◌, ◌<◌, Some, find, position};
 ghost use Rattle.goblin_base.specs.Reading.{Reads};
+ghost use Rattle.goblin_pe_sect.specs.SectionTable.{with_front};
 ghost use Rattle.goblin_pe_records.specs.Calls.{ReadsWithout};
-ghost use Rattle.goblin_pe_records.specs.Memory.{InMemory, available_at, available_by_sections};
-ghost use Rattle.goblin_pe_records.specs.Memory.{available_of_section, is_in_memory, memory_at};
-ghost use Rattle.goblin_pe_records.specs.Memory.{memory_end, memory_section, region_in, region_of};
-ghost use Rattle.goblin_pe_records.specs.Memory.{seen_by_sections, seen_in, seen_of_section};
-ghost use Rattle.goblin_pe_records.specs.Memory.{stored_of};
+ghost use Rattle.goblin_pe_records.specs.Images.{image_front, image_sections};
+ghost use Rattle.goblin_pe_records.specs.Memory.{SeesFile, available_at, available_by_sections};
+ghost use Rattle.goblin_pe_records.specs.Memory.{available_of_section, holder, is_in_front};
+ghost use Rattle.goblin_pe_records.specs.Memory.{is_in_memory, memory_at, memory_end};
+ghost use Rattle.goblin_pe_records.specs.Memory.{memory_section, region_in, region_of};
+ghost use Rattle.goblin_pe_records.specs.Memory.{section_in_memory, seen_by_sections, seen_in};
+ghost use Rattle.goblin_pe_records.specs.Memory.{seen_of_section, stored_in_memory, stored_of};
+ghost use Rattle.goblin_pe_records.specs.Memory.{window_size};
 ghost use Rattle.goblin_pe_records.specs.Options.{options_at};
 ghost use Rattle.goblin_pe_records.specs.SectionData.{data_view};
 ghost use Rattle.goblin_pe_records.specs.Sections.{section_view};
@@ -16,71 +19,175 @@ ghost use Rattle.goblin_pe_records.specs.Sections.{section_view};
 use crate::image::PeImage;
 use crate::options::options_at;
 use crate::section::{PeSection, section_of};
-use crate::section_data::{PeSectionData, available, memory_size, stored_size};
+use crate::section_data::{PeSectionData, available, is_unstored, memory_size, stored_size_of};
 use goblin_base::read::pread_slice;
 use goblin_base::{Cause, Error, Result};
-use goblin_pe_sect::utils::raw_begin;
+use goblin_pe_sect::address_map::front_section;
+use goblin_pe_sect::mapping::section_at;
+use goblin_pe_sect::utils::{raw_begin, window};
+use goblin_pe_sect::{ParseOptions, SectionTable};
+
+// How many bytes the window of a section has.
+#[tactic(auto, using(goblin_pe_sect::proofs::Mapped::read_size_le))]
+fn window_size(section: &SectionTable, file_alignment: u32) -> usize
+    ensures value { result ≡ window_size file_alignment section.now }
+    ensures small { result < 2 ^ 33 }
+{
+    match window(section, file_alignment) {
+        Some((begin, end)) => {
+            let raw_size = section.size_of_raw_data as usize;
+            prove!(end - begin < raw_size + 4096);
+            end - begin
+        }
+        None => 0,
+    }
+}
 
 // The first address after a section's memory.
-fn memory_end(section: &PeSection) -> usize
-    ensures { result ≡ memory_end (section_view section.now) }
+fn memory_end(section: &SectionTable, file_alignment: u32) -> usize
+    ensures { result ≡ memory_end file_alignment section.now }
 {
-    section.virtual_address as usize + memory_size(section) as usize
+    let size = memory_size(section) as usize;
+    section.virtual_address as usize + size.max(window_size(section, file_alignment))
 }
 
 // Whether a section's memory holds the address.
-fn is_in_memory(rva: usize, section: &PeSection) -> bool
-    ensures { result ≡ is_in_memory rva (section_view section.now) }
+fn is_in_memory(rva: usize, section: &SectionTable, file_alignment: u32) -> bool
+    ensures { result ≡ is_in_memory file_alignment rva section.now }
 {
-    section.virtual_address as usize <= rva && rva < memory_end(section)
+    section.virtual_address as usize <= rva && rva < memory_end(section, file_alignment)
 }
 
-// The record of the first section whose memory holds the address.
-#[tactic(auto, using(crate::proofs::Viewed::found_in_memory))]
-fn first_holding<'s, 'a>(rva: usize, sections: &'s [PeSection<'a>]) -> Option<&'s PeSection<'a>>
-    ensures value { option_copied result
-        ≡ find (λ s. is_in_memory rva (section_view s)) sections.now }
-    ensures holds { IfSome result (λ s. InMemory rva (section_view s.now)) }
+// How many bytes of a section's memory are the file's, whose end is given.
+fn stored_in_memory(
+    section: &SectionTable,
+    file_alignment: u32,
+    opts: &ParseOptions,
+    end: usize,
+) -> usize
+    ensures value { result ≡ stored_in_memory opts.now file_alignment end section.now }
+    ensures small { result < 2 ^ 33 }
 {
-    sections.iter().find(|section| is_in_memory(rva, section))
+    if is_unstored(section) {
+        return 0;
+    }
+    let left = end.saturating_sub(raw_begin(section, opts) as usize);
+    let size = memory_size(section) as usize;
+    let data = size.min(stored_size_of(section, opts));
+    window_size(section, file_alignment).min(left).max(data)
 }
 
-// The same, as a section.
-#[tactic(auto, using(goblin_pe_sect::proofs::First::find_viewed))]
-fn first_in_memory<'s, 'a>(rva: usize, sections: &'s [PeSection<'a>]) -> Option<&'s PeSection<'a>>
-    ensures value { option_map section_view (option_copied result)
-        ≡ find (is_in_memory rva) (map section_view sections.now) }
-    ensures holds { IfSome result (λ s. InMemory rva (section_view s.now)) }
+// Whether the file's front is mapped, and its window holds the address.
+fn is_in_front(image: &PeImage, rva: usize) -> bool
+    ensures { result ≡ is_in_front image.now rva }
 {
-    first_holding(rva, sections)
+    match image.front() {
+        Some(size) => section_at(rva, &[front_section(size)], image.file_alignment).is_some(),
+        None => false,
+    }
+}
+
+// The index of the first record of a section whose memory holds the address.
+#[tactic(auto, unfolding(goblin_pe_sect::specs::Mapping::read_size))]
+fn index_holding(rva: usize, sections: &[PeSection], file_alignment: u32) -> Option<usize>
+    ensures { result
+        ≡ position (λ s. is_in_memory file_alignment rva (section_view s)) sections.now }
+{
+    sections.iter().position(|section| is_in_memory(rva, &section_of(section), file_alignment))
+}
+
+// The same of an image.
+#[tactic(auto, using(goblin_pe_sect::proofs::First::position_viewed))]
+fn index_in_memory(image: &PeImage, rva: usize) -> Option<usize>
+    ensures { result
+        ≡ position (is_in_memory image.now.file_alignment rva) (image_sections image.now) }
+{
+    index_holding(rva, image.sections, image.file_alignment)
+}
+
+/// The index of the section of an image in whose memory the address lies: the first whose window
+/// holds it; or else, unless the file's front is mapped there, the first whose memory does.
+pub fn memory_section(image: &PeImage, rva: usize) -> Option<usize>
+    ensures { result ≡ memory_section image.now rva }
+{
+    match image.section_of(rva) {
+        Some(index) => Some(index),
+        None if is_in_front(image, rva) => None,
+        None => index_in_memory(image, rva),
+    }
+}
+
+// That section.
+#[tactic(auto, using(crate::proofs::SeenBytes::got_viewed))]
+fn section_in_memory(image: &PeImage, rva: usize) -> Option<SectionTable>
+    ensures { result ≡ section_in_memory image.now rva }
+{
+    let section = image.sections.get(memory_section(image, rva)?)?;
+    Some(section_of(section))
+}
+
+// The file's front, where it is mapped and its memory holds the address.
+fn front_in_memory(image: &PeImage, rva: usize) -> Option<SectionTable>
+    ensures { result
+        ≡ find (is_in_memory image.now.file_alignment rva) (with_front (image_front image.now) []) }
+{
+    let front = front_section(image.front()?);
+    if is_in_memory(rva, &front, image.file_alignment) {
+        Some(front)
+    } else {
+        None
+    }
+}
+
+// What holds the address.
+fn holder(image: &PeImage, rva: usize) -> Option<SectionTable>
+    ensures { result ≡ holder image.now rva }
+{
+    match section_in_memory(image, rva) {
+        Some(section) => Some(section),
+        None => front_in_memory(image, rva),
+    }
 }
 
 // How many of so many bytes of a section's memory, from a distance on, the file has.
-fn stored_of(section: &PeSection, distance: usize, size: usize) -> usize
-    ensures { result ≡ stored_of (section_view section.now) distance size }
+fn stored_of(
+    section: &SectionTable,
+    file_alignment: u32,
+    opts: &ParseOptions,
+    end: usize,
+    distance: usize,
+    size: usize,
+) -> usize
+    ensures value { result ≡ stored_of opts.now file_alignment end section.now distance size }
+    ensures near { 0 < result → distance < 2 ^ 33 }
 {
-    size.min((stored_size(section) as usize).saturating_sub(distance))
+    let stored = stored_in_memory(section, file_alignment, opts, end);
+    size.min(stored.saturating_sub(distance))
 }
 
-// So many bytes of a section's memory, from a distance on, where its raw data begins at an offset.
+// So many bytes of a section's memory, from a distance on.
 fn seen_in<'a>(
-    bytes: &'a [u8],
-    begin: u32,
-    section: &PeSection,
+    image: &PeImage<'a>,
+    section: &SectionTable,
     distance: usize,
     size: usize,
 ) -> Result<PeSectionData<'a>>
-    ensures { Reads data_view result
-        (seen_in begin (section_view section.now) distance size) bytes.now }
+    ensures { let alignment = image.now.file_alignment in
+        let opts = options_at image.now.options alignment in
+        Reads data_view result (seen_in opts alignment section.now distance size)
+        image.now.bytes.now }
 {
-    let stored = stored_of(section, distance, size);
-    let found = if stored == 0 {
-        &bytes[..0]
+    let opts = options_at(&image.options, image.file_alignment);
+    let end = image.bytes.len();
+    let stored = stored_of(section, image.file_alignment, &opts, end, distance, size);
+    let bytes = if stored == 0 {
+        &image.bytes[..0]
     } else {
-        pread_slice(bytes, begin as usize + distance, stored)?
+        let begin = raw_begin(section, &opts) as usize;
+        pread_slice(image.bytes, begin + distance, stored)?
     };
     Ok(PeSectionData {
-        bytes: found,
+        bytes,
         zeros: size - stored,
     })
 }
@@ -88,30 +195,27 @@ fn seen_in<'a>(
 // So many bytes of a section's memory, from an address on.
 fn seen_of_section<'a>(
     image: &PeImage<'a>,
-    section: &PeSection,
+    section: &SectionTable,
     rva: usize,
     size: usize,
 ) -> Result<PeSectionData<'a>>
-    requires { InMemory rva (section_view section.now) }
-    ensures { Reads data_view result
-        (seen_of_section image.now rva size (section_view section.now)) image.now.bytes.now }
+    ensures { Reads data_view result (seen_of_section image.now rva size section.now)
+        image.now.bytes.now }
 {
-    let end = memory_end(section);
-    if end - rva < size {
+    let end = memory_end(section, image.file_alignment);
+    if end.saturating_sub(rva) < size {
         return Err(Error::Malformed(Cause::Unmapped(end)));
     }
-    let opts = options_at(&image.options, image.file_alignment);
-    let begin = raw_begin(&section_of(section), &opts);
-    let distance = rva - section.virtual_address as usize;
-    seen_in(image.bytes, begin, section, distance, size)
+    let distance = rva.saturating_sub(section.virtual_address as usize);
+    seen_in(image, section, distance, size)
 }
 
-// So many bytes from an address on, of the first section whose memory holds it.
+// So many bytes from an address on, by what holds it.
 fn seen_by_sections<'a>(image: &PeImage<'a>, rva: usize, size: usize) -> Result<PeSectionData<'a>>
     ensures { Reads data_view result (seen_by_sections image.now rva size) image.now.bytes.now }
 {
-    match first_in_memory(rva, image.sections) {
-        Some(section) => seen_of_section(image, section, rva, size),
+    match holder(image, rva) {
+        Some(section) => seen_of_section(image, &section, rva, size),
         None => Err(Error::Malformed(Cause::Unmapped(rva))),
     }
 }
@@ -121,9 +225,10 @@ fn seen_by_sections<'a>(image: &PeImage<'a>, rva: usize, size: usize) -> Result<
 pub enum Region {
     /// Neither in a section nor in the headers.
     Nowhere = 0,
-    /// In the headers, which are at the front of the file and of the memory.
+    /// In the headers, which are at the front of the file and of the memory, in whole file blocks.
     Headers = 1,
-    /// In the bytes of a section that are stored in the file, at its raw pointer.
+    /// In the bytes of a section that are stored in the file: its data, and what the file has of the
+    /// file blocks by which its addresses are mapped.
     Stored = 2,
     /// In the zeros that follow these up to the section's size in memory.
     Zeros = 3,
@@ -137,12 +242,13 @@ const _: () = prove!(
 );
 
 /// Reads the `size` bytes that a loader sees at the address `rva`: those that the file has of them,
-/// and how many zeros follow them.
+/// and how many zeros follow them. Where the address has an offset inside the file, the first is the
+/// file's byte there, but in a section of uninitialized data without a place in the file.
 ///
 /// # Errors
-/// [`Error::Malformed`] with [`Cause::Unmapped`] if no section's memory holds the address, or the
-/// bytes pass the memory of the first that does: the address that is not there. [`Error::Read`]
-/// where the file does not have its bytes. Nothing is then changed.
+/// [`Error::Malformed`] with [`Cause::Unmapped`] if nothing in memory holds the address, or the
+/// bytes pass the memory of what does: the address that is not there. [`Error::Read`] where the file
+/// does not have its bytes. Nothing is then changed.
 #[tactic(auto, unfolding(crate::specs::Memory::memory_at))]
 pub fn read_memory<'a>(
     image: &PeImage<'a>,
@@ -150,8 +256,9 @@ pub fn read_memory<'a>(
     size: usize,
     seen: &mut PeSectionData<'a>,
 ) -> Result<()>
-    ensures { ReadsWithout (memory_at image.now rva size) image.now.bytes.now
+    ensures value { ReadsWithout (memory_at image.now rva size) image.now.bytes.now
         (λ whole. data_view seen.new ≡ whole) (seen.new ≡ seen.old) result }
+    ensures file { SeesFile image.now }
 {
     if image.options.resolve_rva {
         *seen = seen_by_sections(image, rva, size)?;
@@ -165,23 +272,29 @@ pub fn read_memory<'a>(
 // The first bytes of a section's memory, at most `size`, from an address on.
 fn available_of_section<'a>(
     image: &PeImage<'a>,
-    section: &PeSection,
+    section: &SectionTable,
     rva: usize,
     size: usize,
 ) -> PeSectionData<'a>
-    requires { InMemory rva (section_view section.now) }
-    ensures { (available_of_section image.now rva size (section_view section.now)).value
-        image.now.bytes.now ≡ Some (data_view result) }
+    ensures { (available_of_section image.now rva size section.now).value image.now.bytes.now
+        ≡ Some (data_view result) }
 {
     let opts = options_at(&image.options, image.file_alignment);
-    let begin = raw_begin(&section_of(section), &opts) as usize;
-    let distance = rva - section.virtual_address as usize;
-    let most = size.min(memory_end(section) - rva);
-    let stored = stored_of(section, distance, most);
+    let distance = rva.saturating_sub(section.virtual_address as usize);
+    let most = size.min(memory_end(section, image.file_alignment).saturating_sub(rva));
+    let end = image.bytes.len();
+    let stored = stored_of(section, image.file_alignment, &opts, end, distance, most);
+    if stored == 0 {
+        return PeSectionData {
+            bytes: &image.bytes[..0],
+            zeros: most,
+        };
+    }
+    let begin = raw_begin(section, &opts) as usize;
     available(image.bytes, begin + distance, stored, most - stored)
 }
 
-// The first bytes from an address on, at most `size`, of the first section whose memory holds it.
+// The first bytes from an address on, at most `size`, by what holds it.
 fn available_by_sections<'a>(
     image: &PeImage<'a>,
     rva: usize,
@@ -190,8 +303,8 @@ fn available_by_sections<'a>(
     ensures { Reads data_view result (available_by_sections image.now rva size)
         image.now.bytes.now }
 {
-    match first_in_memory(rva, image.sections) {
-        Some(section) => Ok(available_of_section(image, section, rva, size)),
+    match holder(image, rva) {
+        Some(section) => Ok(available_of_section(image, &section, rva, size)),
         None => Err(Error::Malformed(Cause::Unmapped(rva))),
     }
 }
@@ -200,7 +313,7 @@ fn available_by_sections<'a>(
 /// the section's memory and as far as the file has them, and how many zeros follow.
 ///
 /// # Errors
-/// [`Error::Malformed`] with [`Cause::Unmapped`] if no section's memory holds the address; where
+/// [`Error::Malformed`] with [`Cause::Unmapped`] if nothing in memory holds the address; where
 /// addresses are offsets, [`Error::Read`] for one at or past the end of the file. Nothing is then
 /// changed.
 #[tactic(auto, unfolding(crate::specs::Memory::available_at))]
@@ -224,43 +337,31 @@ pub fn read_available<'a>(
 }
 
 // The region of an address in a section's memory.
-fn region_in(rva: usize, section: &PeSection) -> Region
-    requires { InMemory rva (section_view section.now) }
-    ensures { result ≡ region_in rva (section_view section.now) }
+fn region_in(image: &PeImage, rva: usize, section: &SectionTable) -> Region
+    ensures { result ≡ region_in image.now rva section.now }
 {
-    let distance = rva - section.virtual_address as usize;
-    if distance < stored_size(section) as usize {
+    let opts = options_at(&image.options, image.file_alignment);
+    let distance = rva.saturating_sub(section.virtual_address as usize);
+    let end = image.bytes.len();
+    if distance < stored_in_memory(section, image.file_alignment, &opts, end) {
         Region::Stored
     } else {
         Region::Zeros
     }
 }
 
-/// Where an address of an image lies, whose headers have so many bytes. The first section whose
-/// memory holds it decides; the headers count where none does.
-pub fn region_of(image: &PeImage, size_of_headers: u32, rva: usize) -> Region
-    ensures { result ≡ region_of image.now size_of_headers rva }
+/// Where an address of an image lies: in the memory of a section, as [`memory_section`] finds it, or
+/// else in the headers or nowhere.
+pub fn region_of(image: &PeImage, rva: usize) -> Region
+    ensures { result ≡ region_of image.now rva }
 {
-    match first_in_memory(rva, image.sections) {
-        Some(section) => region_in(rva, section),
-        None if rva < size_of_headers as usize => Region::Headers,
-        None => Region::Nowhere,
+    if let Some(section) = section_in_memory(image, rva) {
+        return region_in(image, rva, &section);
     }
-}
-
-// The index of the first record of a section whose memory holds the address.
-fn index_holding(rva: usize, sections: &[PeSection]) -> Option<usize>
-    ensures { result ≡ position (λ s. is_in_memory rva (section_view s)) sections.now }
-{
-    sections
-        .iter()
-        .position(|section| is_in_memory(rva, section))
-}
-
-/// The index of the first section of an image whose memory holds the address.
-#[tactic(auto, using(goblin_pe_sect::proofs::First::position_viewed))]
-pub fn memory_section(image: &PeImage, rva: usize) -> Option<usize>
-    ensures { result ≡ memory_section image.now rva }
-{
-    index_holding(rva, image.sections)
+    let headers = front_section(image.size_of_headers);
+    if is_in_memory(rva, &headers, image.file_alignment) {
+        Region::Headers
+    } else {
+        Region::Nowhere
+    }
 }

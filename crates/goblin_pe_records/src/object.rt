@@ -89,7 +89,7 @@ pub fn read<'a>(
 {
     let whole = Object::read(bytes, opts)?;
     let strings = whole.header.symbols_end();
-    fill_sections(sections, bytes, whole.records, None, strings, opts);
+    fill_sections(sections, bytes, whole.records, None, Some(strings), opts);
     *object = PeObject {
         sections: whole.records.len(),
         coff_header: whole.header,

@@ -2,19 +2,19 @@
 
 ghost use Rattle.std.specs.Prelude.{◌≡◌, ℕ};
 ghost use Rattle.goblin_pe_records.specs.Options.{alignment_in, header_options, options_at};
-ghost use Rattle.goblin_pe_records.specs.Options.{options_in, rule_at};
+ghost use Rattle.goblin_pe_records.specs.Options.{options_in, rule_at, view_of};
 ghost use Rattle.goblin_pe_sect.specs.Options.{default_options};
 
 use goblin_pe_head::header::Header;
-use goblin_pe_sect::options::{ParseMode, ParseOptions, RawPointerRule};
+use goblin_pe_sect::options::{ParseMode, ParseOptions, RawPointerRule, View};
 
-/// Where the raw data of a section begins: for addresses, for the data of a section of an image, and
-/// for what a loader sees at an address.
+/// How addresses are mapped, and where the raw data of a section begins: for addresses, for the data
+/// of a section of an image, and for what is in memory at an address.
 ///
 /// Where the raw pointer is a multiple of 512, as the PE/COFF specification asks for the usual file
-/// alignments, all rules say the same. Else rounding is right where `section_alignment` is 4,096
-/// or more, and pointers as stored where it is less, since the Windows loader maps such an image as
-/// one flat view of the file.
+/// alignments, all rules say the same of sections. Else rounding is right where `section_alignment`
+/// is 4,096 or more, and pointers as stored where it is less, since the Windows loader maps such an
+/// image as one flat view of the file.
 pub enum PeRawPointerRule {
     /// At the raw pointer, as goblin maps.
     AsStored = 0,
@@ -24,12 +24,19 @@ pub enum PeRawPointerRule {
     /// a lawful image it is below 512 only where it equals a `section_alignment` below 4,096, so
     /// this is right for each such image, without a look at its header before.
     ByFileAlignment = 2,
+    /// The same, and the file's front is mapped, too, where the window of no section holds an
+    /// address: the Windows loader maps the headers at the image's base, as many bytes as
+    /// `size_of_headers` says, in whole file blocks. Packers put names and tables there. Read an
+    /// image by the rule before it first: address 0 has an offset by this one, and so a library
+    /// whose record has no lookup table, which says 0 in its place, has one at the file's front.
+    AsLoaded = 3,
 }
 
 const _: () = prove!(
     PeRawPointerRule::AsStored as u8 == 0
         && PeRawPointerRule::RoundedTo512 as u8 == 1
         && PeRawPointerRule::ByFileAlignment as u8 == 2
+        && PeRawPointerRule::AsLoaded as u8 == 3
 );
 
 /// What a call does and leaves out.
@@ -42,12 +49,17 @@ pub struct PeOptions {
     pub is_permissive: bool,
     /// Whether an address is mapped to a file offset by the sections; where not, it is the offset.
     pub resolve_rva: bool,
-    /// Where the raw data of a section begins, for addresses, for the data of a section of an image
-    /// and for what a loader sees at an address: the number of a `PeRawPointerRule`; any other
-    /// number is taken as 0.
+    /// How addresses are mapped, and where the raw data of a section begins, for addresses, for the
+    /// data of a section of an image and for what is in memory at an address: the number of a
+    /// `PeRawPointerRule`; any other number is taken as 0.
     pub raw_pointer_rule: u8,
     /// Whether the imports are read; where not, their table is absent.
     pub parse_imports: bool,
+    /// Whether the sections of a layout have their raw names alone, as the loader of images takes
+    /// them: no name is tested, none refuses the file, and none is looked up in the string table.
+    /// Else a name that begins with a slash is looked up there, in either mode. Only a read of a
+    /// layout looks at it: an open, the damage and a footprint test each name.
+    pub raw_section_names: bool,
 }
 
 /// The options where a caller says none: strictly, with addresses mapped by the sections from their
@@ -60,22 +72,37 @@ pub fn default_options() -> PeOptions
         resolve_rva: true,
         raw_pointer_rule: 0,
         parse_imports: true,
+        raw_section_names: false,
     }
 }
 
 // The rule for raw pointers with this number, at this file alignment.
+#[inline(always)]
 fn rule_at(number: u8, file_alignment: u32) -> RawPointerRule
     ensures { result ≡ rule_at number file_alignment }
 {
     match number {
         1 => RawPointerRule::RoundedTo512,
-        2 => RawPointerRule::by_file_alignment(file_alignment),
+        2 | 3 => RawPointerRule::by_file_alignment(file_alignment),
         _ => RawPointerRule::AsStored,
+    }
+}
+
+/// What the addresses of an image are mapped by.
+#[inline(always)]
+pub fn view_of(options: &PeOptions) -> View
+    ensures { result ≡ view_of options.now }
+{
+    if options.raw_pointer_rule == 3 {
+        View::Loader
+    } else {
+        View::Sections
     }
 }
 
 /// The options by which the header and the sections of a file are read: of all that a caller says
 /// only the mode has a say there.
+#[inline(always)]
 pub fn header_options(options: &PeOptions) -> ParseOptions
     ensures { result ≡ header_options options.now }
 {
@@ -88,6 +115,7 @@ pub fn header_options(options: &PeOptions) -> ParseOptions
 }
 
 /// The options that a caller says, of a file with this file alignment.
+#[inline(always)]
 pub fn options_at(options: &PeOptions, file_alignment: u32) -> ParseOptions
     ensures { result ≡ options_at options.now file_alignment }
 {
@@ -114,13 +142,12 @@ fn alignment_in(bytes: &[u8], options: &PeOptions) -> u32
 }
 
 /// The options that a caller says, of a file whose header says its file alignment. The header is
-/// read only for the rule that asks for it.
+/// read only for the rules that ask for it.
 pub fn options_in(bytes: &[u8], options: &PeOptions) -> ParseOptions
     ensures { result ≡ options_in options.now bytes.now }
 {
-    if options.raw_pointer_rule == 2 {
-        options_at(options, alignment_in(bytes, options))
-    } else {
-        options_at(options, 0)
+    match options.raw_pointer_rule {
+        2 | 3 => options_at(options, alignment_in(bytes, options)),
+        _ => options_at(options, 0),
     }
 }

@@ -12,7 +12,8 @@ ghost use Rattle.goblin_pe_sect.specs.SectionTable.{recorded_sections, section_f
 ghost use Rattle.goblin_pe_head.specs.TeHeader.{section_moved};
 ghost use Rattle.goblin_pe_records.specs.Blocked.{HasNoSpareRoom};
 ghost use Rattle.goblin_pe_records.specs.Filled.{Filled, without_text};
-ghost use Rattle.goblin_pe_records.specs.Sections.{named_in, real_name_in, section_said};
+ghost use Rattle.goblin_pe_records.specs.Sections.{named_in, named_where, real_name_in};
+ghost use Rattle.goblin_pe_records.specs.Sections.{section_said};
 ghost use Rattle.goblin_pe_records.specs.Sections.{section_view};
 ghost use Rattle.goblin_pe_records.specs.Written.{Output, SetsName, WritesOut};
 
@@ -148,6 +149,24 @@ fn name_record<'a>(
     }
 }
 
+// The same where there is a string table; without one the record keeps its raw name alone.
+#[inline(always)]
+fn name_where<'a>(
+    place: &mut PeSection<'a>,
+    bytes: &'a [u8],
+    section: &SectionTable,
+    table: Option<usize>,
+    opts: &ParseOptions,
+)
+    requires { section_said place.old ≡ without_text (unnamed section.now) }
+    ensures { section_said place.new
+        ≡ without_text (named_where (is_strict opts.now.parse_mode) bytes.now table section.now) }
+{
+    if let Some(table) = table {
+        name_record(place, bytes, section, table, opts);
+    }
+}
+
 // The section of the record at an index; with a displacement, as it is in the stripped file.
 #[inline(always)]
 fn stored_section(
@@ -166,18 +185,19 @@ fn stored_section(
 }
 
 /// Fills the records of the sections of a section table, as far as there is room, each with its
-/// name from the string table at `table`; with a displacement, as they are in the stripped file.
+/// name from the string table at `table`, or, without one, with its raw name alone; with a
+/// displacement, as they are in the stripped file.
 pub fn fill_sections<'a>(
     records: &mut [PeSection<'a>],
     bytes: &'a [u8],
     sections: SectionRecords,
     displacement: Option<u32>,
-    table: usize,
+    table: Option<usize>,
     opts: &ParseOptions,
 )
     ensures { let strict = is_strict opts.now.parse_mode in
         Filled section_said
-        (map (λ s. without_text (named_in strict bytes.now table (section_moved displacement s)))
+        (map (λ s. without_text (named_where strict bytes.now table (section_moved displacement s)))
         (recorded_sections sections.entry))
         records.old records.new }
 {
@@ -185,7 +205,7 @@ pub fn fill_sections<'a>(
     'records: for i in 0..count {
         let section = stored_section(&sections, i, displacement);
         records[i] = section_record(bytes, &section);
-        name_record(&mut records[i], bytes, &section, table, opts);
+        name_where(&mut records[i], bytes, &section, table, opts);
     }
 }
 

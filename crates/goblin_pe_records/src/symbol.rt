@@ -85,6 +85,7 @@ fn is_in_piece(strings: &[u8], offset: usize) -> bool
 }
 
 // The name at an offset of the bytes of a string table.
+#[inline(always)]
 fn name_in_piece(strings: &[u8], offset: usize) -> Option<&str>
     ensures { option_map (λ s. s.now) result ≡ name_in_piece strings.now offset }
 {
@@ -97,6 +98,7 @@ fn name_in_piece(strings: &[u8], offset: usize) -> Option<&str>
 
 // The name of a symbol: where a number stands in its place, the text of the string table there, and
 // else the one that stands in the record.
+#[inline(always)]
 fn name_in<'a>(inline_name: Option<&'a str>, symbol: &Symbol, strings: &'a [u8]) -> Option<&'a str>
     ensures { option_map (λ s. s.now) result
         ≡ name_in strings.now (option_map (λ s. s.now) inline_name.entry) symbol.now }
@@ -124,6 +126,7 @@ fn auxiliary_of<'a>(table: &'a [u8], index: usize, symbol: &Symbol) -> &'a [u8]
 }
 
 // The record of a symbol at an index of a table, with this name.
+#[inline(always)]
 fn named_record<'a>(
     bytes: &'a [u8],
     table: &'a [u8],
@@ -148,6 +151,7 @@ fn named_record<'a>(
 }
 
 // The symbol of the record at an index of a table.
+#[inline(always)]
 #[tactic(auto, using(crate::proofs::Symbols::record_there))]
 fn symbol_at<'a>(
     bytes: &'a [u8],

@@ -67,7 +67,7 @@ pub fn read<'a>(
     let image = Image::read(bytes)?;
     let displacement = displacement_of(&image.header);
     let opts = ParseOptions::default();
-    fill_sections(sections, bytes, image.records, displacement, 0, &opts);
+    fill_sections(sections, bytes, image.records, displacement, Some(0), &opts);
     *header = image.header;
     Ok(())
 }

@@ -1,9 +1,10 @@
 -- What the sections' windows map.
-use Rattle.std.proofs.Common.{◌≡◌, ℕ, Bool, true, false, cond, List, [], ◌∷◌, find, length, map, Option, None, Some, refl, ap, ◌∙◌, arith, option_map}
+use Rattle.std.proofs.Common.{◌≡◌, ℕ, Bool, true, false, cond, List, [], ◌∷◌, find, length, map, Option, None, Some, refl, ap, sym, ◌∙◌, arith, option_map}
 use Rattle.std.proofs.Math.Path.{fun_ext}
+use Rattle.std.proofs.lemmas.List.{map-append}
 use Rattle.std.specs.Int.{is_power_of_two}
 use Rattle.goblin_pe_sect.specs.Mapping.{file_offset, is_in_window, offset_in, read_size}
-use Rattle.goblin_pe_sect.specs.SectionTable.{Section, unnamed}
+use Rattle.goblin_pe_sect.specs.SectionTable.{Section, front_section, unnamed, with_front}
 use Rattle.goblin_pe_sect.specs.WindowIndex.{Pieces, located}
 use Rattle.goblin_pe_sect.specs.declared.options.ParseOptions.{ParseOptions}
 use Rattle.goblin_base.specs.declared.permissive.ParseMode.TheVariants.{Strict}
@@ -56,3 +57,10 @@ unnamed_offsets opts sections alignment =
 -- so maps by sections that differ in their names alone are the same
 pub unnamed_map : (opts : ParseOptions) (sections : List Section) (alignment : ℕ) → map_by opts (map unnamed sections) alignment ≡ map_by opts sections alignment
 unnamed_map opts sections alignment = ap (λ (f : ℕ → Option ℕ). record { opts = opts; offset = f }) (unnamed_offsets opts sections alignment)
+
+-- also with the file's front, which has no such name
+pub unnamed_map_with : (opts : ParseOptions) (front : Option ℕ) (sections : List Section) (alignment : ℕ) → map_by opts (with_front front (map unnamed sections)) alignment ≡ map_by opts (with_front front sections) alignment
+unnamed_map_with opts None sections alignment = unnamed_map opts sections alignment
+unnamed_map_with opts (Some size) sections alignment =
+    ap (λ (xs : List Section). map_by opts xs alignment) (sym (map-append unnamed sections (front_section size ∷ [])))
+    ∙ unnamed_map opts (with_front (Some size) sections) alignment

@@ -1,5 +1,5 @@
 -- The address of a file offset.
-use Rattle.std.proofs.Common.{◌≡◌, ℕ, ◌+◌, ◌-◌, ◌<◌, ◌≤◌, ◌==◌, Bool, true, false, cond, List, Option, Some, None, find, slice_get, MatchOption, refl, ap, sym, subst, ◌∙◌, arith, rules, tests, option_and_then}
+use Rattle.std.proofs.Common.{◌≡◌, ℕ, ◌==◌, Bool, true, false, cond, List, Option, Some, None, find, slice_get, MatchOption, refl, ap, sym, subst, ◌∙◌, arith, rules, tests, option_and_then}
 use Rattle.std.specs.Int.{is_power_of_two}
 use Rattle.std.proofs.lemmas.Bool.Decides.{nat_tests}
 use Rattle.goblin_pe_sect.specs.declared.options.ParseOptions.{ParseOptions}

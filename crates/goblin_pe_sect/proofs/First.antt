@@ -4,8 +4,10 @@ use Rattle.std.specs.List.{position_or_len}
 use Rattle.std.proofs.lemmas.Bool.{cases_lt}
 use Rattle.std.proofs.lemmas.List.{length-map, map-id}
 use Rattle.std.proofs.lemmas.Option.{slice_get-get_or, slice_get_within, get_or_from_slice_get}
-use Rattle.std.proofs.lemmas.List.Folds.{find_at}
+use Rattle.std.specs.Option.{option_or}
+use Rattle.std.proofs.lemmas.List.Folds.{find-append, find_at}
 use Rattle.std.proofs.lemmas.List.Sums.{position_or_len_is, fails_before_first, passes_at_first}
+use Rattle.goblin_pe_sect.specs.SectionTable.{Section, front_section, with_front}
 
 found_by : {A B : Type 0} (view : A → B) (b : Bool) (x : A) (u : Option B) (v : Option A) → u ≡ option_map view v → cond b (Some (view x)) u ≡ option_map view (cond b (Some x) v)
 found_by view true x u v e = refl
@@ -75,3 +77,12 @@ module _ {X : Type 0} (p : X → Bool) (xs : List X) where
       let here : p (get_or xs i x) ≡ true = ap p (get_or_from_slice_get xs i x x at) ∙ passes in
       let place : position_or_len p xs ≡ i = position_or_len_is p xs i x (omega (arith, within)) (λ k lt. first k (get_or xs k x) lt (slice_get-get_or xs k x (omega (arith, within, lt)))) (λ _. here) in
       find_at p xs ∙ ap (slice_get xs) place ∙ at
+
+-- the first of sections and the front that passes a test
+or_none : {A : Type 0} (o : Option A) → o ≡ option_or o None
+or_none None = refl
+or_none (Some x) = refl
+
+pub find_with_front : (p : Section → Bool) (front : Option ℕ) (sections : List Section) → find p (with_front front sections) ≡ option_or (find p sections) (find p (with_front front []))
+find_with_front p None sections = or_none (find p sections)
+find_with_front p (Some size) sections = find-append p sections (front_section size ∷ [])

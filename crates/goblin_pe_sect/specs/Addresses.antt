@@ -4,7 +4,7 @@ use Rattle.goblin_base.specs.declared.permissive.ParseMode.TheVariants.{Strict}
 use Rattle.goblin_pe_sect.specs.declared.options.ParseOptions.{ParseOptions}
 use Rattle.goblin_pe_sect.specs.Mapping.{file_offset}
 use Rattle.goblin_pe_sect.specs.Options.{is_strict}
-use Rattle.goblin_pe_sect.specs.SectionTable.{Section, recorded_sections}
+use Rattle.goblin_pe_sect.specs.SectionTable.{Section, mapped_sections, recorded_sections}
 use Rattle.goblin_pe_sect.specs.WindowIndex.{HasPieces, located}
 use Rattle.goblin_pe_sect.specs.declared.address_map.AddressMap.{AddressMap}
 use Rattle.goblin_pe_sect.specs.declared.address_map.Windows.{Windows}
@@ -28,7 +28,7 @@ TakesMap opts sections file_alignment =
 -- the file offset of an address, by the windows of these records or by an index
 abbrev pub offset_by_windows : ParseOptions → Windows → ℕ → Option ℕ
 offset_by_windows opts (Walked records file_alignment) =
-    file_offset opts (recorded_sections records) file_alignment
+    file_offset opts (mapped_sections records) file_alignment
 offset_by_windows opts (Indexed index) = located index
 
 -- windows are found by an index, and not by a walk
@@ -43,7 +43,7 @@ AreMany count = 96 < count
 -- so many sections are not walked over
 abbrev pub WalksFew : ParseOptions → Windows → Type 0
 WalksFew opts (Walked records file_alignment) =
-    HasPieces opts file_alignment → ¬ AreMany (length (recorded_sections records))
+    HasPieces opts file_alignment → ¬ AreMany (length (recorded_sections records.records))
 WalksFew opts (Indexed index) = ⊤
 
 -- addresses are found by an index, whatever the number of sections

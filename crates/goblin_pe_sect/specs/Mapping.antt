@@ -1,6 +1,6 @@
 -- How an address in memory maps to an offset in the file.
 use Rattle.std.specs.Prelude.{IsTrue, ℕ, ◌+◌, ◌-◌, ◌==◌, ◌≡◌, ◌<◌, ◌≤◌, min, Bool, ◌&&◌, nat_le}
-use Rattle.std.specs.Prelude.{false, true, nat_lt, if◌then◌else◌, List, Option, Some, None, find}
+use Rattle.std.specs.Prelude.{false, nat_lt, if◌then◌else◌, List, Option, Some, None, find}
 use Rattle.std.specs.Prelude.{position, slice_get, option_map, option_and_then}
 use Rattle.std.specs.Int.{is_power_of_two}
 use Rattle.goblin_base.specs.declared.error.CauseOf.TheVariants.{Message}

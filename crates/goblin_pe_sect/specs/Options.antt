@@ -1,10 +1,12 @@
 -- Options with a name.
-use Rattle.std.specs.Prelude.{ℕ, Bool, true, false, if◌then◌else◌, nat_lt}
+use Rattle.std.specs.Prelude.{ℕ, Bool, true, false, if◌then◌else◌, nat_lt, Option, None, Some}
 use Rattle.goblin_base.specs.declared.permissive.ParseMode.{ParseMode}
 use Rattle.goblin_base.specs.declared.permissive.ParseMode.TheVariants.{Strict, Permissive}
 use Rattle.goblin_pe_sect.specs.declared.options.ParseOptions.{ParseOptions}
 use Rattle.goblin_pe_sect.specs.declared.options.RawPointerRule.{RawPointerRule}
 use Rattle.goblin_pe_sect.specs.declared.options.RawPointerRule.TheVariants.{AsStored, RoundedTo512}
+use Rattle.goblin_pe_sect.specs.declared.options.View.{View}
+use Rattle.goblin_pe_sect.specs.declared.options.View.TheVariants.{Loader, Sections}
 
 -- the options of a file on disk: everything is read, strictly, and addresses are mapped by the
 -- sections, from their raw pointers as stored
@@ -26,6 +28,12 @@ te_options = record default_options { resolve_rva = false; parse_attribute_certi
 -- the rule for raw pointers by which pefile maps an image with this file alignment
 abbrev pub rule_by_alignment : ℕ → RawPointerRule
 rule_by_alignment alignment = if nat_lt alignment 512 then AsStored else RoundedTo512
+
+-- how many bytes of the file's front map addresses, where the headers have so many: all of them in
+-- the loader's view, and else none are mapped
+abbrev pub front_of : View → ℕ → Option ℕ
+front_of Sections size_of_headers = None
+front_of Loader size_of_headers = Some size_of_headers
 
 -- the mode is strict
 abbrev pub is_strict : ParseMode → Bool

@@ -39,12 +39,15 @@ named_section_at strict table p =
     >>= λ section. name_number strict section.name
     >>= λ offset. mapped (λ name. record section { real_name = name }) (real_name table offset)
 
+-- so many bytes of raw data at an offset, which may be none, even at the end of the file
+abbrev pub raw_bytes : ℕ → ℕ → Reading (List ℕ)
+raw_bytes p n =
+    because_by (λ bytes. IsSliceFault bytes p n) (λ bytes. slice-not_memory bytes p n)
+    (bytes_between p (p + n))
+
 -- the section's raw data in the file, which may be empty, even at the end
 abbrev pub raw_data : Section → Reading (List ℕ)
-raw_data s =
-    because_by (λ bytes. IsSliceFault bytes s.pointer_to_raw_data s.size_of_raw_data)
-    (λ bytes. slice-not_memory bytes s.pointer_to_raw_data s.size_of_raw_data)
-    (bytes_between s.pointer_to_raw_data (s.pointer_to_raw_data + s.size_of_raw_data))
+raw_data s = raw_bytes s.pointer_to_raw_data s.size_of_raw_data
 
 -- the section's data: its raw data, followed by zeros up to the virtual size
 abbrev pub section_data : Section → Reading (List ℕ)

@@ -1,6 +1,6 @@
 -- What contracts see of a section, and the section record.
 use Rattle.std.specs.Prelude.{◌≡◌, ℕ, ◌+◌, ◌<◌, Bool, List, [], ◌∷◌, Option, None, Some, nat_eq}
-use Rattle.std.specs.Prelude.{slice_range}
+use Rattle.std.specs.Prelude.{◌++◌, replicate, slice_range}
 use Rattle.std.specs.Option.{option_eq}
 use Rattle.std.specs.Ordering.{eq_of_both, on}
 use Rattle.std.specs.Cmp.{IsPartialEquivalence, and_per, on_per, partial_equiv_from_equiv}
@@ -14,6 +14,7 @@ use Rattle.goblin_base.specs.Record.{FieldValue, encoding, record_at}
 use Rattle.goblin_base.specs.Record.FieldValue.{octets, uint}
 use Rattle.goblin_base.specs.Tables.{records_in}
 use Rattle.goblin_base.specs.declared.endian.Endian.TheVariants.{Little}
+use Rattle.goblin_pe_sect.specs.declared.address_map.records.MappedRecords.{MappedRecords}
 use Rattle.goblin_pe_sect.specs.declared.section_table.records.SectionRecords.{SectionRecords}
 
 -- Source: PE Format, "Section Table (Section Headers)" and "Section Data".
@@ -76,6 +77,32 @@ sections_in bytes = records_in 40 (section_record Little) bytes
 -- the sections of the records as a reader gives them
 abbrev pub recorded_sections : SectionRecords → List Section
 recorded_sections r = sections_in r.records.now
+
+-- The front of a file as a section: the Windows loader maps the headers, which have so many bytes, at
+-- the image's base.
+abbrev pub front_section : ℕ → Section
+front_section size = record {
+  name = replicate 8 0;
+  real_name = None;
+  virtual_size = size;
+  virtual_address = 0;
+  size_of_raw_data = size;
+  pointer_to_raw_data = 0;
+  pointer_to_relocations = 0;
+  pointer_to_linenumbers = 0;
+  number_of_relocations = 0;
+  number_of_linenumbers = 0;
+  characteristics = 0;
+}
+
+-- what addresses are mapped by: the sections and, where it is mapped, the file's front after them
+abbrev pub with_front : Option ℕ → List Section → List Section
+with_front None sections = sections
+with_front (Some size) sections = sections ++ front_section size ∷ []
+
+-- the same of records
+abbrev pub mapped_sections : MappedRecords → List Section
+mapped_sections r = with_front r.front (recorded_sections r.records)
 
 -- such records are nothing but their bytes
 abbrev pub AreBytesAlone : Type 0

@@ -9,33 +9,39 @@ ghost use Rattle.goblin_pe_sect.specs.Addresses.{WalksFew, reads_strictly};
 ghost use Rattle.goblin_pe_sect.specs.Addresses.{map_by, map_of, map_with, offset_of, strict_map};
 ghost use Rattle.std.specs.Prelude.{◌⊎◌, IfSome, Some};
 ghost use Rattle.goblin_pe_sect.specs.Runs.{IsRun, offset_in_run};
-ghost use Rattle.goblin_pe_sect.specs.SectionTable.{recorded_sections};
+ghost use Rattle.goblin_pe_sect.specs.SectionTable.{mapped_sections, recorded_sections};
 ghost use Rattle.goblin_pe_sect.specs.WindowIndex.{HasPieces, located};
 
 use crate::options::{ParseMode, ParseOptions};
-use crate::section_table::{SectionRecords, SectionTable};
+use crate::section_table::SectionTable;
 use crate::windows::WindowIndex;
 use goblin_base::ResultOf;
 use std::alloc::Global;
 
 mod finder;
+mod records;
 mod run;
 mod walk;
 
 pub use finder::Finder;
+pub use records::{MappedRecords, front_section};
 use run::Run;
 use walk::find_in_records;
 
-// The Windows loader takes at most this many sections (PE Format, "COFF File Header (Object and
-// Image)"): the windows of so many are walked over for each address, and of more there is an index.
-const FEW: usize = 96;
+/// The most sections that are walked over for each address: as many as the Windows loader takes. Of
+/// more an index is made, which takes memory.
+///
+/// Source: PE Format, "COFF File Header (Object and Image)".
+pub const MOST_WITHOUT_INDEX: usize = 96;
+
+const _: () = prove!(MOST_WITHOUT_INDEX == 96);
 
 // What addresses are mapped by.
 #[derive(Drop)]
 pub(crate) enum Windows<'s> {
-    // The records of sections, which are few, or by which no address is looked for, and the file
-    // alignment.
-    Walked(SectionRecords<'s>, u32),
+    // The records of sections, which are few, or by which no address is looked for, with the file's
+    // front where it is mapped, and the file alignment.
+    Walked(MappedRecords<'s>, u32),
     // The index of the sections' windows.
     Indexed(WindowIndex),
 }
@@ -70,10 +76,11 @@ fn index_of<'e>(
     WindowIndex::prepare(alloc, sections, file_alignment, opts)
 }
 
-// The sections of records, without their names from the string table.
-fn listed<'e>(alloc: Global, records: SectionRecords) -> ResultOf<'e, Vec<SectionTable>>
-    ensures made { GivesOrMemory (λ v. v.items) result (recorded_sections records.entry) }
-    ensures room { IfOk result (λ v. vec_capacity v ≡ length (recorded_sections records.entry)) }
+// The sections of records, without their names from the string table, and the file's front where it
+// is mapped.
+fn listed<'e>(alloc: Global, records: MappedRecords) -> ResultOf<'e, Vec<SectionTable>>
+    ensures made { GivesOrMemory (λ v. v.items) result (mapped_sections records.entry) }
+    ensures room { IfOk result (λ v. vec_capacity v ≡ length (mapped_sections records.entry)) }
 {
     let count = records.len();
     let mut sections = Vec::with_capacity(alloc, count)?;
@@ -90,12 +97,12 @@ impl<'s> Windows<'s> {
     #[tactic(auto, using(crate::proofs::AddressMaps::same_map))]
     fn of_many<'e>(
         alloc: Global,
-        records: SectionRecords<'s>,
+        records: MappedRecords<'s>,
         file_alignment: u32,
         opts: &ParseOptions,
     ) -> ResultOf<'e, Windows<'s>>
         ensures made { GivesOrMemory (map_with opts.now) result
-            (map_by opts.now (recorded_sections records.entry) file_alignment) }
+            (map_by opts.now (mapped_sections records.entry) file_alignment) }
         ensures few { IfOk result (WalksFew opts.now) }
         ensures grown { IfErr result (λ e. HasPieces opts.now file_alignment) }
     {
@@ -135,29 +142,29 @@ impl<'s> AddressMap<'s> {
         })
     }
 
-    /// Prepares the map by the sections of these records. At most 96, which is as many as Windows
-    /// loads, take no memory: their windows are walked over for each address. More are listed, and
-    /// get an index, but where `opts` says that addresses are offsets or `file_alignment` is not a
-    /// power of two.
+    /// Prepares the map by the sections of these records, and the file's front after them where it
+    /// is mapped. At most 96 sections, which is as many as Windows loads, take no memory: their
+    /// windows are walked over for each address. More are listed, and get an index, but where
+    /// `opts` says that addresses are offsets or `file_alignment` is not a power of two.
     ///
     /// # Errors
     /// Only [`Error::Memory`](goblin_base::Error::Memory).
     #[inline(always)]
     pub fn of_records<'e>(
         alloc: Global,
-        records: SectionRecords<'s>,
+        records: MappedRecords<'s>,
         file_alignment: u32,
         opts: &ParseOptions,
     ) -> ResultOf<'e, AddressMap<'s>>
         ensures made { GivesOrMemory map_of result
-            (map_by opts.now (recorded_sections records.entry) file_alignment) }
+            (map_by opts.now (mapped_sections records.entry) file_alignment) }
         ensures few { IfOk result (λ m. WalksFew m.opts m.windows) }
-        ensures walked { let count = length (recorded_sections records.entry) in
+        ensures walked { let count = length (recorded_sections records.entry.records) in
             IfOk result (λ m. ¬ AreMany count → m.windows ≡ Walked records.entry file_alignment) }
-        ensures grown { let count = length (recorded_sections records.entry) in
+        ensures grown { let count = length (recorded_sections records.entry.records) in
             IfErr result (λ e. HasPieces opts.now file_alignment × AreMany count) }
     {
-        let windows = if FEW < records.len() {
+        let windows = if MOST_WITHOUT_INDEX < records.records.len() {
             Windows::of_many(alloc, records, file_alignment, opts)?
         } else {
             Windows::Walked(records, file_alignment)

@@ -1,12 +1,14 @@
 //! How sections map addresses, and offsets back to them, in whatever records they stand.
 
-ghost use Rattle.std.specs.Prelude.{◌≡◌, ◌<◌, IfSome, find, map, position};
+ghost use Rattle.std.specs.Prelude.{[], ◌≡◌, ◌<◌, IfSome, find, map, option_and_then};
+ghost use Rattle.std.specs.Prelude.{position};
 ghost use Rattle.std.specs.Option.{option_copied, option_map};
 ghost use Rattle.goblin_pe_sect.specs.Mapping.{InWindow, file_address, file_offset, is_at};
 ghost use Rattle.goblin_pe_sect.specs.Mapping.{is_in_window, maps_to, offset_in, rva_in};
 ghost use Rattle.goblin_pe_sect.specs.Mapping.{section_at, section_index};
-ghost use Rattle.goblin_pe_sect.specs.SectionTable.{Section, unnamed};
+ghost use Rattle.goblin_pe_sect.specs.SectionTable.{Section, unnamed, with_front};
 
+use crate::address_map::front_section;
 use crate::options::ParseOptions;
 use crate::section_table::SectionTable;
 use crate::utils::{is_in_range, raw_begin, rva_in, section_window};
@@ -109,15 +111,55 @@ fn offset_in<S: ToSection>(
     raw_begin(&section, opts) as usize + distance
 }
 
-/// The file offset of an address, as [`find_offset`](crate::utils::find_offset).
-#[tactic(auto, using(crate::proofs::Mapped::power_positive, crate::proofs::First::find_viewed), unfolding(crate::specs::Mapping::file_offset))]
-pub fn file_offset<S: ToSection>(
+// The file offset of an address by the first section whose window holds it.
+#[tactic(auto, using(crate::proofs::First::find_viewed))]
+fn offset_in_sections<S: ToSection>(
     rva: usize,
     sections: &[S],
     file_alignment: u32,
     opts: &ParseOptions,
 ) -> Option<usize>
-    ensures { result ≡ file_offset opts.now (map S.section sections.now) file_alignment rva }
+    requires { 0 < file_alignment }
+    ensures { result
+        ≡ option_map (λ s. offset_in opts.now s rva)
+        (find (is_in_window file_alignment rva) (map S.section sections.now)) }
+{
+    let section = first_in_window(rva, sections, file_alignment)?;
+    Some(offset_in(rva, section, file_alignment, opts))
+}
+
+// The file offset of an address in the file's front, where that is mapped.
+fn offset_in_front(
+    rva: usize,
+    front: Option<u32>,
+    file_alignment: u32,
+    opts: &ParseOptions,
+) -> Option<usize>
+    requires { 0 < file_alignment }
+    ensures { result
+        ≡ option_map (λ s. offset_in opts.now s rva)
+        (find (is_in_window file_alignment rva) (with_front front [])) }
+{
+    let front = front_section(front?);
+    if is_in_window(rva, &front, file_alignment) {
+        Some(offset_in(rva, &front, file_alignment, opts))
+    } else {
+        None
+    }
+}
+
+/// The file offset of an address, as [`find_offset`](crate::utils::find_offset), by the sections
+/// and the file's front after them, where that is mapped.
+#[tactic(auto, using(crate::proofs::Mapped::power_positive, crate::proofs::First::find_with_front), unfolding(crate::specs::Mapping::file_offset))]
+pub fn file_offset<S: ToSection>(
+    rva: usize,
+    sections: &[S],
+    front: Option<u32>,
+    file_alignment: u32,
+    opts: &ParseOptions,
+) -> Option<usize>
+    ensures { result
+        ≡ file_offset opts.now (with_front front (map S.section sections.now)) file_alignment rva }
 {
     if !opts.resolve_rva {
         return Some(rva);
@@ -125,8 +167,10 @@ pub fn file_offset<S: ToSection>(
     if !file_alignment.is_power_of_two() {
         return None;
     }
-    let section = first_in_window(rva, sections, file_alignment)?;
-    Some(offset_in(rva, section, file_alignment, opts))
+    match offset_in_sections(rva, sections, file_alignment, opts) {
+        Some(offset) => Some(offset),
+        None => offset_in_front(rva, front, file_alignment, opts),
+    }
 }
 
 // The address that the section's window has at the file offset.
@@ -152,51 +196,87 @@ fn is_at(offset: usize, found: Option<usize>) -> bool
     }
 }
 
-// Whether the section's window has an address at the file offset that the sections map back to it.
-fn maps_back<S: ToSection>(
+// Whether there is an address, and it is mapped to the file offset.
+fn maps_to<S: ToSection>(
     offset: usize,
-    section: &S,
+    address: Option<usize>,
     sections: &[S],
+    front: Option<u32>,
     file_alignment: u32,
     opts: &ParseOptions,
 ) -> bool
-    ensures { result
-        ≡ maps_to opts.now (map S.section sections.now) file_alignment offset
-        (rva_in opts.now file_alignment offset (S.section section.now)) }
+    ensures { let mapped = with_front front (map S.section sections.now) in
+        result ≡ maps_to opts.now mapped file_alignment offset address }
 {
-    match address_in(offset, section, file_alignment, opts) {
-        Some(rva) => is_at(offset, file_offset(rva, sections, file_alignment, opts)),
+    match address {
+        Some(rva) => is_at(
+            offset,
+            file_offset(rva, sections, front, file_alignment, opts),
+        ),
         None => false,
     }
 }
 
-// The first such section.
+// The first section whose window has an address at the file offset that is mapped back to it.
 fn first_back<'s, S: ToSection>(
     offset: usize,
     sections: &'s [S],
+    front: Option<u32>,
     file_alignment: u32,
     opts: &ParseOptions,
 ) -> Option<&'s S>
-    ensures { option_copied result
-        ≡ find (λ s. maps_to opts.now (map S.section sections.now) file_alignment offset
+    ensures { let mapped = with_front front (map S.section sections.now) in
+        option_copied result
+        ≡ find (λ s. maps_to opts.now mapped file_alignment offset
         (rva_in opts.now file_alignment offset (S.section s))) sections.now }
 {
-    sections.iter().find(|section| maps_back(offset, *section, sections, file_alignment, opts))
+    sections.iter().find(|section| {
+        let address = address_in(offset, *section, file_alignment, opts);
+        maps_to(offset, address, sections, front, file_alignment, opts)
+    })
 }
 
-/// The address of a file offset, as [`find_rva`](crate::utils::find_rva).
-#[tactic(auto, using(crate::proofs::First::find_viewed), unfolding(crate::specs::Mapping::file_address))]
-pub fn file_address<S: ToSection>(
+// The address in the file's front that is mapped back to the file offset.
+fn address_in_front<S: ToSection>(
     offset: usize,
     sections: &[S],
+    front: Option<u32>,
     file_alignment: u32,
     opts: &ParseOptions,
 ) -> Option<usize>
-    ensures { result ≡ file_address opts.now (map S.section sections.now) file_alignment offset }
+    ensures { let mapped = with_front front (map S.section sections.now) in
+        result
+        ≡ option_and_then (rva_in opts.now file_alignment offset)
+        (find (λ s. maps_to opts.now mapped file_alignment offset
+        (rva_in opts.now file_alignment offset s)) (with_front front [])) }
+{
+    let section = front_section(front?);
+    let address = address_in(offset, &section, file_alignment, opts);
+    if maps_to(offset, address, sections, front, file_alignment, opts) {
+        address
+    } else {
+        None
+    }
+}
+
+/// The address of a file offset, as [`find_rva`](crate::utils::find_rva), by the sections and the
+/// file's front after them, where that is mapped.
+#[tactic(auto, using(crate::proofs::First::find_viewed, crate::proofs::First::find_with_front), unfolding(crate::specs::Mapping::file_address))]
+pub fn file_address<S: ToSection>(
+    offset: usize,
+    sections: &[S],
+    front: Option<u32>,
+    file_alignment: u32,
+    opts: &ParseOptions,
+) -> Option<usize>
+    ensures { let mapped = with_front front (map S.section sections.now) in
+        result ≡ file_address opts.now mapped file_alignment offset }
 {
     if !opts.resolve_rva {
         return Some(offset);
     }
-    let section = first_back(offset, sections, file_alignment, opts)?;
-    address_in(offset, section, file_alignment, opts)
+    match first_back(offset, sections, front, file_alignment, opts) {
+        Some(section) => address_in(offset, section, file_alignment, opts),
+        None => address_in_front(offset, sections, front, file_alignment, opts),
+    }
 }

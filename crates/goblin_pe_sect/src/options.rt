@@ -1,7 +1,8 @@
 //! How a PE file is read.
 
 ghost use Rattle.std.specs.Prelude.{◌≡◌};
-ghost use Rattle.goblin_pe_sect.specs.Options.{default_options, rule_by_alignment, te_options};
+ghost use Rattle.goblin_pe_sect.specs.Options.{default_options, front_of, rule_by_alignment};
+ghost use Rattle.goblin_pe_sect.specs.Options.{te_options};
 
 pub use goblin_base::ParseMode;
 
@@ -35,6 +36,30 @@ impl RawPointerRule {
     }
 }
 
+/// What maps the addresses of an image.
+#[derive(Debug, PartialEq, Copy, Clone)]
+pub enum View {
+    /// Its sections, as goblin maps.
+    Sections,
+    /// Its sections and, where the window of none holds an address, the file's front: the Windows
+    /// loader maps the headers at the image's base, as many bytes as `size_of_headers` says.
+    Loader,
+}
+
+impl View {
+    /// How many bytes of the file's front are mapped, where the headers have so many; `None` where
+    /// the front is not mapped.
+    #[inline(always)]
+    pub fn front(self, size_of_headers: u32) -> Option<u32>
+        ensures { result ≡ front_of self size_of_headers }
+    {
+        match self {
+            View::Sections => None,
+            View::Loader => Some(size_of_headers),
+        }
+    }
+}
+
 /// What a reader does and leaves out.
 #[derive(Debug, Copy, Clone)]
 pub struct ParseOptions {
@@ -53,7 +78,9 @@ pub struct ParseOptions {
     /// What to do with damaged parts; by default strict: the first one refuses the whole.
     /// Permissive mode passes over them. An import directory at file offset 0 is an empty list
     /// there, whatever it holds; the damage of a file tells what strict mode would refuse of it, and
-    /// how much is left out.
+    /// how much is left out. Neither mode passes over more than sixteen data directories, an odd
+    /// magic, a header or a section table that is cut, a section's name of a slash and a text that
+    /// is no number, or a Rich marker without its start.
     pub parse_mode: ParseMode,
     /// Whether the reader of a whole file reads the imports; true by default.
     pub parse_imports: bool,

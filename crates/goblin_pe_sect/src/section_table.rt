@@ -18,7 +18,8 @@ ghost use Rattle.goblin_pe_sect.specs.Relocations.{relocations_in, relocations_l
 ghost use Rattle.goblin_pe_sect.specs.SectionName.{IsNameFault, indirect_name, name_value};
 ghost use Rattle.goblin_pe_sect.specs.SectionName.{HasBytes, IsNameOffsetFault};
 ghost use Rattle.goblin_pe_sect.specs.SectionReadings.{SectionWritesBack, named_section_at};
-ghost use Rattle.goblin_pe_sect.specs.SectionReadings.{raw_data, section_data, text_in_table};
+ghost use Rattle.goblin_pe_sect.specs.SectionReadings.{raw_bytes, raw_data, section_data};
+ghost use Rattle.goblin_pe_sect.specs.SectionReadings.{text_in_table};
 ghost use Rattle.goblin_pe_sect.specs.SectionTable.{Section, section_eq, section_per, unnamed};
 ghost use Rattle.goblin_pe_sect.specs.SectionTable.{SectionReadsBack, section_fields, IsNoName};
 ghost use Rattle.goblin_pe_sect.specs.SectionTable.{section_record, OverlapRawData, name_of};
@@ -142,6 +143,23 @@ impl PartialEq for SectionTable {
             && self.number_of_relocations == other.number_of_relocations
             && self.number_of_linenumbers == other.number_of_linenumbers
             && self.characteristics == other.characteristics
+    }
+}
+
+/// So many bytes of a section's raw data in the file, from `begin` on. There may be none, even at the
+/// end of the file.
+///
+/// # Errors
+/// [`Error::Read`] if they run past the end of the file: `BadOffset` if they also begin at or past
+/// the end, else `TooBig`.
+pub fn raw_bytes(bytes: &[u8], begin: usize, size: usize) -> Result<&[u8]>
+    requires { begin + size ≤ usize.MAX }
+    ensures { Reads (λ s. s.now) result (raw_bytes begin size) bytes.now }
+{
+    match bytes.get(begin..begin + size) {
+        Some(found) => Ok(found),
+        None if bytes.len() <= begin => Err(Error::Read(ReadFault::BadOffset)),
+        None => Err(Error::Read(ReadFault::TooBig)),
     }
 }
 
@@ -294,12 +312,11 @@ impl SectionTable {
     pub fn raw_data<'b>(&self, bytes: &'b [u8]) -> Result<&'b [u8]>
         ensures { Reads (λ s. s.now) result (raw_data self.now) bytes.now }
     {
-        let begin = self.pointer_to_raw_data as usize;
-        match bytes.get(begin..begin + self.size_of_raw_data as usize) {
-            Some(raw_data) => Ok(raw_data),
-            None if bytes.len() <= begin => Err(Error::Read(ReadFault::BadOffset)),
-            None => Err(Error::Read(ReadFault::TooBig)),
-        }
+        raw_bytes(
+            bytes,
+            self.pointer_to_raw_data as usize,
+            self.size_of_raw_data as usize,
+        )
     }
 
     /// The section's data in the file `bytes`: its raw data, followed by zeros up to the virtual

@@ -168,7 +168,7 @@ pub fn find_offset(
         (MapsTo opts.now sections.now file_alignment rva) }
     ensures apart { OffsetsApart opts.now sections.now file_alignment }
 {
-    file_offset(rva, sections, file_alignment, opts)
+    file_offset(rva, sections, None, file_alignment, opts)
 }
 
 /// The file offset of the address `rva`, as [`find_offset`] returns it.

@@ -133,6 +133,7 @@ impl Symbol {
     ///
     /// # Errors
     /// [`Error::Read`] if the 18 bytes run past the end of the file.
+    #[inline(always)]
     pub fn parse<'a>(bytes: &'a [u8], offset: usize) -> Result<(Option<&'a str>, Symbol)>
         ensures { Reads named_value result (symbol_at offset) bytes.now }
     {
@@ -289,6 +290,7 @@ fn inline_name(bytes: &[u8]) -> Option<&str>
 }
 
 // The symbol of a record, and the name in it.
+#[inline(always)]
 fn named(bytes: &[u8]) -> (Option<&str>, Symbol)
     requires { length bytes.now ≡ 18 }
     ensures { named_value result ≡ name_and_symbol bytes.now }

@@ -14,6 +14,7 @@ use goblin_pe::laws::{
 use goblin_pe::{Layout, Places, Whole};
 use goblin_pe_export::laws::read_exports;
 use goblin_pe_head::Header;
+use goblin_pe_sect::address_map::MappedRecords;
 use goblin_pe_sect::section_table::{SIZEOF_SECTION_TABLE, SectionRecords};
 use goblin_pe_sect::{ParseOptions, SectionTable, WindowIndex};
 use std::alloc::Global;
@@ -78,10 +79,11 @@ fn show_layout_of_many(rt: &HostRuntime, opts: &ParseOptions) -> io::Result<()> 
         imports: None,
         relocations: None,
     };
-    show_answer(
-        rt,
-        Layout::by(rt.alloc(), &[], places, SectionRecords::of(&records), opts),
-    )
+    let mapped = MappedRecords {
+        records: SectionRecords::of(&records),
+        front: None,
+    };
+    show_answer(rt, Layout::by(rt.alloc(), &[], places, mapped, opts))
 }
 
 // What is kept of the file: something that the file itself fits.

@@ -8,14 +8,14 @@ ghost use Rattle.goblin_pe_head.specs.HeaderReadings.{pe_header};
 ghost use Rattle.goblin_pe_head.specs.PeHeader.{header_value};
 ghost use Rattle.goblin_pe_sect.specs.Options.{is_strict};
 ghost use Rattle.goblin_pe.specs.TakenMemory.{TakesIndex};
-ghost use Rattle.goblin_pe.specs.Whole.{whole_after, whole_file};
+ghost use Rattle.goblin_pe.specs.Whole.{whole_after, whole_file, whole_in};
 
 use crate::whole::Layout;
 use goblin_base::footprint::Marks;
 use goblin_base::{ResultOf, error_for, is_passed_over};
 use goblin_pe_head::header::Header;
 use goblin_pe_head::laws::{add_header, add_sections};
-use goblin_pe_sect::ParseOptions;
+use goblin_pe_sect::{ParseOptions, View};
 use std::alloc::Global;
 
 // Marks the footprint of what follows the header of a file: of its sections, and of its tables if
@@ -25,16 +25,17 @@ fn add_after<'a, 'e>(
     marks: &mut Marks,
     bytes: &'a [u8],
     header: &Header<'a>,
+    view: View,
     opts: &ParseOptions,
 ) -> ResultOf<'e, ()>
-    ensures added { let read = whole_after opts.now (header_value header.now) in
+    ensures added { let read = whole_after view opts.now (header_value header.now) in
         OnOk result (marks.new ≡ marked marks.old (read.reaches bytes.now)) }
     ensures refused { IfErr result IsMemory }
     ensures grown { OnErr result (TakesIndex opts.now bytes.now (header_value header.now)) }
 {
     let pe_pointer = header.dos_header.pe_pointer;
     add_sections(marks, bytes, pe_pointer, header.coff_header, opts);
-    match Layout::of(alloc, bytes, header, opts) {
+    match Layout::in_view(alloc, bytes, header, view, opts) {
         Ok(layout) => {
             layout.mark_tables(marks);
             Ok(())
@@ -45,14 +46,15 @@ fn add_after<'a, 'e>(
 }
 
 // Marks the footprint of a whole file: of its header, and of what follows if there is a header.
-#[tactic(auto, unfolding(crate::specs::Whole::whole_file), using(goblin_base::proofs::Marks::marking))]
+#[tactic(auto, unfolding(crate::specs::Whole::whole_in), using(goblin_base::proofs::Marks::marking))]
 fn add_whole<'e>(
     alloc: Global,
     marks: &mut Marks,
     bytes: &[u8],
+    view: View,
     opts: &ParseOptions,
 ) -> ResultOf<'e, ()>
-    ensures added { let reached = (whole_file opts.now).reaches bytes.now in
+    ensures added { let reached = (whole_in view opts.now).reaches bytes.now in
         OnOk result (marks.new ≡ marked marks.old reached) }
     ensures refused { IfErr result IsMemory }
     ensures grown { OnErr result
@@ -63,16 +65,21 @@ fn add_whole<'e>(
     let Ok(header) = Header::parse_with_opts(bytes, opts) else {
         return Ok(());
     };
-    add_after(alloc, marks, bytes, &header, opts)
+    add_after(alloc, marks, bytes, &header, view, opts)
 }
 
-/// The marks of the positions on which [`Whole::read`](crate::Whole::read) depends, as
-/// [`footprint_whole`] lists them.
+/// The marks of the positions on which a read of the whole file depends whose addresses are mapped
+/// as the view says: by its sections, [`footprint_whole`] lists them.
 ///
 /// # Errors
 /// [`Error::Memory`](goblin_base::Error::Memory) only, and only if the file has a byte.
-pub fn mark_whole<'e>(alloc: Global, bytes: &[u8], opts: &ParseOptions) -> ResultOf<'e, Marks>
-    ensures reached { let footprint = (whole_file opts.now).reaches bytes.now in
+pub fn mark_whole<'e>(
+    alloc: Global,
+    bytes: &[u8],
+    view: View,
+    opts: &ParseOptions,
+) -> ResultOf<'e, Marks>
+    ensures reached { let footprint = (whole_in view opts.now).reaches bytes.now in
         IfOk result (λ marks. marks ≡ marked (replicate (length bytes.now) false) footprint) }
     ensures refused { IfErr result IsMemory }
     ensures grown { OnErr result (0 < length bytes.now) }
@@ -81,7 +88,7 @@ pub fn mark_whole<'e>(alloc: Global, bytes: &[u8], opts: &ParseOptions) -> Resul
     if bytes.is_empty() {
         return Ok(marks);
     }
-    add_whole(alloc, &mut marks, bytes, opts)?;
+    add_whole(alloc, &mut marks, bytes, view, opts)?;
     Ok(marks)
 }
 
@@ -104,6 +111,6 @@ pub fn footprint_whole<'e>(
     ensures refused { IfErr result IsMemory }
     ensures grown { OnErr result (0 < length bytes.now) }
 {
-    let marks = mark_whole(alloc, bytes, opts)?;
+    let marks = mark_whole(alloc, bytes, View::Sections, opts)?;
     marks.ranges(alloc)
 }

@@ -5,6 +5,7 @@ ghost use Rattle.goblin_base.specs.Answers.{IsMemory, all_of};
 ghost use Rattle.goblin_pe_sect.specs.Options.{is_strict};
 ghost use Rattle.goblin_pe_head.specs.HeaderReadings.{pe_header};
 ghost use Rattle.goblin_pe_head.specs.PeHeader.{header_value};
+ghost use Rattle.goblin_pe_sect.specs.declared.options.View.TheVariants.{Sections};
 ghost use Rattle.goblin_pe_sect.specs.Addresses.{offset_of};
 ghost use Rattle.goblin_pe_import.specs.ImportWalks.{IsImportsCause, imports_left};
 ghost use Rattle.goblin_pe.specs.Callers.{layout_table};
@@ -20,7 +21,7 @@ use crate::whole::layout::section_records_of;
 use crate::whole::{FileImports, Layout, Part, Whole};
 use goblin_base::{Error, ErrorOf, Result};
 use goblin_pe_head::header::{DosStub, Header};
-use goblin_pe_sect::options::ParseOptions;
+use goblin_pe_sect::options::{ParseOptions, View};
 use std::alloc::Global;
 
 /// What strict mode would refuse of a file, part by part: `None` where it would read the part, or
@@ -107,17 +108,17 @@ fn table_damage(layout: Layout) -> (Option<Error>, Option<Error>, Option<Error>,
     (imports, exports, relocations, left_out)
 }
 
-// What strict mode refuses of a file whose header and sections are read by these options.
+// What strict mode refuses of a file whose header and sections are read by these options, in a view.
 #[tactic(auto, unfolding(crate::specs::Whole::layout))]
-fn file_damage(alloc: Global, bytes: &[u8], opts: &ParseOptions) -> Result<Damage>
-    ensures tells { TellsDamage opts.now bytes.now result }
+fn file_damage(alloc: Global, bytes: &[u8], view: View, opts: &ParseOptions) -> Result<Damage>
+    ensures tells { TellsDamage view opts.now bytes.now result }
     ensures grown { IfErr result
         (λ e.
         IsMemory e → IsSomeAnd ((pe_header (is_strict opts.now.parse_mode)).value bytes.now)
         (TakesIndex opts.now bytes.now)) }
 {
     let header = Header::parse_with_opts(bytes, opts)?;
-    let layout = Layout::of(alloc, bytes, &header, opts)?;
+    let layout = Layout::in_view(alloc, bytes, &header, view, opts)?;
     let left_out_exports = layout.left_out_exports();
     let (imports, exports, relocations, left_out) = table_damage(layout);
     Ok(Damage {
@@ -147,13 +148,28 @@ impl Whole<'_> {
     /// [`Error::Memory`] if memory is refused, and only of a file that has more than 96 sections,
     /// by whose windows addresses are mapped, and room for as many as its header says.
     pub fn damage(alloc: Global, bytes: &[u8], opts: &ParseOptions) -> Result<Damage>
-        ensures tells { TellsDamage opts.now bytes.now result }
-        ensures sound { IfOk result (λ d. IsSound d → IsReadByBoth opts.now bytes.now) }
+        ensures tells { TellsDamage Sections opts.now bytes.now result }
+        ensures sound { IfOk result (λ d. IsSound d → IsReadByBoth Sections opts.now bytes.now) }
         ensures grown { IfErr result
             (λ e.
             IsMemory e → IsSomeAnd ((pe_header (is_strict opts.now.parse_mode)).value bytes.now)
             (TakesIndex opts.now bytes.now)) }
     {
-        file_damage(alloc, bytes, opts)
+        file_damage(alloc, bytes, View::Sections, opts)
+    }
+
+    /// The damage, as [`Whole::damage`] tells it, of a file whose addresses are mapped as the view
+    /// says.
+    ///
+    /// # Errors
+    /// As [`Whole::damage`].
+    pub fn damage_in(alloc: Global, bytes: &[u8], view: View, opts: &ParseOptions) -> Result<Damage>
+        ensures tells { TellsDamage view opts.now bytes.now result }
+        ensures grown { IfErr result
+            (λ e.
+            IsMemory e → IsSomeAnd ((pe_header (is_strict opts.now.parse_mode)).value bytes.now)
+            (TakesIndex opts.now bytes.now)) }
+    {
+        file_damage(alloc, bytes, view, opts)
     }
 }

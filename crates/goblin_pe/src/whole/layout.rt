@@ -9,11 +9,12 @@ ghost use Rattle.goblin_base.specs.Reading.{Reads, ReadsOrMemory};
 ghost use Rattle.readings.specs.Reads.{mapped};
 ghost use Rattle.readings.specs.Walks.{Walks};
 ghost use Rattle.goblin_pe_sect.specs.declared.options.ParseOptions.{ParseOptions};
+ghost use Rattle.goblin_pe_sect.specs.declared.options.View.TheVariants.{Loader, Sections};
 ghost use Rattle.goblin_pe_sect.specs.Addresses.{AreMany, map_by, map_of, offset_of};
 ghost use Rattle.goblin_pe_sect.specs.Addresses.{reads_strictly, strict_map};
 ghost use Rattle.goblin_pe_sect.specs.BaseRelocations.{relocation_bytes};
-ghost use Rattle.goblin_pe_sect.specs.Options.{is_strict};
-ghost use Rattle.goblin_pe_sect.specs.SectionTable.{recorded_sections, unnamed};
+ghost use Rattle.goblin_pe_sect.specs.Options.{is_strict, rule_by_alignment};
+ghost use Rattle.goblin_pe_sect.specs.SectionTable.{mapped_sections, recorded_sections, unnamed};
 ghost use Rattle.goblin_pe_sect.specs.WindowIndex.{HasPieces};
 ghost use Rattle.goblin_pe_head.specs.CoffHeader.{IsTooManySections};
 ghost use Rattle.goblin_pe_head.specs.PeHeader.{header_value};
@@ -27,24 +28,25 @@ ghost use Rattle.goblin_pe.specs.LayoutCursors.{file_cursor_left, file_map, impo
 ghost use Rattle.goblin_pe.specs.Layouts.{IsExportWalk, IsFileImportsCause, IsLayoutOf, PartWalks};
 ghost use Rattle.goblin_pe.specs.Layouts.{file_imports_left, layout_bytes};
 ghost use Rattle.goblin_pe.specs.Layouts.{layout_map, layout_places, layout_sections};
-ghost use Rattle.goblin_pe.specs.Layouts.{walked_exports};
+ghost use Rattle.goblin_pe.specs.Layouts.{address_part, walked_exports};
+ghost use Rattle.goblin_pe_export.specs.ExportWalks.{walked_tables};
 ghost use Rattle.goblin_pe_head.specs.SectionRoom.{TakesSections};
 ghost use Rattle.goblin_pe.specs.TakenMemory.{TakesIndex};
 ghost use Rattle.goblin_pe.specs.Whole.{AreListed, IfRead, TablePlaces, entry_format, export_part};
 ghost use Rattle.goblin_pe.specs.Whole.{import_list};
 ghost use Rattle.goblin_pe.specs.Whole.{part_map, relocation_part, section_table_offset};
-ghost use Rattle.goblin_pe.specs.Whole.{sections_after, table_places};
+ghost use Rattle.goblin_pe.specs.Whole.{places_in, sections_after, table_places};
 
 use crate::export::Exports;
 use crate::import::{ImportCursor, Imports, LeftOut};
-use crate::whole::places::{Places, part_of};
+use crate::whole::places::{Places, part_of, size_of_headers};
 use crate::whole::{FileImports, Part};
 use goblin_base::{Result, ResultOf};
 use goblin_pe_head::header::{Header, SIZEOF_COFF_HEADER, SIZEOF_PE_MAGIC};
-use goblin_pe_sect::address_map::{AddressMap, Finder};
+use goblin_pe_sect::address_map::{AddressMap, Finder, MappedRecords};
 use goblin_pe_sect::relocation::RelocationData;
 use goblin_pe_sect::section_table::SectionRecords;
-use goblin_pe_sect::{DataDirectory, ParseOptions, SectionTable};
+use goblin_pe_sect::{DataDirectory, ParseOptions, RawPointerRule, SectionTable, View};
 use std::alloc::Global;
 use std::fmt;
 
@@ -157,16 +159,12 @@ fn walked(bytes: &[u8]) -> &[u8]
 }
 
 impl<'a> Layout<'a> {
-    /// The layout of a file with this header. Its sections are refused where
-    /// [`Whole::read`](crate::Whole::read) refuses them. Memory is taken only for an index of more
-    /// than 96 sections, by whose windows addresses are mapped.
+    /// The layout of a file with this header, by its sections, as goblin maps addresses:
+    /// [`Layout::in_view`] says the rest.
     ///
     /// # Errors
-    /// As [`CoffHeader::sections_with_opts`](goblin_pe_head::CoffHeader::sections_with_opts), but
-    /// [`Error::Memory`](goblin_base::Error::Memory) only of more than 96 sections, where their
-    /// windows map addresses.
+    /// As [`Layout::in_view`].
     #[inline(always)]
-    #[tactic(auto, using(crate::proofs::SectionNames::mapped_by_names, crate::proofs::SectionNames::takes_index))]
     pub fn of(
         alloc: Global,
         bytes: &'a [u8],
@@ -176,20 +174,76 @@ impl<'a> Layout<'a> {
         ensures value { let strict = is_strict opts.now.parse_mode in
             ReadsOrMemory layout_sections result
             (mapped (map unnamed) (sections_after strict (header_value header.now))) bytes.now }
-        ensures over { IfOk result (IsLayoutOf opts.now bytes.now header.now) }
+        ensures over { IfOk result (IsLayoutOf Sections opts.now bytes.now header.now) }
+        ensures first { let count = header.now.coff_header.number_of_sections in
+            length bytes.now / 40 < count → IsErrAnd result (IsTooManySections count bytes.now) }
+        ensures grown { IfErr result
+            (λ e. IsMemory e → TakesIndex opts.now bytes.now (header_value header.now)) }
+    {
+        Layout::in_view(alloc, bytes, header, View::Sections, opts)
+    }
+
+    /// The layout of a file with this header as the Windows loader maps it: raw pointers by the
+    /// file alignment ([`RawPointerRule::by_file_alignment`], whatever `opts` say), and the file's
+    /// front, as many bytes as the header says, at the image's base. So it has the names and
+    /// tables that stand in the headers, where packers hide them.
+    ///
+    /// # Errors
+    /// As [`Layout::in_view`].
+    pub fn as_loaded(
+        alloc: Global,
+        bytes: &'a [u8],
+        header: &Header,
+        opts: &ParseOptions,
+    ) -> Result<Layout<'a>>
+        ensures value { let strict = is_strict opts.now.parse_mode in
+            ReadsOrMemory layout_sections result
+            (mapped (map unnamed) (sections_after strict (header_value header.now))) bytes.now }
+        ensures over { let alignment = (places_in header.now.optional_header).file_alignment in
+            let loaded = record opts.now { raw_pointer_rule = rule_by_alignment alignment } in
+            IfOk result (IsLayoutOf Loader loaded bytes.now header.now) }
+    {
+        let alignment = Places::of(&header.optional_header).file_alignment;
+        let rule = RawPointerRule::by_file_alignment(alignment);
+        let opts = opts.with_raw_pointer_rule(rule);
+        Layout::in_view(alloc, bytes, header, View::Loader, &opts)
+    }
+
+    /// The layout of a file with this header, whose addresses are mapped as the view says. Its
+    /// sections are refused where [`Whole::read`](crate::Whole::read) refuses them. Memory is taken
+    /// only for an index of more than 96 sections, by whose windows addresses are mapped.
+    ///
+    /// # Errors
+    /// As [`CoffHeader::sections_with_opts`](goblin_pe_head::CoffHeader::sections_with_opts), but
+    /// [`Error::Memory`](goblin_base::Error::Memory) only of more than 96 sections, where their
+    /// windows map addresses.
+    #[inline(always)]
+    #[tactic(auto, using(crate::proofs::SectionNames::mapped_by_names, crate::proofs::SectionNames::takes_index))]
+    pub fn in_view(
+        alloc: Global,
+        bytes: &'a [u8],
+        header: &Header,
+        view: View,
+        opts: &ParseOptions,
+    ) -> Result<Layout<'a>>
+        ensures value { let strict = is_strict opts.now.parse_mode in
+            ReadsOrMemory layout_sections result
+            (mapped (map unnamed) (sections_after strict (header_value header.now))) bytes.now }
+        ensures over { IfOk result (IsLayoutOf view opts.now bytes.now header.now) }
         ensures first { let count = header.now.coff_header.number_of_sections in
             length bytes.now / 40 < count → IsErrAnd result (IsTooManySections count bytes.now) }
         ensures grown { IfErr result
             (λ e. IsMemory e → TakesIndex opts.now bytes.now (header_value header.now)) }
     {
         let records = section_records_of(bytes, header, opts)?;
+        let front = view.front(size_of_headers(&header.optional_header));
         let places = Places::of(&header.optional_header);
-        let layout = Layout::by(alloc, bytes, places, records, opts)?;
+        let layout = Layout::by(alloc, bytes, places, MappedRecords { records, front }, opts)?;
         Ok(layout)
     }
 
-    /// The layout of a file whose tables lie at these places, and whose addresses are mapped by the
-    /// sections of these records, whatever its header says.
+    /// The layout of a file whose tables lie at these places, and whose addresses are mapped by
+    /// these records, whatever its header says.
     ///
     /// # Errors
     /// Only [`Error::Memory`](goblin_base::Error::Memory), of more than 96 sections, where their
@@ -199,18 +253,20 @@ impl<'a> Layout<'a> {
         alloc: Global,
         bytes: &'a [u8],
         places: Places,
-        records: SectionRecords<'a>,
+        mapped: MappedRecords<'a>,
         opts: &ParseOptions,
     ) -> ResultOf<'e, Layout<'a>>
         ensures mapped { GivesOrMemory layout_map result
-            (map_by opts.now (recorded_sections records.entry) places.file_alignment) }
+            (map_by opts.now (mapped_sections mapped.entry) places.file_alignment) }
         ensures over { IfOk result (λ l. layout_bytes l ≡ bytes.now) }
         ensures placed { IfOk result (λ l. layout_places l ≡ table_places places) }
-        ensures recorded { IfOk result (λ l. layout_sections l ≡ recorded_sections records.entry) }
-        ensures grown { let count = length (recorded_sections records.entry) in
+        ensures recorded { IfOk result
+            (λ l. layout_sections l ≡ recorded_sections mapped.entry.records) }
+        ensures grown { let count = length (recorded_sections mapped.entry.records) in
             IfErr result (λ e. HasPieces opts.now places.file_alignment × AreMany count) }
     {
-        let address_map = AddressMap::of_records(alloc, records, places.file_alignment, opts)?;
+        let records = mapped.records;
+        let address_map = AddressMap::of_records(alloc, mapped, places.file_alignment, opts)?;
         Ok(Layout {
             bytes,
             places,
@@ -348,6 +404,28 @@ impl<'a> Layout<'a> {
         };
         let opts = *finder.opts();
         part_of(Exports::by(self.bytes, directory, finder), &opts)
+    }
+
+    /// What the export directory leads to besides the names of exports: its record, the library's
+    /// name and the address table, by which a loader finds an export by its ordinal. A walk over it
+    /// has no exports. Where the exports are read, these are their addresses; where they are refused
+    /// only for the number of their name pointers, it is read all the same.
+    ///
+    /// # Errors
+    /// In strict mode as [`Exports::addresses_of`](crate::export::Exports::addresses_of).
+    #[tactic(auto, unfolding(crate::specs::Layouts::address_part))]
+    pub fn export_addresses<'m>(&'m self) -> Result<Part<Exports<'a, 'm>>>
+        ensures { Reads (part_map walked_tables) result
+            (layout_table address_part self.now) (layout_bytes self.now) }
+    {
+        let Some(directory) = self.places.exports else {
+            return Ok(Part::Absent);
+        };
+        let opts = *self.address_map.opts();
+        part_of(
+            Exports::addresses_of(self.bytes, directory, &self.address_map),
+            &opts,
+        )
     }
 
     /// A finder by the map of the file's addresses.

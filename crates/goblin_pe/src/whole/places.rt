@@ -6,7 +6,7 @@ ghost use Rattle.goblin_pe_sect.specs.Addresses.{map_of, offset_of};
 ghost use Rattle.goblin_pe_sect.specs.BaseRelocations.{relocation_bytes};
 ghost use Rattle.goblin_pe_sect.specs.Options.{is_strict};
 ghost use Rattle.goblin_pe.specs.Whole.{BecomesPart, part_map, places_in, relocation_part};
-ghost use Rattle.goblin_pe.specs.Whole.{table_places};
+ghost use Rattle.goblin_pe.specs.Whole.{size_of_headers, table_places};
 
 use crate::whole::Part;
 use goblin_base::{Result, ResultOf, is_passed_over};
@@ -46,6 +46,18 @@ pub struct Places {
     pub imports: Option<DataDirectory>,
     /// The directory of base relocations, if there is one.
     pub relocations: Option<DataDirectory>,
+}
+
+/// How many bytes the headers of an image have, by its optional header; 0 without one.
+///
+/// Source: PE Format, "Optional Header Windows-Specific Fields (Image Only)".
+pub fn size_of_headers(header: &Option<OptionalHeader>) -> u32
+    ensures { result ≡ size_of_headers header.now }
+{
+    match header {
+        Some(header) => header.windows_fields.size_of_headers,
+        None => 0,
+    }
 }
 
 impl Places {

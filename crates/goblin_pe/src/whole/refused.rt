@@ -2,6 +2,7 @@
 
 ghost use Rattle.std.specs.Prelude.{◌≡◌, IfErr, IsSomeAnd};
 ghost use Rattle.goblin_base.specs.Answers.{GivesOrMemory};
+ghost use Rattle.goblin_pe_sect.specs.declared.options.View.TheVariants.{Sections};
 ghost use Rattle.goblin_pe_sect.specs.Addresses.{offset_of};
 ghost use Rattle.goblin_pe_sect.specs.Options.{is_strict};
 ghost use Rattle.goblin_pe_head.specs.HeaderReadings.{pe_header};
@@ -16,7 +17,7 @@ use crate::whole::{Layout, Whole};
 use goblin_base::Result;
 use goblin_base::permissive::is_passed_over;
 use goblin_pe_head::header::Header;
-use goblin_pe_sect::options::ParseOptions;
+use goblin_pe_sect::options::{ParseOptions, View};
 use std::alloc::Global;
 
 /// The part of a file for which a read is refused: the first that cannot be read, in this order.
@@ -67,13 +68,14 @@ fn refused_after(
     alloc: Global,
     bytes: &[u8],
     header: &Header,
+    view: View,
     opts: &ParseOptions,
 ) -> Result<RefusedPart>
     ensures value { GivesOrMemory (λ p. p) result
-        (refused_after opts.now bytes.now (header_value header.now)) }
+        (refused_after view opts.now bytes.now (header_value header.now)) }
     ensures grown { IfErr result (λ e. TakesIndex opts.now bytes.now (header_value header.now)) }
 {
-    match Layout::of(alloc, bytes, header, opts) {
+    match Layout::in_view(alloc, bytes, header, view, opts) {
         Ok(layout) => Ok(refused_table(&layout)),
         Err(error) if is_passed_over(&error, true) => Ok(RefusedPart::Sections),
         Err(error) => Err(error),
@@ -90,17 +92,38 @@ impl Whole<'_> {
     /// [`Error::Memory`](goblin_base::Error::Memory) if memory is refused, and only of a file that
     /// has more than 96 sections, by whose windows addresses are mapped, and room for as many as
     /// its header says.
-    #[tactic(auto, unfolding(crate::specs::RefusedParts::refused_part))]
     pub fn refused_part(alloc: Global, bytes: &[u8], opts: &ParseOptions) -> Result<RefusedPart>
-        ensures value { GivesOrMemory (λ p. p) result (refused_part opts.now bytes.now) }
-        ensures read { IsReadWithout opts.now bytes.now }
-        ensures refused { IsWithoutRead opts.now bytes.now }
+        ensures value { GivesOrMemory (λ p. p) result (refused_part Sections opts.now bytes.now) }
+        ensures read { IsReadWithout Sections opts.now bytes.now }
+        ensures refused { IsWithoutRead Sections opts.now bytes.now }
+        ensures grown { IfErr result
+            (λ e. IsSomeAnd ((pe_header (is_strict opts.now.parse_mode)).value bytes.now)
+            (TakesIndex opts.now bytes.now)) }
+    {
+        Whole::refused_part_in(alloc, bytes, View::Sections, opts)
+    }
+
+    /// The part, as [`Whole::refused_part`] tells it, of a file whose addresses are mapped as the
+    /// view says.
+    ///
+    /// # Errors
+    /// As [`Whole::refused_part`].
+    #[tactic(auto, unfolding(crate::specs::RefusedParts::refused_part))]
+    pub fn refused_part_in(
+        alloc: Global,
+        bytes: &[u8],
+        view: View,
+        opts: &ParseOptions,
+    ) -> Result<RefusedPart>
+        ensures value { GivesOrMemory (λ p. p) result (refused_part view opts.now bytes.now) }
+        ensures read { IsReadWithout view opts.now bytes.now }
+        ensures refused { IsWithoutRead view opts.now bytes.now }
         ensures grown { IfErr result
             (λ e. IsSomeAnd ((pe_header (is_strict opts.now.parse_mode)).value bytes.now)
             (TakesIndex opts.now bytes.now)) }
     {
         match Header::parse_with_opts(bytes, opts) {
-            Ok(header) => refused_after(alloc, bytes, &header, opts),
+            Ok(header) => refused_after(alloc, bytes, &header, view, opts),
             Err(_) => Ok(RefusedPart::Header),
         }
     }

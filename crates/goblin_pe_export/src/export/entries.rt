@@ -12,7 +12,7 @@ ghost use Rattle.goblin_pe_export.specs.ExportRecords.{ExportTables, tables_in};
 use crate::export::tables::{
     ExportAddressTable, ExportAddressTableEntry, ExportDirectoryTable, ExportNamePointerTable,
     ExportOrdinalTable, SIZEOF_EXPORT_ADDRESS_TABLE_ENTRY, SIZEOF_NAME_POINTER, SIZEOF_ORDINAL,
-    test_counts, whole_entries,
+    test_address_count, test_counts, whole_entries,
 };
 use crate::export::{ExportData, text_at};
 use goblin_base::{Cause, Endian, Error, Result, ResultOf, field_u16, field_u32};
@@ -129,6 +129,56 @@ impl<'a> TablesInFile<'a> {
         let table = ExportDirectoryTable::parse(bytes, offset)?;
         test_counts(bytes, &table)?;
         Ok(TablesInFile::of_record(bytes, table, directory, finder))
+    }
+
+    // What a record leads to besides the names.
+    #[tactic(auto, unfolding(crate::specs::ExportReadings::address_tables, goblin_pe_sect::specs::AddressReadings::name_at), using(crate::proofs::WholeEntries::counted_is, crate::proofs::WholeEntries::entry_count, crate::proofs::WholeEntries::no_names))]
+    fn addresses_of_record(
+        bytes: &'a [u8],
+        table: ExportDirectoryTable,
+        directory: DataDirectory,
+        finder: &mut Finder<'_>,
+    ) -> TablesInFile<'a>
+        ensures value { let m = map_of finder.old in
+            let tables = reading.address_tables (offset_of m) directory table in
+            tables.value bytes.now ≡ Some (tables_in result) }
+        ensures same { finder.new ≡ finder.old }
+    {
+        let addresses = finder.offset_of(table.export_address_table_rva);
+        TablesInFile {
+            name: text_at(bytes, finder.offset_of_name(table.name_rva)),
+            export_directory_table: table,
+            directory,
+            name_pointers: &[],
+            ordinals: &[],
+            addresses: whole_entries(
+                bytes,
+                addresses,
+                SIZEOF_EXPORT_ADDRESS_TABLE_ENTRY,
+                table.address_table_entries,
+            ),
+        }
+    }
+
+    // What the record at a directory's address leads to besides the names, whatever it says of
+    // these, if its addresses fit the file.
+    #[tactic(auto, unfolding(crate::specs::ExportReadings::export_addresses))]
+    pub(crate) fn find_addresses(
+        bytes: &'a [u8],
+        directory: DataDirectory,
+        finder: &mut Finder<'_>,
+    ) -> Result<TablesInFile<'a>>
+        ensures value { let m = map_of finder.old in
+            Reads tables_in result (reading.export_addresses (offset_of m) directory) bytes.now }
+        ensures same { finder.new ≡ finder.old }
+    {
+        let Some(offset) = finder.offset_of(directory.virtual_address) else {
+            let rva = directory.virtual_address as usize;
+            return Err(Error::Malformed(Cause::Unmapped(rva)));
+        };
+        let table = ExportDirectoryTable::parse(bytes, offset)?;
+        test_address_count(bytes, &table)?;
+        Ok(TablesInFile::addresses_of_record(bytes, table, directory, finder))
     }
 
     // The name pointers in memory.

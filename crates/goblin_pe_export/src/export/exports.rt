@@ -6,12 +6,15 @@ ghost use Rattle.std.specs.Iterator.{UpTo, at_most};
 ghost use Rattle.std.specs.Iterator.SizeHint.{IsWithinCount};
 ghost use Rattle.goblin_base.specs.Reading.{Reads};
 ghost use Rattle.goblin_pe_sect.specs.Addresses.{map_of, offset_of};
+ghost use Rattle.goblin_pe_export.specs.ExportReadings.{RepeatsAddresses, export_addresses};
 ghost use Rattle.goblin_pe_export.specs.ExportReadings.{export_read};
 ghost use Rattle.goblin_pe_export.specs.ExportRecords.{tables_in};
-ghost use Rattle.goblin_pe_export.specs.ExportWalks.{AreExportsOver, GivesExport, KeepsOver};
+ghost use Rattle.goblin_pe_export.specs.ExportWalks.{AreExportsOver, GivesExport, GivesExportBefore};
+ghost use Rattle.goblin_pe_export.specs.ExportWalks.{KeepsOver};
 ghost use Rattle.goblin_pe_export.specs.ExportWalks.{exports_at, exports_position, NumberedExport};
 ghost use Rattle.goblin_pe_export.specs.ExportWalks.{exports_bound, exports_left, numbered_export};
-ghost use Rattle.goblin_pe_export.specs.ExportWalks.{numbered_from, walked_export, walked_tables};
+ghost use Rattle.goblin_pe_export.specs.ExportWalks.{numbered_from, pointer_count, walked_export};
+ghost use Rattle.goblin_pe_export.specs.ExportWalks.{walked_tables};
 
 use crate::export::Export;
 use crate::export::entries::{Entries, TablesInFile};
@@ -107,6 +110,36 @@ impl<'a, 'm> Exports<'a, 'm> {
         })
     }
 
+    /// What an export directory leads to besides the names of exports: the record, the library's
+    /// name and the address table, by which a loader finds an export by its ordinal. The tables of
+    /// the names are not looked at, so a walk over it has no exports; how many name pointers the
+    /// record counts does not matter. Where [`Exports::of`] reads the exports, the addresses are
+    /// theirs. Both modes give the same answer.
+    ///
+    /// # Errors
+    /// As [`Exports::of`], but never for the number of name pointers.
+    #[tactic(auto, using(crate::proofs::ExportAddresses::repeats_addresses))]
+    pub fn addresses_of(
+        bytes: &'a [u8],
+        directory: DataDirectory,
+        address_map: &'m AddressMap,
+    ) -> Result<Exports<'a, 'm>>
+        ensures value { let m = map_of address_map.now in
+            Reads walked_tables result (export_addresses (offset_of m) directory) bytes.now }
+        ensures over { IfOk result (AreExportsOver bytes.now (map_of address_map.now)) }
+        ensures repeats { let m = map_of address_map.now in
+            RepeatsAddresses (offset_of m) directory bytes.now }
+    {
+        let mut finder = Finder::of(address_map);
+        let tables = TablesInFile::find_addresses(bytes, directory, &mut finder)?;
+        Ok(Exports {
+            bytes,
+            finder,
+            tables,
+            next: 0,
+        })
+    }
+
     /// The exports from a position on, as [`Exports::position`] gave it: what was still to come
     /// there.
     pub fn from_position(self, position: usize) -> Exports<'a, 'm>
@@ -144,6 +177,14 @@ impl<'a, 'm> Exports<'a, 'm> {
         &self.tables.export_directory_table
     }
 
+    /// How many name pointers there are: those that are whole.
+    #[tactic(auto, using(crate::proofs::WholeEntries::entry_count))]
+    pub fn pointer_count(&self) -> usize
+        ensures { result ≡ pointer_count self.now }
+    {
+        self.tables.pointers()
+    }
+
     /// How many entries the export address table has: those that are whole.
     pub fn address_count(&self) -> usize
         ensures { result ≡ length (walked_tables self.now).export_address_table }
@@ -157,6 +198,23 @@ impl<'a, 'm> Exports<'a, 'm> {
         ensures { result ≡ slice_get (walked_tables self.now).export_address_table index }
     {
         self.tables.address(index)
+    }
+
+    /// The next export, if its name pointer has an index below `end`. Where there is none, the walk
+    /// is at `end`, past which it does not look, or where the name pointers end before.
+    #[inline(always)]
+    pub fn next_before(&mut self, end: usize) -> Option<WalkedExport<'a>>
+        ensures { GivesExportBefore end self.old result self.new }
+    {
+        let end = end.min(self.tables.pointers());
+        'pointers: for index in self.next..end {
+            self.next = index + 1;
+            let finder = &mut self.finder;
+            if let Some(export) = Exports::export_at(self.bytes, &self.tables, index, finder) {
+                return Some(export);
+            }
+        }
+        None
     }
 
     // An export with its numbers: the index of its name pointer, this itself, and its entry of the
@@ -241,6 +299,8 @@ impl<'a, 'm> Exports<'a, 'm> {
         ensures steps { MatchOption result (self.new ≡ self.old)
             (λ x. GivesExport self.old (Some x) self.new) }
         ensures plain { IfSome result (λ x. (walked_export x).row.reexport ≡ None) }
+        ensures further { IfSome result
+            (λ _. exports_position self.new ≡ exports_position self.old + 1) }
     {
         let index = self.next;
         if self.tables.pointers() <= index {
@@ -262,15 +322,10 @@ impl<'a, 'm> Iterator for Exports<'a, 'm> {
     ghost remaining = { λ walk. at_most (exports_bound walk) };
 
     #[inline(always)]
+    #[tactic(auto, using(crate::proofs::WholeEntries::entry_count))]
     fn next(&mut self) -> Option<WalkedExport<'a>> {
-        'pointers: for index in self.next..self.tables.pointers() {
-            self.next = index + 1;
-            let finder = &mut self.finder;
-            if let Some(export) = Exports::export_at(self.bytes, &self.tables, index, finder) {
-                return Some(export);
-            }
-        }
-        None
+        let end = self.tables.pointers();
+        self.next_before(end)
     }
 
     /// No more come than there are name pointers left.

@@ -5,6 +5,7 @@ ghost use Rattle.goblin_base.specs.Reading.{Reads};
 ghost use Rattle.goblin_base.specs.Record.{WritesRecord};
 ghost use Rattle.goblin_pe_export.specs.declared.export.tables.ExportDirectoryTable.{ExportDirectoryTable};
 ghost use Rattle.goblin_pe_export.specs.ExportReadings.{export_record_at, fitting};
+ghost use Rattle.goblin_pe_export.specs.ExportReadings.{fitting_addresses};
 ghost use Rattle.goblin_pe_export.specs.ExportRecords.{address_entry, export_directory_fields};
 ghost use Rattle.goblin_pe_export.specs.ExportRecords.{export_directory_record, table_bytes};
 
@@ -214,6 +215,17 @@ pub(crate) fn room(bytes: &[u8], begin: usize, width: usize, count: u32) -> usiz
     ((bytes.len() - begin) / width).min(count as usize)
 }
 
+// Refuses a record that counts more addresses than the file has bytes.
+pub(crate) fn test_address_count(bytes: &[u8], table: &ExportDirectoryTable) -> Result<()>
+    ensures { Reads (λ fits. table.now) result (fitting_addresses table.now) bytes.now }
+{
+    let addresses = table.address_table_entries as usize;
+    if addresses > bytes.len() {
+        return Err(Error::BufferTooShort(addresses, "address table entries"));
+    }
+    Ok(())
+}
+
 // Refuses a record that counts more entries than the file has bytes.
 pub(crate) fn test_counts(bytes: &[u8], table: &ExportDirectoryTable) -> Result<()>
     ensures { Reads (λ fits. table.now) result (fitting table.now) bytes.now }
@@ -222,9 +234,5 @@ pub(crate) fn test_counts(bytes: &[u8], table: &ExportDirectoryTable) -> Result<
     if name_pointers > bytes.len() {
         return Err(Error::BufferTooShort(name_pointers, "name pointers"));
     }
-    let addresses = table.address_table_entries as usize;
-    if addresses > bytes.len() {
-        return Err(Error::BufferTooShort(addresses, "address table entries"));
-    }
-    Ok(())
+    test_address_count(bytes, table)
 }

@@ -84,8 +84,8 @@ pub struct WindowsFields32 {
     pub size_of_heap_commit: u32,
     /// Reserved, 0, at 60.
     pub loader_flags: u32,
-    /// How many data directories follow, at 64. Readers take at most sixteen; directories past this
-    /// number are not there, whatever bytes follow.
+    /// How many data directories follow, at 64. Readers refuse a header that says more than sixteen;
+    /// directories past this number are not there, whatever bytes follow.
     pub number_of_rva_and_sizes: u32,
 }
 
@@ -233,8 +233,8 @@ pub struct WindowsFields64 {
     pub size_of_heap_commit: u64,
     /// Reserved, 0, at 80.
     pub loader_flags: u32,
-    /// How many data directories follow, at 84. Readers take at most sixteen; directories past this
-    /// number are not there, whatever bytes follow.
+    /// How many data directories follow, at 84. Readers refuse a header that says more than sixteen;
+    /// directories past this number are not there, whatever bytes follow.
     pub number_of_rva_and_sizes: u32,
 }
 

@@ -4,11 +4,11 @@ ghost use Rattle.std.specs.Prelude.{◌≡◌, ◌^◌, ◌<◌, IfSome, IsTrue,
 ghost use Rattle.std.specs.Int.{is_power_of_two};
 ghost use Rattle.goblin_pe_sect.specs.Mapping.{file_offset};
 ghost use Rattle.goblin_pe_sect.specs.Runs.{IsRun, offset_in_run};
-ghost use Rattle.goblin_pe_sect.specs.SectionTable.{recorded_sections};
+ghost use Rattle.goblin_pe_sect.specs.SectionTable.{mapped_sections};
 
+use super::records::MappedRecords;
 use super::run::Run;
 use crate::options::ParseOptions;
-use crate::section_table::SectionRecords;
 use crate::utils::{past_window, raw_begin, section_window};
 
 // All addresses, each of which is its own offset.
@@ -24,7 +24,7 @@ const ALL_ADDRESSES: Run = Run {
 // would be kept in two registers.)
 #[inline(always)]
 fn find_window(
-    records: SectionRecords,
+    records: MappedRecords,
     file_alignment: u32,
     opts: &ParseOptions,
     rva: usize,
@@ -34,8 +34,8 @@ fn find_window(
     requires aligned { IsTrue (is_power_of_two file_alignment) }
     requires small { rva < 2 ^ 32 }
     ensures value { result
-        ≡ file_offset opts.now (recorded_sections records.entry) file_alignment rva }
-    ensures is { let sections = recorded_sections records.entry in
+        ≡ file_offset opts.now (mapped_sections records.entry) file_alignment rva }
+    ensures is { let sections = mapped_sections records.entry in
         let offset_of = file_offset opts.now sections file_alignment in
         IsRun offset_of run.old → IsRun offset_of run.new }
     ensures about { IfSome result (λ p. offset_in_run run.new rva ≡ Some p) }
@@ -74,7 +74,7 @@ fn find_window(
 /// options say that these are offsets.
 #[tactic(auto, unfolding(crate::specs::Mapping::file_offset))]
 pub(super) fn find_in_records(
-    records: SectionRecords,
+    records: MappedRecords,
     file_alignment: u32,
     opts: &ParseOptions,
     rva: usize,
@@ -82,8 +82,8 @@ pub(super) fn find_in_records(
 ) -> Option<usize>
     requires { rva < 2 ^ 32 }
     ensures value { result
-        ≡ file_offset opts.now (recorded_sections records.entry) file_alignment rva }
-    ensures is { let sections = recorded_sections records.entry in
+        ≡ file_offset opts.now (mapped_sections records.entry) file_alignment rva }
+    ensures is { let sections = mapped_sections records.entry in
         let offset_of = file_offset opts.now sections file_alignment in
         IsRun offset_of run.old → IsRun offset_of run.new }
     ensures about { IfSome result (λ p. offset_in_run run.new rva ≡ Some p) }

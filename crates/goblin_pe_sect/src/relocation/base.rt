@@ -173,23 +173,25 @@ impl<'a> RelocationBlock<'a> {
         ensures value { block_item result ≡ block_at directory.now offset }
         ensures large { IfOk result (λ block. 8 ≤ block.size) }
     {
-        let Ok(head) = pread_slice(directory, offset, RELOCATION_BLOCK_SIZE) else {
+        let rest = directory.len() - offset;
+        if rest < RELOCATION_BLOCK_SIZE {
             return Err(Error::Read(ReadFault::TooBig));
-        };
+        }
+        let begin = offset + RELOCATION_BLOCK_SIZE;
+        let head = &directory[offset..begin];
         let size = field_u32(head, 4, Endian::Little);
         if (size as usize) < RELOCATION_BLOCK_SIZE {
             return Err(Error::Malformed(Cause::BlockSize(size)));
         }
-        let begin = offset + RELOCATION_BLOCK_SIZE;
-        let len = size as usize - RELOCATION_BLOCK_SIZE;
-        match pread_slice(directory, begin, len) {
-            Ok(bytes) => Ok(RelocationBlock {
-                rva: field_u32(head, 0, Endian::Little),
-                size,
-                bytes,
-            }),
-            Err(_) => Err(Error::Malformed(Cause::BlockRange(begin, len))),
+        if rest < size as usize || rest == RELOCATION_BLOCK_SIZE {
+            let len = size as usize - RELOCATION_BLOCK_SIZE;
+            return Err(Error::Malformed(Cause::BlockRange(begin, len)));
         }
+        Ok(RelocationBlock {
+            rva: field_u32(head, 0, Endian::Little),
+            size,
+            bytes: &directory[begin..offset + size as usize],
+        })
     }
 
     /// The words, in order; if one byte is left after them, one error comes last, as

@@ -114,6 +114,8 @@ pub const IMAGE_REL_ARM_GPREL7: u16 = 0x07;
 pub const IMAGE_REL_ARM_BLX24: u16 = 0x08;
 /// ARM: the distance of a branch that may switch from Thumb, 11 bits.
 pub const IMAGE_REL_ARM_BLX11: u16 = 0x09;
+/// ARM: the distance to the target from the byte after the field, 32 bits.
+pub const IMAGE_REL_ARM_REL32: u16 = 0x0A;
 /// ARM: the index of the target's section, 16 bits.
 pub const IMAGE_REL_ARM_SECTION: u16 = 0x0E;
 /// ARM: the target's offset from its section's start, 32 bits.
@@ -128,6 +130,8 @@ pub const IMAGE_REL_ARM_BRANCH20T: u16 = 0x12;
 pub const IMAGE_REL_ARM_BRANCH24T: u16 = 0x14;
 /// ARM: the distance of a Thumb call, 23 bits.
 pub const IMAGE_REL_ARM_BLX23T: u16 = 0x15;
+/// ARM: the second half of a pair of relocations, whose symbol index is a displacement.
+pub const IMAGE_REL_ARM_PAIR: u16 = 0x16;
 
 const _: () = prove!(
     IMAGE_REL_ARM_ABSOLUTE == 0x0
@@ -140,6 +144,7 @@ const _: () = prove!(
         && IMAGE_REL_ARM_GPREL7 == 0x7
         && IMAGE_REL_ARM_BLX24 == 0x8
         && IMAGE_REL_ARM_BLX11 == 0x9
+        && IMAGE_REL_ARM_REL32 == 0xA
         && IMAGE_REL_ARM_SECTION == 0xE
         && IMAGE_REL_ARM_SECREL == 0xF
         && IMAGE_REL_ARM_MOV32A == 0x10
@@ -147,6 +152,7 @@ const _: () = prove!(
         && IMAGE_REL_ARM_BRANCH20T == 0x12
         && IMAGE_REL_ARM_BRANCH24T == 0x14
         && IMAGE_REL_ARM_BLX23T == 0x15
+        && IMAGE_REL_ARM_PAIR == 0x16
 );
 
 /// ARM64: nothing is changed.
@@ -181,6 +187,10 @@ pub const IMAGE_REL_ARM64_SECTION: u16 = 0x0D;
 pub const IMAGE_REL_ARM64_ADDR64: u16 = 0x0E;
 /// ARM64: the distance of a conditional branch, 19 bits.
 pub const IMAGE_REL_ARM64_BRANCH19: u16 = 0x0F;
+/// ARM64: the distance of a branch that tests a bit, 14 bits.
+pub const IMAGE_REL_ARM64_BRANCH14: u16 = 0x10;
+/// ARM64: the distance to the target from the byte after the field, 32 bits.
+pub const IMAGE_REL_ARM64_REL32: u16 = 0x11;
 
 const _: () = prove!(
     IMAGE_REL_ARM64_ABSOLUTE == 0x0
@@ -199,6 +209,8 @@ const _: () = prove!(
         && IMAGE_REL_ARM64_SECTION == 0xD
         && IMAGE_REL_ARM64_ADDR64 == 0xE
         && IMAGE_REL_ARM64_BRANCH19 == 0xF
+        && IMAGE_REL_ARM64_BRANCH14 == 0x10
+        && IMAGE_REL_ARM64_REL32 == 0x11
 );
 
 /// Itanium: nothing is changed.

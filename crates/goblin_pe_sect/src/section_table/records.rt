@@ -57,7 +57,8 @@ impl<'a> SectionRecords<'a> {
     #[inline(always)]
     #[tactic(auto, using(crate::proofs::SectionRecords::length_sections))]
     pub fn len(&self) -> usize
-        ensures { result ≡ length (recorded_sections self.now) }
+        ensures value { result ≡ length (recorded_sections self.now) }
+        ensures small { result < usize.MAX }
     {
         self.records.len() / SIZEOF_SECTION_TABLE
     }

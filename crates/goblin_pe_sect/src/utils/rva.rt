@@ -48,5 +48,5 @@ pub fn find_rva(
         (IsMappedFromNowhere opts.now sections.now file_alignment offset)
         (λ rva. file_offset opts.now sections.now file_alignment rva ≡ Some offset) }
 {
-    file_address(offset, sections, file_alignment, opts)
+    file_address(offset, sections, None, file_alignment, opts)
 }

@@ -1,4 +1,4 @@
-use Rattle.std.proofs.Common.{arith, subst, Result, Some}
+use Rattle.std.proofs.Common.{arith, refl, subst, Result, Some}
 use Rattle.goblin_base.specs.declared.error.ErrorOf.{ErrorOf}
 use Rattle.goblin_pe_sect.specs.declared.relocation.base.RelocationBlock.{RelocationBlock}
 use Rattle.goblin_pe_sect.specs.BaseRelocations.{FindsItem, relocation_bytes}
@@ -6,29 +6,29 @@ use Rattle.goblin_pe_calls.proofs.BlockBatches.{blocks-end, blocks-full, blocks-
 use Rattle.goblin_pe_calls.proofs.block.fill_blocks.Goals as goal
 
 pub items-init : goal.items-init
-items-init c = blocks-start (relocation_bytes c.args.relocations.now) c.args.position.now c.args.records.now
+items-init c = (blocks-start (relocation_bytes c.args.relocations.now) c.args.position.now c.args.records.now, refl)
 
 pub items-preserved : goal.items-preserved
 items-preserved c =
     let directory = relocation_bytes c.args.relocations.now in
-    let found = subst (λ (r : Result RelocationBlock ErrorOf). FindsItem directory c.items.position (Some r)) c.in-Some-Ok.field-0-is c.in-Some-Ok.ensures.found in
-    blocks-more directory c.args.position.now c.args.records.now c.items.position c.items.records c.items.count c.items.invariant c.in-Some-Ok.block c.block_record.result _ found c.block_record.ensures c.items-test.true (omega arith)
+    let found = subst (λ (r : Result RelocationBlock ErrorOf). FindsItem directory c.items.offset (Some r)) c.in-Some-Ok.field-0-is c.in-Some-Ok.ensures.found in
+    (blocks-more directory c.args.position.now c.args.records.now c.items.offset c.items.records c.items.count c.items.invariant.0 c.in-Some-Ok.block c.block_record.result _ found c.block_record.ensures c.items-test.true (omega arith), c.items.invariant.1)
 
 pub returns-in-Some-Err-2-clause-filled : goal.returns-in-Some-Err-2-clause-filled
 returns-in-Some-Err-2-clause-filled c =
     let directory = relocation_bytes c.args.relocations.now in
-    let found = subst (λ (r : Result RelocationBlock ErrorOf). FindsItem directory c.items.position (Some r)) c.in-Some-Err.field-0-is c.in-Some-Err.ensures.found in
-    blocks-refused directory c.args.position.now c.args.records.now c.items.position c.items.records c.items.count c.items.invariant c.in-Some-Err.error found (omega (arith, c.if-count-eq0.false))
+    let found = subst (λ (r : Result RelocationBlock ErrorOf). FindsItem directory c.items.offset (Some r)) c.in-Some-Err.field-0-is c.in-Some-Err.ensures.found in
+    blocks-refused directory c.args.position.now c.args.records.now c.items.offset c.items.records c.items.count c.items.invariant.0 c.in-Some-Err.error found (omega (arith, c.if-count-eq0.false))
 
 pub returns-in-None-clause-filled : goal.returns-in-None-clause-filled
 returns-in-None-clause-filled c =
-    blocks-end (relocation_bytes c.args.relocations.now) c.args.position.now c.args.records.now c.items.position c.items.records c.items.count c.items.invariant c.in-None.ensures.found
+    blocks-end (relocation_bytes c.args.relocations.now) c.args.position.now c.args.records.now c.items.offset c.items.records c.items.count c.items.invariant.0 c.in-None.ensures.found
 
 pub returns-clause-filled : goal.returns-clause-filled
 returns-clause-filled c =
-    blocks-full (relocation_bytes c.args.relocations.now) c.args.position.now c.args.records.now c.items.position c.items.records c.items.count c.items.invariant (omega (arith, c.items-test.false))
+    blocks-full (relocation_bytes c.args.relocations.now) c.args.position.now c.args.records.now c.items.offset c.items.records c.items.count c.items.invariant.0 (omega (arith, c.items-test.false))
 
 pub returns-in-Some-Err-clause-refused : goal.returns-in-Some-Err-clause-refused
 returns-in-Some-Err-clause-refused c =
     let directory = relocation_bytes c.args.relocations.now in
-    item-other directory c.items.position c.in-Some-Err.error (subst (λ (r : Result RelocationBlock ErrorOf). FindsItem directory c.items.position (Some r)) c.in-Some-Err.field-0-is c.in-Some-Err.ensures.found)
+    item-other directory c.items.offset c.in-Some-Err.error (subst (λ (r : Result RelocationBlock ErrorOf). FindsItem directory c.items.offset (Some r)) c.in-Some-Err.field-0-is c.in-Some-Err.ensures.found)

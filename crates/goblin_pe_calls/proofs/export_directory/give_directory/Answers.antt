@@ -1,9 +1,8 @@
 use Rattle.std.proofs.Common.{refl}
 use Rattle.std.proofs.lemmas.Result.{err_from_is_err_and}
 use Rattle.goblin_pe.specs.Addresses.{offset_of}
-use Rattle.goblin_pe.specs.Layouts.{layout_bytes, layout_map, layout_places}
-use Rattle.goblin_pe.specs.Whole.{export_part}
-use Rattle.goblin_pe_calls.specs.Batches.{IsExportsFault, SaysDirectory}
+use Rattle.goblin_pe.specs.Layouts.{address_part, layout_bytes, layout_map, layout_places}
+use Rattle.goblin_pe_calls.specs.Batches.{IsAddressesFault, SaysDirectory}
 use Rattle.goblin_pe_calls.specs.ExportDirectories.{directory_view}
 use Rattle.goblin_pe_calls.proofs.InPlaces.{IsAt, fault-at, given-at, nothing-at}
 use Rattle.goblin_pe_calls.proofs.export_directory.give_directory.Goals as goal
@@ -21,11 +20,11 @@ pub returns-in_err-directory : goal.returns-in_err-directory
 returns-in_err-directory c =
     let l = c.in_ok-layout.layout in
     let made = c.in_ok-layout.ensures in
-    let at : IsAt c.args.opts.now c.args.places.now c.args.bytes.now l = record { read = made.value; over = made.over; placed = made.placed; mapped = made.mapped } in
+    let at : IsAt c.args.options.now c.args.places.now c.args.bytes.now l = record { read = made.value; over = made.over; placed = made.placed; mapped = made.mapped } in
     let e = err_from_is_err_and c.from_residual-in_err-directory.result c.from_residual-in_err-directory.ensures.1 in
     rw (e.1, e.2) (
-      λ other. fault-at c.args.opts.now c.args.places.now c.args.bytes.now l at (λ m places b e. IsExportsFault m places b e) _ c.in_err-directory.ensures,
-      λ memory. absurd ((export_part (layout_map l).opts (offset_of (layout_map l)) (layout_places l)).not_memory (layout_bytes l) _ c.in_err-directory.ensures.1 memory),
+      λ other. fault-at c.args.options.now c.args.places.now c.args.bytes.now l at (λ m places b e. IsAddressesFault m places b e) _ c.in_err-directory.ensures,
+      λ memory. absurd ((address_part (layout_map l).opts (offset_of (layout_map l)) (layout_places l)).not_memory (layout_bytes l) _ c.in_err-directory.ensures.1 memory),
       refl,
     )
 
@@ -33,5 +32,5 @@ pub returns : goal.returns
 returns c =
     let l = c.in_ok-layout.layout in
     let made = c.in_ok-layout.ensures in
-    let at : IsAt c.args.opts.now c.args.places.now c.args.bytes.now l = record { read = made.value; over = made.over; placed = made.placed; mapped = made.mapped } in
-    given-at c.args.opts.now c.args.places.now c.args.bytes.now l at (λ m places b. SaysDirectory m places b (directory_view c.in_ok-directory.field-0)) c.in_ok-directory.ensures
+    let at : IsAt c.args.options.now c.args.places.now c.args.bytes.now l = record { read = made.value; over = made.over; placed = made.placed; mapped = made.mapped } in
+    given-at c.args.options.now c.args.places.now c.args.bytes.now l at (λ m places b. SaysDirectory m places b (directory_view c.in_ok-directory.field-0)) c.in_ok-directory.ensures

@@ -1,13 +1,71 @@
-use Rattle.std.proofs.Common.{arith}
-use Rattle.goblin_pe_calls.proofs.ExportBatches.{exports-more}
+use Rattle.std.proofs.Common.{arith, inr, refl, subst, sym}
+use Rattle.std.proofs.lemmas.List.{length-set}
+use Rattle.goblin_pe_export.specs.declared.export.exports.Exports.{Exports}
+use Rattle.goblin_pe_calls.proofs.ExportBatches.{AtExports, exports-ended, exports-filled, exports-full, exports-later, exports-more, exports-start}
 use Rattle.goblin_pe_calls.proofs.next.fill_exports.Goals as goal
+
+pub exports-init : goal.exports-init
+exports-init c = (exports-start c.args.exports.now c.args.records.now c.args.end, λ none. refl)
 
 pub plain-init : goal.plain-init
 plain-init c =
-    (exports-more c.args.exports.now c.args.records.now c.exports.exports c.exports.records c.exports.count c.exports.invariant c.in-Some.export c.next.new.self c.put_export.new.place c.in-Some.ensures.steps.0 c.in-Some.ensures.steps.1 c.exports-test.true c.put_export.ensures, omega arith)
+    let before = c.exports.invariant.0 in
+    let given = c.in-Some.ensures in
+    let r = c.put_export.new.place in (
+      exports-more c.args.exports.now c.args.records.now c.args.end c.exports.exports c.exports.records c.exports.count before
+          c.in-Some.export c.next_before.new.self r given.0.0 given.0.1 (omega (arith, given.1)) (omega (arith, given.2)) c.exports-test.true c.put_export.ensures,
+      omega arith,
+      λ below. omega (arith, below, c.end_within-stop.ensures.steps, c.pointers_before-left.ensures),
+      c.end_within-stop.ensures.room,
+    )
 
 pub plain-preserved : goal.plain-preserved
 plain-preserved c =
-    let further = c.plain.invariant.1 in
-    let given = c.in-Some-next_plain in
-    (exports-more c.args.exports.now c.args.records.now c.plain.exports c.plain.records c.plain.count c.plain.invariant.0 given.export c.next_plain.new.self c.plain_record.result given.ensures.steps.0 given.ensures.steps.1 c.plain-test.true (c.plain_record.ensures.plain given.ensures.plain), omega (arith, further))
+    let before = c.plain.invariant in
+    let given = c.in-Some-next_plain.ensures in
+    let r = c.plain_record.result in
+    let long = length-set c.plain.records c.plain.count r in
+    let room = before.2 c.plain-test.true in (
+      exports-more c.args.exports.now c.args.records.now c.args.end c.plain.exports c.plain.records c.plain.count before.0
+          c.in-Some-next_plain.export c.next_plain.new.self r given.steps.0 given.steps.1 (omega (arith, given.further)) (omega (arith, given.further, room, c.plain-test.true))
+          (omega (arith, c.plain-test.true, before.3)) (c.plain_record.ensures.plain given.plain),
+      omega (arith, before.1),
+      λ below. omega (arith, below, room, given.further),
+      omega (arith, before.3, long),
+    )
+
+pub exports-preserved : goal.exports-preserved
+exports-preserved c =
+    let before = c.plain.invariant in (
+      subst (λ (w : Exports). AtExports c.args.exports.now c.args.records.now c.args.end w c.plain.records c.plain.count) (sym c.in_default-next_plain.ensures.steps) before.0,
+      λ none. absurd (omega (arith, none, before.1, before.0.at.fits, before.0.at.same)),
+    )
+
+pub returns-in_default-clause-filled : goal.returns-in_default-clause-filled
+returns-in_default-clause-filled c =
+    exports-filled c.args.exports.now c.args.records.now c.args.end c.exports.exports c.exports.records c.exports.count c.exports.invariant.0
+
+pub returns-in_default-clause-later : goal.returns-in_default-clause-later
+returns-in_default-clause-later c =
+    exports-later c.args.exports.now c.args.records.now c.args.end c.exports.exports c.exports.records c.exports.count c.exports.invariant.0 c.next_before.new.self c.in_default.ensures.1
+
+pub returns-in_default-clause-whole : goal.returns-in_default-clause-whole
+returns-in_default-clause-whole c =
+    exports-ended c.args.exports.now c.args.records.now c.args.end c.exports.exports c.exports.records c.exports.count c.exports.invariant.0 c.next_before.new.self c.in_default.ensures
+
+pub returns-in_default-clause-stays : goal.returns-in_default-clause-stays
+returns-in_default-clause-stays c =
+    λ none. absurd (omega (arith, none, c.exports-test.true, c.exports.invariant.0.at.same))
+
+pub returns : goal.returns
+returns c =
+    let before = c.exports.invariant.0 in
+    record {
+      filled = exports-filled c.args.exports.now c.args.records.now c.args.end c.exports.exports c.exports.records c.exports.count before;
+      later = exports-later c.args.exports.now c.args.records.now c.args.end c.exports.exports c.exports.records c.exports.count before c.exports.exports refl;
+      over = before.over;
+      further = before.further;
+      within = before.within;
+      whole = inr (exports-full c.args.exports.now c.args.records.now c.args.end c.exports.exports c.exports.records c.exports.count before c.exports-test.false);
+      stays = λ none. c.exports.invariant.1 (omega (arith, none, before.at.same));
+    }

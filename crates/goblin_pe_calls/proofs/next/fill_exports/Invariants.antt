@@ -1,18 +1,23 @@
 -- The records hold the exports that have come so far.
-use Rattle.std.proofs.Common.{length, ◌-◌, ◌≤◌}
+use Rattle.std.proofs.Common.{◌+◌, ◌-◌, ◌<◌, ◌≡◌, ◌≤◌, length}
+use Rattle.goblin_pe_export.specs.ExportWalks.{exports_position}
 use Rattle.goblin_pe_calls.proofs.ExportBatches.{AtExports}
 use Rattle.goblin_pe_calls.proofs.next.fill_exports.Given as goal
 
 abbrev pub invariant-exports : goal.invariant-exports
-invariant-exports l = AtExports l.fn.exports l.fn.records l.exports l.records l.count
+invariant-exports l =
+    AtExports l.fn.exports l.fn.records l.end l.exports l.records l.count
+    × (length l.records ≡ 0 → l.exports ≡ l.fn.exports)
 
 abbrev pub decreases-exports : goal.decreases-exports
 decreases-exports l = length l.records - l.count
 
 abbrev pub invariant-plain : goal.invariant-plain
 invariant-plain l =
-    AtExports l.fn.exports l.fn.records l.exports l.records l.count
+    AtExports l.fn.exports l.fn.records l.end l.exports l.records l.count
     × (l.initial.count ≤ l.count)
+    × (l.count < l.stop → exports_position l.exports + (l.stop - l.count) ≤ l.end)
+    × (l.stop ≤ length l.records)
 
 abbrev pub decreases-plain : goal.decreases-plain
-decreases-plain l = length l.records - l.count
+decreases-plain l = l.stop - l.count

@@ -19,7 +19,7 @@ returns-clause-sections c = λ w read.
     let bytes = c.args.bytes.now in
     let strict = is_strict opts.parse_mode in
     let v = records_view c.args.header.now c.args.layout.now c.args.records.now in
-    let of = file-of-records opts bytes v c.requires in
+    let of = file-of-records c.args.view opts bytes v c.requires in
     let same : of.whole ≡ w = same_value of.whole w (sym of.read ∙ read) in
     let header = sym (ap (λ (x : WholeFile). x.header) same) ∙ of.header in
     let from = sym (ap (λ (x : WholeFile). map unnamed x.sections) same) ∙ of.sections in
@@ -28,4 +28,4 @@ returns-clause-sections c = λ w read.
     ∙ ap (λ (s : List Section). map (λ s. without_text (named_in strict bytes c.symbols_end-table.result s)) s) (c.section_records.ensures ∙ sym from)
     ∙ said-unnamed strict bytes c.symbols_end-table.result w.sections
     ∙ ap (λ (t : ℕ). map without_text (map (named_in strict bytes t) w.sections)) table
-    ∙ ap (map without_text) (sections-named opts bytes w read)
+    ∙ ap (map without_text) (sections-named c.args.view opts bytes w read)

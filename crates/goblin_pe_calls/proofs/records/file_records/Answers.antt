@@ -1,4 +1,5 @@
-use Rattle.std.proofs.Common.{arith, inl, inr}
+use Rattle.std.proofs.Common.{arith, inl, inr, sym}
+use Rattle.goblin_base.proofs.Steps.{unmapped}
 use Rattle.std.proofs.lemmas.Result.{err_from_is_err_and}
 use Rattle.goblin_pe_sect.specs.Addresses.{offset_of}
 use Rattle.goblin_pe.specs.Layouts.{layout_map, layout_places}
@@ -10,6 +11,7 @@ use Rattle.goblin_pe_calls.specs.Imports.{imports_said}
 use Rattle.goblin_pe_calls.specs.Growth.{HasEntries, HasExports, HasTables}
 use Rattle.goblin_pe_calls.proofs.Growth.{first-told, mapped-some, second-told, third-none}
 use Rattle.goblin_pe_records.proofs.Making.{whichever}
+use Rattle.goblin_pe_calls.proofs.Refusals.{exports-refused, imports-refused, relocations-refused}
 use Rattle.goblin_pe_calls.proofs.records.file_records.Goals as goal
 
 pub returns-in_err-imports-clause-value : goal.returns-in_err-imports-clause-value
@@ -89,3 +91,27 @@ returns-in_err-relocations-clause-begun c =
     let e = err_from_is_err_and c.from_residual-in_err-relocations.result c.from_residual-in_err-relocations.ensures.1 in
     rw (e.1, e.2)
     (λ memory. absurd ((relocation_part m.opts (offset_of m) (layout_places l)).not_memory l.bytes.now _ c.in_err-relocations.ensures.1 memory))
+
+pub returns-in_err-imports-clause-part : goal.returns-in_err-imports-clause-part
+returns-in_err-imports-clause-part c =
+    let l = c.args.layout.now in
+    let m = layout_map l in
+    let error = err_from_is_err_and c.from_residual.result c.from_residual.ensures.1 in
+    rw (error.1, error.2)
+    (λ other. sym (imports-refused m.opts (offset_of m) (layout_places l) l.bytes.now c.in_err-imports.ensures.listed (unmapped _ _ (c.in_err-imports.ensures.value other).0)))
+
+pub returns-in_err-exports-clause-part : goal.returns-in_err-exports-clause-part
+returns-in_err-exports-clause-part c =
+    let l = c.args.layout.now in
+    let m = layout_map l in
+    let error = err_from_is_err_and c.from_residual-in_err-exports.result c.from_residual-in_err-exports.ensures.1 in
+    rw (error.1, error.2)
+    (λ other. sym (exports-refused m.opts (offset_of m) (layout_places l) l.bytes.now c.in_ok-imports.ensures.listed _ _ c.in_ok-imports.ensures.value (unmapped _ _ (c.in_err-exports.ensures.value other).0)))
+
+pub returns-in_err-relocations-clause-part : goal.returns-in_err-relocations-clause-part
+returns-in_err-relocations-clause-part c =
+    let l = c.args.layout.now in
+    let m = layout_map l in
+    let error = err_from_is_err_and c.from_residual-in_err-relocations.result c.from_residual-in_err-relocations.ensures.1 in
+    rw (error.1, error.2)
+    (λ other. sym (relocations-refused m.opts (offset_of m) (layout_places l) l.bytes.now c.in_ok-imports.ensures.listed _ _ c.in_ok-imports.ensures.value _ _ c.in_ok-exports.ensures.value c.in_err-relocations.ensures.0))

@@ -15,4 +15,4 @@ returns c =
     let filled = subst (λ (table : ℕ). Filled section_said (map (λ s. without_text (named_in strict bytes table s)) stored) c.args.sections.now c.fill_sections.new.records)
     c.symbols_end-strings.ensures c.fill_sections.ensures in
     says_object strict bytes header stored (record { object = c.args.object.now; sections = c.args.sections.now })
-    (record { object = object_of c.len.result header; sections = c.fill_sections.new.records }) c.in_ok-whole.ensures (ap (λ (n : ℕ). object_of n header) c.len.ensures) filled
+    (record { object = object_of c.len.result header; sections = c.fill_sections.new.records }) c.in_ok-whole.ensures (ap (λ (n : ℕ). object_of n header) c.len.ensures.value) filled

@@ -1,12 +1,12 @@
 use Rattle.std.proofs.Common.{◌<◌, ◌∷◌, [], ◌++◌, List, length, ap, sym, take, ◌∙◌, arith}
 use Rattle.std.proofs.lemmas.List.{take_more}
 use Rattle.std.proofs.lemmas.Option.{get_or_from_slice_get}
-use Rattle.goblin_pe_sect.specs.SectionTable.{Section, recorded_sections}
+use Rattle.goblin_pe_sect.specs.SectionTable.{Section, mapped_sections}
 use Rattle.goblin_pe_sect.proofs.address_map.listed.Goals as goal
 
 pub records-preserved : goal.records-preserved
 records-preserved c =
-    let all : List Section = recorded_sections c.args.records in
+    let all : List Section = mapped_sections c.args.records in
     let i = c.records.i in
     let s : Section = c.at.result in
     let within : i < length all = omega (arith, c.records-test.true, c.len-count.ensures, c.records.auto.i-end) in (

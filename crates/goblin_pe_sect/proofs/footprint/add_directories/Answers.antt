@@ -1,4 +1,4 @@
-use Rattle.std.proofs.Common.{◌≡◌, ◌<◌, ◌≤◌, ◌+◌, ◌*◌, ◌^◌, ℕ, List, length, ap, sym, ◌∙◌, rules, arith}
+use Rattle.std.proofs.Common.{◌<◌, ◌+◌, ◌*◌, ◌^◌, ℕ, List, length, ap, sym, ◌∙◌, rules, arith}
 use Rattle.goblin_base.specs.Footprints.{Range, slice_footprint}
 use Rattle.goblin_base.specs.Marks.{marked}
 use Rattle.goblin_base.proofs.Marks.{marked_nil}

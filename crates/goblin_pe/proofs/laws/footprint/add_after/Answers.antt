@@ -18,7 +18,7 @@ returns-in-Ok-clause-added c =
     let l = c.in-Ok.layout in
     let read = (sections_after (is_strict opts.parse_mode) (header_value c.args.header.now)).value bytes in
     let tables = (table_parts (layout_map l).opts (offset_of (layout_map l)) (layout_places l)).reaches l.bytes.now in
-    layout_reached opts bytes c.args.header.now c.args.marks.now c.mark_tables.new.marks read (recorded_sections l.records) l refl c.in-Ok.ensures.value c.in-Ok.ensures.over
+    layout_reached c.args.view opts bytes c.args.header.now c.args.marks.now c.mark_tables.new.marks read (recorded_sections l.records) l refl c.in-Ok.ensures.value c.in-Ok.ensures.over
     (c.mark_tables.ensures ∙ ap (λ (m : List Bool). marked m tables) c.add_sections.ensures)
 
 pub returns-in-Err-clause-added : goal.returns-in-Err-clause-added
@@ -28,4 +28,4 @@ returns-in-Err-clause-added c =
     let opts = c.args.opts.now in
     let read = (sections_after (is_strict opts.parse_mode) (header_value c.args.header.now)).value bytes in
     let passed : ¬ (IsMemory c.in-Err.error) = search rules in
-    sections_reached opts bytes c.args.header.now c.args.marks.now c.add_sections.new.marks read refl (c.in-Err.ensures.value passed).0 c.add_sections.ensures
+    sections_reached c.args.view opts bytes c.args.header.now c.args.marks.now c.add_sections.new.marks read refl (c.in-Err.ensures.value passed).0 c.add_sections.ensures

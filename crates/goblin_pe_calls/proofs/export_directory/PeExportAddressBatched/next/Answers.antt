@@ -5,9 +5,9 @@ use Rattle.goblin_pe_calls.proofs.export_directory.PeExportAddressBatched.next.G
 pub returns-in-Read-clause-filled : goal.returns-in-Read-clause-filled
 returns-in-Read-clause-filled c =
     let l = c.args.layout.now in
-    addresses-given (layout_map l) (layout_places l) l.bytes.now c.in_ok-exports.field-0 c.in_ok-exports.ensures.value c.args.position.now c.args.records.now c.in-Read.exports c.in-Read.is c.fill_addresses.new.position c.fill_addresses.result c.fill_addresses.new.records c.fill_addresses.ensures
+    addresses-given (layout_map l) (layout_places l) l.bytes.now c.in_ok-exports.field-0 c.in_ok-exports.ensures c.args.position.now c.args.records.now c.in-Read.exports c.in-Read.is c.fill_addresses.new.position c.fill_addresses.result c.fill_addresses.new.records c.fill_addresses.ensures
 
 pub returns-in-Absent : goal.returns-in-Absent
 returns-in-Absent c =
     let l = c.args.layout.now in
-    record { filled = addresses-none (layout_map l) (layout_places l) l.bytes.now c.in_ok-exports.field-0 c.in_ok-exports.ensures.value c.args.position.now c.args.records.now c.in-Absent.is; refused = tt }
+    record { filled = addresses-none (layout_map l) (layout_places l) l.bytes.now c.in_ok-exports.field-0 c.in_ok-exports.ensures c.args.position.now c.args.records.now c.in-Absent.is; refused = tt }

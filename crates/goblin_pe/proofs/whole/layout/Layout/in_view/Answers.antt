@@ -4,7 +4,7 @@ use Rattle.goblin_pe_head.specs.PeHeader.{header_value}
 use Rattle.goblin_pe_sect.specs.WindowIndex.{HasPieces}
 use Rattle.goblin_pe.specs.Whole.{TablePlaces}
 use Rattle.goblin_pe.proofs.SectionNames.{takes_index}
-use Rattle.goblin_pe.proofs.whole.layout.Layout.of.Goals as goal
+use Rattle.goblin_pe.proofs.whole.layout.Layout.in_view.Goals as goal
 
 pub returns-in_err-layout-clause-grown : goal.returns-in_err-layout-clause-grown
 returns-in_err-layout-clause-grown c =

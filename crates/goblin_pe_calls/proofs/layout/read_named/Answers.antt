@@ -9,10 +9,10 @@ use Rattle.goblin_pe_records.specs.Filled.{Filled, without_text}
 use Rattle.goblin_pe_records.specs.Sections.{named_in, section_said}
 use Rattle.goblin_pe_calls.specs.FileLayouts.{LayoutRecords, layout_said}
 use Rattle.goblin_pe_calls.proofs.Named.{says_layout}
-use Rattle.goblin_pe_calls.proofs.layout.read.Goals as goal
+use Rattle.goblin_pe_calls.proofs.layout.read_named.Goals as goal
 
-pub returns : goal.returns
-returns c =
+pub returns-clause-read : goal.returns-clause-read
+returns-clause-read c =
     let opts = c.args.opts.now in
     let strict = is_strict opts.parse_mode in
     let bytes = c.args.bytes.now in
@@ -20,7 +20,7 @@ returns c =
     let stored = recorded_sections c.in_ok-records.records in
     let old : LayoutRecords = record { layout = c.args.layout.now; directories = c.args.directories.now; sections = c.args.sections.now } in
     let new : LayoutRecords = record { layout = c.fill_layout.new.layout; directories = c.fill_directories.new.records; sections = c.fill_sections.new.records } in
-    let said = c.fill_layout.ensures ∙ ap (layout_said header) c.len.ensures in
+    let said = c.fill_layout.ensures ∙ ap (layout_said header) c.len.ensures.value in
     let listed = subst (λ (xs : List (Option (ℕ × DataDirectory))). Filled (λ (d : PeDirectory). d) (map entry_record xs) old.directories new.directories) c.directories_of.ensures c.fill_directories.ensures in
     let filled = subst (λ (table : ℕ). Filled section_said (map (λ s. without_text (named_in strict bytes table s)) stored) old.sections new.sections) c.symbols_end-strings.ensures c.fill_sections.ensures in
     says_layout opts bytes header stored old new c.in_ok-read_with_opts.ensures.value c.in_ok-records.ensures.value said listed filled

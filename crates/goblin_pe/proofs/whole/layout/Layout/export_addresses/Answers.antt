@@ -1,0 +1,20 @@
+use Rattle.std.proofs.Common.{subst}
+use Rattle.goblin_pe_sect.specs.declared.options.ParseOptions.{ParseOptions}
+use Rattle.goblin_pe_sect.specs.Options.{is_strict}
+use Rattle.goblin_pe_sect.specs.Addresses.{offset_of, reads_strictly}
+use Rattle.goblin_pe_export.specs.ExportReadings.{export_addresses}
+use Rattle.goblin_pe_export.specs.ExportWalks.{walked_tables}
+use Rattle.goblin_pe.specs.Layouts.{address_part, layout_bytes, layout_map}
+use Rattle.goblin_pe.specs.Whole.{BecomesPart}
+use Rattle.goblin_pe.proofs.Parts.{becomes_read}
+use Rattle.goblin_pe.proofs.whole.layout.Layout.export_addresses.Goals as goal
+
+pub returns : goal.returns
+unfolding address_part
+returns c =
+    let m = layout_map c.args.self.now in
+    let bytes = layout_bytes c.args.self.now in
+    let made : BecomesPart (reads_strictly m) c.addresses_of.result c.part_of.result =
+    subst (λ (o : ParseOptions). BecomesPart (is_strict o.parse_mode) c.addresses_of.result c.part_of.result) c.opts.ensures c.part_of.ensures in
+    rw c.in-Some.is
+    (becomes_read walked_tables (export_addresses (offset_of m) c.in-Some.directory) bytes (reads_strictly m) c.addresses_of.result c.part_of.result c.addresses_of.ensures.value made)

@@ -1,0 +1,191 @@
+-- The parts of a file's header, each by itself, and the section records that are there.
+use Rattle.std.specs.Prelude.{◌≡◌, ℕ, ◌+◌, ◌-◌, ◌*◌, ◌/◌, ◌==◌, if◌then◌else◌, List, [], Bool, true}
+use Rattle.std.specs.Prelude.{Option, None, Some, Result, Ok, Err, IfSome, min, option_map, replicate}
+use Rattle.std.specs.Prelude.{unwrap_or}
+use Rattle.goblin_base.specs.declared.error.ErrorOf.{ErrorOf}
+use Rattle.goblin_base.specs.declared.endian.Endian.TheVariants.{Little}
+use Rattle.goblin_base.specs.Reading.{Reading, Reads}
+use Rattle.goblin_base.proofs.Picks.{by_cases-not_memory}
+use Rattle.readings.specs.Reads.{◌>>=◌, file_length, given, in_rest, mapped, needs_by, number_at}
+use Rattle.readings.specs.Reads.{pick, record_at, slice_at}
+use Rattle.goblin_pe_sect.specs.declared.data_directories.DataDirectories.{DataDirectories}
+use Rattle.goblin_pe_sect.specs.declared.data_directories.DataDirectory.{DataDirectory}
+use Rattle.goblin_pe_sect.specs.DirectoryReadings.{directories_at}
+use Rattle.goblin_pe_sect.specs.SectionTable.{Section, recorded_sections, sections_in}
+use Rattle.goblin_pe_head.specs.declared.header.coff.CoffHeader.{CoffHeader}
+use Rattle.goblin_pe_head.specs.declared.header.parts.HeaderParts.{HeaderParts}
+use Rattle.goblin_pe_head.specs.declared.optional_header.OptionalHeader.{OptionalHeader}
+use Rattle.goblin_pe_head.specs.declared.optional_header.standard_fields.StandardFields.{StandardFields}
+use Rattle.goblin_pe_head.specs.declared.optional_header.windows_fields.WindowsFields64.{WindowsFields64}
+use Rattle.goblin_pe_head.specs.CoffHeader.{coff_header}
+use Rattle.goblin_pe_head.specs.CoffReadings.{with_room}
+use Rattle.goblin_pe_head.specs.HeaderReadings.{dos_header, pe_header}
+use Rattle.goblin_pe_head.specs.OptionalHeader.{IsBadMagic, standard_32_record, standard_64_record}
+use Rattle.goblin_pe_head.specs.OptionalHeader.{standard_from_32, standard_from_64, windows_from_32}
+use Rattle.goblin_pe_head.specs.OptionalHeader.{windows_32_record, windows_64_record}
+use Rattle.goblin_pe_head.specs.PeHeader.{PeHeader}
+
+-- Source: PE Format, "File Headers".
+
+-- ---- the COFF header
+
+-- the COFF header after the signature that the DOS header points to, and the offset behind it, where
+-- the optional header begins
+unfoldable pub placed_coff : Reading (ℕ × CoffHeader)
+placed_coff =
+    dos_header
+    >>= λ dos. mapped (λ coff. (dos.pe_pointer + 24, coff))
+    (record_at 20 (coff_header Little) (dos.pe_pointer + 4))
+
+abbrev pub coff_part : Reading CoffHeader
+coff_part = mapped (λ placed. placed.1) placed_coff
+
+-- ---- the optional header
+
+-- what is read at the front of an optional header, which exists if its size is not 0
+abbrev pub optional_part : {A : Type 0} → Reading A → Reading (Option A)
+optional_part read =
+    placed_coff
+    >>= λ placed. pick (placed.1.size_of_optional_header == 0) (given None)
+    (mapped (λ x. Some x) (in_rest placed.0 read))
+
+-- by the magic at the front, what it asks for: for 32 bits, or for 64; another magic asks for
+-- nothing
+abbrev pub by_magic : {A : Type 0} → Reading A → Reading A → ℕ → Reading A
+by_magic narrow wide magic =
+    pick (magic == 0x10B) narrow
+    (pick (magic == 0x20B) wide
+    (needs_by None (IsBadMagic magic) (by_cases-not_memory (IsBadMagic magic) (λ m h. h))))
+
+-- the standard fields that a magic asks for
+unfoldable pub standard_by : ℕ → Reading StandardFields
+standard_by magic =
+    by_magic (mapped standard_from_32 (record_at 28 (standard_32_record Little) 0))
+    (mapped standard_from_64 (record_at 24 (standard_64_record Little) 0)) magic
+
+-- the Windows fields after them
+unfoldable pub windows_by : ℕ → Reading WindowsFields64
+windows_by magic =
+    by_magic (mapped windows_from_32 (record_at 68 (windows_32_record Little) 28))
+    (record_at 88 (windows_64_record Little) 24) magic
+
+-- how many bytes both take
+abbrev pub fields_size : ℕ → ℕ
+fields_size magic = if magic == 0x10B then 96 else 112
+
+-- the first sixteen of the data directories after them, however many the last field says
+abbrev pub directories_after : ℕ → WindowsFields64 → Reading (List (Option (ℕ × DataDirectory)))
+directories_after magic fields =
+    directories_at (min fields.number_of_rva_and_sizes 16) (fields_size magic)
+
+unfoldable pub standard_front : Reading StandardFields
+standard_front = number_at Little 2 0 >>= standard_by
+
+unfoldable pub windows_front : Reading WindowsFields64
+windows_front = number_at Little 2 0 >>= windows_by
+
+unfoldable pub directories_front : Reading (List (Option (ℕ × DataDirectory)))
+directories_front =
+    number_at Little 2 0 >>= λ magic. windows_by magic >>= directories_after magic
+
+-- ---- the section records
+
+-- The sections of so many records at p, without their names from the string table. Where there are
+-- none, it does not matter where.
+abbrev pub sections_there : ℕ → ℕ → Reading (List Section)
+sections_there count p =
+    pick (count == 0) (given []) (mapped sections_in (slice_at p (40 * count)))
+
+-- those of a section table, of which no name is tested
+abbrev pub unnamed_sections : ℕ → ℕ → Reading (List Section)
+unnamed_sections count p = with_room count (sections_there count p)
+
+-- as many of so many records at p as the file has
+abbrev pub whole_sections : ℕ → ℕ → Reading (List Section)
+whole_sections count p =
+    file_length >>= λ length. sections_there (min count ((length - p) / 40)) p
+
+-- where the section table begins, by the size that the COFF header says
+abbrev pub table_after : ℕ × CoffHeader → ℕ
+table_after placed = placed.0 + placed.1.size_of_optional_header
+
+unfoldable pub sections_part : Reading (List Section)
+sections_part =
+    placed_coff >>= λ placed. whole_sections placed.1.number_of_sections (table_after placed)
+
+-- ---- all of them
+
+-- Each part is read by itself: it is given, or refused with a cause that is true of it.
+pub record ArePartsOf (bytes : List ℕ) (parts : HeaderParts) : Type 0 where
+  pub dos_header : Reads (λ h. h) parts.dos_header dos_header bytes
+  pub coff_header : Reads (λ h. h) parts.coff_header coff_part bytes
+  pub standard_fields : Reads (λ f. f) parts.standard_fields (optional_part standard_front) bytes
+  pub windows_fields : Reads (λ f. f) parts.windows_fields (optional_part windows_front) bytes
+  pub data_directories : Reads (option_map (λ d. d.data_directories)) parts.data_directories
+      (optional_part directories_front) bytes
+  pub section_table : parts.section_table ≡ option_map table_after (placed_coff.value bytes)
+  pub section_records : Reads recorded_sections parts.section_records sections_part bytes
+
+-- ---- what is known of an optional header
+
+-- Windows fields of zeros
+abbrev pub no_windows_fields : WindowsFields64
+no_windows_fields = record {
+  image_base = 0;
+  section_alignment = 0;
+  file_alignment = 0;
+  major_operating_system_version = 0;
+  minor_operating_system_version = 0;
+  major_image_version = 0;
+  minor_image_version = 0;
+  major_subsystem_version = 0;
+  minor_subsystem_version = 0;
+  win32_version_value = 0;
+  size_of_image = 0;
+  size_of_headers = 0;
+  check_sum = 0;
+  subsystem = 0;
+  dll_characteristics = 0;
+  size_of_stack_reserve = 0;
+  size_of_stack_commit = 0;
+  size_of_heap_reserve = 0;
+  size_of_heap_commit = 0;
+  loader_flags = 0;
+  number_of_rva_and_sizes = 0;
+}
+
+-- no data directories
+abbrev pub no_directories : DataDirectories
+no_directories = record { data_directories = replicate 16 None }
+
+-- a part of an optional header, where it is given
+abbrev pub part_given : {A : Type 0} → Result (Option A) ErrorOf → Option A
+part_given (Ok part) = part
+part_given (Err e) = None
+
+-- the optional header of these parts, with zeros and no directories in place of others
+abbrev pub optional_of : StandardFields → Option WindowsFields64 → Option DataDirectories
+    → OptionalHeader
+optional_of standard windows directories = record {
+  standard_fields = standard;
+  windows_fields = unwrap_or windows no_windows_fields;
+  data_directories = unwrap_or directories no_directories;
+}
+
+-- that of the parts that are given; there is none without standard fields
+abbrev pub known_optional : HeaderParts → Option OptionalHeader
+known_optional parts =
+    option_map
+    (λ standard. optional_of standard (part_given parts.windows_fields)
+    (part_given parts.data_directories))
+    (part_given parts.standard_fields)
+
+-- The parts of a header that is read as a whole are its parts.
+pub record AreOfHeader (h : PeHeader) (parts : HeaderParts) : Type 0 where
+  pub dos : parts.dos_header ≡ Ok h.dos_header
+  pub coff : parts.coff_header ≡ Ok h.coff_header
+  pub optional : known_optional parts ≡ h.optional_header
+
+abbrev pub AreOfWhole : List ℕ → HeaderParts → Type 0
+AreOfWhole bytes parts =
+    (strict : Bool) → IfSome ((pe_header strict).value bytes) (λ h. AreOfHeader h parts)

@@ -1,0 +1,319 @@
+//! The parts of a file's header, each by itself.
+
+ghost use Rattle.std.specs.Prelude.{◌≡◌, ◌≤◌, ◌-◌, ◌/◌, IfOk, length, min, option_map, unwrap_or};
+ghost use Rattle.goblin_base.specs.Reading.{Reads};
+ghost use Rattle.goblin_pe_sect.specs.SectionTable.{recorded_sections};
+ghost use Rattle.goblin_pe_head.specs.HeaderParts as reading;
+ghost use Rattle.goblin_pe_head.specs.HeaderParts.{AreOfWhole, ArePartsOf, known_optional};
+ghost use Rattle.goblin_pe_head.specs.HeaderParts.{no_directories, no_windows_fields, part_given, sections_there, table_after};
+ghost use Rattle.goblin_pe_head.specs.HeaderParts.{unnamed_sections};
+
+use crate::header::{CoffHeader, DosHeader, SIZEOF_PE_MAGIC};
+use crate::optional_header::{
+    MAGIC_32, MAGIC_64, OptionalHeader, SIZEOF_STANDARD_FIELDS_32, SIZEOF_STANDARD_FIELDS_64,
+    SIZEOF_WINDOWS_FIELDS_32, SIZEOF_WINDOWS_FIELDS_64, StandardFields, StandardFields32,
+    StandardFields64, WindowsFields, WindowsFields32, WindowsFields64,
+};
+use goblin_base::{Endian, Error, Record, Result, ResultOf, pread_slice, pread_u16};
+use goblin_pe_sect::DataDirectories;
+use goblin_pe_sect::data_directories::NUM_DATA_DIRECTORIES;
+use goblin_pe_sect::section_table::{SIZEOF_SECTION_TABLE, SectionRecords};
+
+/// The parts of a file's header, and its section records, each read by itself: what is there of a
+/// file whose header is refused as a whole.
+///
+/// A part is refused with its own cause, or with that of a part which alone tells where it lies: all
+/// parts with that of the DOS header, and those after the COFF header with that.
+///
+/// Source: PE Format, "File Headers".
+#[derive(Drop)]
+pub struct HeaderParts<'a> {
+    /// The DOS header, with the PE signature where it points.
+    pub dos_header: Result<DosHeader>,
+    /// The COFF header.
+    pub coff_header: Result<CoffHeader>,
+    /// The standard fields of the optional header; `None` if the COFF header gives it no size.
+    /// Without a known magic they are refused, and so are the fields and directories after them.
+    pub standard_fields: Result<Option<StandardFields>>,
+    /// The Windows fields after them.
+    pub windows_fields: Result<Option<WindowsFields>>,
+    /// The data directories after these: the first sixteen of however many the last field says.
+    /// The offsets of the entries count from the front of the optional header.
+    pub data_directories: Result<Option<DataDirectories>>,
+    /// The file offset of the section table; `None` where the COFF header is refused.
+    pub section_table: Option<usize>,
+    /// The records of the sections: as many as the COFF header says, or as the file has, if these
+    /// are fewer. No name is tested.
+    pub section_records: Result<SectionRecords<'a>>,
+}
+
+// The COFF header, and the offset behind it.
+#[tactic(auto, unfolding(crate::specs::HeaderParts::placed_coff))]
+fn placed_coff(bytes: &[u8]) -> Result<(usize, CoffHeader)>
+    ensures value { Reads (λ p. p) result reading.placed_coff bytes.now }
+    ensures inside { IfOk result (λ p. p.0 ≤ length bytes.now) }
+{
+    let dos_header = DosHeader::parse(bytes)?;
+    let mut offset = dos_header.pe_pointer as usize + SIZEOF_PE_MAGIC;
+    let coff_header = CoffHeader::parse(bytes, &mut offset)?;
+    Ok((offset, coff_header))
+}
+
+// The standard fields that a magic asks for.
+#[tactic(auto, unfolding(crate::specs::HeaderParts::standard_by))]
+fn standard_by(bytes: &[u8], magic: u16) -> Result<StandardFields>
+    ensures { Reads (λ f. f) result (reading.standard_by magic) bytes.now }
+{
+    match magic {
+        MAGIC_32 => {
+            let record = pread_slice(bytes, 0, SIZEOF_STANDARD_FIELDS_32)?;
+            let fields = StandardFields32::in_record(record, Endian::Little);
+            Ok(StandardFields::from(fields))
+        }
+        MAGIC_64 => {
+            let record = pread_slice(bytes, 0, SIZEOF_STANDARD_FIELDS_64)?;
+            let fields = StandardFields64::in_record(record, Endian::Little);
+            Ok(StandardFields::from(fields))
+        }
+        _ => Err(Error::BadMagic(u64::from(magic))),
+    }
+}
+
+// The Windows fields that a magic asks for.
+#[tactic(auto, unfolding(crate::specs::HeaderParts::windows_by))]
+fn windows_by(bytes: &[u8], magic: u16) -> Result<WindowsFields>
+    ensures { Reads (λ f. f) result (reading.windows_by magic) bytes.now }
+{
+    match magic {
+        MAGIC_32 => {
+            let record = pread_slice(bytes, SIZEOF_STANDARD_FIELDS_32, SIZEOF_WINDOWS_FIELDS_32)?;
+            let fields = WindowsFields32::in_record(record, Endian::Little);
+            Ok(WindowsFields::from(fields))
+        }
+        MAGIC_64 => {
+            let record = pread_slice(bytes, SIZEOF_STANDARD_FIELDS_64, SIZEOF_WINDOWS_FIELDS_64)?;
+            Ok(WindowsFields64::in_record(record, Endian::Little))
+        }
+        _ => Err(Error::BadMagic(u64::from(magic))),
+    }
+}
+
+// The standard fields at the front of an optional header.
+#[tactic(auto, unfolding(crate::specs::HeaderParts::standard_front))]
+fn standard_front(bytes: &[u8]) -> Result<StandardFields>
+    ensures { Reads (λ f. f) result reading.standard_front bytes.now }
+{
+    let magic = pread_u16(bytes, 0, Endian::Little)?;
+    standard_by(bytes, magic)
+}
+
+// The Windows fields of an optional header.
+#[tactic(auto, unfolding(crate::specs::HeaderParts::windows_front))]
+fn windows_front(bytes: &[u8]) -> Result<WindowsFields>
+    ensures { Reads (λ f. f) result reading.windows_front bytes.now }
+{
+    let magic = pread_u16(bytes, 0, Endian::Little)?;
+    windows_by(bytes, magic)
+}
+
+// How many bytes the standard and the Windows fields take.
+fn fields_size(magic: u16) -> usize
+    ensures { result ≡ reading.fields_size magic }
+{
+    if magic == MAGIC_32 {
+        SIZEOF_STANDARD_FIELDS_32 + SIZEOF_WINDOWS_FIELDS_32
+    } else {
+        SIZEOF_STANDARD_FIELDS_64 + SIZEOF_WINDOWS_FIELDS_64
+    }
+}
+
+// The first sixteen data directories of an optional header.
+#[tactic(auto, unfolding(crate::specs::HeaderParts::directories_front))]
+fn directories_front(bytes: &[u8]) -> Result<DataDirectories>
+    ensures { Reads (λ d. d.data_directories) result reading.directories_front bytes.now }
+{
+    let magic = pread_u16(bytes, 0, Endian::Little)?;
+    let fields = windows_by(bytes, magic)?;
+    let count = (fields.number_of_rva_and_sizes as usize).min(NUM_DATA_DIRECTORIES);
+    let mut offset = fields_size(magic);
+    DataDirectories::parse(bytes, count, &mut offset)
+}
+
+// The standard fields of a file's optional header.
+fn standard_fields(bytes: &[u8]) -> Result<Option<StandardFields>>
+    ensures { Reads (λ f. f) result (reading.optional_part reading.standard_front) bytes.now }
+{
+    let (offset, coff_header) = placed_coff(bytes)?;
+    if coff_header.size_of_optional_header == 0 {
+        return Ok(None);
+    }
+    let fields = standard_front(&bytes[offset..])?;
+    Ok(Some(fields))
+}
+
+// The Windows fields of a file's optional header.
+fn windows_fields(bytes: &[u8]) -> Result<Option<WindowsFields>>
+    ensures { Reads (λ f. f) result (reading.optional_part reading.windows_front) bytes.now }
+{
+    let (offset, coff_header) = placed_coff(bytes)?;
+    if coff_header.size_of_optional_header == 0 {
+        return Ok(None);
+    }
+    let fields = windows_front(&bytes[offset..])?;
+    Ok(Some(fields))
+}
+
+// The first sixteen data directories of a file.
+fn data_directories(bytes: &[u8]) -> Result<Option<DataDirectories>>
+    ensures { Reads (option_map (λ d. d.data_directories)) result
+        (reading.optional_part reading.directories_front) bytes.now }
+{
+    let (offset, coff_header) = placed_coff(bytes)?;
+    if coff_header.size_of_optional_header == 0 {
+        return Ok(None);
+    }
+    let directories = directories_front(&bytes[offset..])?;
+    Ok(Some(directories))
+}
+
+/// The records of so many sections at the file offset `offset`. Nothing is tested but that the file
+/// has them; where there are none, the offset is not looked at.
+///
+/// # Errors
+/// [`Error::Read`] if they run past the end of the file.
+#[tactic(auto, using(goblin_pe_sect::proofs::SectionRecords::sections_none))]
+pub fn section_records_at<'a, 'e>(
+    bytes: &'a [u8],
+    offset: usize,
+    count: u16,
+) -> ResultOf<'e, SectionRecords<'a>>
+    ensures { Reads recorded_sections result (sections_there count offset) bytes.now }
+{
+    if count == 0 {
+        return Ok(SectionRecords::of(&[]));
+    }
+    let records = pread_slice(bytes, offset, SIZEOF_SECTION_TABLE * count as usize)?;
+    Ok(SectionRecords::of(records))
+}
+
+/// The records of a section table of so many, whatever names they have: the loader of an image
+/// looks at none. Nothing is tested but that the file has them.
+///
+/// # Errors
+/// [`Error::BufferTooShort`] of the number of sections where the whole file has no room for that
+/// many records, tested first; [`Error::Read`] if they run past the end of the file.
+pub fn unnamed_records(bytes: &[u8], offset: usize, count: u16) -> Result<SectionRecords<'_>>
+    ensures { Reads recorded_sections result (unnamed_sections count offset) bytes.now }
+{
+    if bytes.len() / SIZEOF_SECTION_TABLE < count as usize {
+        return Err(Error::BufferTooShort(count as usize, "sections"));
+    }
+    section_records_at(bytes, offset, count)
+}
+
+// How many of so many records at an offset the file has.
+fn whole_records(bytes: &[u8], offset: usize, count: u16) -> u16
+    ensures { result ≡ min count ((length bytes.now - offset) / 40) }
+{
+    let room = bytes.len().saturating_sub(offset) / SIZEOF_SECTION_TABLE;
+    if room < count as usize {
+        room as u16
+    } else {
+        count
+    }
+}
+
+// The section records of a file, as many as are there.
+#[tactic(auto, unfolding(crate::specs::HeaderParts::sections_part))]
+fn section_records(bytes: &[u8]) -> Result<SectionRecords<'_>>
+    ensures { Reads recorded_sections result reading.sections_part bytes.now }
+{
+    let (offset, coff_header) = placed_coff(bytes)?;
+    let table = offset + coff_header.size_of_optional_header as usize;
+    let count = whole_records(bytes, table, coff_header.number_of_sections);
+    section_records_at(bytes, table, count)
+}
+
+// The COFF header of a file.
+fn coff_header(bytes: &[u8]) -> Result<CoffHeader>
+    ensures { Reads (λ h. h) result reading.coff_part bytes.now }
+{
+    let (_, coff_header) = placed_coff(bytes)?;
+    Ok(coff_header)
+}
+
+// The file offset of the section table.
+fn section_table(bytes: &[u8]) -> Option<usize>
+    ensures { result ≡ option_map table_after (reading.placed_coff.value bytes.now) }
+{
+    match placed_coff(bytes) {
+        Ok((offset, coff_header)) => Some(offset + coff_header.size_of_optional_header as usize),
+        Err(_) => None,
+    }
+}
+
+impl<'a> HeaderParts<'a> {
+    /// Reads each part of the header of a file, whatever the others are. Of a file whose header is
+    /// read as a whole they are its parts.
+    #[tactic(auto, using(crate::proofs::WholeParts::whole_parts))]
+    pub fn read(bytes: &'a [u8]) -> HeaderParts<'a>
+        ensures parts { ArePartsOf bytes.now result }
+        ensures whole { AreOfWhole bytes.now result }
+    {
+        HeaderParts {
+            dos_header: DosHeader::parse(bytes),
+            coff_header: coff_header(bytes),
+            standard_fields: standard_fields(bytes),
+            windows_fields: windows_fields(bytes),
+            data_directories: data_directories(bytes),
+            section_table: section_table(bytes),
+            section_records: section_records(bytes),
+        }
+    }
+    /// The optional header of the parts that are given. There is none without standard fields; in
+    /// place of other parts that are refused it has zeros and no directories.
+    pub fn optional_header(&self) -> Option<OptionalHeader>
+        ensures { result ≡ known_optional self.now }
+    {
+        let standard_fields = given(&self.standard_fields)?;
+        let windows_fields = given(&self.windows_fields);
+        let data_directories = given(&self.data_directories);
+        Some(OptionalHeader {
+            standard_fields,
+            windows_fields: windows_or_zeros(windows_fields),
+            data_directories: directories_or_none(data_directories),
+        })
+    }
+}
+
+// Windows fields, or zeros.
+fn windows_or_zeros(fields: Option<WindowsFields>) -> WindowsFields
+    ensures { result ≡ unwrap_or fields no_windows_fields }
+{
+    match fields {
+        Some(fields) => fields,
+        None => WindowsFields::default(),
+    }
+}
+
+// Data directories, or none.
+fn directories_or_none(directories: Option<DataDirectories>) -> DataDirectories
+    ensures { result ≡ unwrap_or directories no_directories }
+{
+    match directories {
+        Some(directories) => directories,
+        None => DataDirectories {
+            data_directories: [None; NUM_DATA_DIRECTORIES],
+        },
+    }
+}
+
+// A part of an optional header, where it is given.
+fn given<T: Copy>(part: &Result<Option<T>>) -> Option<T>
+    ensures { result ≡ part_given part.now }
+{
+    match part {
+        Ok(part) => *part,
+        Err(_) => None,
+    }
+}
