@@ -1,14 +1,15 @@
 #!/usr/bin/env python3
 """Reads images by the module goblin_pe and by pefile, and compares what both see: beside_pefile.py FILE.. Addresses are mapped
-as the Windows loader does, nearly as pefile maps them. Of each file it compares the headers' numbers, the sections, the imports with their
+as the Windows loader does, headers too, nearly as pefile maps them. Of each file it compares the headers' numbers, the sections, the imports with their
 hints and slots, the exports with their forwarders, also those without a name, and three things that analysts compare: the hashes
 of the imports and of the Rich header, and where an overlay begins. A file that either refuses has to be refused by the other.
 
 pefile lists a last block of base relocations of 8 bytes, without words, which the library refuses. Its overlay begins after the
 last section that the file has whole; in the recipes of the examples the rest of a section that the file's end cuts is none.
 
-It shows each difference. The last line says how many files are alike; the status is 1 where one is not. By pefile 2023.2.7 all
-were of 2,213 different images in Debian's packages of Wine, Mono, MinGW, NSIS, GRUB and others and in Python's installers."""
+It shows each difference. The last line says how many files are alike; the status is 1 where one is not. By pefile 2023.2.7
+1,315 were of 1,322 images in Debian's packages of Wine, Mono, NSIS, GRUB, ClamAV's tests and others. Six differ by the names that
+pefile gives ordinals, and of one, packed by Upack, it reads no imports."""
 import collections
 import hashlib
 import sys
@@ -21,7 +22,7 @@ from goblin_pe import Options, Pe, RawPointerRule, Refused
 # How many rows pefile reads before it gives up, if it is not told otherwise: 8,192.
 MOST = pefile.MAX_IMPORT_SYMBOLS = 1 << 32
 
-OPTIONS = Options(is_permissive=True, raw_pointer_rule=RawPointerRule.BY_FILE_ALIGNMENT)
+OPTIONS = Options(is_permissive=True, raw_pointer_rule=RawPointerRule.AS_LOADED)
 FIELDS = ("Misc_VirtualSize", "VirtualAddress", "SizeOfRawData", "PointerToRawData", "PointerToRelocations", "PointerToLinenumbers",
           "NumberOfRelocations", "NumberOfLinenumbers", "Characteristics", "Name")
 

@@ -10,7 +10,7 @@ use Rattle.goblin_pe_sect.specs.WindowIndex.{Pieces, located}
 use Rattle.goblin_pe_sect.specs.declared.options.ParseOptions.{ParseOptions}
 use Rattle.goblin_base.specs.declared.permissive.ParseMode.TheVariants.{Strict}
 use Rattle.goblin_pe_sect.specs.declared.address_map.Windows.{Windows}
-use Rattle.goblin_pe_sect.specs.declared.address_map.Windows.TheVariants.{Indexed, Walked}
+use Rattle.goblin_pe_sect.specs.declared.address_map.Windows.TheVariants.{Indexed, IndexedWithFront, Walked}
 use Rattle.goblin_pe_sect.specs.Addresses.{map_by, map_in, offset_by_windows, without_null}
 use Rattle.goblin_pe_sect.specs.declared.address_map.records.MappedRecords.{MappedRecords}
 
@@ -29,17 +29,22 @@ located_nowhere opts (s ∷ sections) alignment rva none = absurd (omega arith)
 pub same_map : (opts : ParseOptions) (sections : List Section) (alignment : ℕ) (index : Pieces) → ((rva : ℕ) → located index rva ≡ file_offset opts sections alignment rva) → record { opts = opts; offset = located index } ≡ map_by opts sections alignment
 same_map opts sections alignment index mapped = ap (λ (f : ℕ → Option ℕ). record { opts = opts; offset = f }) (fun_ext mapped)
 
--- also where it is without address 0
-pub same_map_in : (opts : ParseOptions) (records : MappedRecords) (alignment : ℕ) (index : Pieces) → ((rva : ℕ) → located index rva ≡ file_offset opts (mapped_sections records) alignment rva)
-    → record { opts = opts; offset = without_null (is_some records.front) (located index) } ≡ map_in opts (mapped_of records) alignment
-same_map_in opts records alignment index mapped = ap (λ (f : ℕ → Option ℕ). record { opts = opts; offset = without_null (is_some records.front) f }) (fun_ext mapped)
+-- also by records without the file's front, or with it
+pub same_map_alone : (opts : ParseOptions) (records : MappedRecords) (alignment : ℕ) (index : Pieces) → records.front ≡ None → ((rva : ℕ) → located index rva ≡ file_offset opts (mapped_sections records) alignment rva)
+    → record { opts = opts; offset = located index } ≡ map_in opts (mapped_of records) alignment
+same_map_alone opts records alignment index none mapped = ap (λ (f : ℕ → Option ℕ). record { opts = opts; offset = f }) (fun_ext mapped) ∙ rw none refl
+
+pub same_map_with : (opts : ParseOptions) (records : MappedRecords) (alignment size : ℕ) (index : Pieces) → records.front ≡ Some size → ((rva : ℕ) → located index rva ≡ file_offset opts (mapped_sections records) alignment rva)
+    → record { opts = opts; offset = without_null true (located index) } ≡ map_in opts (mapped_of records) alignment
+same_map_with opts records alignment size index some mapped = ap (λ (f : ℕ → Option ℕ). record { opts = opts; offset = without_null true f }) (fun_ext mapped) ∙ rw some refl
 
 -- the mode changes no offset
 pub same_windows : (opts : ParseOptions) (w : Windows) → offset_by_windows (record opts { parse_mode = Strict }) w ≡ offset_by_windows opts w
 unfolding file_offset
 same_windows opts (Walked records alignment) =
     ap (without_null (is_some records.front)) (fun_ext {f = file_offset (record opts { parse_mode = Strict }) (mapped_sections records) alignment} {g = file_offset opts (mapped_sections records) alignment} (λ rva. refl))
-same_windows opts (Indexed index front) = refl
+same_windows opts (Indexed index) = refl
+same_windows opts (IndexedWithFront index) = refl
 
 unnamed_by : (b : Bool) (s : Section) (x y : Option Section) → x ≡ option_map unnamed y → cond b (Some (unnamed s)) x ≡ option_map unnamed (cond b (Some s) y)
 unnamed_by true s x y e = refl

@@ -10,7 +10,7 @@ use Rattle.goblin_pe_sect.specs.SectionTable.{with_front}
 use Rattle.goblin_pe_sect.specs.WindowIndex.{HasPieces, located}
 use Rattle.goblin_pe_sect.specs.declared.address_map.AddressMap.{AddressMap}
 use Rattle.goblin_pe_sect.specs.declared.address_map.Windows.{Windows}
-use Rattle.goblin_pe_sect.specs.declared.address_map.Windows.TheVariants.{Indexed, Walked}
+use Rattle.goblin_pe_sect.specs.declared.address_map.Windows.TheVariants.{Indexed, IndexedWithFront, Walked}
 
 -- how a file's addresses are mapped to its offsets, and how the bytes there are read
 pub record MapOfAddresses : Type 0 where
@@ -48,12 +48,14 @@ TakesMap opts sections file_alignment =
 abbrev pub offset_by_windows : ParseOptions → Windows → ℕ → Option ℕ
 offset_by_windows opts (Walked records file_alignment) =
     table_offset opts (mapped_of records) file_alignment
-offset_by_windows opts (Indexed index maps_front) = without_null maps_front (located index)
+offset_by_windows opts (Indexed index) = located index
+offset_by_windows opts (IndexedWithFront index) = without_null true (located index)
 
 -- windows are found by an index, and not by a walk
 abbrev pub AreIndexed : Windows → Type 0
 AreIndexed (Walked records file_alignment) = ⊥
-AreIndexed (Indexed index maps_front) = ⊤
+AreIndexed (Indexed index) = ⊤
+AreIndexed (IndexedWithFront index) = ⊤
 
 -- sections are so many that they get an index: more than the Windows loader takes
 abbrev pub AreMany : ℕ → Type 0
@@ -63,7 +65,8 @@ AreMany count = 96 < count
 abbrev pub WalksFew : ParseOptions → Windows → Type 0
 WalksFew opts (Walked records file_alignment) =
     HasPieces opts file_alignment → ¬ AreMany (length (recorded_sections records.records))
-WalksFew opts (Indexed index maps_front) = ⊤
+WalksFew opts (Indexed index) = ⊤
+WalksFew opts (IndexedWithFront index) = ⊤
 
 -- addresses are found by an index, whatever the number of sections
 abbrev pub IsIndexed : AddressMap → Type 0

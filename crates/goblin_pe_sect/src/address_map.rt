@@ -43,8 +43,10 @@ pub(crate) enum Windows<'s> {
     // The records of sections, which are few, or by which no address is looked for, with the file's
     // front where it is mapped, and the file alignment.
     Walked(MappedRecords<'s>, u32),
-    // The index of the windows of the sections, and whether it has that of the file's front, too.
-    Indexed(WindowIndex, bool),
+    // The index of the sections' windows.
+    Indexed(WindowIndex),
+    // The same with the window of the file's front.
+    IndexedWithFront(WindowIndex),
 }
 
 /// How addresses are mapped to file offsets, and how the bytes there are read: the options, and
@@ -95,7 +97,7 @@ impl<'s> Windows<'s> {
     // What finds the windows of many records: an index; where the options or the alignment leave
     // none to be found, the records.
     #[inline(never)]
-    #[tactic(auto, using(crate::proofs::AddressMaps::same_map_in))]
+    #[tactic(auto, using(crate::proofs::AddressMaps::same_map_alone, crate::proofs::AddressMaps::same_map_with))]
     fn of_many<'e>(
         alloc: Global,
         records: MappedRecords<'s>,
@@ -112,7 +114,10 @@ impl<'s> Windows<'s> {
         }
         let sections = listed(alloc, records)?;
         let index = index_of(alloc, &sections, file_alignment, opts)?;
-        Ok(Windows::Indexed(index, records.front.is_some()))
+        let Some(_) = records.front else {
+            return Ok(Windows::Indexed(index));
+        };
+        Ok(Windows::IndexedWithFront(index))
     }
 }
 
@@ -139,7 +144,7 @@ impl<'s> AddressMap<'s> {
         let index = index_of(alloc, sections, file_alignment, opts)?;
         Ok(AddressMap {
             opts: *opts,
-            windows: Windows::Indexed(index, false),
+            windows: Windows::Indexed(index),
         })
     }
 
@@ -226,8 +231,8 @@ impl<'s> AddressMap<'s> {
             Windows::Walked(records, file_alignment) => {
                 find_in_records(*records, *file_alignment, &self.opts, rva, run)
             }
-            Windows::Indexed(_, true) if rva == 0 => None,
-            Windows::Indexed(index, _) => index.find(rva),
+            Windows::IndexedWithFront(_) if rva == 0 => None,
+            Windows::Indexed(index) | Windows::IndexedWithFront(index) => index.find(rva),
         }
     }
 }

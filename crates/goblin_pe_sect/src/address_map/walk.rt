@@ -129,6 +129,7 @@ fn find_past_null(
 /// The file offset of an address that a table says, by the sections of these records, and the file's
 /// front after them where it is mapped. `run` becomes addresses about it that have their offsets
 /// without another walk, where one of these owns it.
+#[inline(always)]
 pub(super) fn find_in_records(
     records: MappedRecords,
     file_alignment: u32,
