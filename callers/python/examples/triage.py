@@ -133,7 +133,7 @@ def image(data: Any) -> Dict[str, Any]:
         damage = (Layout(data, Options(is_permissive=True)) if is_counted else layout).damage  # (else not of the imports)
         return {
             **told, "rich_hash": rich_hash(layout, data),
-            "damage": {part: str(why) for part, why in zip(damage._fields[:5], damage) if why},
+            "damage": {part: str(why) for part, why in damage.parts()},
             "left_out": {what: count for what, count in zip(damage._fields[5:], damage[5:]) if count}}
 
 

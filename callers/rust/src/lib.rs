@@ -149,8 +149,8 @@ pub fn kind(bytes: &[u8]) -> Kind {
 /// let layout = goblin_pe::Layout::parse(&bytes)?;
 /// let field = layout.dos_header().pe_pointer as usize + 88;
 /// // (a file without an optional header has no such field)
-/// if layout.optional_header().is_some() {
-///     let sum = goblin_pe::checksum(&bytes, field);
+/// if let Some(sum) = layout.checksum() {
+///     assert_eq!(goblin_pe::checksum(&bytes, field), sum);
 ///     bytes[field..][..4].copy_from_slice(&sum.to_le_bytes());
 /// }
 /// # Ok::<(), Box<dyn std::error::Error>>(())
