@@ -5,8 +5,12 @@ from tests import images
 from tests.programs import BY_NAME, IMAGES, OBJECTS, TERSE
 
 
-def files():
-    """Files that are damaged, made to mislead, or no files of the kind that is read."""
+# How many copies of each sample suffice where a run takes long.
+FEW = 3
+
+
+def files(changed=40):
+    """Files that are damaged, made to mislead, or no files of the kind that is read: of each sample so many changed copies."""
     data, signature = BY_NAME.read_bytes(), int.from_bytes(BY_NAME.read_bytes()[0x3C:0x40], "little")
     highest = images.with_parts(data, (signature + 24 + 16, b"\xff" * 4), (signature + 24 + 24, b"\xff" * 8))
     yield from (b"", b"MZ", b"no image", data, highest, data[:-16], data + b"overlay", *(it.read_bytes() for it in (*OBJECTS, *TERSE)))
@@ -18,8 +22,8 @@ def files():
     yield from (bare, bare[:-1])
     for sample in (*IMAGES, *OBJECTS, *TERSE):
         stored, digits = sample.read_bytes(), random.Random(sample.name)
-        for _ in range(40):
-            changed = bytearray(stored[:digits.choice([len(stored), digits.randrange(len(stored))])])
-            for _ in range(8 if changed else 0):
-                changed[digits.randrange(min(len(changed), 0x700))] = digits.choice([0, 0x7F, 0xFF, digits.randrange(256)])
-            yield bytes(changed)
+        for _ in range(changed):
+            copy = bytearray(stored[:digits.choice([len(stored), digits.randrange(len(stored))])])
+            for _ in range(8 if copy else 0):
+                copy[digits.randrange(min(len(copy), 0x700))] = digits.choice([0, 0x7F, 0xFF, digits.randrange(256)])
+            yield bytes(copy)
