@@ -176,7 +176,6 @@ class Crate(Case):
         examples = documented_examples()
         self.assertGreater(len(examples), 100)
         for name, programs in readmes().items():
-            self.assertEqual(programs.count("std::fs::read("), "rust/" in name)
             examples[name] = "let bytes = crate::read()?;\n" + re.sub(r'std::fs::read\("[^"]*"\)', "crate::read()", programs)
         user, env = self.folder / "user", environment(GOBLIN_PE_LIB=str(library()), CARGO_TARGET_DIR=str(folder() / "target"))
         succeed(["cargo", "new", "-q", "--vcs", "none", "--name", "hostile", user])
