@@ -470,6 +470,18 @@ class Patch(Case):
                          (1, b"", b"the section table stands where the optional header would go on\n"))
         self.assertFalse(to.exists())
 
+    def test_a_section_whose_name_is_a_number_of_the_header_has_no_other_one(self):
+        """The first record begins where two numbers of the optional header are, of which the second counts its directories."""
+        image, to = images.with_small_header(BY_NAME.read_bytes(), 104), self.folder / "patched.dll"
+        table = int.from_bytes(image[0x3C:0x40], "little") + 24 + 104
+        image = self.written("small.dll", images.with_parts(image, (table, b".tx".ljust(8, b"\0"))))
+        self.assert_runs([built("patch"), image, "7", ".tx", ".tx", to], (0, b"0x7 .tx\n", b""))
+        to.unlink()
+        for name in ".ty", ".text":
+            self.assert_runs([built("patch"), image, "7", ".tx", name, to],
+                             (1, b"", b"the section table stands where the optional header would go on\n"))
+        self.assertFalse(to.exists())
+
     def test_a_name_that_is_too_long(self):
         wanted = (1, b"", b"refused: ")
         status, out, said = run([built("patch"), BY_NAME, "0", ".text", "ninebytes", self.folder / "not.dll"])
