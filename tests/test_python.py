@@ -240,7 +240,9 @@ class Triage(Case):
         found = importlib.util.find_spec("pefile")
         if not found:
             self.skipTest("no pefile")
-        files = [self.written(name, data) for name, data in triaged_images().items()]
+        by_ordinal = (SAMPLES / "imports_by_ordinal_x64.dll").read_bytes().replace(b"KERNEL32.dll", b"WS2_32.dll\0\0")
+        named = by_ordinal.replace((1 << 63 | 901).to_bytes(8, "little"), (1 << 63 | 115).to_bytes(8, "little"))
+        files = [self.written(name, data) for name, data in {**triaged_images(), "named.dll": named}.items()]
         env = {**self.env, "PYTHONPATH": f"{CALLERS / 'python'}:{os.path.dirname(found.origin)}"}
         told = succeed([sys.executable, CALLERS / "beside_pefile.py", *files], env=env)
         self.assertEqual(told, f"{len(files)} of {len(files)} files are alike\n")

@@ -169,7 +169,8 @@ def kind(data: Data) -> Kind:
 def checksum(data: Data, field: int) -> int:
     """The checksum of an image, whose field stands at the file offset `field`: 88 bytes after pe_pointer. It is the sum of the
     little-endian words of two bytes, in 16 bits and with each carry added, and the length, in 32 bits; the bytes of the field
-    count as zeros. Windows tests it of drivers, and of libraries that it loads at boot or into critical processes."""
+    count as zeros. Windows tests it of drivers, and of libraries that it loads at boot or into critical processes. The method of an
+    image finds the field by itself."""
     with _held(_kept(data)) as (address, length):
         return int(_LIB.goblin_pe_raw_checksum(address, length, _size(field)))
 

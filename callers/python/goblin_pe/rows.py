@@ -258,7 +258,9 @@ class Symbol(NamedTuple):
         return _laid_out.read(kind, record) if is_there else None
 
     def aux_file(self) -> Optional[bytes]:
-        """The name of a source file in the auxiliary records; None where the symbol has none, or stands for no file."""
+        """The name of a source file in the auxiliary records; None where the symbol has none, or stands for no file. It is empty where
+        these begin with four zeros: then the name stands in the string table, at the offset in the four bytes after them, where
+        string_at reads it."""
         name = records.Text()
         with held(self.auxiliary) as (address, length):
             is_there = self.is_file and LIB.goblin_pe_raw_read_aux_file(address, length, c.byref(name))

@@ -142,7 +142,7 @@ pub fn kind(bytes: &[u8]) -> Kind {
 /// The checksum of an image, whose field stands at the file offset `field`: 88 bytes after `pe_pointer`. It
 /// is the sum of the little-endian words of two bytes, in 16 bits and with each carry added, and the
 /// length, in 32 bits; the bytes of the field count as zeros. Windows tests it of drivers, and of libraries
-/// that it loads at boot or into critical processes.
+/// that it loads at boot or into critical processes. [`Layout::checksum`] finds the field by itself.
 ///
 /// ```no_run
 /// let mut bytes = std::fs::read("some.sys")?;

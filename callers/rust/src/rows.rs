@@ -901,7 +901,9 @@ impl<'a> Symbol<'a> {
         raw::aux_section_definition(self.auxiliary)
     }
 
-    /// The name of a source file, of a symbol of class `IMAGE_SYM_CLASS_FILE`.
+    /// The name of a source file, of a symbol of class `IMAGE_SYM_CLASS_FILE`. It is empty where the auxiliary records
+    /// begin with four zeros: then the name stands in the string table, at the offset in the four bytes after them, where
+    /// [`Symbols::text_at`](crate::Symbols::text_at) reads it.
     ///
     /// ```no_run
     /// # let bytes = [];
