@@ -3,6 +3,7 @@ import concurrent.futures
 import contextlib
 import importlib.util
 import io
+import itertools
 import json
 import os
 import pathlib
@@ -412,14 +413,15 @@ class Package(Case):
 
     def test_what_is_not_changed_is_written_as_it_was(self):
         """Also where the section table stands over the optional header, or the headers in the DOS header, unless that is refused."""
-        written = 0
+        written, readers = [], [getattr(package(), name) for name in ("Pe", "Layout", "Parts")]
         for data in (*hostile.files(), *(bytes(images.with_small_header(BY_NAME.read_bytes(), it)) for it in range(0, 248, 8))):
-            for is_permissive in False, True:
+            for read, is_permissive in itertools.product(readers, (False, True)):
                 with contextlib.suppress(ValueError):
-                    pe = package().Pe(data, package().Options(is_permissive=is_permissive, parse_imports=False))
-                    self.assertEqual(pe.write(sections=pe.sections), data)
-                    written += 1
-        self.assertGreater(written, 100)
+                    file = read(data, package().Options(is_permissive=is_permissive, parse_imports=False))
+                    self.assertEqual(file.write(sections=file.sections), data)
+                    written.append(read)
+        for read in readers:
+            self.assertGreater(written.count(read), 100)
 
     def test_a_folder_is_triaged(self):
         names = {"damaged.dll": "," + HASHES[BY_NAME.name] + ",exports", "refused.dll": ",the DOS header leads to 0x5a4d in place of the PE signature"}

@@ -780,31 +780,32 @@ class Layout(_File):
         """The symbols one by one, of which none is kept. With `steps` it raises OutOfSteps after so many. Refused is raised as by
         `symbols`; without tests_texts not where the string table is not UTF-8: a symbol whose name is not has none."""
         data = self._bytes()
-        table = self._found_symbols(data) if tests_texts else _symbol_table(data, self.coff_header, False)
-        return _walk_symbols(data, table, steps)
+        return _walk_symbols(data, self._found_symbols(data, tests_texts), steps)
 
     def string_at(self, offset: int) -> _t.Optional[bytes]:
         """The text at an offset of the string table, up to a NUL or the table's end; None where there is none that is UTF-8. The
         offset counts from the four bytes of the table's length, as the numbers do that stand in place of names. Refused is
         raised where a table does not lie in the file."""
         data = self._bytes()
-        return _string_at(data, _symbol_table(data, self.coff_header, False), offset)
+        return _string_at(data, self._found_symbols(data, False), offset)
 
     @property
     def string_table_size(self) -> int:
         """How many bytes the string table has, with the four of its length; 0 where there is none, as in most images. Refused is
         raised where a table does not lie in the file."""
-        return _string_table_size(_symbol_table(self._bytes(), self.coff_header, False))
+        return _string_table_size(self._found_symbols(self._bytes(), False))
 
-    def symbol_at(self, index: int) -> _t.Optional[Symbol]:
+    def symbol_at(self, index: int, tests_texts: bool = True) -> _t.Optional[Symbol]:
         """The symbol whose record has this index: relocations and weak externals name symbols so. None where the table ends
-        before it; an auxiliary record is read as a symbol, too. Refused is raised as by `symbols`. The string table is read
-        whole the first time, and then never again."""
+        before it; an auxiliary record is read as a symbol, too. Refused is raised as by walk_symbols. The string table is read
+        whole the first time, and then never again; without tests_texts never."""
         data = self._bytes()
-        return _symbol_at(data, self._found_symbols(data), index)
+        return _symbol_at(data, self._found_symbols(data, tests_texts), index)
 
-    def _found_symbols(self, data: _Kept) -> records.SymbolTable:
-        # where the symbols lie, tested once
+    def _found_symbols(self, data: _Kept, tests_texts: bool) -> records.SymbolTable:
+        # where the symbols lie; the texts are tested once
+        if not tests_texts:
+            return self._symbol_table or _symbol_table(data, self.coff_header, False)
         if self._symbol_table is None:
             self._symbol_table = _symbol_table(data, self.coff_header)
         return self._symbol_table

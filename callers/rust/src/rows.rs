@@ -841,7 +841,8 @@ impl<'a> Symbol<'a> {
     }
 
     /// The first auxiliary record, of a symbol that defines a function; `None` where it has none, as
-    /// in the calls below. None of them looks at the symbol: which kind its records are, the calls above tell.
+    /// in the calls below. None of them looks at the symbol: which kind its records are, the calls above tell, and of a
+    /// function's start or end its class, `IMAGE_SYM_CLASS_FUNCTION`.
     ///
     /// ```no_run
     /// # let bytes = [];
