@@ -17,6 +17,9 @@ def files(changed=40):
     yield from (images.own_tables(30), bytes(images.shared_image(30, 100)), bytes(images.one_long_name(100, 1000)), images.directory_in_front(),
                 bytes(images.pointers_to_nowhere(1000)), images.pointers_to_one_name(1000), images.import_from_nowhere(data),
                 bytes(images.with_small_header(data, 104)), images.with_parts(data, (signature + 20, bytes(2))), bytes(images.hostile_image(1 << 14)))
+    # (names that a terminal obeys)
+    yield data.replace(b"GetTickCount", b"Get\x1b[2J\\\xc3\xa9nt").replace(b"KERNEL32.dll", b"KER\x1b[2J\n\r.dl").replace(b".text\0\0", b".\x1b[2J\n\0")
+    yield bytes(images.library(b"some\x1b[2J.dll", [(b"Ap\x1bple", 0x3010), (None, 0x3020), (b"Che\x1brry", b"ot\x1bher.Pe\x1bar")]))
     # (an image of the DOS header and the COFF header alone)
     bare = images.with_parts(data[:signature + 24], (signature + 6, bytes(2)), (signature + 20, bytes(2)))
     yield from (bare, bare[:-1])

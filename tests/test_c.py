@@ -544,7 +544,7 @@ class Reuse(Case):
         self.assertEqual((status, said[:9]), (1, b"refused: "))
 
     def test_hostile_files_with_sanitizers(self):
-        """Of each example: it ends with a status of its own, and the sanitizers say nothing."""
+        """Of each example: it ends with a status of its own, what it says is printable ASCII, and the sanitizers say nothing."""
         need_flags(*SANITIZED)
         to, env = self.folder / "patched.dll", {**os.environ, "ASAN_OPTIONS": "exitcode=99", "UBSAN_OPTIONS": "exitcode=99"}
         for index, data in enumerate(hostile.files(hostile.FEW)):
@@ -552,8 +552,9 @@ class Reuse(Case):
             for name, *words in (("list", file), ("list", "--permissive", file), ("list", "--symbols", file), ("list", "--te", file),
                                  ("walk", "1000", file), ("damage", file), ("loader", file), ("patch", file, "7", ".text", ".code", to)):
                 with self.subTest(name=name, index=index):
-                    status, _, said = run([built(name, *SANITIZED), *words], env=env)
+                    status, out, said = run([built(name, *SANITIZED), *words], env=env)
                     self.assertIn(status, (0, 1), said)
+                    self.assertRegex(out + said, rb"\A[ -~\n]*\Z")
 
     def test_under_valgrind(self):
         need("valgrind")

@@ -536,6 +536,19 @@ class Package(Case):
             _, out, said = run([*LISTS, "--json", *words, *files], env=self.env)
             self.assertEqual(([json.loads(it)["file"] for it in out.splitlines()], said), (list(map(str, files)), b""))
 
+    def test_hostile_files_are_listed(self):
+        """Or refused, in printable ASCII."""
+        package()
+        program = importlib.import_module("goblin_pe.__main__")
+        for index, data in enumerate(hostile.files()):
+            file = str(self.written("hostile.bin", data))
+            for words in [], ["--permissive"], ["--symbols"], ["--te"]:
+                with contextlib.redirect_stdout(io.StringIO()) as out, contextlib.redirect_stderr(out):
+                    status = program.main([*words, file])
+                with self.subTest(index=index, words=words):
+                    self.assertIn(status, (0, 1))
+                    self.assertRegex(out.getvalue(), r"\A[ -~\n]*\Z")
+
     def test_fields_of_headers(self):
         succeed([*PYTHON, CALLERS / "python/fields.py", *IMAGES], env=self.env)
 
