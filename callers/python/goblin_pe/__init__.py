@@ -854,12 +854,14 @@ class Layout(_File):
         number_of_rva_and_sizes adds to the file's own.
 
         Refused is raised where a header can't be written, OverflowError where a number does not fit its field, and ValueError
-        where the file has no place for what is given: for an optional header or a directory, which may not reach into the section
-        table but where both say the same; for another number_of_rva_and_sizes, whose directories pass the optional
-        header; for more sections than it has, given or counted by the COFF header, past the file, or where anything but zeros
-        stands, or before the data of a section; and so where permissive mode replaced the DOS stub, where a DOS header leads
-        elsewhere than the file's own, and where a COFF header says another size of the optional header, which would move the
-        section table."""
+        where the file has no place for what is given:
+
+        An optional header or a directory may reach into the section table only where both say the same. Another
+        number_of_rva_and_sizes has to count directories that end in the optional header. More sections than the file has, given or
+        counted by the COFF header, need zeros in their place, before the data of all sections.
+
+        So ValueError is raised, too, where permissive mode replaced the DOS stub, and where a DOS header leads elsewhere than the
+        file's own. A COFF header may say no other size of the optional header, which would move the section table."""
         if optional_header is not None and self.optional_header is None:
             raise ValueError("the file has no optional header")
         coff = coff_header or self.coff_header

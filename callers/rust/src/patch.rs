@@ -19,13 +19,16 @@ impl Layout<'_> {
     /// adds to the file's own.
     ///
     /// # Errors
-    /// [`io::ErrorKind::InvalidInput`] where the file has no place for what is given: for an optional header or a
-    /// directory, which may not reach into the section table but where both say the same; for another
-    /// `number_of_rva_and_sizes`, whose directories pass the optional header; for more sections than it has, given or
-    /// counted by the COFF header, past the file, or where anything but zeros stands, or before the data of a section; and so
-    /// where permissive mode replaced the DOS stub, where the header leads elsewhere than the file's own, and where it says
-    /// another size of the optional header, which would move the section table. As of [`Header::write`], and
-    /// [`io::ErrorKind::OutOfMemory`].
+    /// [`io::ErrorKind::InvalidInput`] where the file has no place for what is given:
+    ///
+    /// - An optional header or a directory may reach into the section table only where both say the same.
+    /// - Another `number_of_rva_and_sizes` has to count directories that end in the optional header.
+    /// - More sections than the file has, given or counted by the COFF header, need zeros in their place, before the data of
+    ///   all sections.
+    /// - Permissive mode has not replaced the DOS stub, and the header leads where the file's own does.
+    /// - It says no other size of the optional header, which would move the section table.
+    ///
+    /// As of [`Header::write`], and [`io::ErrorKind::OutOfMemory`].
     ///
     /// ```no_run
     /// # let bytes = [];
