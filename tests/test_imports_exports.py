@@ -403,6 +403,20 @@ class InTheHeaders(Read):
         self.assertIsNone(loader.damage.imports)
         self.assert_imports(read(data, raw_pointer_rule="AS_LOADED"), [GO, SEVEN])
 
+    def test_a_library_without_a_lookup_table(self):
+        """Its record says 0 in its place, where no table is, though the headers are mapped there. More than 96 sections have an
+        index."""
+        data, _, loader = self.views((0x200, b"\0\0"))
+        self.assert_imports(loader, [GO, SEVEN])
+        self.assert_imports(read(data, raw_pointer_rule="AS_LOADED"), [GO, SEVEN])
+        many = images.hostile_image(0x4000)
+        (start,) = struct.unpack_from("<I", many, 0x148 + 20)
+        many = with_parts(many, (0x94, struct.pack("<I", start)), (start, bytes(4)))
+        pe = read(many, raw_pointer_rule="AS_LOADED")
+        self.assertGreater(len(pe.sections), 96)
+        self.assertEqual([x.name for x in pe.imports], [b"%05d" % i for i in range(len(pe.sections))])
+        self.assertEqual(list(pe.walk_imports()), list(pe.imports))
+
     def test_the_names_of_a_library_and_of_an_export(self):
         _, goblin, loader = self.views((0x20C, b"\xB0\x01\0\0"), (0x2D0, b"\xB8\x01\0\0"), (0x1B0, b"b.dll\0\0\0g\0"))
         self.assertEqual([x.dll for x in loader.imports], [b"b.dll", b"b.dll"])

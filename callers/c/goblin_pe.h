@@ -205,9 +205,9 @@ static inline void goblin_pe_free(struct goblin_pe_tables *tables)
 /* Reads an image without its tables: says in `layout` what it is, how many data directories and how many
    sections it has, and fills their records as far as there is room. A first call without room tells how much is
    needed. Refused are a header or sections that goblin_pe_open refuses, but no section for its name where the
-   options have `raw_section_names`: no name is looked up then. No other call looks at that option, so of such a file
-   goblin_pe_open and goblin_pe_read_damage may be refused, and goblin_pe_footprint tells of the refusal alone. No
-   memory is taken, however much the tables of the file list. */
+   options have `raw_section_names`: no name is looked up then. No other call looks at that option but
+   goblin_pe_read_parts, for its `refusal`. So of such a file goblin_pe_open and goblin_pe_read_damage may be refused,
+   and goblin_pe_footprint tells of the refusal alone. No memory is taken, however much the tables of the file list. */
 static inline struct goblin_pe_fault goblin_pe_read_layout(
     const uint8_t *bytes, size_t length, const struct goblin_pe_options *options, struct goblin_pe_layout *layout,
     struct goblin_pe_directory *directories, size_t directory_room, struct goblin_pe_section *sections,

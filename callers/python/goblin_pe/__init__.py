@@ -222,8 +222,7 @@ class Options:
     raw_pointer_rule: where the raw data of a section begins for the mapping of addresses, and for section_data and memory_at
         of an image: a RawPointerRule. Rounding is right where `section_alignment` is 4,096 or more, and pointers as stored
         where it is less, since the Windows loader maps such an image as one flat view of the file. BY_FILE_ALIGNMENT
-        chooses so, as pefile does. AS_LOADED also maps the headers, as that loader does: packers put names and tables there; but
-        a library whose record says 0 for its lookup table has one at the front of the file then.
+        chooses so, as pefile does. AS_LOADED also maps the headers, as that loader does: packers put names and tables there.
     parse_imports: whether the imports are read; where not, their table is absent, and `damage` tells nothing of them.
     raw_section_names: whether the sections of a Layout have their raw names alone, which refuse no file; where not, a name that
         begins with a slash is looked up in the string table. Only the read of a Layout looks at this: a file with a name that

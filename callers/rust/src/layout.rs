@@ -60,6 +60,8 @@ use crate::text::Text;
 pub struct Layout<'a> {
     pub(crate) bytes: &'a [u8],
     pub(crate) options: Options,
+    // In a block of a kilobyte, which the call fills where it stays: on the stack it was cleared, filled and moved three
+    // times, some 200 instructions a file.
     pub(crate) head: Box<raw::Head<'a>>,
     // Where the symbols and their names lie, once these were tested.
     symbol_table: OnceLock<raw::SymbolTable>,

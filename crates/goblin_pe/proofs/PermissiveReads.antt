@@ -39,7 +39,7 @@ use Rattle.goblin_pe_import.proofs.PermissiveReads.{libraries_at-repeats}
 use Rattle.goblin_pe.specs.Damages.{imports_left_out_at, left_out_of}
 use Rattle.goblin_pe.specs.Modes.{ReadsInModes, in_mode, in_permissive_mode, is_front, unless_front}
 use Rattle.goblin_pe.specs.Whole.{IfRead, TableParts, TablePlaces, WholeFile, entry_format, export_part}
-use Rattle.goblin_pe.specs.Whole.{import_data_part}
+use Rattle.goblin_pe.specs.Whole.{import_data_part, mapped_in}
 use Rattle.goblin_pe.specs.Whole.{both_import_parts, listed_imports_part, offset_by, part_at, part_map, part_of}
 use Rattle.goblin_pe.specs.Whole.{part_then, places_in, relocation_part, section_table_offset}
 use Rattle.goblin_pe.specs.Whole.{sections_after, table_parts, whole_file, whole_in, whole_of}
@@ -379,7 +379,7 @@ module _ (opts : ParseOptions) (header : PeHeader) where
   unfolding whole_with in_permissive_mode file_offset
   with_sections_repeat sections =
       let places = places_in header.optional_header in
-      let m = offset_by opts sections places in
+      let m = offset_by opts (mapped_in Sections header sections) places in
       as-mapped (whole_of header sections) (permissive_tables opts m places)
       (in_permissive_mode opts) (table_parts (in_mode Strict opts) m places)
       (table_parts (in_mode Permissive opts) m places) (repeats-table_parts opts m places)

@@ -11,12 +11,12 @@ use Rattle.goblin_base.proofs.Steps as steps
 use Rattle.readings.specs.Reads.{each, mapped}
 use Rattle.goblin_pe_sect.specs.declared.options.ParseOptions.{ParseOptions}
 use Rattle.goblin_pe_sect.specs.declared.options.View.{View}
-use Rattle.goblin_pe_sect.specs.Addresses.{AreMany, MapOfAddresses, map_by}
+use Rattle.goblin_pe_sect.specs.Addresses.{AreMany, MapOfAddresses, map_in}
 use Rattle.goblin_pe_sect.specs.Options.{is_strict}
 use Rattle.goblin_pe_sect.specs.WindowIndex.{HasPieces}
 use Rattle.goblin_pe_sect.specs.SectionReadings.{named_section_at}
-use Rattle.goblin_pe_sect.specs.SectionTable.{Section, unnamed, with_front}
-use Rattle.goblin_pe_sect.proofs.AddressMaps.{unnamed_map_with}
+use Rattle.goblin_pe_sect.specs.SectionTable.{Section, unnamed}
+use Rattle.goblin_pe_sect.proofs.AddressMaps.{unnamed_map_in}
 use Rattle.goblin_pe_head.specs.declared.header.pe_header.Header.{Header}
 use Rattle.goblin_pe_head.specs.CoffHeader.{symbols_end}
 use Rattle.goblin_pe_head.specs.CoffReadings.{sections_at, with_room}
@@ -85,20 +85,20 @@ takes_index opts h bytes records made fit pieces many =
 
 -- names change no address, whether or not the file's front is mapped
 pub mapped_by_names : (opts : ParseOptions) (front : Option ℕ) (read : Option (List Section)) (records : List Section) (alignment : ℕ) (m : MapOfAddresses)
-    → option_map (map unnamed) read ≡ Some records → m ≡ map_by opts (with_front front records) alignment
-    → (sections : List Section) → read ≡ Some sections → m ≡ map_by opts (with_front front sections) alignment
+    → option_map (map unnamed) read ≡ Some records → m ≡ map_in opts (record { sections = records; front = front }) alignment
+    → (sections : List Section) → read ≡ Some sections → m ≡ map_in opts (record { sections = sections; front = front }) alignment
 mapped_by_names opts front None records alignment m made by sections is = absurd cc
 mapped_by_names opts front (Some sections) records alignment m made by own is =
     let same : map unnamed sections ≡ records = steps.same_value (map unnamed sections) records made in
     let own_is : sections ≡ own = steps.same_value sections own is in
-    by ∙ ap (λ (xs : List Section). map_by opts (with_front front xs) alignment) (sym same) ∙ unnamed_map_with opts front sections alignment
-    ∙ ap (λ (xs : List Section). map_by opts (with_front front xs) alignment) own_is
+    by ∙ ap (λ (xs : List Section). map_in opts (record { sections = xs; front = front }) alignment) (sym same) ∙ unnamed_map_in opts front sections alignment
+    ∙ ap (λ (xs : List Section). map_in opts (record { sections = xs; front = front }) alignment) own_is
 
 -- what holds of the map, the places and the bytes of a layout holds of its file's
 pub of_file : (view : View) (opts : ParseOptions) (bytes : List ℕ) (header : Header) (l : Layout) → IsLayoutOf view opts bytes header l
     → (sections : List Section) → (sections_after (is_strict opts.parse_mode) (header_value header)).value bytes ≡ Some sections
     → (P : MapOfAddresses → TablePlaces → List ℕ → Type 0) → P (layout_map l) (layout_places l) l.bytes.now
-    → P (map_by opts (mapped_in view (header_value header) sections) (places_in header.optional_header).file_alignment) (places_in header.optional_header) bytes
+    → P (map_in opts (mapped_in view (header_value header) sections) (places_in header.optional_header).file_alignment) (places_in header.optional_header) bytes
 of_file view opts bytes header l is sections read P holds =
     subst (λ (m : MapOfAddresses). P m (places_in header.optional_header) bytes) (is.mapped sections read)
     (subst (λ (places : TablePlaces). P (layout_map l) places bytes) is.placed

@@ -19,7 +19,8 @@ use Rattle.goblin_pe_import.specs.declared.import.left_out.LeftOut.{LeftOut}
 use Rattle.goblin_pe.specs.declared.whole.damage.Damage.{Damage}
 use Rattle.goblin_pe.specs.Damages.{AreDamaged, IsDamage, IsDamaged, IsReadByBoth, IsSound, TellsDamage, left_out_of}
 use Rattle.goblin_pe.specs.Modes.{in_mode, in_permissive_mode}
-use Rattle.goblin_pe.specs.Whole.{TableParts, TablePlaces, both_import_parts, export_part, import_list, layout, offset_by}
+use Rattle.goblin_pe.specs.Whole.{TableParts, TablePlaces, both_import_parts, export_part, import_list, layout}
+use Rattle.goblin_pe.specs.Whole.{mapped_in, offset_by}
 use Rattle.goblin_pe.specs.Whole.{places_in, relocation_part, sections_after, table_parts, whole_file, whole_in}
 use Rattle.goblin_pe.specs.Whole.{whole_of, whole_with}
 use Rattle.goblin_pe.proofs.ImportParts.{list_value}
@@ -88,13 +89,13 @@ module _ (opts : ParseOptions) (bytes : List ℕ) (short : length bytes < 2 ^ 63
       (there (relocation_part (in_mode Strict opts) offset_of places) bytes relocations no_relocations damage.relocations))
 
   -- strict mode reads a file of these tables, and permissive mode the same
-  alike : (h : PeHeader) (s : List Section) (tables : Option TableParts) → (table_parts (in_mode Strict opts) (offset_by opts s (places_in h.optional_header)) (places_in h.optional_header)).value bytes ≡ tables → IsSome tables → (left_out_of opts (offset_by opts s (places_in h.optional_header)) (places_in h.optional_header) bytes).libraries ≡ 0 → (whole_file (in_mode Strict opts)).value bytes ≡ (whole_with Sections (in_mode Strict opts) h s).value bytes → IsReadByBoth Sections opts bytes
+  alike : (h : PeHeader) (s : List Section) (tables : Option TableParts) → (table_parts (in_mode Strict opts) (offset_by opts (mapped_in Sections h s) (places_in h.optional_header)) (places_in h.optional_header)).value bytes ≡ tables → IsSome tables → (left_out_of opts (offset_by opts (mapped_in Sections h s) (places_in h.optional_header)) (places_in h.optional_header) bytes).libraries ≡ 0 → (whole_file (in_mode Strict opts)).value bytes ≡ (whole_with Sections (in_mode Strict opts) h s).value bytes → IsReadByBoth Sections opts bytes
   unfolding whole_with in_permissive_mode file_offset
   alike h s None is some none whole = absurd cc
   alike h s (Some t) is some none whole =
       let places = places_in h.optional_header in
       let made : (whole_file (in_mode Strict opts)).value bytes ≡ Some (whole_of h s t) = whole ∙ ap (option_map (whole_of h s)) is in
-      let same : permissive_tables opts (offset_by opts s places) places t ≡ t = tables_same opts (offset_by opts s places) places bytes none t is in
+      let same : permissive_tables opts (offset_by opts (mapped_in Sections h s) places) places t ≡ t = tables_same opts (offset_by opts (mapped_in Sections h s) places) places bytes none t is in
       rw made ((repeats-whole_file opts).kept bytes (whole_of h s t) made ∙ ap (λ (tables : TableParts). Some (whole_of h s tables)) same)
 
   sound_read : (l : PeHeader × List Section) (d : Damage) → (layout opts).value bytes ≡ Some l → IsDamaged Sections opts l.0 l.1 bytes d → IsSound d → IsReadByBoth Sections opts bytes
@@ -108,7 +109,7 @@ module _ (opts : ParseOptions) (bytes : List ℕ) (short : length bytes < 2 ^ 63
       let header = header-strict bytes strict l.0 (subst (λ (x : PeHeader). (pe_header strict).value bytes ≡ Some x) h first.is) (there (stub_at l.0.dos_header.pe_pointer) bytes d.dos_stub sound.dos_stub damaged.dos_stub) in
       let own : (sections_after strict l.0).value bytes ≡ Some l.1 = subst (λ (x : PeHeader). (sections_after strict x).value bytes ≡ Some l.1) h (subst (λ (y : List Section). (sections_after strict first.value).value bytes ≡ Some y) s second.is) in
       let sections = same-sections bytes opts strict l.0 l.1 own _ refl (there (sections_after true l.0) bytes d.section_names sound.section_names damaged.section_names) in
-      let parts = tables-there (offset_by opts l.1 (places_in l.0.optional_header)) (places_in l.0.optional_header) d.imports d.exports d.relocations d.left_out sound.imports sound.exports sound.relocations damaged.tables in
+      let parts = tables-there (offset_by opts (mapped_in Sections l.0 l.1) (places_in l.0.optional_header)) (places_in l.0.optional_header) d.imports d.exports d.relocations d.left_out sound.imports sound.exports sound.relocations damaged.tables in
       let whole : (whole_file (in_mode Strict opts)).value bytes ≡ (whole_with Sections (in_mode Strict opts) l.0 l.1).value bytes = rw (header, sections) refl in
       let left_out = ap (λ (x : LeftOut). x.libraries) damaged.tables.left_out in
       alike l.0 l.1 _ refl parts (sym left_out ∙ sound.libraries) whole

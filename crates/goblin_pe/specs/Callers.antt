@@ -3,6 +3,7 @@ use Rattle.std.specs.Prelude.{ℕ, List, Option}
 use Rattle.goblin_base.specs.Reading.{Reading}
 use Rattle.readings.specs.Reads.{◌>>=◌}
 use Rattle.goblin_pe_sect.specs.declared.options.ParseOptions.{ParseOptions}
+use Rattle.goblin_pe_sect.specs.declared.options.View.TheVariants.{Sections}
 use Rattle.goblin_pe_sect.specs.Addresses.{offset_of}
 use Rattle.goblin_pe_sect.specs.Options.{is_strict}
 use Rattle.goblin_pe_sect.specs.SectionTable.{Section}
@@ -13,7 +14,7 @@ use Rattle.goblin_pe.specs.declared.whole.Part.TheVariants.{Absent, Refused}
 use Rattle.goblin_pe.specs.declared.whole.Part.TheVariants as part
 use Rattle.goblin_pe.specs.declared.whole.layout.Layout.{Layout}
 use Rattle.goblin_pe.specs.Layouts.{layout_map, layout_places}
-use Rattle.goblin_pe.specs.Whole.{TablePlaces, offset_by, places_in, sections_after}
+use Rattle.goblin_pe.specs.Whole.{TablePlaces, mapped_in, offset_by, places_in, sections_after}
 
 -- what reads a table, by how addresses are mapped and where the tables lie: `import_list`,
 -- `export_part` and `relocation_part` are such readers
@@ -24,7 +25,8 @@ TableReader A = ParseOptions → (ℕ → Option ℕ) → TablePlaces → Readin
 abbrev pub table_with : {A : Type 0} → TableReader A → ParseOptions → PeHeader → List Section
     → Reading A
 table_with read opts h sections =
-    let places = places_in h.optional_header in read opts (offset_by opts sections places) places
+    let places = places_in h.optional_header in
+    read opts (offset_by opts (mapped_in Sections h sections) places) places
 
 -- a table of a file by itself: of the rest of the file only the header and the sections are needed
 abbrev pub file_table : {A : Type 0} → TableReader A → ParseOptions → Reading A

@@ -6,7 +6,7 @@ use Rattle.readings.specs.Walks.{IsWalkOf}
 use Rattle.goblin_pe_sect.specs.declared.options.ParseOptions.{ParseOptions}
 use Rattle.goblin_pe_sect.specs.declared.options.View.{View}
 use Rattle.goblin_pe_head.specs.declared.header.pe_header.Header.{Header}
-use Rattle.goblin_pe_sect.specs.Addresses.{MapOfAddresses, map_by, map_of, offset_of}
+use Rattle.goblin_pe_sect.specs.Addresses.{MapOfAddresses, map_in, map_of, offset_of}
 use Rattle.goblin_pe_export.specs.declared.export.exports.Exports.{Exports}
 use Rattle.goblin_pe_export.specs.ExportReadings.{export_addresses}
 use Rattle.goblin_pe_export.specs.ExportRecords.{ExportRow, ExportTables}
@@ -57,7 +57,7 @@ pub record IsLayoutOf (view : View) (opts : ParseOptions) (bytes : List ℕ) (he
       → (sections_after (is_strict opts.parse_mode) (header_value header)).value bytes
       ≡ Some sections
       → layout_map l
-      ≡ map_by opts (mapped_in view (header_value header) sections)
+      ≡ map_in opts (mapped_in view (header_value header) sections)
       (places_in header.optional_header).file_alignment
 
 -- ---- tables as walks

@@ -18,9 +18,9 @@ use Rattle.goblin_pe_sect.specs.declared.options.View.TheVariants.{Sections}
 use Rattle.goblin_pe_sect.specs.AddressReadings.{relocation_data}
 use Rattle.goblin_pe_sect.specs.BaseRelocations.{relocation_bytes}
 use Rattle.goblin_pe_sect.specs.DataDirectories.{directory_in}
-use Rattle.goblin_pe_sect.specs.Mapping.{file_offset}
+use Rattle.goblin_pe_sect.specs.Addresses.{table_offset}
 use Rattle.goblin_pe_sect.specs.Options.{front_of, is_strict}
-use Rattle.goblin_pe_sect.specs.SectionTable.{Section, with_front}
+use Rattle.goblin_pe_sect.specs.SectionTable.{MappedSections, Section}
 use Rattle.goblin_pe_head.specs.declared.optional_header.OptionalHeader.{OptionalHeader}
 use Rattle.goblin_pe_head.specs.HeaderReadings.{pe_header}
 use Rattle.goblin_pe_head.specs.PeHeader.{PeHeader}
@@ -129,12 +129,13 @@ size_of_headers None = 0
 size_of_headers (Some h) = h.windows_fields.size_of_headers
 
 -- what addresses of a file with this header and these sections are mapped by, in a view
-abbrev pub mapped_in : View → PeHeader → List Section → List Section
-mapped_in view h sections = with_front (front_of view (size_of_headers h.optional_header)) sections
+abbrev pub mapped_in : View → PeHeader → List Section → MappedSections
+mapped_in view h sections =
+    record { sections = sections; front = front_of view (size_of_headers h.optional_header) }
 
--- the file offset of an address
-abbrev pub offset_by : ParseOptions → List Section → TablePlaces → ℕ → Option ℕ
-offset_by opts sections places = file_offset opts sections places.file_alignment
+-- the file offset of an address that a table says
+abbrev pub offset_by : ParseOptions → MappedSections → TablePlaces → ℕ → Option ℕ
+offset_by opts mapped places = table_offset opts mapped places.file_alignment
 
 -- ---- the tables
 

@@ -15,7 +15,7 @@ use Rattle.goblin_pe_sect.specs.SectionTable.{Section}
 use Rattle.goblin_pe_head.specs.HeaderReadings.{pe_header}
 use Rattle.goblin_pe_head.specs.PeHeader.{PeHeader, header_value}
 use Rattle.goblin_pe_head.specs.declared.header.pe_header.Header.{Header}
-use Rattle.goblin_pe_sect.specs.Addresses.{MapOfAddresses, map_by, offset_of}
+use Rattle.goblin_pe_sect.specs.Addresses.{MapOfAddresses, map_in, offset_of}
 use Rattle.goblin_pe.specs.declared.whole.layout.Layout.{Layout}
 use Rattle.goblin_pe.specs.Layouts.{IsLayoutOf, file_imports_left, layout_map, layout_places}
 use Rattle.goblin_pe.specs.LayoutCursors.{IsImportWalkAt, file_cursor_left}
@@ -200,7 +200,7 @@ pub layout-kept : (view : View) (opts : ParseOptions) (bytes : List ℕ) (h : He
     → IfSome ((whole_in view opts).value bytes) HasRecords
 layout-kept view opts bytes h header l s sections of some =
     let places = places_in h.optional_header in
-    let m = map_by opts (mapped_in view (header_value h) s) places.file_alignment in
+    let m = map_in opts (mapped_in view (header_value h) s) places.file_alignment in
     tables-kept view opts bytes (header_value h) header s sections
     (subst (λ (file : List ℕ). IfSome ((table_parts m.opts (offset_of m) places).value file) HasTables) of.over
     (subst (λ (at : TablePlaces). IfSome ((table_parts m.opts (offset_of m) at).value l.bytes.now) HasTables) of.placed
@@ -251,7 +251,7 @@ layout-begins view opts bytes h l s sections of begun =
       | zero ↦ λ none.
           let empty : s ≡ [] = no-sections s (λ some. omega (arith, none, counted some)) in
           inr
-          (subst (λ (s : List Section). TablesBegin (map_by opts (mapped_in view (header_value h) s) places.file_alignment) places bytes) empty
+          (subst (λ (s : List Section). TablesBegin (map_in opts (mapped_in view (header_value h) s) places.file_alignment) places bytes) empty
           (subst (λ (m : MapOfAddresses). TablesBegin m places bytes) (of.mapped s sections)
           (subst (λ (at : TablePlaces). TablesBegin (layout_map l) at bytes) of.placed
           (subst (λ (file : List ℕ). TablesBegin (layout_map l) (layout_places l) file) of.over begun))))

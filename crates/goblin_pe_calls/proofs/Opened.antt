@@ -15,7 +15,7 @@ use Rattle.goblin_pe_head.specs.HeaderReadings.{pe_header}
 use Rattle.goblin_pe_head.specs.PeHeader.{PeHeader, header_value}
 use Rattle.goblin_pe_export.specs.ExportRecords.{ExportTables}
 use Rattle.goblin_pe_export.specs.ExportWalks.{numbered_from}
-use Rattle.goblin_pe_sect.specs.Addresses.{MapOfAddresses, map_by, offset_of}
+use Rattle.goblin_pe_sect.specs.Addresses.{MapOfAddresses, map_in, offset_of}
 use Rattle.goblin_pe.specs.declared.whole.Part.{Part}
 use Rattle.goblin_pe.specs.declared.whole.Part.TheVariants.{Absent, Refused}
 use Rattle.goblin_pe.specs.declared.whole.Part.TheVariants as part
@@ -166,9 +166,9 @@ module _ (view : View) (opts : ParseOptions) (bytes : List ℕ) (h : Header)
 
   makes : (result : Result FileRecords ErrorOf)
       → MakesTables result (layout_map l) (layout_places l) l.bytes.now
-      → MakesTables result (map_by opts (mapped_in view (header_value h) s) places.file_alignment) places bytes
+      → MakesTables result (map_in opts (mapped_in view (header_value h) s) places.file_alignment) places bytes
   makes result made =
-      let m = map_by opts (mapped_in view (header_value h) s) places.file_alignment in
+      let m = map_in opts (mapped_in view (header_value h) s) places.file_alignment in
       subst (λ (file : List ℕ). MakesTables result m places file) of.over
       (subst (λ (at : TablePlaces). MakesTables result m at l.bytes.now) of.placed
       (subst (λ (m : MapOfAddresses). MakesTables result m (layout_places l) l.bytes.now) (of.mapped s sections) made))
@@ -194,7 +194,7 @@ module _ (view : View) (opts : ParseOptions) (bytes : List ℕ) (h : Header)
       → table_of w.imports ≡ table_of (file_imports view opts bytes w)
   unfolding whole_with
   imports-counted listed w is =
-      let m = map_by opts (mapped_in view (header_value h) s) places.file_alignment in
+      let m = map_in opts (mapped_in view (header_value h) s) places.file_alignment in
       let of_file : ListsTables m places bytes =
       subst (λ (file : List ℕ). ListsTables m places file) of.over
       (subst (λ (at : TablePlaces). ListsTables m at l.bytes.now) of.placed

@@ -15,7 +15,7 @@ use Rattle.goblin_pe_import.specs.ImportRecords.{ImportedLibrary}
 use Rattle.goblin_pe_import.specs.Imports.{ImportValue}
 use Rattle.goblin_pe.specs.declared.whole.Part.{Part}
 use Rattle.goblin_pe.specs.declared.whole.refused.RefusedPart.TheVariants as refused
-use Rattle.goblin_pe.specs.Addresses.{MapOfAddresses, map_by, offset_of}
+use Rattle.goblin_pe.specs.Addresses.{MapOfAddresses, map_in, offset_of}
 use Rattle.goblin_pe.specs.declared.whole.layout.Layout.{Layout}
 use Rattle.goblin_pe.specs.Layouts.{IsLayoutOf, layout_map, layout_places}
 use Rattle.goblin_pe.specs.RefusedParts.{refused_part, refused_table}
@@ -74,7 +74,7 @@ pub part-of-table : (view : View) (opts : ParseOptions) (bytes : List ℕ) (h : 
 unfolding refused_part
 part-of-table view opts bytes h header l s sections of =
     let places = places_in h.optional_header in
-    let m = map_by opts (mapped_in view (header_value h) s) places.file_alignment in
+    let m = map_in opts (mapped_in view (header_value h) s) places.file_alignment in
     ap (λ (n : MapOfAddresses). refused_table n.opts (offset_of n) (layout_places l) l.bytes.now) (of.mapped s sections)
     ∙ ap (λ (at : TablePlaces). refused_table m.opts (offset_of m) at l.bytes.now) of.placed
     ∙ ap (refused_table m.opts (offset_of m) places) of.over

@@ -3,7 +3,7 @@ use Rattle.std.specs.Prelude.{ℕ, ◌+◌, ◌<◌, ◌⊎◌, List, [], IsSome
 use Rattle.std.specs.Prelude.{IsSomeAnd, MatchOption, length}
 use Rattle.goblin_pe_sect.specs.declared.options.ParseOptions.{ParseOptions}
 use Rattle.goblin_pe_sect.specs.declared.options.View.{View}
-use Rattle.goblin_pe.specs.Addresses.{MapOfAddresses, map_by, offset_of}
+use Rattle.goblin_pe.specs.Addresses.{MapOfAddresses, map_in, offset_of}
 use Rattle.goblin_pe.specs.declared.whole.Part.{Part}
 use Rattle.goblin_pe.specs.LayoutCursors.{file_cursor_left, import_begin}
 use Rattle.goblin_pe.specs.ExportRecords.{ExportRow, ExportTables}
@@ -64,7 +64,7 @@ abbrev pub FileBegins : View → ParseOptions → List ℕ → PeHeader → Type
 FileBegins view opts bytes h =
     let places = places_in h.optional_header in
     (0 < h.coff_header.number_of_sections)
-    ⊎ TablesBegin (map_by opts (mapped_in view h []) places.file_alignment) places bytes
+    ⊎ TablesBegin (map_in opts (mapped_in view h []) places.file_alignment) places bytes
 
 -- Memory is taken for a file with this header: it has room for as many sections as that says; and
 -- if the file can be read, records of it are kept, and else something of it came before the

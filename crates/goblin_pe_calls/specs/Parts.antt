@@ -24,7 +24,8 @@ use Rattle.goblin_pe_records.specs.Headers.{optional_record}
 use Rattle.goblin_pe_records.specs.Sections.{section_said}
 use Rattle.goblin_pe_calls.specs.declared.parts.PeParts.{PeParts}
 use Rattle.goblin_pe_calls.specs.FileLayouts.{layout_as, layout_part}
-use Rattle.goblin_pe_calls.specs.Places.{places_numbers}
+use Rattle.goblin_pe_records.specs.declared.places.PePlaces.{PePlaces}
+use Rattle.goblin_pe_calls.specs.Places.{placed_sections, places_numbers}
 
 -- a part that is given, or what stands in place of a refused one
 abbrev pub given_or : {A : Type 0} → A → Result A ErrorOf → A
@@ -88,6 +89,10 @@ AreOfLayout bytes parts =
     → (sections_after strict h).value bytes ≡ Some sections
     → given_sections parts ≡ map unnamed sections
 
+-- Walks by these places are refused for no section: they lead to the records of those that are given.
+abbrev pub LeadToGiven : List ℕ → HeaderParts → PePlaces → Type 0
+LeadToGiven bytes parts places = (placed_sections places).value bytes ≡ Some (given_sections parts)
+
 -- how these options answer a read of the layout
 abbrev pub AnswersLayout : Bool → ParseOptions → List ℕ → Result Unit ErrorOf → Type 0
 AnswersLayout has_raw_names opts bytes answer =
@@ -109,6 +114,7 @@ pub record SaysParts (has_raw_names : Bool) (opts : ParseOptions) (bytes : List 
   pub are : ArePartsOf bytes parts
   pub whole : AreOfWhole bytes parts
   pub sections : AreOfLayout bytes parts
+  pub led : LeadToGiven bytes parts new.parts.places
   pub answered : ReportedOf (refused_number (layout_part opts bytes)) refusal
       (AnswersLayout has_raw_names opts bytes)
   pub made : new.parts ≡ parts_record parts refusal

@@ -3,10 +3,10 @@ use Rattle.std.specs.Prelude.{◌≡◌, ℕ, Bool, if◌then◌else◌, List, l
 use Rattle.std.specs.Prelude.{None, Some, IsSomeAnd, unwrap_or, is_some}
 use Rattle.goblin_base.specs.Reading.{Reading}
 use Rattle.goblin_pe_sect.specs.declared.data_directories.DataDirectory.{DataDirectory}
-use Rattle.goblin_pe_sect.specs.Addresses.{AreMany, MapOfAddresses, map_by}
+use Rattle.goblin_pe_sect.specs.Addresses.{AreMany, MapOfAddresses, map_in}
 use Rattle.goblin_pe_sect.specs.DataDirectories.{no_directory}
 use Rattle.goblin_pe_sect.specs.Options.{front_of}
-use Rattle.goblin_pe_sect.specs.SectionTable.{Section, with_front}
+use Rattle.goblin_pe_sect.specs.SectionTable.{Section}
 use Rattle.goblin_pe_sect.specs.WindowIndex.{HasPieces}
 use Rattle.goblin_pe.specs.HeaderParts.{sections_there}
 use Rattle.goblin_pe.specs.PeHeader.{PeHeader}
@@ -63,8 +63,8 @@ placed_sections p = sections_there p.number_of_sections p.section_table
 -- how addresses are mapped by these sections, and in the loader's view by the file's front
 abbrev pub map_at : PeOptions → PePlaces → List Section → MapOfAddresses
 map_at o p sections =
-    map_by (options_at o p.file_alignment)
-    (with_front (front_of (view_of o) p.size_of_headers) sections) p.file_alignment
+    map_in (options_at o p.file_alignment)
+    (record { sections = sections; front = front_of (view_of o) p.size_of_headers }) p.file_alignment
 
 -- memory is taken for an index: there are more than 96 sections, by whose windows addresses are
 -- mapped
@@ -82,4 +82,4 @@ pub record LeadsBack (h : PeHeader) : Type 0 where
       → IsSomeAnd ((placed_sections (places_record h)).value bytes) (λ found.
       let alignment = (places_in h.optional_header).file_alignment in
       map_at o (places_record h) found
-      ≡ map_by (options_at o alignment) (mapped_in (view_of o) h sections) alignment)
+      ≡ map_in (options_at o alignment) (mapped_in (view_of o) h sections) alignment)

@@ -26,9 +26,9 @@ pub enum PeRawPointerRule {
     ByFileAlignment = 2,
     /// The same, and the file's front is mapped, too, where the window of no section holds an
     /// address: the Windows loader maps the headers at the image's base, as many bytes as
-    /// `size_of_headers` says, in whole file blocks. Packers put names and tables there. Read an
-    /// image by the rule before it first: address 0 has an offset by this one, and so a library
-    /// whose record has no lookup table, which says 0 in its place, has one at the file's front.
+    /// `size_of_headers` says, in whole file blocks. Packers put names and tables there. Where a
+    /// table says address 0, nothing is there all the same, as a library's record says it that has
+    /// no lookup table.
     AsLoaded = 3,
 }
 

@@ -9,6 +9,13 @@ offset_in_run r rva =
     if nat_le r.first rva && nat_lt (rva - r.first) r.size then Some (r.offset + (rva - r.first))
     else None
 
+-- the run without address 0
+abbrev pub past_null : Run → Run
+past_null r =
+    if nat_lt 0 r.first then r
+    else if nat_lt 0 r.size then record { first = 1; size = r.size - 1; offset = r.offset + 1 }
+    else r
+
 -- each address of a run has the offset that the run says, and neither passes 64 bits
 pub record IsRun (offset_of : ℕ → Option ℕ) (r : Run) : Type 0 where
   pub offsets_fit : r.offset + r.size < 2 ^ 64

@@ -104,6 +104,16 @@ with_front (Some size) sections = sections ++ front_section size ∷ []
 abbrev pub mapped_sections : MappedRecords → List Section
 mapped_sections r = with_front r.front (recorded_sections r.records)
 
+-- what the addresses of a file's tables are mapped by: the sections, and how many bytes of the file's
+-- front, if they map any
+pub record MappedSections : Type 0 where
+  pub sections : List Section
+  pub front : Option ℕ
+
+-- the same of records
+abbrev pub mapped_of : MappedRecords → MappedSections
+mapped_of r = record { sections = recorded_sections r.records; front = r.front }
+
 -- such records are nothing but their bytes
 abbrev pub AreBytesAlone : Type 0
 AreBytesAlone = (r s : SectionRecords) → r.records ≡ s.records → r ≡ s

@@ -6,10 +6,11 @@ ghost use Rattle.goblin_pe_sect.specs.declared.address_map.Windows.TheVariants.{
 ghost use Rattle.goblin_pe_sect.specs.Mapping.{file_offset};
 ghost use Rattle.goblin_pe_sect.specs.Addresses.{AreMany, IsIndexed, KeepsWindowsAlone, TakesMap};
 ghost use Rattle.goblin_pe_sect.specs.Addresses.{WalksFew, reads_strictly};
-ghost use Rattle.goblin_pe_sect.specs.Addresses.{map_by, map_of, map_with, offset_of, strict_map};
+ghost use Rattle.goblin_pe_sect.specs.Addresses.{map_by, map_in, map_of, map_with, offset_of};
+ghost use Rattle.goblin_pe_sect.specs.Addresses.{strict_map};
 ghost use Rattle.std.specs.Prelude.{◌⊎◌, IfSome, Some};
 ghost use Rattle.goblin_pe_sect.specs.Runs.{IsRun, offset_in_run};
-ghost use Rattle.goblin_pe_sect.specs.SectionTable.{mapped_sections, recorded_sections};
+ghost use Rattle.goblin_pe_sect.specs.SectionTable.{mapped_of, mapped_sections, recorded_sections};
 ghost use Rattle.goblin_pe_sect.specs.WindowIndex.{HasPieces, located};
 
 use crate::options::{ParseMode, ParseOptions};
@@ -42,8 +43,8 @@ pub(crate) enum Windows<'s> {
     // The records of sections, which are few, or by which no address is looked for, with the file's
     // front where it is mapped, and the file alignment.
     Walked(MappedRecords<'s>, u32),
-    // The index of the sections' windows.
-    Indexed(WindowIndex),
+    // The index of the windows of the sections, and whether it has that of the file's front, too.
+    Indexed(WindowIndex, bool),
 }
 
 /// How addresses are mapped to file offsets, and how the bytes there are read: the options, and
@@ -94,7 +95,7 @@ impl<'s> Windows<'s> {
     // What finds the windows of many records: an index; where the options or the alignment leave
     // none to be found, the records.
     #[inline(never)]
-    #[tactic(auto, using(crate::proofs::AddressMaps::same_map))]
+    #[tactic(auto, using(crate::proofs::AddressMaps::same_map_in))]
     fn of_many<'e>(
         alloc: Global,
         records: MappedRecords<'s>,
@@ -102,7 +103,7 @@ impl<'s> Windows<'s> {
         opts: &ParseOptions,
     ) -> ResultOf<'e, Windows<'s>>
         ensures made { GivesOrMemory (map_with opts.now) result
-            (map_by opts.now (mapped_sections records.entry) file_alignment) }
+            (map_in opts.now (mapped_of records.entry) file_alignment) }
         ensures few { IfOk result (WalksFew opts.now) }
         ensures grown { IfErr result (λ e. HasPieces opts.now file_alignment) }
     {
@@ -111,7 +112,7 @@ impl<'s> Windows<'s> {
         }
         let sections = listed(alloc, records)?;
         let index = index_of(alloc, &sections, file_alignment, opts)?;
-        Ok(Windows::Indexed(index))
+        Ok(Windows::Indexed(index, records.front.is_some()))
     }
 }
 
@@ -138,13 +139,14 @@ impl<'s> AddressMap<'s> {
         let index = index_of(alloc, sections, file_alignment, opts)?;
         Ok(AddressMap {
             opts: *opts,
-            windows: Windows::Indexed(index),
+            windows: Windows::Indexed(index, false),
         })
     }
 
     /// Prepares the map by the sections of these records, and the file's front after them where it
-    /// is mapped. At most 96 sections, which is as many as Windows loads, take no memory: their
-    /// windows are walked over for each address. More are listed, and get an index, but where
+    /// is mapped; address 0 has no offset then, since tables say by it that there is nothing. At
+    /// most 96 sections, which is as many as Windows loads, take no memory: their windows are walked
+    /// over for each address. More are listed, and get an index, but where
     /// `opts` says that addresses are offsets or `file_alignment` is not a power of two.
     ///
     /// # Errors
@@ -157,7 +159,7 @@ impl<'s> AddressMap<'s> {
         opts: &ParseOptions,
     ) -> ResultOf<'e, AddressMap<'s>>
         ensures made { GivesOrMemory map_of result
-            (map_by opts.now (mapped_sections records.entry) file_alignment) }
+            (map_in opts.now (mapped_of records.entry) file_alignment) }
         ensures few { IfOk result (λ m. WalksFew m.opts m.windows) }
         ensures walked { let count = length (recorded_sections records.entry.records) in
             IfOk result (λ m. ¬ AreMany count → m.windows ≡ Walked records.entry file_alignment) }
@@ -224,7 +226,8 @@ impl<'s> AddressMap<'s> {
             Windows::Walked(records, file_alignment) => {
                 find_in_records(*records, *file_alignment, &self.opts, rva, run)
             }
-            Windows::Indexed(index) => index.find(rva),
+            Windows::Indexed(_, true) if rva == 0 => None,
+            Windows::Indexed(index, _) => index.find(rva),
         }
     }
 }

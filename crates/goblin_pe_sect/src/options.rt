@@ -42,7 +42,8 @@ pub enum View {
     /// Its sections, as goblin maps.
     Sections,
     /// Its sections and, where the window of none holds an address, the file's front: the Windows
-    /// loader maps the headers at the image's base, as many bytes as `size_of_headers` says.
+    /// loader maps the headers at the image's base, as many bytes as `size_of_headers` says. Where a
+    /// table says address 0, nothing is there all the same.
     Loader,
 }
 

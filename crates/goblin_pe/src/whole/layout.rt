@@ -10,11 +10,11 @@ ghost use Rattle.readings.specs.Reads.{mapped};
 ghost use Rattle.readings.specs.Walks.{Walks};
 ghost use Rattle.goblin_pe_sect.specs.declared.options.ParseOptions.{ParseOptions};
 ghost use Rattle.goblin_pe_sect.specs.declared.options.View.TheVariants.{Loader, Sections};
-ghost use Rattle.goblin_pe_sect.specs.Addresses.{AreMany, map_by, map_of, offset_of};
+ghost use Rattle.goblin_pe_sect.specs.Addresses.{AreMany, map_in, map_of, offset_of};
 ghost use Rattle.goblin_pe_sect.specs.Addresses.{reads_strictly, strict_map};
 ghost use Rattle.goblin_pe_sect.specs.BaseRelocations.{relocation_bytes};
 ghost use Rattle.goblin_pe_sect.specs.Options.{is_strict, rule_by_alignment};
-ghost use Rattle.goblin_pe_sect.specs.SectionTable.{mapped_sections, recorded_sections, unnamed};
+ghost use Rattle.goblin_pe_sect.specs.SectionTable.{mapped_of, recorded_sections, unnamed};
 ghost use Rattle.goblin_pe_sect.specs.WindowIndex.{HasPieces};
 ghost use Rattle.goblin_pe_head.specs.CoffHeader.{IsTooManySections};
 ghost use Rattle.goblin_pe_head.specs.PeHeader.{header_value};
@@ -257,7 +257,7 @@ impl<'a> Layout<'a> {
         opts: &ParseOptions,
     ) -> ResultOf<'e, Layout<'a>>
         ensures mapped { GivesOrMemory layout_map result
-            (map_by opts.now (mapped_sections mapped.entry) places.file_alignment) }
+            (map_in opts.now (mapped_of mapped.entry) places.file_alignment) }
         ensures over { IfOk result (λ l. layout_bytes l ≡ bytes.now) }
         ensures placed { IfOk result (λ l. layout_places l ≡ table_places places) }
         ensures recorded { IfOk result

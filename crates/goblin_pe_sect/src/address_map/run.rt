@@ -1,7 +1,7 @@
 //! Runs of addresses whose bytes lie side by side in the file.
 
 ghost use Rattle.std.specs.Prelude.{◌≡◌, ◌+◌, ◌^◌, ◌<◌};
-ghost use Rattle.goblin_pe_sect.specs.Runs.{offset_in_run};
+ghost use Rattle.goblin_pe_sect.specs.Runs.{offset_in_run, past_null};
 
 /// Addresses that follow one another as their bytes do in the file.
 #[derive(Copy, Clone, Default)]
@@ -29,5 +29,20 @@ impl Run {
             return None;
         }
         Some(self.offset + past)
+    }
+
+    /// The run without address 0.
+    pub fn past_null(self) -> Run
+        requires offsets { self.offset + self.size < 2 ^ 64 }
+        ensures { result ≡ past_null self }
+    {
+        if 0 < self.first || self.size == 0 {
+            return self;
+        }
+        Run {
+            first: 1,
+            size: self.size - 1,
+            offset: self.offset + 1,
+        }
     }
 }

@@ -1,11 +1,13 @@
-use Rattle.std.proofs.Common.{◌∙◌, ℕ, List, Option, ap, map, subst}
+use Rattle.std.proofs.Common.{◌∙◌, ℕ, List, Option, ap, map, subst, sym}
 use Rattle.goblin_pe_sect.specs.declared.data_directories.DataDirectory.{DataDirectory}
 use Rattle.goblin_pe_sect.specs.SectionTable.{Section, unnamed}
 use Rattle.goblin_pe_records.specs.declared.directory.PeDirectory.{PeDirectory}
 use Rattle.goblin_pe_records.specs.Directories.{directories_of, entry_record}
 use Rattle.goblin_pe_records.specs.Filled.{Filled, without_text}
 use Rattle.goblin_pe_records.specs.Sections.{section_said}
-use Rattle.goblin_pe_calls.proofs.Placed.{whole_given}
+use Rattle.goblin_pe_calls.specs.declared.parts.PeParts.{PeParts}
+use Rattle.goblin_pe_calls.specs.Parts.{LeadToGiven}
+use Rattle.goblin_pe_calls.proofs.Placed.{given_led, whole_given}
 use Rattle.goblin_pe_calls.proofs.parts.read.Goals as goal
 
 pub returns : goal.returns
@@ -18,6 +20,7 @@ returns c =
       are = c.read-read.ensures.parts;
       whole = c.read-read.ensures.whole;
       sections = whole_given c.args.bytes.now parts c.read-read.ensures.parts;
+      led = subst (λ (p : PeParts). LeadToGiven c.args.bytes.now parts p.places) (sym c.parts_record.ensures) (given_led c.args.bytes.now parts c.read-read.ensures.parts);
       answered = c.test_layout-refusal.ensures;
       made = c.parts_record.ensures;
       listed = subst (λ (xs : List (Option (ℕ × DataDirectory))). Filled (λ (d : PeDirectory). d) (map entry_record xs) c.args.directories.now c.fill_directories.new.records) entries c.fill_directories.ensures;
