@@ -648,7 +648,8 @@ class Package(Case):
         """In the midst of a call that takes much longer."""
         image = self.written("hostile.dll", images.shared_image(libraries=60000, functions=50000))
         with subprocess.Popen(with_memory(8000000, [*LISTS, "--json", image]), stdout=subprocess.PIPE, stderr=subprocess.PIPE, env=self.env) as it:
-            self.assertRaises(subprocess.TimeoutExpired, it.wait, 1)
+            while int(pathlib.Path(f"/proc/{it.pid}/statm").read_text("ascii").split()[1]) < 1 << 16:  # (pages, which the call takes alone)
+                self.assertRaises(subprocess.TimeoutExpired, it.wait, 0.1)
             it.send_signal(signal.SIGINT)
             self.assertEqual((it.wait(1), *it.communicate()), (-signal.SIGINT, b"", b""))
 
