@@ -1,15 +1,16 @@
 #!/usr/bin/env python3
 """Reads images by the module goblin_pe and by pefile, and compares what both see: beside_pefile.py FILE.. Addresses are mapped
-as the Windows loader does, headers too, nearly as pefile maps them. Of each file it compares the headers' numbers, the sections, the imports with their
-hints and slots, the exports with their forwarders, also those without a name, and three things that analysts compare: the hashes
-of the imports and of the Rich header, and where an overlay begins. A file that either refuses has to be refused by the other.
+as the Windows loader does, the headers too, nearly as pefile maps them. Of each file it compares the headers' numbers, the
+sections, the imports with their hints and slots, and by the names of ordinals where pefile knows these, the exports with their
+forwarders, also those without a name, and three things that analysts compare: the hashes of the imports and of the Rich header,
+and where an overlay begins. A file that either refuses has to be refused by the other.
 
 pefile lists a last block of base relocations of 8 bytes, without words, which the library refuses. Its overlay begins after the
 last section that the file has whole; in the recipes of the examples the rest of a section that the file's end cuts is none.
 
 It shows each difference. The last line says how many files are alike; the status is 1 where one is not. By pefile 2023.2.7
-1,315 were of 1,322 images in Debian's packages of Wine, Mono, NSIS, GRUB, ClamAV's tests and others. Six differ by the names that
-pefile gives ordinals, and of one, packed by Upack, it reads no imports."""
+1,321 were of 1,322 images in Debian's packages of Wine, Mono, NSIS, GRUB, ClamAV's tests and others: of one that Upack packed it
+reads no imports."""
 import collections
 import hashlib
 import sys
@@ -17,7 +18,7 @@ from typing import Any, Dict, Optional, Tuple, Union
 
 import pefile
 
-from goblin_pe import Options, Pe, RawPointerRule, Refused
+from goblin_pe import Options, Pe, RawPointerRule, Refused, ordinal_name
 
 # How many rows pefile reads before it gives up, if it is not told otherwise: 8,192.
 MOST = pefile.MAX_IMPORT_SYMBOLS = 1 << 32
@@ -51,7 +52,7 @@ def ours(data: bytes) -> Optional[Dict[str, Any]]:
     return {
         "header": (pe.coff_header.machine, pe.coff_header.time_date_stamp, pe.coff_header.characteristics, pe.entry, pe.image_base),
         "sections": [(*s[1:-1], s.raw_name) for s in pe.sections],
-        "imports": [(x.dll, x.name, x.ordinal, x.slot_rva) for x in pe.imports],
+        "imports": [(x.dll, ordinal_name(x.dll, x.ordinal) if x.name is None else x.name, x.ordinal, x.slot_rva) for x in pe.imports],
         "exports": collections.Counter([(x.ordinal, x.rva, x.name, forwarded(x.forwarder)) for x in pe.exports]
                                        + [(x.ordinal, x.rva, None, forwarded(x.forwarder)) for x in nameless]),
         "imphash": pe.imphash(), "rich_hash": rich and rich_hash(data[rich.start_offset: rich.end_offset], rich.key),

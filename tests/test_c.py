@@ -149,16 +149,32 @@ int main(int argc, char **argv)
         source = self.written("readme.c", README % program.encode())
         succeed([CC, "-std=c11", *FLAGS, *STRICT, "-I", library(), "-c", "-o", self.folder / "readme.o", source])
 
-    def test_the_program_of_its_own_readme(self):
+    def program_of_its_own_readme(self, *flags):
+        """That program, which reads some.dll."""
         program, = re.findall(r"(?s)```c\n(.*?)```", (CALLERS / "c/README.md").read_text("utf-8"))
-        self.written("some.dll", BY_NAME.read_bytes())
         source, made = self.written("readme.c", program.encode()), self.folder / "readme"
-        succeed([CC, "-std=c11", *FLAGS, *STRICT, "-I", library(), "-o", made, source, library() / "libgoblin_pe.a"])
+        succeed([CC, *(flags or ["-std=c11"]), *FLAGS, *STRICT, "-I", library(), "-o", made, source, library() / "libgoblin_pe.a"])
+        return made
+
+    def test_the_program_of_its_own_readme(self):
+        made = self.program_of_its_own_readme()
+        self.written("some.dll", BY_NAME.read_bytes())
         self.assertEqual(succeed([made], cwd=self.folder), "GetTickCount from KERNEL32.dll\n")
         self.written("some.dll", BY_NAME.read_bytes().replace(b"GetTickCount", b"Get\x1b[2J\\\xc3\xa9nt"))
         self.assertEqual(succeed([made], cwd=self.folder), "Get\\x1b[2J\\x5c\\xc3\\xa9nt from KERNEL32.dll\n")
         self.written("some.dll", large())
         self.assertEqual(succeed([made], cwd=self.folder), "Apple from fruit.dll\n")
+
+    def test_the_program_of_its_own_readme_on_hostile_files(self):
+        """With sanitizers, which say nothing. What it prints of a name is printable ASCII."""
+        need_flags(*SANITIZED)
+        made, env = self.program_of_its_own_readme(*SANITIZED), {**os.environ, "ASAN_OPTIONS": "exitcode=99", "UBSAN_OPTIONS": "exitcode=99"}
+        for index, data in enumerate(hostile.files(hostile.FEW)):
+            self.written("some.dll", data)
+            status, out, said = run([made], env=env, cwd=self.folder)
+            with self.subTest(index=index):
+                self.assertIn(status, (0, 1), said)
+                self.assertRegex(out, rb"\A[ -~\n]*\Z")
 
     def test_no_example_cuts_a_file(self):
         """Of more than 16 MiB, whose imports stand at its end."""
@@ -454,6 +470,18 @@ class Patch(Case):
                          (1, b"", b"the section table stands where the optional header would go on\n"))
         self.assertFalse(to.exists())
 
+    def test_a_section_whose_name_is_a_number_of_the_header_has_no_other_one(self):
+        """The first record begins where two numbers of the optional header are, of which the second counts its directories."""
+        image, to = images.with_small_header(BY_NAME.read_bytes(), 104), self.folder / "patched.dll"
+        table = int.from_bytes(image[0x3C:0x40], "little") + 24 + 104
+        image = self.written("small.dll", images.with_parts(image, (table, b".tx".ljust(8, b"\0"))))
+        self.assert_runs([built("patch"), image, "7", ".tx", ".tx", to], (0, b"0x7 .tx\n", b""))
+        to.unlink()
+        for name in ".ty", ".text":
+            self.assert_runs([built("patch"), image, "7", ".tx", name, to],
+                             (1, b"", b"the section table stands where the optional header would go on\n"))
+        self.assertFalse(to.exists())
+
     def test_a_name_that_is_too_long(self):
         wanted = (1, b"", b"refused: ")
         status, out, said = run([built("patch"), BY_NAME, "0", ".text", "ninebytes", self.folder / "not.dll"])
@@ -516,16 +544,17 @@ class Reuse(Case):
         self.assertEqual((status, said[:9]), (1, b"refused: "))
 
     def test_hostile_files_with_sanitizers(self):
-        """Of each example: it ends with a status of its own, and the sanitizers say nothing."""
+        """Of each example: it ends with a status of its own, what it says is printable ASCII, and the sanitizers say nothing."""
         need_flags(*SANITIZED)
         to, env = self.folder / "patched.dll", {**os.environ, "ASAN_OPTIONS": "exitcode=99", "UBSAN_OPTIONS": "exitcode=99"}
-        for index, data in enumerate(itertools.islice(hostile.files(), 60)):
+        for index, data in enumerate(hostile.files(hostile.FEW)):
             file = self.written(f"{index}.bin", data)
             for name, *words in (("list", file), ("list", "--permissive", file), ("list", "--symbols", file), ("list", "--te", file),
                                  ("walk", "1000", file), ("damage", file), ("loader", file), ("patch", file, "7", ".text", ".code", to)):
                 with self.subTest(name=name, index=index):
-                    status, _, said = run([built(name, *SANITIZED), *words], env=env)
+                    status, out, said = run([built(name, *SANITIZED), *words], env=env)
                     self.assertIn(status, (0, 1), said)
+                    self.assertRegex(out + said, rb"\A[ -~\n]*\Z")
 
     def test_under_valgrind(self):
         need("valgrind")

@@ -1,7 +1,9 @@
 """The package for callers in Python."""
+import concurrent.futures
 import contextlib
 import importlib.util
 import io
+import itertools
 import json
 import os
 import pathlib
@@ -164,6 +166,22 @@ def many_blocks(count, size):
     return headers + data + bytes(-len(data) % 0x200)
 
 
+def pythons():
+    """Of the Pythons that the machine has, by their versions: the oldest that the package is for, one in the middle, and the
+    newest; but for the one that runs this."""
+    oldest = int(re.search(r'requires-python = ">=3\.(\d+)"', (CALLERS / "python/pyproject.toml").read_text("utf-8"))[1])
+    of_pyenv = pathlib.Path.home().glob(".pyenv/versions/*/bin/python3")
+    on_path = (it for folder in os.get_exec_path() for it in pathlib.Path(folder).glob("python3.*") if it.suffix[1:].isdigit())
+    found = {}
+    for python in (*of_pyenv, *on_path):
+        status, version, _ = run([python, "-c", "import ctypes, sys; print(sys.version_info[1])"])
+        if not status and int(version) >= oldest:
+            found.setdefault(int(version), python)
+    versions = sorted({*found, sys.version_info[1]})
+    chosen = {versions[0], versions[len(versions) // 2], versions[-1]} - {sys.version_info[1]}
+    return {"3.%d" % it: found[it] for it in sorted(chosen)}
+
+
 def triaged_by_pefile(pefile, data):
     """What pefile tells of an image, by the names of the example."""
     pe = pefile.PE(data=bytes(data))
@@ -223,7 +241,9 @@ class Triage(Case):
         found = importlib.util.find_spec("pefile")
         if not found:
             self.skipTest("no pefile")
-        files = [self.written(name, data) for name, data in triaged_images().items()]
+        by_ordinal = (SAMPLES / "imports_by_ordinal_x64.dll").read_bytes().replace(b"KERNEL32.dll", b"WS2_32.dll\0\0")
+        named = by_ordinal.replace((1 << 63 | 901).to_bytes(8, "little"), (1 << 63 | 115).to_bytes(8, "little"))
+        files = [self.written(name, data) for name, data in {**triaged_images(), "named.dll": named}.items()]
         env = {**self.env, "PYTHONPATH": f"{CALLERS / 'python'}:{os.path.dirname(found.origin)}"}
         told = succeed([sys.executable, CALLERS / "beside_pefile.py", *files], env=env)
         self.assertEqual(told, f"{len(files)} of {len(files)} files are alike\n")
@@ -259,6 +279,11 @@ class Triage(Case):
         self.assertEqual((sum(found["hostile.dll"]["libraries"].values()), found["hostile.dll"]["imphash"]), (100000, None))
         self.assertEqual(found["names.dll"]["exports"], 100000)
         self.assertEqual([found[it]["cut_off"] for it in ("hostile.dll", "names.dll", "unmapped.dll")], [["imports"], ["exports"], []])
+
+    def test_hostile_files(self):
+        """Each has a line."""
+        names = [self.written("%03d.bin" % index, data).name for index, data in enumerate(hostile.files())]
+        self.assertEqual(list(self.triaged()), names)
 
     def test_dead_entries_stop_at_the_steps(self):
         """A walk over all of them, and over what is left out of the imports, takes a minute and more."""
@@ -388,14 +413,15 @@ class Package(Case):
 
     def test_what_is_not_changed_is_written_as_it_was(self):
         """Also where the section table stands over the optional header, or the headers in the DOS header, unless that is refused."""
-        written = 0
+        written, readers = [], [getattr(package(), name) for name in ("Pe", "Layout", "Parts")]
         for data in (*hostile.files(), *(bytes(images.with_small_header(BY_NAME.read_bytes(), it)) for it in range(0, 248, 8))):
-            for is_permissive in False, True:
+            for read, is_permissive in itertools.product(readers, (False, True)):
                 with contextlib.suppress(ValueError):
-                    pe = package().Pe(data, package().Options(is_permissive=is_permissive, parse_imports=False))
-                    self.assertEqual(pe.write(sections=pe.sections), data)
-                    written += 1
-        self.assertGreater(written, 100)
+                    file = read(data, package().Options(is_permissive=is_permissive, parse_imports=False))
+                    self.assertEqual(file.write(sections=file.sections), data)
+                    written.append(read)
+        for read in readers:
+            self.assertGreater(written.count(read), 100)
 
     def test_a_folder_is_triaged(self):
         names = {"damaged.dll": "," + HASHES[BY_NAME.name] + ",exports", "refused.dll": ",the DOS header leads to 0x5a4d in place of the PE signature"}
@@ -491,11 +517,55 @@ class Package(Case):
         self.written("some.dll", data)
         return succeed([sys.executable, "-c", "\n".join(programs)], env=self.env, cwd=self.folder).splitlines()
 
+    def test_the_programs_of_the_readmes_on_hostile_files(self):
+        """They go on from one another, where the first one does not refuse the file."""
+        for readme in TOP / "README.md", CALLERS / "python/README.md":
+            first, *others = re.findall(r"(?s)```python\n(.*?)```", readme.read_text("utf-8"))
+            for index, data in enumerate(hostile.files()):
+                names = {"open": lambda path, mode: io.BytesIO(data)}
+                with self.subTest(readme=str(readme), index=index), contextlib.redirect_stdout(io.StringIO()):
+                    with contextlib.suppress(package().Refused):
+                        exec(first, names)
+                    for program in others if "pe" in names else ():
+                        exec(program, names)
+
+    def test_hostile_files_as_json(self):
+        """Each has a line, and nothing else is said."""
+        files = [self.written("%03d.bin" % index, data) for index, data in enumerate(hostile.files())]
+        for words in [], ["--permissive", "--symbols"], ["--no-imports", "--raw-pointers", "rounded"]:
+            _, out, said = run([*LISTS, "--json", *words, *files], env=self.env)
+            self.assertEqual(([json.loads(it)["file"] for it in out.splitlines()], said), (list(map(str, files)), b""))
+
+    def test_hostile_files_are_listed(self):
+        """Or refused, in printable ASCII."""
+        package()
+        program = importlib.import_module("goblin_pe.__main__")
+        for index, data in enumerate(hostile.files()):
+            file = str(self.written("hostile.bin", data))
+            for words in [], ["--permissive"], ["--symbols"], ["--te"]:
+                with contextlib.redirect_stdout(io.StringIO()) as out, contextlib.redirect_stderr(out):
+                    status = program.main([*words, file])
+                with self.subTest(index=index, words=words):
+                    self.assertIn(status, (0, 1))
+                    self.assertRegex(out.getvalue(), r"\A[ -~\n]*\Z")
+
     def test_fields_of_headers(self):
         succeed([*PYTHON, CALLERS / "python/fields.py", *IMAGES], env=self.env)
 
     def test_its_own_tests(self):
         succeed([*PYTHON, "-m", "unittest", "-q", "test_goblin_pe"], env=self.env)
+
+    def test_its_own_tests_on_other_pythons(self):
+        others = pythons()
+        if not others:
+            self.skipTest("the machine has no Python for the package but the one that runs this")
+        with concurrent.futures.ThreadPoolExecutor() as threads:
+            words = ["-X", "dev", "-m", "unittest", "-q", "test_goblin_pe", "test_idioms"]
+            tasks = {version: threads.submit(run, [python, *words], env=self.env, cwd=CALLERS / "python") for version, python in others.items()}
+        for version, task in tasks.items():
+            with self.subTest(version):
+                status, _, said = task.result()
+                self.assertEqual(status, 0, said.decode())
 
     def test_fifteen_idioms_of_a_newcomer(self):
         status, _, said = run([*PYTHON, "-m", "unittest", "-q", "test_idioms"], env=self.env, cwd=CALLERS / "python")
@@ -578,7 +648,8 @@ class Package(Case):
         """In the midst of a call that takes much longer."""
         image = self.written("hostile.dll", images.shared_image(libraries=60000, functions=50000))
         with subprocess.Popen(with_memory(8000000, [*LISTS, "--json", image]), stdout=subprocess.PIPE, stderr=subprocess.PIPE, env=self.env) as it:
-            self.assertRaises(subprocess.TimeoutExpired, it.wait, 1)
+            while int(pathlib.Path(f"/proc/{it.pid}/statm").read_text("ascii").split()[1]) < 1 << 16:  # (pages, which the call takes alone)
+                self.assertRaises(subprocess.TimeoutExpired, it.wait, 0.1)
             it.send_signal(signal.SIGINT)
             self.assertEqual((it.wait(1), *it.communicate()), (-signal.SIGINT, b"", b""))
 

@@ -65,6 +65,16 @@ def documented_examples():
     return found
 
 
+def programs_of(readme, count):
+    """The first programs of a README, which go on from one another."""
+    return "".join(re.findall(r"(?s)```rust\n(.*?)```", readme.read_text("utf-8"))[:count])
+
+
+def readmes():
+    """Those of the repository, whose second program is in Rattle, and of the crate, by their places."""
+    return {str(it.relative_to(TOP)): programs_of(it, count) for it, count in ((TOP / "README.md", 1), (CALLERS / "rust/README.md", 3))}
+
+
 def cargo(verb, *words, **more):
     """Calls cargo in the crate."""
     env = environment(GOBLIN_PE_LIB=str(library()), GOBLIN_PE_SAMPLES=str(SAMPLES), CARGO_TARGET_DIR=str(folder() / "target"), **more)
@@ -139,17 +149,14 @@ class Crate(Case):
                                  (wanted[name]["rich_hash"], b"" if begin is None else data[begin:]))
 
     def test_the_programs_of_the_readmes(self):
-        """That of the repository has the crate's program, and one in Rattle."""
         user, env = self.folder / "user", environment(GOBLIN_PE_LIB=str(library()), CARGO_TARGET_DIR=str(folder() / "target"))
         succeed(["cargo", "new", "-q", "--vcs", "none", user])
         succeed(["cargo", "add", "-q", "--offline", "--manifest-path", user / "Cargo.toml", "--path", CALLERS / "rust"], env=env)
         image = self.written("some.dll", BY_NAME.read_bytes())
         first = "GetTickCount from KERNEL32.dll\n"
-        for readme, count, wanted in ((TOP / "README.md", 1, first),
-                                      (CALLERS / "rust/README.md", 3, first + "COFF_MACHINE_X86_64, 64 bits, library: true\n")):
+        for (readme, programs), wanted in zip(readmes().items(), (first, first + "COFF_MACHINE_X86_64, 64 bits, library: true\n"), strict=True):
             with self.subTest(readme=readme):
-                programs = re.findall(r"(?s)```rust\n(.*?)```", readme.read_text("utf-8"))[:count]
-                (user / "src/main.rs").write_text(README % "".join(programs), "utf-8")
+                (user / "src/main.rs").write_text(README % programs, "utf-8")
                 command = ["cargo", "run", "-q", "--offline", "--manifest-path", user / "Cargo.toml", image.name]
                 self.assertEqual(succeed(command, env=env, cwd=self.folder), wanted)
 
@@ -165,9 +172,11 @@ class Crate(Case):
         self.assertIn("test result: ok. 15 passed", told)
 
     def test_no_example_panics_on_a_hostile_file(self):
-        """Those that are not run as they are documented, in a build that tests sums for overflows."""
+        """Those that are not run as they are documented, and the programs of the READMEs, in a build that tests sums for overflows."""
         examples = documented_examples()
         self.assertGreater(len(examples), 100)
+        for name, programs in readmes().items():
+            examples[name] = "let bytes = crate::read()?;\n" + re.sub(r'std::fs::read\("[^"]*"\)', "crate::read()", programs)
         user, env = self.folder / "user", environment(GOBLIN_PE_LIB=str(library()), CARGO_TARGET_DIR=str(folder() / "target"))
         succeed(["cargo", "new", "-q", "--vcs", "none", "--name", "hostile", user])
         succeed(["cargo", "add", "-q", "--offline", "--manifest-path", user / "Cargo.toml", "--path", CALLERS / "rust"], env=env)
@@ -180,7 +189,7 @@ class Crate(Case):
         self.assertEqual((said.returncode, re.findall(r"(?m)^.* panics on .*$", said.stderr)), (0, []), said.stderr[-2000:])
 
     def test_no_program_panics_on_a_hostile_file(self):
-        files = [self.written(f"{index}.bin", data) for index, data in enumerate(itertools.islice(hostile.files(), 60))]
+        files = [self.written(f"{index}.bin", data) for index, data in enumerate(hostile.files(hostile.FEW))]
         self.assertEqual(run([example("scan"), *files])[::2], (0, b""))
         for file, words in itertools.product(files, (["list"], ["list", "--permissive"], ["list", "--symbols"], ["list", "--te"], ["fingerprint"],
                                                      ["fingerprint", "--imports"], ["fingerprint", "--rich"], ["fingerprint", "--overlay"])):

@@ -5,7 +5,7 @@ import struct
 import unittest
 
 from tests import images
-from tests.programs import CC, need, options, package, refusal, told
+from tests.programs import BY_NAME, CC, need, options, package, refusal, told
 
 # The parts of a small file with a Rich header, by their offsets: one entry under the key 1, before a signature.
 SMALL = [(0, b"MZ"), (0x3C, b"\x60"), (0x40, b"\x45\x61\x6E\x53\x01\0\0\0\x01\0\0\0\x01\0\0\0"),
@@ -317,6 +317,19 @@ class Tables(unittest.TestCase):
         self.assertEqual([(it.index, it.name) for it in found.symbols], [(0, None), (1, b"last"), (2, b"short")])
         for cut, wanted in ((1, ("MALFORMED", "STRING_TABLE", 20 + 54 + 4, 10)), (14, ("READ", "BAD_OFFSET", 0, 0))):
             self.assertEqual(refusal(package().ObjectFile, file[:-cut], None, False), wanted)
+
+    def test_an_image_has_symbols_and_texts_as_an_object_has(self):
+        """Also where a name is no text."""
+        data, strings = BY_NAME.read_bytes(), b"\x0E\0\0\0d\xE9j\xE0\0last\0"
+        records = symbol_record(struct.pack("<II", 0, 4)) + symbol_record(struct.pack("<II", 0, 9))
+        file = images.with_parts(data + records + strings, (data.index(b"PE\0\0") + 12, struct.pack("<II", len(data), 2)))
+        for read in package().Layout, package().Parts, package().Pe:
+            image = read(file)
+            for call in (lambda: image.symbols), image.walk_symbols, lambda: image.symbol_at(1):
+                self.assertEqual(refusal(call), ("READ", "BAD_INPUT", 0, 0))
+            self.assertEqual([it.name for it in image.walk_symbols(tests_texts=False)], [None, b"last"])
+            self.assertEqual((image.symbol_at(1, tests_texts=False).name, image.string_at(9), image.string_at(4)), (b"last", b"last", None))
+            self.assertEqual((image.string_table_size, read(data).string_table_size), (14, 0))
 
     def test_a_table_that_is_not_in_the_file_has_no_symbols(self):
         calls, records = package()._library.LIB, package().records

@@ -258,10 +258,12 @@ static bool goes_by_places(const struct goblin_pe_places *own)
            is_ok(goblin_pe_read_export_directory(bytes, length, NULL, &places, &directory)) && !directory.is_read;
 }
 
-/* Whether an image that was opened has its checksum where its header says, and its front is refused for its header. */
+/* Whether an image that was opened has its checksum where its header says, as in one for 32 bits, too, and its front is
+   refused for its header. */
 static bool has_checksum(const struct goblin_pe_file *file)
 {
-    size_t field = file->dos_header.pe_pointer + (size_t)88;
+    size_t field = file->dos_header.pe_pointer + (size_t)GOBLIN_PE_SIZEOF_PE_MAGIC + GOBLIN_PE_SIZEOF_COFF_HEADER +
+                   GOBLIN_PE_SIZEOF_STANDARD_FIELDS_64 + GOBLIN_PE_OFFSET_WINDOWS_FIELDS_64_CHECKSUM;
     uint32_t sum = 7;
     struct goblin_pe_layout layout;
     return goblin_pe_read_layout(bytes, 2, NULL, &layout, NULL, 0, NULL, 0).part == GOBLIN_PE_REFUSED_PART_HEADER &&

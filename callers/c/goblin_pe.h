@@ -488,7 +488,8 @@ static inline bool goblin_pe_read_aux_section_definition(
 
 /* The name of a source file, up to its padding, in the auxiliary records of a symbol of class
    IMAGE_SYM_CLASS_FILE, up to a NUL or the end of the records; false, and nothing changed, where there is
-   none, or it is not UTF-8. */
+   none, or it is not UTF-8. It is empty where the records begin with four zeros: then the name stands in the string
+   table, at the offset in the four bytes after them, where goblin_pe_string_at reads it. */
 static inline bool goblin_pe_read_aux_file(struct goblin_pe_text auxiliary, struct goblin_pe_text *name)
 {
     return goblin_pe_raw_read_aux_file(
@@ -719,7 +720,7 @@ static inline bool goblin_pe_available_section_data(
 /* The checksum of an image, whose field, check_sum of the optional header, stands at the file offset `field`: 88
    bytes after pe_pointer. It is the sum of the little-endian words of two bytes, in 16 bits and with each carry
    added, and the length, in 32 bits; the bytes of the field count as zeros. After a change of an image
-   whose checksum Windows tests, such as a driver, write it anew. */
+   whose checksum Windows tests, such as a driver, write it anew. goblin_pe_file_checksum finds the field by itself. */
 static inline uint32_t goblin_pe_checksum(const uint8_t *bytes, size_t length, size_t field)
 {
     return goblin_pe_raw_checksum(GOBLIN_PE_BYTES(bytes, length), length, field);
@@ -747,11 +748,12 @@ static inline size_t goblin_pe_section_table(const struct goblin_pe_file *file)
    unless file->directories is 0. Where strict mode read them, these are the bytes of the file up to the last
    of its directories, and zeros for those that it lacks of sixteen. In the file the section table may stand
    where these zeros are. So write elsewhere, and copy at most the bytes before goblin_pe_section_table into the
-   file, as patch.c does. The signature follows the stub, whatever pe_pointer says: where permissive mode replaced
-   the stub, the headers after it do not stand at their places. The stub may not lie in `out`. A call without any room
-   writes no byte, and says how many are needed. Refused are a magic that is neither of the two, a field that does not
-   fit an optional header for 32 bits, and too little room: a part of a header is none. Nothing is written then,
-   `written` neither. */
+   file, as patch.c does. No file is looked at: who changes number_of_rva_and_sizes or number_of_sections has to test
+   that the directories end before the section table, and the sections before all data. The signature follows the
+   stub, whatever pe_pointer says: where permissive mode replaced the stub, the headers after it do not stand at their
+   places. The stub may not lie in `out`. A call without any room writes no byte, and says how many are needed. Refused
+   are a magic that is neither of the two, a field that does not fit an optional header for 32 bits, and too little
+   room: a part of a header is none. Nothing is written then, `written` neither. */
 static inline struct goblin_pe_fault goblin_pe_write_header(
     const struct goblin_pe_file *file, const struct goblin_pe_directory *directories, size_t directory_count,
     struct goblin_pe_text stub, uint8_t *out, size_t room, size_t *written)

@@ -1153,7 +1153,8 @@ struct goblin_pe_parts {
     size_t sections;
     /* How many more the COFF header says. */
     size_t missing_sections;
-    /* Where the sections that are there and the tables lie, for walks over these. */
+    /* Where the sections that are there and the tables lie, for walks over these, which are refused
+       for no section then. */
     struct goblin_pe_places places;
     /* The DOS header, zeros where it is refused. */
     struct goblin_pe_dos_header dos_header;

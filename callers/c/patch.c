@@ -14,7 +14,7 @@ struct image {
     uint8_t *bytes;
     size_t length;
     struct goblin_pe_file file;
-    struct goblin_pe_directory directories[16];
+    struct goblin_pe_directory directories[GOBLIN_PE_NUM_DATA_DIRECTORIES];
     struct goblin_pe_tables tables;
 };
 
@@ -54,7 +54,8 @@ static bool fails(const char *why)
 
 static bool open_image(struct image *image)
 {
-    return is_ok(goblin_pe_open(image->bytes, image->length, NULL, &image->file, image->directories, 16, &image->tables));
+    return is_ok(goblin_pe_open(
+        image->bytes, image->length, NULL, &image->file, image->directories, GOBLIN_PE_NUM_DATA_DIRECTORIES, &image->tables));
 }
 
 /* The index of the section with these eight bytes of name, or how many there are. */
@@ -66,13 +67,14 @@ static size_t section_named(const struct goblin_pe_tables *tables, const char *n
     return i;
 }
 
-/* Puts the header into the file, up to the section table; what it has from there on has to stand there already. Of its
-   sixteen directories those past the file's own are zeros, for which the file has no place. */
+/* Puts the header into the file, up to the section table; what it has from there on has to stand there already, also where
+   a section was changed. Of its sixteen directories those past the file's own are zeros, for which the file has no place. */
 static bool put_header(struct image *image, const uint8_t *header, size_t size)
 {
     size_t table = goblin_pe_section_table(&image->file);
+    size_t count = image->file.optional_header.windows_fields.number_of_rva_and_sizes;
     if (image->file.directories)
-        size -= 8 * (16 - (size_t)image->file.optional_header.windows_fields.number_of_rva_and_sizes);
+        size -= GOBLIN_PE_SIZEOF_DATA_DIRECTORY * (GOBLIN_PE_NUM_DATA_DIRECTORIES - count);
     if (size > table && memcmp(image->bytes + table, header + table, size - table) != 0)
         return fails("the section table stands where the optional header would go on");
     memcpy(image->bytes, header, size < table ? size : table);
@@ -100,20 +102,19 @@ static bool write_header(struct image *image)
 /* Changes what was opened, and writes it into the file; where that has a checksum, with the new one. */
 static bool change(struct image *image, size_t index, char **words)
 {
-    size_t place = goblin_pe_section_table(&image->file) + 40 * index, written;
+    size_t place = goblin_pe_section_table(&image->file) + GOBLIN_PE_SIZEOF_SECTION_TABLE * index, written;
     struct goblin_pe_windows_fields *fields = &image->file.optional_header.windows_fields;
     struct goblin_pe_section section = image->tables.sections[index];
     image->file.coff_header.time_date_stamp = (uint32_t)strtoul(words[0], NULL, 0);
     if (!goblin_pe_set_name(&section, words[2], strlen(words[2])))
         return fails("refused: a name of a section has at most eight bytes");
-    if (!write_header(image) ||
-        !is_ok(goblin_pe_write_section(&section, image->bytes + place, image->length - place, &written)))
+    if (!is_ok(goblin_pe_write_section(&section, image->bytes + place, image->length - place, &written)) ||
+        !write_header(image))
         return false;
     if (!image->file.directories || !fields->check_sum)
         return true;
-    fields->check_sum =
-        goblin_pe_checksum(image->bytes, image->length, image->file.dos_header.pe_pointer + (size_t)88);
-    return write_header(image);
+    return goblin_pe_file_checksum(image->bytes, image->length, NULL, &fields->check_sum) ? write_header(image)
+                                                                                         : fails("there is no checksum");
 }
 
 /* Changes the section of this name, if there is one, and tells what the changed image then says. */

@@ -24,7 +24,8 @@ import unittest.mock
 
 import goblin_pe
 from goblin_pe import (AuxBeginAndEndFunction, AuxFunctionDefinition, AuxSectionDefinition, AuxWeakExternal, Cause, DataDirectory,
-                       DirectoryType, ExportAddress, Kind, Layout, ObjectFile, Options, Pe, RawPointerRule, ReadFault, Refused, State, Status, Te, kind)
+                       DirectoryType, ExportAddress, Kind, Layout, ObjectFile, Options, Parts, Pe, RawPointerRule, ReadFault, Refused, Relocation,
+                       State, Status, Te, kind)
 from goblin_pe.records import Text
 from goblin_pe.rows import Rows
 
@@ -959,6 +960,56 @@ class Files(unittest.TestCase):
         header = pe.optional_header._replace(windows_fields=fields._replace(loader_flags=7))
         self.assertRaises(ValueError, pe.write, optional_header=header)
 
+    def test_directories_that_have_no_place_in_the_optional_header_are_not_counted(self):
+        """Of 192 bytes, in which ten have a place, and of 112 bytes, in which none has, though zeros follow, and no sections."""
+        data, table = self.with_small_header(192, 2)
+        bare, none = bytearray(data), data.index(b"PE\0\0")
+        for place, width, number in ((6, 2, 0), (20, 2, 112), (24 + 108, 4, 0), (24 + 112, 128, 0)):
+            bare[none + place: none + place + width] = number.to_bytes(width, "little")
+        for file, most in (data, 10), (bytes(bare), 0):
+            pe = Layout(file, Options(is_permissive=True))
+            fields = pe.optional_header.windows_fields
+            header = lambda count: pe.optional_header._replace(windows_fields=fields._replace(number_of_rva_and_sizes=count))
+            for count in range(most + 1):
+                again = Layout(pe.write(optional_header=header(count)), Options(is_permissive=True))
+                self.assertEqual((again.optional_header, again.sections), (header(count), pe.sections))
+            for count in most + 1, 16, 17, 2**32 - 1:
+                self.assertRaisesRegex(ValueError, "data directories", pe.write, optional_header=header(count))
+        pe, more = Pe(data, Options(is_permissive=True)), {9: DataDirectory(7, 8)}
+        header = pe.optional_header._replace(windows_fields=pe.optional_header.windows_fields._replace(number_of_rva_and_sizes=10))
+        self.assertEqual(Pe(pe.write(optional_header=header, data_directories=more), Options(is_permissive=True)).data_directories, more)
+        self.assertRaisesRegex(ValueError, "no place", pe.write, optional_header=header, data_directories={10: DataDirectory(7, 8)})
+        self.assertRaisesRegex(ValueError, "no place", pe.write, data_directories=more)
+
+    def test_sections_and_the_header_may_not_say_two_things(self):
+        """Of 104 bytes, so that the last two numbers of the optional header are the name of the first section."""
+        data, table = self.with_small_header(104, 0)
+        data = data[:table] + b".tx\0".ljust(8, b"\0") + data[table + 8:]
+        pe = Pe(data, Options(is_permissive=True))
+        renamed = [pe.sections[0]._replace(raw_name=b".tx\0\1\0\0\0")]
+        self.assertRaisesRegex(ValueError, "ends at %#x" % table, pe.write, sections=renamed)
+        renamed = [pe.sections[0]._replace(raw_name=b".ty")]
+        self.assertRaises(ValueError, pe.write, sections=renamed)
+        fields = pe.optional_header.windows_fields._replace(loader_flags=int.from_bytes(b".ty\0", "little"))
+        made = Pe(pe.write(optional_header=pe.optional_header._replace(windows_fields=fields), sections=renamed), Options(is_permissive=True))
+        self.assertEqual((made.sections[0].name, made.optional_header.windows_fields), (b".ty", fields))
+
+    def test_a_layout_and_parts_of_a_header_are_written(self):
+        for name in os.listdir(SAMPLES):
+            if name.endswith((".dll", ".exe", ".efi")):
+                data = sample(name)
+                self.assertEqual([read(data).write() for read in (Layout, Parts, Pe)], [data] * 3, name)
+                self.assertEqual([read(data).dos_stub for read in (Layout, Parts, Pe)], [data[64: data.index(b"PE\0\0")]] * 3)
+        seventeen, _ = self.with_small_header(240, 17)
+        parts = Parts(seventeen)
+        self.assertEqual((parts.write(), parts.refused_parts), (seventeen, {}))
+        fields = parts.optional_header.windows_fields._replace(number_of_rva_and_sizes=16)
+        mended = parts.write(optional_header=parts.optional_header._replace(windows_fields=fields))
+        self.assertEqual(mended, sample("imports_by_name_x64.dll"))
+        with Layout(mended) as layout:
+            pass
+        self.assertRaises(ValueError, lambda: layout.dos_stub)
+
     def test_sections_are_written_where_there_is_room(self):
         data = sample("imports_by_name_x64.dll")
         pe, header = Pe(data), data.index(b"PE\0\0")
@@ -969,6 +1020,11 @@ class Files(unittest.TestCase):
         written = pe.write(coff, sections=more)
         self.assertEqual((written[table + 40 * room:], Pe(written, Options(is_permissive=True)).sections), (data[table + 40 * room:], more))
         self.assertRaisesRegex(ValueError, "no room", pe.write, sections=more + more[:1])
+        # (also where the header counts more than are given, which are zeros then)
+        counted = Layout(pe.write(coff), Options(is_permissive=True)).sections
+        self.assertEqual((counted[:len(pe.sections)], len(counted)), (pe.sections, room))
+        self.assertRaisesRegex(ValueError, "no room", pe.write, coff._replace(number_of_sections=room + 1))
+        self.assertRaisesRegex(ValueError, "no room", pe.write, coff._replace(number_of_sections=0xFFFF), sections=pe.sections)
         unstored = pe.sections[:-1] + (pe.sections[-1]._replace(size_of_raw_data=0x200, pointer_to_raw_data=0),)
         beside = Pe(pe.write(sections=unstored), Options(is_permissive=True))
         self.assertEqual(Pe(beside.write(coff, sections=more), Options(is_permissive=True)).sections, more)
@@ -1053,8 +1109,11 @@ class Files(unittest.TestCase):
                 self.assertEqual([read.available_section_data(s) for s in read.sections], [s.data(read.data) for s in read.sections])
             bss = found.sections[0]._replace(size_of_raw_data=400000, pointer_to_raw_data=0, virtual_size=0, characteristics=0xC0000080)
             self.assertEqual((found.section_data(bss), found.available_section_data(bss)), ((b"", 400000),) * 2)
+            self.assertEqual((te.relocations(te.sections[0]), list(te.walk_relocations(te.sections[0]))), ([], []))
+            two = te.sections[0]._replace(pointer_to_relocations=40, number_of_relocations=2)
+            self.assertEqual((te.relocations(two), list(te.walk_relocations(two))), ([Relocation(*it) for it in struct.iter_unpack("<IIH", te.data[40:60])],) * 2)
         for closed in (lambda: found.data, found.walk_symbols, lambda: found.symbol_at(0), lambda: found.relocations(s), lambda: found.section_data(s),
-                       lambda: te.section_data(te.sections[0])):
+                       lambda: te.section_data(te.sections[0]), lambda: te.relocations(two)):
             self.assertRaisesRegex(ValueError, "no longer here", closed)
         self.assertEqual((len(found.sections), found.coff_header.machine, te.header.signature), (len(found.sections), 0x8664, 0x5A56))
         self.assertEqual(pickle.loads(pickle.dumps(found)).sections, found.sections)
@@ -1194,9 +1253,9 @@ class Files(unittest.TestCase):
         self.assertEqual(goblin_pe.flags_of(0x60500024), [("IMAGE_SCN_CNT_CODE", 0x20), ("IMAGE_SCN_ALIGN_16BYTES", 0x500000),
                                                           ("IMAGE_SCN_MEM_EXECUTE", 1 << 29), ("IMAGE_SCN_MEM_READ", 1 << 30)])
         self.assertRaises(KeyError, goblin_pe.flags_of, 1, "machine")
-        for typ, machine, wanted in ((4, 0x8664, "IMAGE_REL_AMD64_REL32"), (0x14, 0x14C, "IMAGE_REL_I386_REL32"), (3, 0xAA64, "IMAGE_REL_ARM64_BRANCH26"),
-                                     (0x10, 0x1C4, "IMAGE_REL_ARM_MOV32A"), (0x99, 0x8664, "0x99"), (4, 1, "0x4")):
-            self.assertEqual(goblin_pe.relocation_name(typ, machine), wanted)
+        for machine, typ, wanted in ((0x8664, 4, "IMAGE_REL_AMD64_REL32"), (0x14C, 0x14, "IMAGE_REL_I386_REL32"), (0xAA64, 3, "IMAGE_REL_ARM64_BRANCH26"),
+                                     (0x1C4, 0x10, "IMAGE_REL_ARM_MOV32A"), (0x8664, 0x99, "0x99"), (1, 4, "0x4")):
+            self.assertEqual(goblin_pe.relocation_name(machine, typ), wanted)
 
     def test_names_of_ordinals(self):
         """By the spelling of the libraries' own exports, as pefile 2023.2.7 tells them."""
@@ -1251,7 +1310,7 @@ class Files(unittest.TestCase):
         for name in ("class Pe", "class Parts", "class ObjectFile", "class Te", "class Refused", "class Options", "footprint(", "walk_imports(", "walk_symbols(", "write(", "names_of(", "to_json("):
             self.assertIn(name, text)
         self.assertNotIn("ctypes", text)
-        self.assertLess(len(text.splitlines()), 1800)
+        self.assertLess(len(text.splitlines()), 2000)
 
 
 if __name__ == "__main__":

@@ -50,7 +50,7 @@ def rich_hash(layout: Layout, data: Any) -> Optional[str]:
 
 def overlay(layout: Layout, data: Any) -> Optional[int]:
     """Where the bytes begin that follow the data of all sections in the file; None where there are none. What is left of a section
-    that the end of the file cuts is no such bytes, as pefile takes it."""
+    that the end of the file cuts is none of them, though pefile takes it for an overlay."""
     ends = (s.pointer_to_raw_data + s.size_of_raw_data for s in layout.sections if s.size_of_raw_data)
     end = max((min(it, len(data)) for it in ends), default=0)
     return end if 0 < end < len(data) else None
@@ -133,7 +133,7 @@ def image(data: Any) -> Dict[str, Any]:
         damage = (Layout(data, Options(is_permissive=True)) if is_counted else layout).damage  # (else not of the imports)
         return {
             **told, "rich_hash": rich_hash(layout, data),
-            "damage": {part: str(why) for part, why in zip(damage._fields[:5], damage) if why},
+            "damage": {part: str(why) for part, why in damage.parts()},
             "left_out": {what: count for what, count in zip(damage._fields[5:], damage[5:]) if count}}
 
 

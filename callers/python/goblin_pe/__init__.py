@@ -54,7 +54,11 @@ from ._imphash import imphash as imphash, ordinal_name as ordinal_name
 from ._names import flags_of as flags_of, names_of as names_of, relocation_name as relocation_name
 from ._library import LIB as _LIB, Data as Data, Kept as _Kept, held as _held, kept as _kept, viewed as _viewed
 from ._refused import Refused as Refused, named as _named, refusal as _refusal, test as _test
-from .constants import IMAGE_FILE_DLL as _IMAGE_FILE_DLL, MAGIC_64 as _MAGIC_64, MOST_WITHOUT_INDEX as _MOST_WITHOUT_INDEX
+from .constants import (
+    DOS_STUB_OFFSET as _DOS_STUB_OFFSET, IMAGE_FILE_DLL as _IMAGE_FILE_DLL, MAGIC_64 as _MAGIC_64,
+    MOST_WITHOUT_INDEX as _MOST_WITHOUT_INDEX, NUM_DATA_DIRECTORIES as _NUM_DATA_DIRECTORIES,
+    SIZEOF_COFF_HEADER as _SIZEOF_COFF_HEADER, SIZEOF_DATA_DIRECTORY as _SIZEOF_DATA_DIRECTORY,
+    SIZEOF_PE_MAGIC as _SIZEOF_PE_MAGIC, SIZEOF_SECTION_TABLE as _SIZEOF_SECTION_TABLE)
 from .numbers import (
     Cause as Cause, Counted as Counted, DirectoryType as DirectoryType, Kind as Kind,
     RawPointerRule as RawPointerRule, ReadFault as ReadFault, RefusedPart as RefusedPart,
@@ -71,7 +75,7 @@ from .rows import (
     OutOfSteps as OutOfSteps, RichHeader as RichHeader, Rows as _Rows,
     Section as Section, SectionData as SectionData, SectionView as SectionView, Symbol as Symbol,
     available_of as _available_of, batches as _batches, data_of as _data_of, growing_batches as _growing_batches,
-    record_of as _section_record, room as _room, size as _size, view_of as _view_of)
+    room as _room, size as _size, view_of as _view_of)
 
 __version__ = "0.4.0"
 
@@ -144,6 +148,11 @@ def _string_at(data: _Kept, table: records.SymbolTable, offset: int) -> _t.Optio
         return _Rows(data, address).text(text) if is_there else None
 
 
+def _string_table_size(table: records.SymbolTable) -> int:
+    # the bytes of a string table, with those of its length
+    return table.strings_length + 4 if table.offset else 0
+
+
 def _here(data: _t.Optional[_Kept]) -> _Kept:
     # the bytes of a file, as long as they are kept
     if data is None:
@@ -160,7 +169,8 @@ def kind(data: Data) -> Kind:
 def checksum(data: Data, field: int) -> int:
     """The checksum of an image, whose field stands at the file offset `field`: 88 bytes after pe_pointer. It is the sum of the
     little-endian words of two bytes, in 16 bits and with each carry added, and the length, in 32 bits; the bytes of the field
-    count as zeros. Windows tests it of drivers, and of libraries that it loads at boot or into critical processes."""
+    count as zeros. Windows tests it of drivers, and of libraries that it loads at boot or into critical processes. The method of an
+    image finds the field by itself."""
     with _held(_kept(data)) as (address, length):
         return int(_LIB.goblin_pe_raw_checksum(address, length, _size(field)))
 
@@ -195,6 +205,10 @@ class Damage(_t.NamedTuple):
     left_out_entries: int
     unmapped_entries: int
     left_out_exports: int
+
+    def parts(self) -> _t.List[_t.Tuple[str, Refused]]:
+        """The parts that are damaged, as pairs (name of the field, why)."""
+        return [(name, why) for name, why in zip(self._fields[:5], self[:5]) if why]
 
 
 @_dataclasses.dataclass(frozen=True)
@@ -355,6 +369,15 @@ class _File:
         """The same as section_data as far as the file has it, which is never refused; see available_data of a Section."""
         return _available_of(section, self._bytes(), *self._mapped_by())
 
+    def relocations(self, section: Section) -> _t.List[Relocation]:
+        """The relocations of one of its sections, which few files but objects have, as section.relocations lists them: at most
+        65,535. The base relocations of an image are its blocks."""
+        return section.relocations(self._bytes())
+
+    def walk_relocations(self, section: Section, *, steps: _t.Optional[int] = None) -> _t.Iterator[Relocation]:
+        """All relocations of one of its sections, one by one, as by section.walk_relocations."""
+        return section.walk_relocations(self._bytes(), steps=steps)
+
 
 def _whole(path: _t.Union[str, "_os.PathLike[str]"]) -> bytes:
     with open(path, "rb") as file:
@@ -373,8 +396,8 @@ class Layout(_File):
     made where `sections` is asked for.
 
     It keeps `data`, or the copy of a buffer that could be written, until close() or the end of a `with`. Sections, symbols and
-    damage that were not asked for before, the export directory and the name in it, and the methods raise ValueError then, but
-    find_offset needs the bytes no longer. A copy, as it is sent to another process, has all but `data`; symbols and damage where
+    damage that were not asked for before, the export directory and the name in it, the DOS stub, and the methods raise ValueError
+    then, but find_offset needs the bytes no longer. A copy, as it is sent to another process, has all but `data`; symbols and damage where
     they were asked for.
     """
 
@@ -389,6 +412,7 @@ class Layout(_File):
         self._take_headers(layout, directories[: layout.directories])
         self._counts = {"sections": count}
         self._take_sections(sections, address)
+        self._take_stub(layout.dos_stub, address)
 
     def _hold(self, data: Data, options: _t.Optional[Options]) -> None:
         self._data = _kept(data)
@@ -407,6 +431,12 @@ class Layout(_File):
         # their records, whose texts lie in the file's bytes, which begin at the address
         self._sections, self._address = stored, address
         self._mapping = _mapping_of(stored, self._counts["sections"])
+
+    def _take_stub(self, stub: records.Text, address: int) -> None:
+        # the DOS stub: one that does not lie in the file is the library's own, and small
+        begin = stub.bytes - address
+        is_own = begin == _DOS_STUB_OFFSET and begin + stub.length == self._dos_header.pe_pointer
+        self._replaced_stub = None if is_own else _c.string_at(stub.bytes, stub.length)
 
     def __repr__(self) -> str:
         return "<Layout machine=%#x sections=%d>" % (self.coff_header.machine, self._counts["sections"])
@@ -434,9 +464,9 @@ class Layout(_File):
     def _read_rich(self) -> _Rich:
         # what stands before the PE signature, as of an image without sections and without an optional header
         signature = self.dos_header.pe_pointer
-        if signature < 64:  # (there is no room)
+        if signature < _DOS_STUB_OFFSET:  # (there is no room)
             return None, (), None
-        front = bytearray(self._bytes()[: signature + 24])
+        front = bytearray(self._bytes()[: signature + _SIZEOF_PE_MAGIC + _SIZEOF_COFF_HEADER])
         front[signature + 6: signature + 8] = front[signature + 20: signature + 22] = bytes(2)
         pe = Pe(bytes(front), Options(is_permissive=True))
         return pe.rich_header, pe.rich_entries, pe.rich_rest
@@ -460,6 +490,14 @@ class Layout(_File):
     def dos_header(self) -> DosHeader:
         """The DOS header."""
         return self._dos_header
+
+    @property
+    def dos_stub(self) -> bytes:
+        """The bytes between the DOS header and the PE signature; where permissive mode could not read them, a stub of the
+        library's own."""
+        if self._replaced_stub is not None:
+            return self._replaced_stub
+        return bytes(self._bytes()[_DOS_STUB_OFFSET: self._dos_header.pe_pointer])
 
     @property
     def coff_header(self) -> CoffHeader:
@@ -741,25 +779,32 @@ class Layout(_File):
         """The symbols one by one, of which none is kept. With `steps` it raises OutOfSteps after so many. Refused is raised as by
         `symbols`; without tests_texts not where the string table is not UTF-8: a symbol whose name is not has none."""
         data = self._bytes()
-        table = self._found_symbols(data) if tests_texts else _symbol_table(data, self.coff_header, False)
-        return _walk_symbols(data, table, steps)
+        return _walk_symbols(data, self._found_symbols(data, tests_texts), steps)
 
     def string_at(self, offset: int) -> _t.Optional[bytes]:
         """The text at an offset of the string table, up to a NUL or the table's end; None where there is none that is UTF-8. The
         offset counts from the four bytes of the table's length, as the numbers do that stand in place of names. Refused is
         raised where a table does not lie in the file."""
         data = self._bytes()
-        return _string_at(data, _symbol_table(data, self.coff_header, False), offset)
+        return _string_at(data, self._found_symbols(data, False), offset)
 
-    def symbol_at(self, index: int) -> _t.Optional[Symbol]:
+    @property
+    def string_table_size(self) -> int:
+        """How many bytes the string table has, with the four of its length; 0 where there is none, as in most images. Refused is
+        raised where a table does not lie in the file."""
+        return _string_table_size(self._found_symbols(self._bytes(), False))
+
+    def symbol_at(self, index: int, tests_texts: bool = True) -> _t.Optional[Symbol]:
         """The symbol whose record has this index: relocations and weak externals name symbols so. None where the table ends
-        before it; an auxiliary record is read as a symbol, too. Refused is raised as by `symbols`. The string table is read
-        whole the first time, and then never again."""
+        before it; an auxiliary record is read as a symbol, too. Refused is raised as by walk_symbols. The string table is read
+        whole the first time, and then never again; without tests_texts never."""
         data = self._bytes()
-        return _symbol_at(data, self._found_symbols(data), index)
+        return _symbol_at(data, self._found_symbols(data, tests_texts), index)
 
-    def _found_symbols(self, data: _Kept) -> records.SymbolTable:
-        # where the symbols lie, tested once
+    def _found_symbols(self, data: _Kept, tests_texts: bool) -> records.SymbolTable:
+        # where the symbols lie; the texts are tested once
+        if not tests_texts:
+            return self._symbol_table or _symbol_table(data, self.coff_header, False)
         if self._symbol_table is None:
             self._symbol_table = _symbol_table(data, self.coff_header)
         return self._symbol_table
@@ -799,6 +844,91 @@ class Layout(_File):
                 digest.update(in_bytes[begin: begin + length])
         return digest.hexdigest()
 
+    def write(self, coff_header: _t.Optional[CoffHeader] = None, optional_header: _t.Optional[OptionalHeader] = None,
+              sections: _t.Optional[_t.Iterable[Section]] = None, data_directories: _t.Optional[_t.Mapping[int, DataDirectory]] = None,
+              dos_header: _t.Optional[DosHeader] = None) -> bytes:
+        """The file with these in place of its own, and else as it was read. Of the headers all up to the section table is
+        written, and of sections the records of the first ones, each with its raw_name; nothing else of the file changes. Data
+        directories are given by their index, and those that are left out are zeros then; so are those by which a larger
+        number_of_rva_and_sizes adds to the file's own.
+
+        Refused is raised where a header can't be written, OverflowError where a number does not fit its field, and ValueError
+        where the file has no place for what is given:
+
+        An optional header or a directory may reach into the section table only where both say the same. Another
+        number_of_rva_and_sizes has to count directories that end in the optional header. More sections than the file has, given or
+        counted by the COFF header, need zeros in their place, before the data of all sections.
+
+        So ValueError is raised, too, where permissive mode replaced the DOS stub, and where a DOS header leads elsewhere than the
+        file's own. A COFF header may say no other size of the optional header, which would move the section table."""
+        if optional_header is not None and self.optional_header is None:
+            raise ValueError("the file has no optional header")
+        coff = coff_header or self.coff_header
+        directories = self._directories if data_directories is None else data_directories
+        header = self._written_header(dos_header or self.dos_header, coff, optional_header or self._header, directories)
+        with memoryview(self._bytes()) as view:
+            out = bytearray(view)
+        table, stored = self._section_table(), b"".join(section.write() for section in sections or ())
+        is_counted_anew = coff.number_of_sections != self.coff_header.number_of_sections
+        counted = _SIZEOF_SECTION_TABLE * coff.number_of_sections if is_counted_anew else 0
+        self._test_room(out, table, max(counted, len(stored)))
+        out[table: table + len(stored)] = stored
+        if len(header) > len(out) or header[table:] != out[table: len(header)]:
+            raise ValueError("the optional header ends at %#x, before all that is given" % table)
+        out[: len(header)] = header
+        return bytes(out)
+
+    def _section_table(self) -> int:
+        # the file offset of the section table, where the optional header ends
+        return self.dos_header.pe_pointer + _SIZEOF_PE_MAGIC + _SIZEOF_COFF_HEADER + self.coff_header.size_of_optional_header
+
+    def _test_room(self, file: bytearray, table: int, size: int) -> None:
+        # whether so many bytes of records have room in the section table: past those of the file's own, zeros before all data
+        own, end = table + _SIZEOF_SECTION_TABLE * self._counts["sections"], table + size
+        is_before_data = all(end <= s.pointer_to_raw_data for s in self._mapping if s.size_of_raw_data and s.pointer_to_raw_data)
+        if end > own and not (is_before_data and end <= len(file) and not any(file[own: end])):
+            raise ValueError("there is no room for so many sections")
+
+    def _written_header(self, dos: DosHeader, coff: CoffHeader, optional: OptionalHeader, given: _t.Mapping[int, DataDirectory]) -> bytes:
+        # the header up to the last directory that the file has, or is given
+        self._test_place(dos, coff)
+        count, none = _NUM_DATA_DIRECTORIES if self.optional_header else 0, DataDirectory(0, 0)
+        own, said = (min(count, it.windows_fields.number_of_rva_and_sizes) for it in (self._header, optional))
+        places = max(own, said)
+        for index in given:
+            if index not in range(places):
+                raise ValueError("the file has no place for the data directory %d: it has %d" % (index, places))
+        directories = (records.Directory * _NUM_DATA_DIRECTORIES)(*(
+            records.Directory(0, _laid_out.record_of(DataDirectory, given.get(index, none)), index in given)
+            for index in range(_NUM_DATA_DIRECTORIES)))
+        file = records.File(
+            optional_header=_laid_out.record_of(OptionalHeader, optional), directories=count,
+            dos_header=_laid_out.record_of(DosHeader, dos), coff_header=_laid_out.record_of(CoffHeader, coff))
+        size, stub = _c.c_size_t(), self.dos_stub
+        for _ in range(2):  # (without room it tells how much it needs)
+            room = (_c.c_uint8 * size.value)()
+            _test(_LIB.goblin_pe_raw_write_header(
+                _c.byref(file), directories, count, stub, len(stub), room, size.value, _c.byref(size)))
+        self._test_directories(optional, size.value - _SIZEOF_DATA_DIRECTORY * (count - said))
+        return bytes(room[: size.value - _SIZEOF_DATA_DIRECTORY * (count - places)])
+
+    def _test_place(self, dos: DosHeader, coff: CoffHeader) -> None:
+        # whether the headers stand where the file's own do
+        if _DOS_STUB_OFFSET + len(self.dos_stub) != self.dos_header.pe_pointer:
+            raise ValueError("the DOS stub is not the file's own, so the headers can't be written at their places")
+        if dos.pe_pointer != self.dos_header.pe_pointer:
+            raise ValueError("the PE signature of the file stands at %#x" % self.dos_header.pe_pointer)
+        if coff.size_of_optional_header != self.coff_header.size_of_optional_header:
+            raise ValueError("the optional header of the file has %d bytes" % self.coff_header.size_of_optional_header)
+
+    def _test_directories(self, optional: OptionalHeader, end: int) -> None:
+        # whether the directories that an optional header counts end so in it; those that the file's own counts may pass it
+        own, given = ((it.standard_fields.magic, it.windows_fields.number_of_rva_and_sizes) for it in (self._header, optional))
+        if given != own and given[1] > _NUM_DATA_DIRECTORIES:
+            raise ValueError("a file has at most %d data directories, not %d" % (_NUM_DATA_DIRECTORIES, given[1]))
+        if given != own and end > self._section_table():
+            raise ValueError("the optional header ends at %#x, before its %d data directories" % (self._section_table(), given[1]))
+
 
 class Parts(Layout):
     """What is there of an image whose header or sections are refused: Parts(data, options), where `data` are the file's bytes and
@@ -808,7 +938,8 @@ class Parts(Layout):
     It is a Layout by the parts that are given, so all walks over tables and all that is looked up by addresses work. Of more than
     sixteen data directories it has the first sixteen, of a section table that the file's end cuts the sections that are there;
     these have their raw names. Its optional_header is None where the standard fields are refused, too. Without a magic that is
-    known no table has a place, and no address where the options map them.
+    known no table has a place, and no address where the options map them. The DOS stub is the file's own, or none where the DOS header
+    is refused or leads past the file.
 
     What reads the file as a whole does so anew, and not by these parts. Of a file that is refused as a whole `damage` is refused
     for the same cause; `checksum` is None where its header is refused; the Rich header and its entries may be refused where a
@@ -828,6 +959,7 @@ class Parts(Layout):
         self._counts = {"sections": count}
         self._take_sections(sections, address)
         self._missing_sections, self._refusal = parts.missing_sections, _refusal(parts.refusal)
+        self._replaced_stub = None if _DOS_STUB_OFFSET <= parts.dos_header.pe_pointer <= length else b""
         faults = {"dos_header": parts.dos_header_fault, "coff_header": parts.coff_header_fault,
                   "standard_fields": parts.standard_fields_fault, "windows_fields": parts.windows_fields_fault,
                   "data_directories": parts.directories_fault}
@@ -859,8 +991,8 @@ class Pe(Layout):
     file that is refused raises Refused. What the lists lack of the imports and the exports `damage` counts.
 
     It keeps `data`, or the copy of a buffer that could be written, until close() or the end of a `with`. Tables, symbols and
-    damage that were not asked for before, and the methods, raise ValueError then, but find_offset needs the bytes no longer. A
-    copy, as it is sent to another process, has all but `data`; symbols and damage where they were asked for.
+    damage that were not asked for before, the DOS stub, and the methods raise ValueError then, but find_offset needs the bytes no
+    longer. A copy, as it is sent to another process, has all but `data`; symbols and damage where they were asked for.
     """
 
     def __init__(self, data: Data, options: _t.Optional[Options] = None):
@@ -873,7 +1005,7 @@ class Pe(Layout):
         self._take_sections(tables.sections, address)
         self._take_headers(file, directories[: file.directories])
         self._take_tables(file)
-        self._stub = _c.string_at(tables.dos_stub.bytes, tables.dos_stub.length)  # (it need not lie in the file)
+        self._take_stub(tables.dos_stub, address)
         self._export_directory = _Rows(self._bytes(), address).export_directory(tables.export_directory)
 
     def _take_tables(self, file: records.File) -> None:
@@ -980,71 +1112,6 @@ class Pe(Layout):
         is_made = "imports" in self._made or not self._counts["imports"]
         return imphash(self.imports if is_made else self._each("imports"))
 
-    def write(self, coff_header: _t.Optional[CoffHeader] = None, optional_header: _t.Optional[OptionalHeader] = None,
-              sections: _t.Optional[_t.Iterable[Section]] = None, data_directories: _t.Optional[_t.Mapping[int, DataDirectory]] = None,
-              dos_header: _t.Optional[DosHeader] = None) -> bytes:
-        """The file with these in place of its own, and else as it was read. Of the headers all up to the section table is
-        written, and of sections the records of the first ones, each with its raw_name; nothing else of the file changes. Data
-        directories are given by their index, and those that are left out are zeros then.
-
-        Refused is raised where a header can't be written, OverflowError where a number does not fit its field, and ValueError
-        where the file has no place for what is given: for an optional header or a directory, which may not reach into the section
-        table but where they say what stands there; for more sections than it has, past the file, or where anything but zeros
-        stands, or before the data of a section; and so where permissive mode replaced the DOS stub, where a DOS header leads
-        elsewhere than the file's own, and where a COFF header says another size of the optional header, which would move the
-        section table."""
-        if optional_header is not None and self.optional_header is None:
-            raise ValueError("the file has no optional header")
-        directories = self._directories if data_directories is None else data_directories
-        header = self._written_header(dos_header or self.dos_header, coff_header or self.coff_header, optional_header or self._header,
-                                      directories)
-        with memoryview(self._bytes()) as view:
-            out = bytearray(view)
-        place = self.dos_header.pe_pointer + 24 + self.coff_header.size_of_optional_header
-        if header[place:] != out[place: len(header)]:
-            raise ValueError("the optional header ends at %#x, before all that is given" % place)
-        out[: len(header)] = header
-        records_of_sections = b"".join(map(self._written_section, sections or ()))
-        self._test_room(out, place, len(records_of_sections))
-        out[place: place + len(records_of_sections)] = records_of_sections
-        return bytes(out)
-
-    def _written_section(self, section: Section) -> bytes:
-        room, written = (_c.c_uint8 * 40)(), _c.c_size_t()
-        _test(_LIB.goblin_pe_raw_write_section(_c.byref(_section_record(section)), room, 40, _c.byref(written)))
-        return bytes(room)
-
-    def _test_room(self, file: bytearray, table: int, size: int) -> None:
-        # whether so many bytes of records have room in the section table: past those of the file's own, zeros before all data
-        own, end = table + 40 * self._counts["sections"], table + size
-        is_before_data = all(end <= s.pointer_to_raw_data for s in self._mapping if s.size_of_raw_data and s.pointer_to_raw_data)
-        if end > own and not (is_before_data and end <= len(file) and not any(file[own: end])):
-            raise ValueError("there is no room for so many sections")
-
-    def _written_header(self, dos: DosHeader, coff: CoffHeader, optional: OptionalHeader, given: _t.Mapping[int, DataDirectory]) -> bytes:
-        if 64 + len(self._stub) != self.dos_header.pe_pointer:
-            raise ValueError("permissive mode replaced the DOS stub, so the headers can't be written at their places")
-        if dos.pe_pointer != self.dos_header.pe_pointer:
-            raise ValueError("the PE signature of the file stands at %#x" % self.dos_header.pe_pointer)
-        if coff.size_of_optional_header != self.coff_header.size_of_optional_header:
-            raise ValueError("the optional header of the file has %d bytes" % self.coff_header.size_of_optional_header)
-        count, none = 16 if self.optional_header else 0, DataDirectory(0, 0)
-        own = min(count, self._header.windows_fields.number_of_rva_and_sizes)
-        for index in given:
-            if index not in range(own):
-                raise ValueError("the file has no place for the data directory %d: it has %d" % (index, own))
-        directories = (records.Directory * 16)(*(
-            records.Directory(0, _laid_out.record_of(DataDirectory, given.get(index, none)), index in given) for index in range(16)))
-        file = records.File(
-            optional_header=_laid_out.record_of(OptionalHeader, optional), directories=count,
-            dos_header=_laid_out.record_of(DosHeader, dos), coff_header=_laid_out.record_of(CoffHeader, coff))
-        size = _c.c_size_t()
-        for _ in range(2):  # (without room it tells how much it needs)
-            room = (_c.c_uint8 * size.value)()
-            _test(_LIB.goblin_pe_raw_write_header(
-                _c.byref(file), directories, count, self._stub, len(self._stub), room, size.value, _c.byref(size)))
-        return bytes(room[: size.value - 8 * (count - own)])
-
 
 class ObjectFile(_File):
     """An object that was read: ObjectFile(data, options); of the Options only is_permissive counts. A file that is refused
@@ -1069,22 +1136,15 @@ class ObjectFile(_File):
         self._made = {}
 
     @classmethod
-    def open(cls: _t.Type[_O], path: _t.Union[str, "_os.PathLike[str]"], options: _t.Optional[Options] = None) -> _O:
+    def open(cls: _t.Type[_O], path: _t.Union[str, "_os.PathLike[str]"], options: _t.Optional[Options] = None,
+             tests_texts: bool = True) -> _O:
         """The object in a file, which is read whole. OSError is raised where it can't be read."""
-        return cls(_whole(path), options)
+        return cls(_whole(path), options, tests_texts)
 
     @property
     def coff_header(self) -> CoffHeader:
         """The COFF header."""
         return self._coff_header
-
-    def relocations(self, section: Section) -> _t.List[Relocation]:
-        """The relocations of one of its sections, as section.relocations lists them: at most 65,535."""
-        return section.relocations(self._bytes())
-
-    def walk_relocations(self, section: Section, *, steps: _t.Optional[int] = None) -> _t.Iterator[Relocation]:
-        """All relocations of one of its sections, one by one, as by section.walk_relocations."""
-        return section.walk_relocations(self._bytes(), steps=steps)
 
     @property
     def symbols(self) -> _t.Tuple[Symbol, ...]:
@@ -1114,7 +1174,7 @@ class ObjectFile(_File):
     @property
     def string_table_size(self) -> int:
         """How many bytes the string table has, with the four of its length; 0 where there is none."""
-        return self._symbol_table.strings_length + 4 if self._symbol_table.offset else 0
+        return _string_table_size(self._symbol_table)
 
     def __repr__(self) -> str:
         return "<ObjectFile machine=%#x sections=%d>" % (self.coff_header.machine, self._counts["sections"])

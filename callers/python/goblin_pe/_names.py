@@ -56,9 +56,9 @@ def names_of(number: int, kind: Kind = "section") -> List[str]:
     return [name for name, _ in found] + [hex(left)] * bool(left)
 
 
-def relocation_name(typ: int, machine: int) -> str:
-    """The name in goblin_pe.constants of the type of an object's relocation, whose COFF header has this machine; its digits in
-    hexadecimal where it has none."""
+def relocation_name(machine: int, typ: int) -> str:
+    """The name in goblin_pe.constants of the type of an object's relocation, whose COFF header has this machine; the digits of the
+    type in hexadecimal where it has none."""
     names = _constants("IMAGE_REL_%s_" % _RELOCATIONS[machine]) if machine in _RELOCATIONS else {}
     return next((name for name, named in names.items() if named == typ), hex(typ))
 

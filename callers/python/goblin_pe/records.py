@@ -1065,7 +1065,8 @@ class Parts(Record):
     sections: How many sections there are, whatever the room: as many as the COFF header says, or as
         the file has whole records, if these are fewer.
     missing_sections: How many more the COFF header says.
-    places: Where the sections that are there and the tables lie, for walks over these.
+    places: Where the sections that are there and the tables lie, for walks over these, which are
+        refused for no section then.
     dos_header: The DOS header, zeros where it is refused.
     coff_header: The COFF header, zeros where it is refused.
     refusal: Why the header or the sections are refused as a whole; the status 0 where they are

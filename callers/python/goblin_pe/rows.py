@@ -8,8 +8,8 @@ from typing import Any, Callable, Dict, Iterator, List, NamedTuple, Optional, Tu
 from . import _laid_out, records
 from ._library import LIB, Data, Kept, held, kept, part_kept, viewed
 from ._refused import Refused, refusal, test
-from .constants import (IMAGE_SCN_LNK_NRELOC_OVFL, IMAGE_SYM_CLASS_EXTERNAL, IMAGE_SYM_CLASS_FILE, IMAGE_SYM_CLASS_FUNCTION, IMAGE_SYM_CLASS_STATIC,
-                        IMAGE_SYM_CLASS_WEAK_EXTERNAL, IMAGE_SYM_DTYPE_FUNCTION, IMAGE_SYM_DTYPE_SHIFT)
+from .constants import (COFF_RELOCATION_SIZE, IMAGE_SCN_LNK_NRELOC_OVFL, IMAGE_SYM_CLASS_EXTERNAL, IMAGE_SYM_CLASS_FILE, IMAGE_SYM_CLASS_FUNCTION,
+                        IMAGE_SYM_CLASS_STATIC, IMAGE_SYM_CLASS_WEAK_EXTERNAL, IMAGE_SYM_DTYPE_FUNCTION, IMAGE_SYM_DTYPE_SHIFT, SIZEOF_SECTION_TABLE)
 from .numbers import Forwards
 from .records import (AuxBeginAndEndFunction, AuxFunctionDefinition, AuxSectionDefinition, AuxWeakExternal, ExportDirectoryTable,
                       Relocation)
@@ -99,21 +99,31 @@ class Section(NamedTuple):
                 test(LIB.goblin_pe_raw_read_relocations(address, length, c.byref(record), found, count.value, c.byref(count)))
         return [_laid_out.read(Relocation, it) for it in found[: count.value]]
 
+    def with_name_offset(self, offset: int) -> "Section":
+        """The same section, whose raw_name says that its name stands at this offset of the string table; that name is not read, so
+        `name` is the raw_name then. Refused is raised for an offset that the eight bytes can't hold."""
+        record = record_of(self)
+        test(LIB.goblin_pe_raw_set_name_offset(c.byref(record), size(offset)))
+        return self._replace(name=bytes(record.name).split(b"\0")[0], raw_name=bytes(record.name))
+
+    def write(self) -> bytes:
+        """The 40 bytes of its record, with raw_name for a name: of a Terse Executable not those that the file has, as its sections
+        are moved."""
+        out, written = (c.c_uint8 * SIZEOF_SECTION_TABLE)(), c.c_size_t()
+        test(LIB.goblin_pe_raw_write_section(c.byref(record_of(self)), out, len(out), c.byref(written)))
+        return bytes(out)
+
     def _with_relocations(self, file: Data) -> Tuple[records.Section, Kept]:
         # its record, and bytes that have its relocations: of a buffer that could be written a copy of these alone, if it has them
         record, begin, count = record_of(self), self.pointer_to_relocations, self.number_of_relocations
         if count == 0xFFFF and self.characteristics & IMAGE_SCN_LNK_NRELOC_OVFL:
             with viewed(file) as view:
                 count = max(count, int.from_bytes(view[begin: begin + 4], "little"))
-        alone = part_kept(file, begin, max(1, RELOCATION * count))
+        alone = part_kept(file, begin, max(1, COFF_RELOCATION_SIZE * count))
         if alone is None:
             return record, kept(file)
         record.pointer_to_relocations = 0
         return record, alone
-
-
-# The size of the record of a relocation, in bytes.
-RELOCATION = 10
 
 
 class Import(NamedTuple):
@@ -248,7 +258,9 @@ class Symbol(NamedTuple):
         return _laid_out.read(kind, record) if is_there else None
 
     def aux_file(self) -> Optional[bytes]:
-        """The name of a source file in the auxiliary records; None where the symbol has none, or stands for no file."""
+        """The name of a source file in the auxiliary records; None where the symbol has none, or stands for no file. It is empty where
+        these begin with four zeros: then the name stands in the string table, at the offset in the four bytes after them, where
+        string_at reads it."""
         name = records.Text()
         with held(self.auxiliary) as (address, length):
             is_there = self.is_file and LIB.goblin_pe_raw_read_aux_file(address, length, c.byref(name))

@@ -11,16 +11,16 @@ use crate::footprint::Footprint;
 use crate::imphash;
 use crate::iterators::{
     DataDirectories, Sections, Symbols, WalkBlocks, WalkExportAddresses, WalkExports, WalkImports,
-    WalkLibraries, export_address,
+    WalkLibraries, WalkRelocations, export_address,
 };
 use crate::memory::{expected_sections, room};
 use crate::numbers::DirectoryType;
 use crate::pe::Pe;
 use crate::raw::{
-    self, CoffHeader, DataDirectory, DosHeader, OptionalHeader, Options, RichMetadata,
+    self, CoffHeader, DataDirectory, DosHeader, OptionalHeader, Options, Relocation, RichMetadata,
 };
 use crate::rows::{
-    DOS_HEADER, Damage, ExportAddress, ExportDirectory, Header, Library, RichHeader,
+    DOS_HEADER, Damage, Export, ExportAddress, ExportDirectory, Header, Library, RichHeader,
     SIGNATURE_AND_COFF_HEADER, Section, section_index, section_table,
 };
 use crate::text::Text;
@@ -411,6 +411,39 @@ impl<'a> Layout<'a> {
         section.available_in(&self.image())
     }
 
+    /// The relocations of one of its sections, which few images have: the base relocations are [blocks](Self::walk_blocks); see [`Section::relocations`].
+    ///
+    /// # Errors
+    /// As of [`Section::relocations`].
+    ///
+    /// ```no_run
+    /// # let bytes = [];
+    /// # let layout = goblin_pe::Layout::read(&bytes, &goblin_pe::Options::permissive())?;
+    /// for section in layout.sections() {
+    ///     println!("{} has {} relocations", section.name, layout.relocations(&section)?.len());
+    /// }
+    /// # Ok::<(), goblin_pe::Error>(())
+    /// ```
+    pub fn relocations(&self, section: &Section) -> Result<Vec<Relocation>, Error> {
+        section.relocations(self.bytes)
+    }
+
+    /// A walk over all relocations of one of its sections; see [`Section::walk_relocations`].
+    ///
+    /// ```no_run
+    /// # let bytes = [];
+    /// # let layout = goblin_pe::Layout::read(&bytes, &goblin_pe::Options::permissive())?;
+    /// for section in layout.sections() {
+    ///     let found = layout.walk_relocations(&section).filter(Result::is_ok);
+    ///     println!("{} has {} relocations that can be read", section.name, found.count());
+    /// }
+    /// # Ok::<(), goblin_pe::Error>(())
+    /// ```
+    #[must_use]
+    pub fn walk_relocations(&self, section: &Section) -> WalkRelocations<'a> {
+        section.walk_relocations(self.bytes)
+    }
+
     /// A walk over the imports, in constant memory, which reads the file as it goes on: also where the
     /// options of the read left them out. A file of 256 KiB can have more than 800 million imports, more
     /// than may be listed. In strict mode it ends with the error for which a read is refused; no law says
@@ -513,6 +546,24 @@ impl<'a> Layout<'a> {
         Ok(ExportDirectory::of(&directory))
     }
 
+    /// The first export of this name, to which a walk goes anew by each call; `None` where there is none.
+    /// [`Pe::find_export`] has it from the read.
+    ///
+    /// # Errors
+    /// As of [`walk_exports`](Self::walk_exports).
+    ///
+    /// ```no_run
+    /// # let bytes = [];
+    /// # let layout = goblin_pe::Layout::read(&bytes, &goblin_pe::Options::permissive())?;
+    /// let is_server = layout.find_export("DllGetClassObject")?.is_some();
+    /// # Ok::<(), goblin_pe::Error>(())
+    /// ```
+    pub fn find_export(&self, name: impl AsRef<[u8]>) -> Result<Option<Export<'a>>, Error> {
+        let mut walk = self.walk_exports();
+        walk.find(|it| it.is_err() || it.is_ok_and(|export| export.is_named(name.as_ref())))
+            .transpose()
+    }
+
     /// The entry of the export address table for an ordinal, also of an export without a name, read anew by each call; `None`
     /// where the table has none, or one that is not used. [`Pe::find_export_by_ordinal`] has it from the read.
     ///
@@ -602,6 +653,26 @@ impl<'a> Layout<'a> {
         let mut entries = room(pe.rich_entries().len())?;
         entries.extend_from_slice(pe.rich_entries());
         Ok(entries)
+    }
+
+    /// Why the rest that follows the entries of the Rich header is no entry, read anew by each call; `None` where there
+    /// is no rest. [`Pe::rich_rest`] has it from the read.
+    ///
+    /// # Errors
+    /// [`ErrorKind::Memory`](crate::ErrorKind::Memory) alone, but of [`Parts`](crate::Parts) as these tell.
+    ///
+    /// ```no_run
+    /// # let bytes = [];
+    /// # let layout = goblin_pe::Layout::read(&bytes, &goblin_pe::Options::permissive())?;
+    /// if let Some(error) = layout.rich_rest()? {
+    ///     println!("{} entries, then {error}", layout.rich_entries()?.len());
+    /// }
+    /// # Ok::<(), goblin_pe::Error>(())
+    /// ```
+    pub fn rich_rest(&self) -> Result<Option<Error>, Error> {
+        let front = self.front()?;
+        let read = |it: &Vec<u8>| Pe::read(it, &Options::permissive()).map(|pe| pe.rich_rest());
+        front.as_ref().map_or(Ok(None), read)
     }
 
     // What stands before the PE signature, where there is room for a Rich header, as of an image without sections and

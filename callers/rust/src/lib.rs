@@ -142,15 +142,15 @@ pub fn kind(bytes: &[u8]) -> Kind {
 /// The checksum of an image, whose field stands at the file offset `field`: 88 bytes after `pe_pointer`. It
 /// is the sum of the little-endian words of two bytes, in 16 bits and with each carry added, and the
 /// length, in 32 bits; the bytes of the field count as zeros. Windows tests it of drivers, and of libraries
-/// that it loads at boot or into critical processes.
+/// that it loads at boot or into critical processes. [`Layout::checksum`] finds the field by itself.
 ///
 /// ```no_run
 /// let mut bytes = std::fs::read("some.sys")?;
 /// let layout = goblin_pe::Layout::parse(&bytes)?;
 /// let field = layout.dos_header().pe_pointer as usize + 88;
 /// // (a file without an optional header has no such field)
-/// if layout.optional_header().is_some() {
-///     let sum = goblin_pe::checksum(&bytes, field);
+/// if let Some(sum) = layout.checksum() {
+///     assert_eq!(goblin_pe::checksum(&bytes, field), sum);
 ///     bytes[field..][..4].copy_from_slice(&sum.to_le_bytes());
 /// }
 /// # Ok::<(), Box<dyn std::error::Error>>(())

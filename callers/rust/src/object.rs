@@ -5,9 +5,9 @@ use std::sync::OnceLock;
 
 use crate::constants::SIZEOF_COFF_HEADER;
 use crate::error::Error;
-use crate::iterators::{Sections, Symbols};
+use crate::iterators::{Sections, Symbols, WalkRelocations};
 use crate::memory::{expected_sections, read_all};
-use crate::raw::{self, CoffHeader, Options};
+use crate::raw::{self, CoffHeader, Options, Relocation};
 use crate::rows::{Section, section_index};
 
 /// An object that was read. A copy has records of its own; where memory for them is refused, the process ends as
@@ -161,6 +161,52 @@ impl<'a> Object<'a> {
     /// ```
     pub fn section_data(&self, section: &Section) -> Result<(&'a [u8], usize), Error> {
         section.data(self.bytes)
+    }
+
+    /// The same as far as the file has it; see [`Section::available_data`].
+    ///
+    /// ```no_run
+    /// # let bytes = [];
+    /// let object = goblin_pe::Object::parse(&bytes)?;
+    /// let code = object.section_by_name(".text").map(|s| object.available_section_data(&s));
+    /// # Ok::<(), goblin_pe::Error>(())
+    /// ```
+    #[must_use]
+    pub fn available_section_data(&self, section: &Section) -> (&'a [u8], usize) {
+        section.available_data(self.bytes)
+    }
+
+    /// The relocations of one of its sections; see [`Section::relocations`].
+    ///
+    /// # Errors
+    /// As of [`Section::relocations`].
+    ///
+    /// ```no_run
+    /// # let bytes = [];
+    /// let object = goblin_pe::Object::parse(&bytes)?;
+    /// for section in object.sections() {
+    ///     println!("{} has {} relocations", section.name, object.relocations(&section)?.len());
+    /// }
+    /// # Ok::<(), goblin_pe::Error>(())
+    /// ```
+    pub fn relocations(&self, section: &Section) -> Result<Vec<Relocation>, Error> {
+        section.relocations(self.bytes)
+    }
+
+    /// A walk over all relocations of one of its sections; see [`Section::walk_relocations`].
+    ///
+    /// ```no_run
+    /// # let bytes = [];
+    /// let object = goblin_pe::Object::parse(&bytes)?;
+    /// for section in object.sections() {
+    ///     let found = object.walk_relocations(&section).filter(Result::is_ok);
+    ///     println!("{} has {} relocations that can be read", section.name, found.count());
+    /// }
+    /// # Ok::<(), goblin_pe::Error>(())
+    /// ```
+    #[must_use]
+    pub fn walk_relocations(&self, section: &Section) -> WalkRelocations<'a> {
+        section.walk_relocations(self.bytes)
     }
 
     /// The symbols, which are read as the walk goes on. The first call tests the whole string table; another one, or one of

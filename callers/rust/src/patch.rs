@@ -2,16 +2,11 @@
 
 use std::io;
 
+use crate::constants::{NUM_DATA_DIRECTORIES, SIZEOF_DATA_DIRECTORY, SIZEOF_SECTION_TABLE};
 use crate::layout::Layout;
 use crate::memory::room;
+use crate::raw::OptionalHeader;
 use crate::rows::{DOS_HEADER, Header, Section};
-
-// The size of a section's record, in bytes.
-const SECTION_RECORD: usize = 40;
-
-// A file has sixteen data directories at most, of eight bytes each.
-const DIRECTORIES: usize = 16;
-const DIRECTORY: usize = 8;
 
 // The file has no place for what is given.
 fn no_place(why: &'static str) -> io::Error {
@@ -20,15 +15,20 @@ fn no_place(why: &'static str) -> io::Error {
 
 impl Layout<'_> {
     /// The file with this header, and with these records of its first sections, in place of its own, and else as it was
-    /// read. A data directory that is `None` is written as zeros.
+    /// read. A data directory that is `None` is written as zeros, also one by which a larger `number_of_rva_and_sizes`
+    /// adds to the file's own.
     ///
     /// # Errors
-    /// [`io::ErrorKind::InvalidInput`] where the file has no place for what is given: for an optional header or a
-    /// directory, which may not reach into the section table but where they say what stands there; for more sections than
-    /// it has, past the file, or where anything but zeros stands, or before the data of a section; and so where
-    /// permissive mode replaced the DOS stub, where the header leads elsewhere than the file's own, and where it says
-    /// another size of the optional header, which would move the section table. As of [`Header::write`], and
-    /// [`io::ErrorKind::OutOfMemory`].
+    /// [`io::ErrorKind::InvalidInput`] where the file has no place for what is given:
+    ///
+    /// - An optional header or a directory may reach into the section table only where both say the same.
+    /// - Another `number_of_rva_and_sizes` has to count directories that end in the optional header.
+    /// - More sections than the file has, given or counted by the COFF header, need zeros in their place, before the data of
+    ///   all sections.
+    /// - Permissive mode has not replaced the DOS stub, and the header leads where the file's own does.
+    /// - It says no other size of the optional header, which would move the section table.
+    ///
+    /// As of [`Header::write`], and [`io::ErrorKind::OutOfMemory`].
     ///
     /// ```no_run
     /// # let bytes = [];
@@ -48,7 +48,15 @@ impl Layout<'_> {
         let mut file = room(self.bytes.len())?;
         file.extend_from_slice(self.bytes);
         let table = present.section_table();
-        let written = written(&present, header)?;
+        let [own, counted] = [&present, header].map(|it| it.coff_header.number_of_sections);
+        let counted = if counted == own { 0 } else { counted };
+        self.test_room(table, sections.len().max(counted.into()))?;
+        for (index, section) in sections.iter().enumerate() {
+            let mut record = [0; SIZEOF_SECTION_TABLE];
+            section.write(&mut record)?;
+            put(&mut file, table + SIZEOF_SECTION_TABLE * index, &record)?;
+        }
+        let written = written(&present, header, table)?;
         let (front, rest) = written.split_at(table.min(written.len()));
         if !rest.is_empty() && file.get(table..written.len()) != Some(rest) {
             return Err(no_place(
@@ -56,19 +64,13 @@ impl Layout<'_> {
             ));
         }
         put(&mut file, 0, front)?;
-        self.test_room(table, sections.len())?;
-        for (index, section) in sections.iter().enumerate() {
-            let mut record = [0; SECTION_RECORD];
-            section.write(&mut record)?;
-            put(&mut file, table + SECTION_RECORD * index, &record)?;
-        }
         Ok(file)
     }
 
     // Tests that so many records have room in the section table: past the file's own, zeros before all data.
     fn test_room(&self, table: usize, count: usize) -> io::Result<()> {
-        let present = table + SECTION_RECORD * self.head.file.sections;
-        let end = table.saturating_add(count.saturating_mul(SECTION_RECORD));
+        let present = table + SIZEOF_SECTION_TABLE * self.head.file.sections;
+        let end = table.saturating_add(count.saturating_mul(SIZEOF_SECTION_TABLE));
         let mut with_data = self
             .sections()
             .filter(|s| s.size_of_raw_data > 0 && s.pointer_to_raw_data > 0);
@@ -92,7 +94,8 @@ fn test_header(present: &Header, header: &Header) -> io::Result<()> {
     };
     let sizes = [present, header].map(|it| it.coff_header.size_of_optional_header);
     let have_optional = [present, header].map(|it| it.optional_header.is_some());
-    let mut past = header.data_directories[directories(present)..].iter();
+    let places = directories(present).max(directories(header));
+    let mut past = header.data_directories[places..].iter();
     let facts = [
         (
             is_in_place(present),
@@ -119,24 +122,40 @@ fn test_header(present: &Header, header: &Header) -> io::Result<()> {
     wrong.map_or(Ok(()), |(_, why)| Err(no_place(why)))
 }
 
-// How many data directories a file has.
+// How many data directories a header counts, of those that a file may have.
 fn directories(header: &Header) -> usize {
-    let count = header
-        .optional_header
-        .map(|it| it.windows_fields.number_of_rva_and_sizes);
-    (count.unwrap_or(0) as usize).min(DIRECTORIES)
+    let count = header.optional_header.map_or(0, counted);
+    (count as usize).min(NUM_DATA_DIRECTORIES)
 }
 
-// The bytes of a header, up to the last directory that the file has.
-fn written(present: &Header, header: &Header) -> io::Result<Vec<u8>> {
+fn counted(header: OptionalHeader) -> u32 {
+    header.windows_fields.number_of_rva_and_sizes
+}
+
+// The bytes of a header, up to the last directory that the file has, or is given.
+fn written(present: &Header, header: &Header, table: usize) -> io::Result<Vec<u8>> {
     let size = header.write(&mut [])?;
     let mut written = room(size)?;
     written.resize(size, 0);
     header.write(&mut written)?;
-    if present.optional_header.is_some() {
-        written.truncate(size - DIRECTORY * (DIRECTORIES - directories(present)));
+    if let (Some(own), Some(given)) = (present.optional_header, header.optional_header) {
+        let end = |count| size - SIZEOF_DATA_DIRECTORY * (NUM_DATA_DIRECTORIES - count);
+        test_directories(own, given, end(directories(header)) <= table)?;
+        written.truncate(end(directories(present).max(directories(header))));
     }
     Ok(written)
+}
+
+// Tests that the directories that an optional header counts lie in it; those that the file's own counts may pass it.
+fn test_directories(own: OptionalHeader, given: OptionalHeader, lie_in_it: bool) -> io::Result<()> {
+    let [own, given] = [own, given].map(|it| (it.standard_fields.magic, counted(it)));
+    if given == own || lie_in_it && given.1 as usize <= NUM_DATA_DIRECTORIES {
+        Ok(())
+    } else {
+        Err(no_place(
+            "the optional header has no place for so many data directories",
+        ))
+    }
 }
 
 // Puts bytes at an offset of the file.

@@ -286,8 +286,7 @@ impl<'a> Pe<'a> {
     /// ```
     #[must_use]
     pub fn find_export(&self, name: impl AsRef<[u8]>) -> Option<Export<'a>> {
-        self.exports()
-            .find(|it| it.name.is_some_and(|its| its == *name.as_ref()))
+        self.exports().find(|it| it.is_named(name.as_ref()))
     }
 
     /// The entry of the export address table for an ordinal, also of an export without a name; `None`

@@ -97,7 +97,8 @@ impl Options {
         self
     }
 
-    /// The same options, with the imports read or not.
+    /// The same options, with the imports read or not. Where they are not, [`damage`](crate::Layout::damage) tells nothing of
+    /// them.
     ///
     /// ```
     /// use goblin_pe::Options;

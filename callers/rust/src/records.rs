@@ -951,7 +951,8 @@ pub struct Parts {
     pub sections: usize,
     /// How many more the COFF header says.
     pub missing_sections: usize,
-    /// Where the sections that are there and the tables lie, for walks over these.
+    /// Where the sections that are there and the tables lie, for walks over these, which are
+    /// refused for no section then.
     pub places: Places,
     /// The DOS header, zeros where it is refused.
     pub dos_header: DosHeader,

@@ -1,6 +1,10 @@
 //! What was read, row by row. Rows live as long as the bytes of the file.
 
-use crate::constants::COFF_RELOCATION_SIZE;
+use crate::constants::{
+    COFF_RELOCATION_SIZE, DOS_STUB_OFFSET, IMAGE_SYM_CLASS_EXTERNAL, IMAGE_SYM_CLASS_FILE,
+    IMAGE_SYM_CLASS_STATIC, IMAGE_SYM_CLASS_WEAK_EXTERNAL, IMAGE_SYM_DTYPE_FUNCTION,
+    IMAGE_SYM_DTYPE_SHIFT, SIZEOF_COFF_HEADER, SIZEOF_PE_MAGIC,
+};
 use crate::error::Error;
 use crate::iterators::{WalkRelocations, Words};
 use crate::memory::read_all;
@@ -107,8 +111,8 @@ pub(crate) fn section_index(number: i16) -> Option<usize> {
 }
 
 // The size of the DOS header, and that of the PE signature and the COFF header, in bytes.
-pub(crate) const DOS_HEADER: usize = 64;
-pub(crate) const SIGNATURE_AND_COFF_HEADER: usize = 24;
+pub(crate) const DOS_HEADER: usize = DOS_STUB_OFFSET as usize;
+pub(crate) const SIGNATURE_AND_COFF_HEADER: usize = SIZEOF_PE_MAGIC + SIZEOF_COFF_HEADER;
 
 // The file offset of the section table of an image.
 pub(crate) fn section_table(dos_header: &DosHeader, coff_header: &CoffHeader) -> usize {
@@ -635,6 +639,13 @@ pub struct Export<'a> {
     pub forwarder: Option<Forwarder<'a>>,
 }
 
+impl Export<'_> {
+    // Whether it has this name.
+    pub(crate) fn is_named(&self, name: &[u8]) -> bool {
+        self.name.is_some_and(|its| its == *name)
+    }
+}
+
 impl<'a> From<&raw::Export<'a>> for Export<'a> {
     fn from(x: &raw::Export<'a>) -> Export<'a> {
         let lib = Text(x.forward_lib.get());
@@ -771,9 +782,67 @@ pub struct Symbol<'a> {
 }
 
 impl<'a> Symbol<'a> {
+    /// Whether it defines a function: an external symbol of a section, whose type is a function.
+    ///
+    /// ```no_run
+    /// # let bytes = [];
+    /// let object = goblin_pe::Object::parse(&bytes)?;
+    /// let functions = object.symbols()?.filter(|it| it.is_function_definition());
+    /// println!("{} functions", functions.count());
+    /// # Ok::<(), goblin_pe::Error>(())
+    /// ```
+    #[must_use]
+    pub fn is_function_definition(&self) -> bool {
+        self.storage_class == IMAGE_SYM_CLASS_EXTERNAL
+            && self.section_number > 0
+            && self.typ >> IMAGE_SYM_DTYPE_SHIFT == IMAGE_SYM_DTYPE_FUNCTION
+    }
+
+    /// Whether another symbol is taken where it is not found.
+    ///
+    /// ```no_run
+    /// # let bytes = [];
+    /// let object = goblin_pe::Object::parse(&bytes)?;
+    /// let weak = object.symbols()?.find(|it| it.is_weak_external());
+    /// # Ok::<(), goblin_pe::Error>(())
+    /// ```
+    #[must_use]
+    pub fn is_weak_external(&self) -> bool {
+        self.storage_class == IMAGE_SYM_CLASS_WEAK_EXTERNAL
+    }
+
+    /// Whether it defines a section: a static symbol that auxiliary records follow.
+    ///
+    /// ```no_run
+    /// # let bytes = [];
+    /// let object = goblin_pe::Object::parse(&bytes)?;
+    /// for symbol in object.symbols()?.filter(|it| it.is_section_definition()) {
+    ///     println!("{:?}", symbol.aux_section_definition());
+    /// }
+    /// # Ok::<(), goblin_pe::Error>(())
+    /// ```
+    #[must_use]
+    pub fn is_section_definition(&self) -> bool {
+        self.storage_class == IMAGE_SYM_CLASS_STATIC && self.number_of_aux_symbols > 0
+    }
+
+    /// Whether it stands for a source file, whose name [`aux_file`](Self::aux_file) has.
+    ///
+    /// ```no_run
+    /// # let bytes = [];
+    /// let object = goblin_pe::Object::parse(&bytes)?;
+    /// let sources = object.symbols()?.filter(|it| it.is_file());
+    /// println!("{:?}", sources.filter_map(|it| it.aux_file()).collect::<Vec<_>>());
+    /// # Ok::<(), goblin_pe::Error>(())
+    /// ```
+    #[must_use]
+    pub fn is_file(&self) -> bool {
+        self.storage_class == IMAGE_SYM_CLASS_FILE
+    }
+
     /// The first auxiliary record, of a symbol that defines a function; `None` where it has none, as
-    /// in the calls below. None of them looks at the symbol: which kind its records are, its class tells, and its type
-    /// and section.
+    /// in the calls below. None of them looks at the symbol: which kind its records are, the calls above tell, and of a
+    /// function's start or end its class, `IMAGE_SYM_CLASS_FUNCTION`.
     ///
     /// ```no_run
     /// # let bytes = [];
@@ -808,7 +877,7 @@ impl<'a> Symbol<'a> {
     /// ```no_run
     /// # let bytes = [];
     /// let object = goblin_pe::Object::read(&bytes, &goblin_pe::Options::default())?;
-    /// for symbol in object.symbols()?.filter(|it| it.storage_class == 105) {
+    /// for symbol in object.symbols()?.filter(|it| it.is_weak_external()) {
     ///     let default = symbol.aux_weak_external().map(|it| it.tag_index);
     /// }
     /// # Ok::<(), goblin_pe::Error>(())
@@ -823,7 +892,7 @@ impl<'a> Symbol<'a> {
     /// ```no_run
     /// # let bytes = [];
     /// let object = goblin_pe::Object::read(&bytes, &goblin_pe::Options::default())?;
-    /// for symbol in object.symbols()?.filter(|it| it.storage_class == 3) {
+    /// for symbol in object.symbols()?.filter(|it| it.is_section_definition()) {
     ///     let length = symbol.aux_section_definition().map(|it| it.length);
     /// }
     /// # Ok::<(), goblin_pe::Error>(())
@@ -833,13 +902,15 @@ impl<'a> Symbol<'a> {
         raw::aux_section_definition(self.auxiliary)
     }
 
-    /// The name of a source file, of a symbol of class `IMAGE_SYM_CLASS_FILE`.
+    /// The name of a source file, of a symbol of class `IMAGE_SYM_CLASS_FILE`. It is empty where the auxiliary records
+    /// begin with four zeros: then the name stands in the string table, at the offset in the four bytes after them, where
+    /// [`Symbols::text_at`](crate::Symbols::text_at) reads it.
     ///
     /// ```no_run
     /// # let bytes = [];
     /// let object = goblin_pe::Object::read(&bytes, &goblin_pe::Options::default())?;
     /// let mut symbols = object.symbols()?;
-    /// let source = symbols.find_map(|it| it.aux_file().filter(|_| it.storage_class == 103));
+    /// let source = symbols.find_map(|it| it.aux_file().filter(|_| it.is_file()));
     /// # Ok::<(), goblin_pe::Error>(())
     /// ```
     #[must_use]

@@ -3,9 +3,9 @@
 use std::fmt;
 
 use crate::error::Error;
-use crate::iterators::Sections;
+use crate::iterators::{Sections, WalkRelocations};
 use crate::memory::read_all;
-use crate::raw::{self, TeHeader};
+use crate::raw::{self, Relocation, TeHeader};
 use crate::rows::{Section, section_index};
 
 // The size of the header, in bytes.
@@ -137,6 +137,52 @@ impl<'a> Te<'a> {
     /// ```
     pub fn section_data(&self, section: &Section) -> Result<(&'a [u8], usize), Error> {
         section.data(self.bytes)
+    }
+
+    /// The same as far as the file has it; see [`Section::available_data`].
+    ///
+    /// ```no_run
+    /// # let bytes = [];
+    /// let te = goblin_pe::Te::read(&bytes)?;
+    /// let code = te.section_by_name(".text").map(|s| te.available_section_data(&s));
+    /// # Ok::<(), goblin_pe::Error>(())
+    /// ```
+    #[must_use]
+    pub fn available_section_data(&self, section: &Section) -> (&'a [u8], usize) {
+        section.available_data(self.bytes)
+    }
+
+    /// The relocations of one of its sections; see [`Section::relocations`].
+    ///
+    /// # Errors
+    /// As of [`Section::relocations`].
+    ///
+    /// ```no_run
+    /// # let bytes = [];
+    /// let te = goblin_pe::Te::read(&bytes)?;
+    /// for section in te.sections() {
+    ///     println!("{} has {} relocations", section.name, te.relocations(&section)?.len());
+    /// }
+    /// # Ok::<(), goblin_pe::Error>(())
+    /// ```
+    pub fn relocations(&self, section: &Section) -> Result<Vec<Relocation>, Error> {
+        section.relocations(self.bytes)
+    }
+
+    /// A walk over all relocations of one of its sections; see [`Section::walk_relocations`].
+    ///
+    /// ```no_run
+    /// # let bytes = [];
+    /// let te = goblin_pe::Te::read(&bytes)?;
+    /// for section in te.sections() {
+    ///     let found = te.walk_relocations(&section).filter(Result::is_ok);
+    ///     println!("{} has {} relocations that can be read", section.name, found.count());
+    /// }
+    /// # Ok::<(), goblin_pe::Error>(())
+    /// ```
+    #[must_use]
+    pub fn walk_relocations(&self, section: &Section) -> WalkRelocations<'a> {
+        section.walk_relocations(self.bytes)
     }
 }
 

@@ -388,6 +388,11 @@ fn exports_are_found_by_name_and_by_ordinal() {
         );
     }
     assert_eq!(pe.find_export("nothing"), None);
+    let layout = Layout::parse(&bytes).unwrap();
+    for name in pe.exports().map(|it| it.name.unwrap()) {
+        assert_eq!(layout.find_export(name), Ok(pe.find_export(name)));
+    }
+    assert_eq!(layout.find_export("nothing"), Ok(None));
     let past = base + pe.export_addresses().len();
     assert_eq!(pe.find_export_by_ordinal(past), None);
     assert_eq!(pe.find_export_by_ordinal(base.wrapping_sub(1)), None);
@@ -724,7 +729,9 @@ fn objects_and_terse_executables() {
     );
     assert!(object.symbols().unwrap().all(|s| s.name.is_some()));
     for section in object.sections() {
-        let relocations = section.relocations(&bytes).unwrap();
+        let relocations = object.relocations(&section).unwrap();
+        let walked: Result<Vec<_>, _> = object.walk_relocations(&section).collect();
+        assert_eq!(walked.as_ref(), Ok(&relocations));
         assert_eq!(
             relocations.len(),
             usize::from(section.number_of_relocations)
@@ -747,8 +754,8 @@ fn objects_and_terse_executables() {
     let count = object.coff_header().number_of_symbol_table as usize;
     assert!(symbols.symbol_at(count).is_none() && symbols.symbol_at(usize::MAX).is_none());
     let sections = object.sections().len();
-    let definitions = object.symbols().unwrap().filter(|s| s.storage_class == 3);
-    for symbol in definitions.filter(|s| s.number_of_aux_symbols == 1) {
+    let definitions = object.symbols().unwrap();
+    for symbol in definitions.filter(|s| s.is_section_definition()) {
         let definition = symbol.aux_section_definition().unwrap();
         let section = object
             .sections()
@@ -768,6 +775,68 @@ fn objects_and_terse_executables() {
         (te.header().signature, te.sections().len()),
         (0x5A56, usize::from(bytes[4]))
     );
+    let mut section = te.sections().next().unwrap();
+    assert_eq!(te.relocations(&section), Ok(vec![]));
+    section.pointer_to_relocations = 40;
+    section.number_of_relocations = 2;
+    let found = te.relocations(&section).unwrap();
+    let addresses = found.iter().map(|it| u64::from(it.virtual_address));
+    assert!(addresses.eq([40, 50].map(|place| number(&bytes, place, 4))));
+    let walked: Result<Vec<_>, _> = te.walk_relocations(&section).collect();
+    assert_eq!(walked, Ok(found));
+}
+
+// Of a section that goes on for a byte after the file, as much as the file has.
+#[test]
+fn the_data_of_objects_and_terse_executables_as_far_as_the_file_has_it() {
+    let (bytes, stripped) = (sample("object_x64.obj"), sample("firmware_x64.te"));
+    let (object, te) = (Object::parse(&bytes).unwrap(), Te::read(&stripped).unwrap());
+    let mut of_object = object.section_by_name(".text").unwrap();
+    assert_eq!(
+        object.section_data(&of_object),
+        Ok(object.available_section_data(&of_object))
+    );
+    let mut of_te = te.sections().next().unwrap();
+    assert_eq!(
+        te.section_data(&of_te),
+        Ok(te.available_section_data(&of_te))
+    );
+    of_object.pointer_to_raw_data = bytes.len() as u32 - of_object.size_of_raw_data + 1;
+    of_te.pointer_to_raw_data = stripped.len() as u32 - of_te.size_of_raw_data + 1;
+    assert!(object.section_data(&of_object).is_err() && te.section_data(&of_te).is_err());
+    let rest = &bytes[of_object.pointer_to_raw_data as usize..];
+    assert_eq!(object.available_section_data(&of_object), (rest, 0));
+    let rest = &stripped[of_te.pointer_to_raw_data as usize..];
+    assert_eq!(te.available_section_data(&of_te), (rest, 0));
+}
+
+// What a symbol is for, by its class, its type, its section and what follows it.
+#[test]
+fn what_a_symbol_is_for() {
+    let bytes = sample("object_x64.obj");
+    let object = Object::parse(&bytes).unwrap();
+    let first = object.symbols().unwrap().next().unwrap();
+    for (storage_class, typ, section_number, count, kind) in [
+        (2, 0x20, 1, 0, 1),
+        (2, 0x20, 0, 0, 0),
+        (2, 0, 1, 0, 0),
+        (105, 0, 0, 1, 2),
+        (3, 0, 1, 1, 3),
+        (3, 0x20, 1, 0, 0),
+        (103, 0, -2, 1, 4),
+    ] {
+        let mut symbol = first;
+        (symbol.storage_class, symbol.typ) = (storage_class, typ);
+        (symbol.section_number, symbol.number_of_aux_symbols) = (section_number, count);
+        let is = [
+            symbol.is_function_definition(),
+            symbol.is_weak_external(),
+            symbol.is_section_definition(),
+            symbol.is_file(),
+        ];
+        let wanted = [1, 2, 3, 4].map(|it| it == kind);
+        assert_eq!(is, wanted, "{symbol:?}");
+    }
 }
 
 // The section has more relocations than its record can count, as the first of them says.
@@ -1409,6 +1478,55 @@ fn what_a_file_has_no_place_for_is_not_written() {
     }
 }
 
+// The header of a file with so many directories counted, in the file.
+fn counting(layout: &Layout, count: u32) -> std::io::Result<Vec<u8>> {
+    let mut header = layout.header();
+    let optional = header.optional_header.as_mut().unwrap();
+    optional.windows_fields.number_of_rva_and_sizes = count;
+    layout.patched(&header, &[])
+}
+
+// Of an optional header of 192 bytes, in which ten directories have a place, and which counts two.
+#[test]
+fn directories_that_have_no_place_in_the_optional_header_are_not_counted() {
+    let (mut bytes, table) = with_small_header(192);
+    bytes[table - 84..table - 80].copy_from_slice(&2_u32.to_le_bytes());
+    let options = Options::permissive();
+    let layout = Layout::read(&bytes, &options).unwrap();
+    for count in 0..=10 {
+        let made = counting(&layout, count).unwrap();
+        let again = Layout::read(&made, &options).unwrap();
+        let fields = again.optional_header().unwrap().windows_fields;
+        assert_eq!(fields.number_of_rva_and_sizes, count);
+        assert!(again.sections().eq(layout.sections()));
+    }
+    for count in [11, 16, 17, u32::MAX] {
+        assert!(is_no_place(counting(&layout, count)));
+    }
+    let mut header = layout.header();
+    header.data_directories[9] = Some(goblin_pe::DataDirectory::default());
+    assert!(is_no_place(layout.patched(&header, &[])));
+}
+
+// Of an optional header of 104 bytes, whose last two numbers are the name of the first section.
+#[test]
+fn sections_and_the_header_may_not_say_two_things() {
+    let (mut bytes, table) = with_small_header(104);
+    bytes[table..table + 8].copy_from_slice(b".tx\0\0\0\0\0");
+    let layout = Layout::read(&bytes, &Options::permissive()).unwrap();
+    let mut header = layout.header();
+    let mut section = layout.sections().next().unwrap();
+    section.raw_name = *b".ty\0\0\0\0\0";
+    assert!(is_no_place(layout.patched(&header, &[section])));
+    let optional = header.optional_header.as_mut().unwrap();
+    optional.windows_fields.loader_flags = u32::from_le_bytes(*b".ty\0");
+    let made = layout.patched(&header, &[section]).unwrap();
+    let again = Layout::read(&made, &Options::permissive()).unwrap();
+    section.name = Text(b".ty");
+    assert_eq!(again.sections().next(), Some(section));
+    assert_eq!(again.optional_header(), header.optional_header.as_ref());
+}
+
 #[test]
 fn sections_are_written_where_there_is_room() {
     let bytes = sample("imports_by_name_x64.dll");
@@ -1432,6 +1550,14 @@ fn sections_are_written_where_there_is_room() {
     sections.push(sections[0]);
     let layout = Layout::parse(&bytes).unwrap();
     assert!(is_no_place(layout.patched(&header, &sections)));
+    // (also where the header counts more than are given, which are zeros then)
+    let mut header = header;
+    header.coff_header.number_of_sections = room as u16;
+    let made = layout.patched(&header, &[]).unwrap();
+    let again = Layout::read(&made, &Options::permissive()).unwrap();
+    assert!(again.sections().len() == room && again.sections().take(own).eq(layout.sections()));
+    header.coff_header.number_of_sections += 1;
+    assert!(is_no_place(layout.patched(&header, &[])));
 }
 
 // A section that grows to 0x300 bytes in memory, of which the file has 0x200.
@@ -1506,10 +1632,18 @@ fn a_layout_reads_its_rich_header() {
     let (layout, pe) = (Layout::parse(&bytes).unwrap(), Pe::parse(&bytes).unwrap());
     assert_eq!(layout.rich_header(), Ok(pe.rich_header()));
     assert_eq!(layout.rich_entries().unwrap(), pe.rich_entries());
+    assert_eq!(layout.rich_rest(), Ok(None));
     assert_eq!(
         (pe.rich_header().unwrap().key, pe.rich_entries().len()),
         (0x1234, 2)
     );
+    // (four bytes more after the entries, which are no entry)
+    let end = 64 + rich.len() - 8;
+    bytes.copy_within(end..end + 8, end + 4);
+    bytes[end..end + 4].copy_from_slice(&7_u32.to_le_bytes());
+    let (layout, pe) = (Layout::parse(&bytes).unwrap(), Pe::parse(&bytes).unwrap());
+    assert!(pe.rich_rest().is_some() && pe.rich_entries().len() == 2);
+    assert_eq!(layout.rich_rest(), Ok(pe.rich_rest()));
 }
 
 // A copy of the walk before its first item goes again, and says how many records there are, whatever it has given.
