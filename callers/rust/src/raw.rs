@@ -2,7 +2,7 @@
 //! unsafe.
 
 use crate::constants::NUM_DATA_DIRECTORIES;
-use crate::numbers::RawPointerRule;
+use crate::numbers::{Part, RawPointerRule};
 use std::alloc::{self, handle_alloc_error};
 use std::ffi::c_void;
 use std::marker::PhantomData;
@@ -449,8 +449,7 @@ pub fn kind(bytes: &[u8]) -> u32 {
     unsafe { goblin_pe_raw_kind_of(bytes.as_ptr(), bytes.len()) }
 }
 
-/// What is read of an image: in one block of memory, which a call fills in place. It has 1,024 bytes; allocators are
-/// slower with blocks of more than 1,032.
+/// What is read of an image: in one block of memory, which a call fills in place.
 #[derive(Clone)]
 pub struct Head<'a> {
     /// The image without its tables.
@@ -463,10 +462,13 @@ pub struct Head<'a> {
     pub tables: Tables<'a>,
     /// What is said of the lists.
     pub rich_header: RichHeader,
-    pub imports: Table,
-    pub exports: Table,
+    pub imports: Part,
+    pub exports: Part,
     pub relocations: BaseRelocations,
 }
+
+// (glibc has no quick way for larger blocks)
+const _: () = assert!(size_of::<Head>() <= 1032);
 
 /// A block for a value that is not there yet; `None` where memory is refused.
 pub fn block<T>() -> Option<Box<MaybeUninit<T>>> {
@@ -538,8 +540,8 @@ pub fn open<'a>(
         fill_up(&raw mut (*head).directories, file.directories);
         (&raw mut (*head).sections).write(Vec::new());
         (&raw mut (*head).rich_header).write(file.rich_header);
-        (&raw mut (*head).imports).write(file.imports);
-        (&raw mut (*head).exports).write(file.exports);
+        (&raw mut (*head).imports).write(Part::from(file.imports));
+        (&raw mut (*head).exports).write(Part::from(file.exports));
         (&raw mut (*head).relocations).write(file.relocations);
         Ok(block.assume_init())
     }
@@ -582,8 +584,8 @@ pub fn read_layout<'a>(
         (&raw mut (*head).sections).write(sections);
         (&raw mut (*head).tables).write(Tables::default());
         (&raw mut (*head).rich_header).write(RichHeader::default());
-        (&raw mut (*head).imports).write(Table::default());
-        (&raw mut (*head).exports).write(Table::default());
+        (&raw mut (*head).imports).write(Part::Absent);
+        (&raw mut (*head).exports).write(Part::Absent);
         (&raw mut (*head).relocations).write(BaseRelocations::default());
         Ok(block.assume_init())
     }
@@ -638,8 +640,8 @@ pub fn read_parts<'a>(
         sections,
         tables: Tables::default(),
         rich_header: RichHeader::default(),
-        imports: Table::default(),
-        exports: Table::default(),
+        imports: Part::Absent,
+        exports: Part::Absent,
         relocations: BaseRelocations::default(),
     };
     (parts, head)
