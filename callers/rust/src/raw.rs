@@ -398,14 +398,15 @@ impl<T: Copy> Rows<T> {
 
     // Fills the room with the records of a call, as `fill` does.
     fn fill(&mut self, call: impl FnOnce(*mut T, usize, &mut usize) -> Fault) -> Fault {
-        let first = self.block.first.cast::<T>();
-        (self.next, self.end) = (first, first);
-        let mut count = 0;
-        let fault = call(first.as_ptr(), self.room, &mut count);
-        if fault.status == 0 {
-            // SAFETY: the library has filled so many records, which lie in the block.
-            self.end = unsafe { first.add(count.min(self.room)) };
+        let (first, room, mut count) = (self.block.first.cast::<T>(), self.room, 0);
+        let fault = call(first.as_ptr(), room, &mut count);
+        if fault.status != 0 {
+            count = 0;
         }
+        // SAFETY: the library has filled so many records, which lie in the block.
+        let end = unsafe { first.add(count.min(room)) };
+        // (what is written before the call is not known after it)
+        (self.next, self.end) = (first, end);
         fault
     }
 }
@@ -662,14 +663,15 @@ pub fn footprint(bytes: &[u8], options: &Options, ranges: &mut Ranges<'_>) -> Fa
 }
 
 // Walks that go on in a file whose tables lie at these places: each fills the rows as far as they have room, within so
-// many steps; 0 is no limit.
+// many steps; 0 is no limit. (The bytes are given by reference, as their pointer and length are then looked at for each
+// call, not for each record.)
 macro_rules! walks {
     ($($(#[$of:meta])* $name:ident by $call:ident from $position:ty => $record:ty;)*) => {$(
         $(#[$of])*
         // (an entry of the address table names no lifetime)
         #[allow(clippy::needless_lifetimes)]
         pub fn $name<'a>(
-            bytes: &'a [u8],
+            bytes: &&'a [u8],
             options: &Options,
             places: &Places,
             position: &mut $position,
@@ -877,7 +879,7 @@ pub fn find_offset(image: &Image<'_, '_>, rva: usize) -> Option<usize> {
 
 /// All relocations of a section from an index on; fills the rows as far as they have room.
 pub fn next_relocations(
-    bytes: &[u8],
+    bytes: &&[u8],
     section: &Section<'_>,
     position: &mut usize,
     steps: usize,
