@@ -1127,8 +1127,10 @@ mod tests {
                     .is_none()
             );
         }
-        let mut batches = Batches::new(0).within(1001);
-        assert_eq!(rest(0, &mut batches, 1000), 1000);
+        for enough in [1001, usize::MAX] {
+            let mut batches = Batches::new(0).within(enough);
+            assert_eq!(rest(0, &mut batches, 1000), 1000);
+        }
     }
 
     #[test]
