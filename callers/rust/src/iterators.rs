@@ -301,20 +301,15 @@ impl Position for usize {
 }
 
 // Records that are read some at a time, each time by the same call from where the last one ended.
+#[allow(clippy::struct_excessive_bools)]
 #[derive(Clone)]
 struct Batches<T: Copy, P> {
     // (none before the first are read)
     records: raw::Rows<T>,
-    // How many are read at once at first, then, and at last.
-    first: usize,
-    batch: usize,
-    most: usize,
+    // Whether each call makes an index of the sections.
+    is_indexed: bool,
     position: P,
-    // How many steps may be taken, and how many are left, where there is a limit.
-    limit: Option<usize>,
-    left: usize,
-    // Within how many steps the next call goes on at least, where the last ones gave little.
-    steps: usize,
+    limit: Limit,
     // Whether the records that were read last took half the room.
     had_many: bool,
     // Whether no refusal comes after records whose steps are not told.
@@ -323,21 +318,49 @@ struct Batches<T: Copy, P> {
     is_over: bool,
 }
 
+// How far a walk may go on.
+#[derive(Clone, Copy)]
+struct Limit {
+    // How many steps may be taken, and how many are left. (usize::MAX is no limit: nothing takes so many.)
+    most: usize,
+    left: usize,
+    // Within how many the next call goes on at least, where the last ones gave little.
+    next: usize,
+}
+
+impl Limit {
+    // Of so many steps.
+    const fn of(most: usize, left: usize) -> Self {
+        let next = 0;
+        Limit { most, left, next }
+    }
+
+    // Whether there is one.
+    fn is_there(self) -> bool {
+        self.most != usize::MAX
+    }
+}
+
 impl<T: Copy, P: Position> Batches<T, P> {
-    // From a position on, so many at once.
-    fn new(position: P, batch: usize) -> Self {
+    // From a position on.
+    fn new(position: P) -> Self {
         Batches {
             records: raw::Rows::new(),
-            first: (FIRST_BYTES / size_of::<T>()).clamp(1, batch),
-            batch,
-            most: batch,
+            is_indexed: false,
             position,
-            limit: None,
-            left: 0,
-            steps: 0,
+            limit: Limit::of(usize::MAX, usize::MAX),
             had_many: false,
             is_permissive: false,
             is_over: false,
+        }
+    }
+
+    // From a position of a table on, if there is one, in a file whose sections lie there.
+    fn of_table(places: &raw::Places, is_there: bool, position: P) -> Self {
+        Batches {
+            is_indexed: usize::from(places.number_of_sections) > MOST_WITHOUT_INDEX,
+            is_over: !is_there,
+            ..Self::new(position)
         }
     }
 
@@ -347,27 +370,8 @@ impl<T: Copy, P: Position> Batches<T, P> {
         self.records.truncate(steps);
         Batches {
             is_over: self.is_over && read <= steps,
-            limit: Some(steps),
-            left: steps.saturating_sub(read),
+            limit: Limit::of(steps, steps.saturating_sub(read)),
             ..self
-        }
-    }
-
-    // From a position of a table on, if there is one, in a file whose sections lie there: so many at once where no index
-    // of them is made.
-    fn of_table(places: &raw::Places, is_there: bool, position: P, batch: usize) -> Self {
-        let batches = Batches {
-            is_over: !is_there,
-            ..Self::new(position, batch)
-        };
-        if usize::from(places.number_of_sections) <= MOST_WITHOUT_INDEX {
-            return batches;
-        }
-        Batches {
-            first: INDEXED_BATCH,
-            batch: INDEXED_BATCH,
-            most: MOST_INDEXED,
-            ..batches
         }
     }
 
@@ -403,15 +407,16 @@ impl<T: Copy, P: Position> Batches<T, P> {
     ) -> Result<(), Error> {
         self.is_over = true;
         self.make_room()?;
+        self.had_many = false;
         // (where nothing is expected, there is no room, and the end is told by a step)
-        let steps = self.records.room().max(1).max(self.steps);
-        let steps = self.limit.map_or(0, |_| self.left.min(steps));
-        if let (Some(limit), 0) = (self.limit, steps) {
-            return Err(Error::out_of_steps(limit));
-        }
-        let taken = self.go_on(steps, call)?;
-        self.left -= taken;
-        Ok(())
+        let room = self.records.room().max(1);
+        let Limit { most, left, next } = self.limit;
+        let steps = match left.min(room.max(next)) {
+            _ if !self.limit.is_there() => 0,
+            0 => return Err(Error::out_of_steps(most)),
+            steps => steps,
+        };
+        self.go_on(steps, call)
     }
 
     // Makes room for the next records: for more than before where these took half of it, or, where memory for more is
@@ -419,9 +424,11 @@ impl<T: Copy, P: Position> Batches<T, P> {
     fn make_room(&mut self) -> Result<(), Error> {
         let had = self.records.room();
         let room = match had {
-            0 => self.first,
+            0 if self.is_indexed => INDEXED_BATCH,
+            0 => (FIRST_BYTES / size_of::<T>()).clamp(1, BATCH),
             _ if !self.had_many => had,
-            _ => (4 * had).clamp(self.batch, self.most),
+            _ if self.is_indexed => (4 * had).min(MOST_INDEXED),
+            _ => BATCH,
         };
         // (of a section without relocations this is none, as of most)
         let room = room.min(self.position.most_left());
@@ -431,28 +438,29 @@ impl<T: Copy, P: Position> Batches<T, P> {
         Err(Error::MEMORY)
     }
 
-    // Calls within so many steps, 0 for no limit, and answers how many the call has taken, where there is a limit. Where
-    // that is not known, the position is put back, and the call is made within half of them.
+    // Calls within so many steps, 0 for no limit. Where it is then not known how many the call has taken, the position is
+    // put back, and the call is made within half of them.
     fn go_on(
         &mut self,
         mut steps: usize,
         mut call: impl FnMut(&mut P, usize, &mut raw::Rows<T>) -> Fault,
-    ) -> Result<usize, Error> {
-        self.had_many = false;
+    ) -> Result<(), Error> {
         loop {
-            let before = self.position.clone();
+            let before = (steps != 0).then(|| self.position.clone());
             Error::test(call(&mut self.position, steps, &mut self.records))?;
             let count = self.records.len();
             self.had_many |= 2 * count >= self.records.room();
-            let taken = match self.position.taken_from(&before, count) {
-                _ if steps == 0 => Some(0),
-                None => self.has_taken(steps).then_some(steps),
-                told => told,
+            let Some(before) = before else {
+                self.is_over = count == 0 || self.is_end(0);
+                return Ok(());
             };
+            let told = self.position.taken_from(&before, count);
+            let taken = told.or_else(|| self.has_taken(steps).then_some(steps));
             if let Some(taken) = taken {
-                self.is_over = (count == 0 && steps == 0) || self.is_end(steps);
-                self.steps = self.next_steps(steps);
-                return Ok(taken);
+                self.is_over = self.is_end(steps);
+                self.limit.left -= taken;
+                self.limit.next = self.next_steps(steps);
+                return Ok(());
             }
             self.position = before;
             steps /= 2;
@@ -473,7 +481,7 @@ impl<T: Copy, P: Position> Batches<T, P> {
     // the room is full, or a refusal follows the records: that comes yet where as many steps are left.
     fn has_taken(&self, steps: usize) -> bool {
         let count = self.records.len();
-        let comes_yet = self.is_permissive || steps <= self.left - steps;
+        let comes_yet = self.is_permissive || steps <= self.limit.left - steps;
         let is_counted = count < self.records.room() && comes_yet;
         count == 0 || count == steps || is_counted || self.is_end(steps)
     }
@@ -504,7 +512,7 @@ macro_rules! walks {
                 let start: fn(&raw::Places) -> $position = $start;
                 let batches = Batches {
                     is_permissive: options.is_permissive,
-                    ..Batches::of_table(&places, places.$is_there, start(&places), BATCH)
+                    ..Batches::of_table(&places, places.$is_there, start(&places))
                 };
                 $name { bytes, options, places, batches }
             }
@@ -525,7 +533,7 @@ macro_rules! walks {
 
             fn next(&mut self) -> Option<Result<$item, Error>> {
                 let found = self.batches.next(|position, steps, records| {
-                    $call(self.bytes, &self.options, &self.places, position, steps, records)
+                    $call(&self.bytes, &self.options, &self.places, position, steps, records)
                 })?;
                 Some(found.map(<$item>::from))
             }
@@ -571,7 +579,7 @@ impl WalkImports<'_> {
 // The call of the walk over exports, in which a step looks at a name pointer, whether or not it gives one.
 #[allow(clippy::trivially_copy_pass_by_ref)]
 fn next_exports<'a>(
-    bytes: &'a [u8],
+    bytes: &&'a [u8],
     options: &Options,
     places: &raw::Places,
     position: &mut ExportPosition,
@@ -587,7 +595,7 @@ fn next_exports<'a>(
 // The call of the walk over blocks, as those of the other walks are.
 #[allow(clippy::trivially_copy_pass_by_ref)]
 fn next_blocks<'a>(
-    bytes: &'a [u8],
+    bytes: &&'a [u8],
     options: &Options,
     places: &raw::Places,
     position: &mut BlockPosition,
@@ -619,7 +627,7 @@ impl<'a> WalkExportAddresses<'a> {
             options,
             places,
             ordinal: 0,
-            batches: Batches::of_table(&places, places.has_exports, 0, BATCH),
+            batches: Batches::of_table(&places, places.has_exports, 0),
             parts: None,
         }
     }
@@ -645,7 +653,7 @@ impl<'a> WalkExportAddresses<'a> {
                 }
                 *ordinal = directory.table.ordinal_base as usize;
             }
-            raw::next_export_addresses(bytes, options, places, position, steps, records)
+            raw::next_export_addresses(&bytes, options, places, position, steps, records)
         })?;
         Some(found.copied())
     }
@@ -703,7 +711,7 @@ impl<'a> WalkRelocations<'a> {
         WalkRelocations {
             bytes,
             section,
-            batches: Batches::new(start, BATCH),
+            batches: Batches::new(start),
         }
     }
 }
@@ -724,7 +732,7 @@ impl Iterator for WalkRelocations<'_> {
     fn next(&mut self) -> Option<Result<Relocation, Error>> {
         let found = self.batches.next(|position, steps, records| {
             raw::next_relocations(
-                self.bytes,
+                &self.bytes,
                 &self.section,
                 &mut position.index,
                 steps,
@@ -781,7 +789,7 @@ impl<'a> Symbols<'a> {
     // Those of a table, the first of them read.
     fn by(bytes: &'a [u8], table: raw::SymbolTable) -> Result<Self, Error> {
         let most = table.record_count as usize;
-        let mut batches = Batches::new(CountedPosition { index: 0, most }, BATCH);
+        let mut batches = Batches::new(CountedPosition { index: 0, most });
         batches.fill(|position, steps, records| {
             raw::next_symbols(bytes, &table, &mut position.index, steps, records)
         })?;
@@ -972,7 +980,7 @@ mod tests {
     #[test]
     fn each_record_comes_once_also_from_a_copy() {
         for total in [0, 1, 127, 128, 129, 383, 384, 385, 1000] {
-            let mut batches = Batches::new(0, BATCH);
+            let mut batches = Batches::new(0);
             assert_eq!(rest(0, &mut batches.clone(), total), total);
             for index in 0..total {
                 let record = batches.next(|at, steps, to| read(total, false, at, steps, to));
@@ -1018,7 +1026,7 @@ mod tests {
 
     // What a walk over a table gives within so many steps, and how many calls it made.
     fn seen(table: &[u8], steps: usize) -> (Vec<Result<usize, u32>>, usize) {
-        let mut batches = Batches::new(raw::ImportCursor::default(), BATCH).within(steps);
+        let mut batches = Batches::new(raw::ImportCursor::default()).within(steps);
         let (mut found, mut calls) = (Vec::new(), 0);
         while let Some(it) = batches.next(|at, steps, to| {
             calls += 1;
@@ -1086,7 +1094,7 @@ mod tests {
     fn a_limit_counts_what_was_read_before_it() {
         let table = b"x".repeat(2000);
         for (taken, steps) in [(1, 5), (1, 127), (1, 500), (128, 5), (130, 0)] {
-            let mut batches = Batches::new(raw::ImportCursor::default(), BATCH);
+            let mut batches = Batches::new(raw::ImportCursor::default());
             for index in 0..taken {
                 let found = batches.next(|at, _, to| look(&table, at, usize::MAX, to));
                 assert_eq!(found.and_then(Result::ok), Some(&index));
@@ -1105,7 +1113,7 @@ mod tests {
     #[test]
     fn a_limit_ends_a_walk_with_an_error_that_says_so() {
         for (total, steps) in [(1000, 0), (1000, 1), (1000, 128), (1000, 500), (1000, 1000)] {
-            let mut batches = Batches::new(0, BATCH).within(steps);
+            let mut batches = Batches::new(0).within(steps);
             for index in 0..steps {
                 let record = batches.next(|at, steps, to| read(total, false, at, steps, to));
                 assert_eq!(record.unwrap().ok(), Some(&index));
@@ -1119,13 +1127,15 @@ mod tests {
                     .is_none()
             );
         }
-        let mut batches = Batches::new(0, BATCH).within(1001);
-        assert_eq!(rest(0, &mut batches, 1000), 1000);
+        for enough in [1001, usize::MAX] {
+            let mut batches = Batches::new(0).within(enough);
+            assert_eq!(rest(0, &mut batches, 1000), 1000);
+        }
     }
 
     #[test]
     fn nothing_comes_after_a_refusal() {
-        let mut batches = Batches::new(0, BATCH);
+        let mut batches = Batches::new(0);
         for _ in 0..128 {
             let record = batches.next(|at, steps, to| read(128, true, at, steps, to));
             assert!(record.unwrap().is_ok());

@@ -588,7 +588,7 @@ impl<'a> Layout<'a> {
         }
         let places = &self.head.file.places;
         let fault = raw::next_export_addresses(
-            self.bytes,
+            &self.bytes,
             &self.options,
             places,
             &mut index,

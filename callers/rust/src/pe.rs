@@ -193,7 +193,7 @@ impl<'a> Pe<'a> {
     /// ```
     #[must_use]
     pub fn import_table(&self) -> Part {
-        Part::from(self.layout.head.imports)
+        self.layout.head.imports
     }
 
     /// The imports.
@@ -258,7 +258,7 @@ impl<'a> Pe<'a> {
     /// ```
     #[must_use]
     pub fn export_table(&self) -> Part {
-        Part::from(self.layout.head.exports)
+        self.layout.head.exports
     }
 
     /// The exports.

@@ -2,7 +2,7 @@
 //! unsafe.
 
 use crate::constants::NUM_DATA_DIRECTORIES;
-use crate::numbers::RawPointerRule;
+use crate::numbers::{Part, RawPointerRule};
 use std::alloc::{self, handle_alloc_error};
 use std::ffi::c_void;
 use std::marker::PhantomData;
@@ -399,14 +399,15 @@ impl<T: Copy> Rows<T> {
 
     // Fills the room with the records of a call, as `fill` does.
     fn fill(&mut self, call: impl FnOnce(*mut T, usize, &mut usize) -> Fault) -> Fault {
-        let first = self.block.first.cast::<T>();
-        (self.next, self.end) = (first, first);
-        let mut count = 0;
-        let fault = call(first.as_ptr(), self.room, &mut count);
-        if fault.status == 0 {
-            // SAFETY: the library has filled so many records, which lie in the block.
-            self.end = unsafe { first.add(count.min(self.room)) };
+        let (first, room, mut count) = (self.block.first.cast::<T>(), self.room, 0);
+        let fault = call(first.as_ptr(), room, &mut count);
+        if fault.status != 0 {
+            count = 0;
         }
+        // SAFETY: the library has filled so many records, which lie in the block.
+        let end = unsafe { first.add(count.min(room)) };
+        // (what is written before the call is not known after it)
+        (self.next, self.end) = (first, end);
         fault
     }
 }
@@ -450,8 +451,7 @@ pub fn kind(bytes: &[u8]) -> u32 {
     unsafe { goblin_pe_raw_kind_of(bytes.as_ptr(), bytes.len()) }
 }
 
-/// What is read of an image: in one block of memory, which a call fills in place. It has 1,024 bytes; allocators are
-/// slower with blocks of more than 1,032.
+/// What is read of an image: in one block of memory, which a call fills in place.
 #[derive(Clone)]
 pub struct Head<'a> {
     /// The image without its tables.
@@ -464,10 +464,13 @@ pub struct Head<'a> {
     pub tables: Tables<'a>,
     /// What is said of the lists.
     pub rich_header: RichHeader,
-    pub imports: Table,
-    pub exports: Table,
+    pub imports: Part,
+    pub exports: Part,
     pub relocations: BaseRelocations,
 }
+
+// (glibc has no quick way for larger blocks)
+const _: () = assert!(size_of::<Head>() <= 1032);
 
 /// A block for a value that is not there yet; `None` where memory is refused.
 pub fn block<T>() -> Option<Box<MaybeUninit<T>>> {
@@ -539,8 +542,8 @@ pub fn open<'a>(
         fill_up(&raw mut (*head).directories, file.directories);
         (&raw mut (*head).sections).write(Vec::new());
         (&raw mut (*head).rich_header).write(file.rich_header);
-        (&raw mut (*head).imports).write(file.imports);
-        (&raw mut (*head).exports).write(file.exports);
+        (&raw mut (*head).imports).write(Part::from(file.imports));
+        (&raw mut (*head).exports).write(Part::from(file.exports));
         (&raw mut (*head).relocations).write(file.relocations);
         Ok(block.assume_init())
     }
@@ -583,8 +586,8 @@ pub fn read_layout<'a>(
         (&raw mut (*head).sections).write(sections);
         (&raw mut (*head).tables).write(Tables::default());
         (&raw mut (*head).rich_header).write(RichHeader::default());
-        (&raw mut (*head).imports).write(Table::default());
-        (&raw mut (*head).exports).write(Table::default());
+        (&raw mut (*head).imports).write(Part::Absent);
+        (&raw mut (*head).exports).write(Part::Absent);
         (&raw mut (*head).relocations).write(BaseRelocations::default());
         Ok(block.assume_init())
     }
@@ -639,8 +642,8 @@ pub fn read_parts<'a>(
         sections,
         tables: Tables::default(),
         rich_header: RichHeader::default(),
-        imports: Table::default(),
-        exports: Table::default(),
+        imports: Part::Absent,
+        exports: Part::Absent,
         relocations: BaseRelocations::default(),
     };
     (parts, head)
@@ -661,14 +664,15 @@ pub fn footprint(bytes: &[u8], options: &Options, ranges: &mut Ranges<'_>) -> Fa
 }
 
 // Walks that go on in a file whose tables lie at these places: each fills the rows as far as they have room, within so
-// many steps; 0 is no limit.
+// many steps; 0 is no limit. (The bytes are given by reference, as their pointer and length are then looked at for each
+// call, not for each record.)
 macro_rules! walks {
     ($($(#[$of:meta])* $name:ident by $call:ident from $position:ty => $record:ty;)*) => {$(
         $(#[$of])*
         // (an entry of the address table names no lifetime)
         #[allow(clippy::needless_lifetimes)]
         pub fn $name<'a>(
-            bytes: &'a [u8],
+            bytes: &&'a [u8],
             options: &Options,
             places: &Places,
             position: &mut $position,
@@ -876,7 +880,7 @@ pub fn find_offset(image: &Image<'_, '_>, rva: usize) -> Option<usize> {
 
 /// All relocations of a section from an index on; fills the rows as far as they have room.
 pub fn next_relocations(
-    bytes: &[u8],
+    bytes: &&[u8],
     section: &Section<'_>,
     position: &mut usize,
     steps: usize,
