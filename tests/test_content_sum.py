@@ -203,8 +203,11 @@ class Builds(Tree):
 
     def test_words_for_the_linker(self):
         need("readelf")
-        succeed([self.top / "callers/build", self.lib], env=self.env(LDFLAGS="-Wl,-z,now -Wl,-z,relro"))
+        words = "-Wl,-z,now -Wl,-z,relro"
+        succeed([self.top / "callers/build", self.lib], env=self.env(LDFLAGS=words))
         self.assertIn("BIND_NOW", succeed(["readelf", "-d", self.lib / self.shared()]))
+        self.assertRegex((self.lib / (self.shared() + ".sum")).read_text("utf-8"), rf"(?m)^compiler  .* {words}$")
+        self.assertIn(f" {words}\n", self.proved())
 
     def test_libraries_that_are_linked_from_another_copy(self):
         """They serve where their sources are the same, and stay."""
@@ -332,9 +335,19 @@ class Packs(Tree):
         (self.lib / "libgoblin_pe.so").write_bytes(b"another")
         self.refused("libgoblin_pe.so is not what was built")
 
-    def test_a_header_of_another_commit(self):
-        (self.lib / "goblin_pe.h").write_text("\n", "ascii")
-        self.refused("goblin_pe.h is not that of these sources")
+    def test_a_sum_of_another_library(self):
+        for archive in self.lib / "libgoblin_pe.a.sum", self.archive.with_name("libgoblin_pe_c.a.sum"):
+            with self.subTest(archive.name):
+                shared, = self.lib.glob("*.so.*.sum")
+                shutil.copy(archive, shared)
+                self.refused(f"{shared.stem} is not what was built")
+
+    def test_headers_of_another_commit(self):
+        header = self.lib / "goblin_pe_constants.h"
+        for change in (lambda: header.write_text("\n", "ascii"), header.unlink, lambda: self.written("a lib/goblin_pe_constants_2.h", b"")):
+            self.build()
+            change()
+            self.refused(r"goblin_pe_constants\w*\.h is not that of these sources")
 
     def test_a_library_of_other_sources(self):
         self.put("goblin_base/specs/Base.antt", "is not")
