@@ -56,6 +56,12 @@ class Library(Case):
                 self.assertEqual((libraries / "libgoblin_pe.so").read_bytes(), (library() / "libgoblin_pe.so").read_bytes())
         self.assertFalse((self.folder / "usr/lib").exists())
 
+    def test_folders_that_are_no_absolute_paths(self):
+        for prefix, libdir in (("usr/local", "/usr/lib"), ("/usr/local", "lib64")):
+            env = environment(GOBLIN_PE_LIB=str(library()), DESTDIR=f"{self.folder}/", LIBDIR=libdir)
+            status, _, said = run([CALLERS / "install", prefix], env=env, cwd=self.folder)
+            self.assertEqual((status, said.startswith(b"usage: "), list(self.folder.iterdir())), (2, True, []))
+
     def test_everybody_can_read_what_is_installed(self):
         """Whatever the umask is, and the owner alone writes it; the license is there."""
         for umask in ("077", "000"):
@@ -71,6 +77,7 @@ class Library(Case):
         install(self.folder)
         found = {it: re.findall(r'(?m)^(?:version|__version__|VERSION) = "(.*)"$', (CALLERS / it).read_text("utf-8"))[0] for it in
                  ("generate.py", "rust/Cargo.toml", "rust/Cargo.lock", "python/pyproject.toml", "python/goblin_pe/__init__.py")}
+        found["CHANGELOG.md"] = re.search(r"(?m)^## \[(.*)\]", (CALLERS.parent / "CHANGELOG.md").read_text("utf-8"))[1]
         found["pkg-config"] = succeed(["pkg-config", "--modversion", "goblin_pe"], env=environment(PKG_CONFIG_PATH=f"{self.folder}/lib/pkgconfig")).strip()
         self.assertEqual(len(set(found.values())), 1, found)
 
