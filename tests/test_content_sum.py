@@ -302,6 +302,13 @@ class Lists(Tree):
         self.assertEqual(run([self.top / "tools/content_sum", "all", "rt", "ci"], cwd=self.top, env=self.env())[0], 1)
         self.assertFalse(self.program.exists())
 
+    def test_what_the_gate_left_half_built(self):
+        """A library without its format is none, whatever the status was."""
+        (self.kit / "bin/rt").write_text("#!/bin/sh\nmkdir -p crates/goblin_base/out/rlib/goblin_base.rlib\nexit 1\n", "ascii")
+        self.assertEqual(run([self.top / "tools/content_sum", "all", "rt", "ci"], cwd=self.top, env=self.env())[0], 1)
+        (self.kit / "bin/rt").write_text(RT, "ascii")
+        self.assertEqual(self.build(), ALL)
+
 
 class Packs(Tree):
     """What callers/package takes."""
