@@ -201,23 +201,23 @@ module _ (strict : Bool) (format : Format EntryValue) (offset_of : ℕ → Optio
   unnumbered rva = then-off (in_its_place strict 0 (offset_of rva))
 
   if-cause : (p : Option ℕ) (e : ErrorOf)
-      → (read_if (numbered_libraries_at strict format offset_of) p).IsCause bytes e
       → (read_if (libraries_at strict format offset_of) p).IsCause bytes e
+      → (read_if (numbered_libraries_at strict format offset_of) p).IsCause bytes e
   unfolding numbered_libraries_at
   if-cause None e h = h
   if-cause (Some o) e h = h
 
-  -- it is refused as that is
+  -- what is numbered is refused as import data is
   pub unnumbered-cause : (rva : ℕ) (e : ErrorOf)
-      → (numbered_data strict format offset_of rva).IsCause bytes e
       → (import_data strict format offset_of rva).IsCause bytes e
+      → (numbered_data strict format offset_of rva).IsCause bytes e
   unfolding import_data numbered_data
   unnumbered-cause rva e h = by (in_its_place strict 0 (offset_of rva)) h
     where
       by : (o : Option ℕ)
           → FirstFault o ((offset_at offset_of rva).IsCause bytes)
-          (λ p. (read_past_front strict (numbered_libraries_at strict format offset_of) p).IsCause bytes) e
-          → FirstFault o ((offset_at offset_of rva).IsCause bytes)
           (λ p. (read_past_front strict (libraries_at strict format offset_of) p).IsCause bytes) e
+          → FirstFault o ((offset_at offset_of rva).IsCause bytes)
+          (λ p. (read_past_front strict (numbered_libraries_at strict format offset_of) p).IsCause bytes) e
       by None h = h
       by (Some p) h = if-cause (first_record_offset strict (Some p)) e h
