@@ -1,12 +1,12 @@
 -- What becomes of a table that was asked for, as a part of a file.
-use Rattle.std.proofs.Common.{◌≡◌, ℕ, List, Bool, true, false, Option, Some, None, refl, ap, ◌∙◌}
+use Rattle.std.proofs.Common.{◌≡◌, ℕ, List, Bool, true, false, Option, Some, None, option_map, refl, ap, subst, ◌∙◌}
 use Rattle.std.specs.Prelude.{IfOk, Result, Ok, Err}
 use Rattle.goblin_base.specs.declared.error.ErrorOf.{ErrorOf}
 use Rattle.goblin_base.specs.declared.error.ErrorOf.TheVariants.{BadMagic, BufferTooShort}
 use Rattle.goblin_base.specs.declared.error.ErrorOf.TheVariants.{Malformed, Memory, Read}
 use Rattle.goblin_base.specs.Answers.{Answers, AnswersOrMemory, IsMemory}
 use Rattle.goblin_base.specs.Reading.{Reading, Reads, ReadsOrMemory}
-use Rattle.readings.specs.Reads.{pick, turned}
+use Rattle.readings.specs.Reads.{mapped, pick, turned}
 use Rattle.goblin_pe.specs.declared.whole.Part.{Part}
 use Rattle.goblin_pe.specs.declared.whole.Part.TheVariants.{Absent, Refused}
 use Rattle.goblin_pe.specs.declared.whole.Part.TheVariants as part
@@ -90,16 +90,26 @@ module _ {X Y : Type 0} (view : X → Y) (r : Reading Y) (bytes : List ℕ) (str
   becomes_part h is =
       becomes_answered view (r.value bytes) (r.IsCause bytes) made strict asked h is
 
+pub part_of-mapped : {A B : Type 0} (f : A → B) (strict : Bool) (o : Option A)
+    → part_of strict (option_map f o) ≡ option_map (part_map f) (part_of strict o)
+part_of-mapped f strict (Some x) = refl
+part_of-mapped f true None = refl
+part_of-mapped f false None = refl
+
+-- the part of what is made of a table
+pub becomes_mapped : {X Y Z : Type 0} (view : X → Z) (f : Y → Z) (r : Reading Y) (bytes : List ℕ)
+    (strict : Bool) (asked : Result X ErrorOf) (made : Result (Part X) ErrorOf)
+    → ReadsOrMemory view asked (mapped f r) bytes → BecomesPart strict asked made
+    → ReadsOrMemory (part_map view) made (mapped (part_map f) (turned (part_of strict) r)) bytes
+becomes_mapped {X} {Y} {Z} view f r bytes strict asked made h is =
+    subst (λ (o : Option (Part Z)). AnswersOrMemory (part_map view) made o (r.IsCause bytes))
+    (part_of-mapped f strict (r.value bytes))
+    (becomes_part view (mapped f r) bytes strict asked made h is)
+
 pub part_map-same : {X : Type 0} (p : Part X) → part_map (λ x. x) p ≡ p
 part_map-same Absent = refl
 part_map-same (part.Read x) = refl
 part_map-same Refused = refl
-
-pub part_map-twice : {A B C : Type 0} (f : A → B) (g : B → C) (p : Part A)
-    → part_map (λ x. g (f x)) p ≡ part_map g (part_map f p)
-part_map-twice f g Absent = refl
-part_map-twice f g (part.Read x) = refl
-part_map-twice f g Refused = refl
 
 same_part : {X : Type 0} (made : Result (Part X) ErrorOf) (r : Reading (Part X)) (bytes : List ℕ)
     → ReadsOrMemory (part_map (λ x. x)) made r bytes → ReadsOrMemory (λ x. x) made r bytes
