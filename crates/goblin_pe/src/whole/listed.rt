@@ -1,6 +1,6 @@
 //! The tables that a file's data directories lead to, as lists.
 
-ghost use Rattle.std.specs.Prelude.{◌≡◌, ◌<◌, IfErr, IfOk, IsSomeAnd};
+ghost use Rattle.std.specs.Prelude.{◌≡◌, ◌<◌, IfErr, IfOk, IsSomeAnd, Some};
 ghost use Rattle.goblin_base.specs.Answers.{AnswersOrMemory, IsMemory};
 ghost use Rattle.goblin_base.specs.Reading.{ReadsOrMemory};
 ghost use Rattle.readings.specs.Reads.{mapped};
@@ -138,6 +138,9 @@ impl Places {
             ReadsOrMemory import_read_view result
             (mapped (both_lists places.magic) (numbered_data_part m.opts (offset_of m) places))
             bytes.now }
+        ensures listed { let m = map_of address_map.now in
+            IfOk result (λ read.
+            listed_imports_part m.opts (table_places self.now) read.0 ≡ Some (items_part read.1)) }
         ensures grown { let m = map_of address_map.now in
             IfErr result
             (λ e. IsMemory e → TakesImports m (table_places self.now) bytes.now) }
@@ -184,6 +187,9 @@ impl Places {
         ensures made { let m = map_of address_map.now in
             let places = table_places self.now in
             ReadsOrMemory listed_view result (listed_tables m.opts (offset_of m) places) bytes.now }
+        ensures listed { let m = map_of address_map.now in
+            IfOk result (λ t. listed_imports_part m.opts (table_places self.now) t.imports.0
+            ≡ Some (items_part t.imports.1)) }
         ensures grown { let m = map_of address_map.now in
             IfErr result
             (λ e. IsMemory e → TakesTables m (table_places self.now) bytes.now) }
