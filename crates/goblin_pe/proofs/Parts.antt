@@ -6,11 +6,12 @@ use Rattle.goblin_base.specs.declared.error.ErrorOf.TheVariants.{BadMagic, Buffe
 use Rattle.goblin_base.specs.declared.error.ErrorOf.TheVariants.{Malformed, Memory, Read}
 use Rattle.goblin_base.specs.Answers.{Answers, AnswersOrMemory, IsMemory}
 use Rattle.goblin_base.specs.Reading.{Reading, Reads, ReadsOrMemory}
-use Rattle.readings.specs.Reads.{mapped, pick, turned}
+use Rattle.readings.specs.Reads.{given, mapped, pick, turned}
+use Rattle.goblin_pe_sect.specs.declared.data_directories.DataDirectory.{DataDirectory}
 use Rattle.goblin_pe.specs.declared.whole.Part.{Part}
 use Rattle.goblin_pe.specs.declared.whole.Part.TheVariants.{Absent, Refused}
 use Rattle.goblin_pe.specs.declared.whole.Part.TheVariants as part
-use Rattle.goblin_pe.specs.Whole.{BecomesPart, IfRead, part_map, part_of}
+use Rattle.goblin_pe.specs.Whole.{BecomesPart, IfRead, part_at, part_map, part_of}
 
 abbrev IsNoMemory : {X : Type 0} → Result X ErrorOf → Type 0
 IsNoMemory (Ok x) = Unit {0}
@@ -131,6 +132,36 @@ pub picked : {X Y : Type 0} (view : X → Y) (result : Result X ErrorOf) (bytes 
     → ReadsOrMemory view result (pick test r s) bytes
 picked view result bytes true r s is h = h
 picked view result bytes false r s is h = absurd cc
+
+-- ---- where a table was read
+
+-- A table was read: it is asked for, and a directory leads to it.
+pub record IsReadFrom {A : Type 0} (asked : Bool) (reader : DataDirectory → Reading A)
+    (directory : Option DataDirectory) (bytes : List ℕ) (table : A) : Type 0 where
+  pub is_asked : asked ≡ true
+  pub at : DataDirectory
+  pub is : directory ≡ Some at
+  pub read : (reader at).value bytes ≡ Some table
+
+part-read : {A : Type 0} (strict : Bool) (o : Option A) (table : A)
+    → part_of strict o ≡ Some (part.Read table) → o ≡ Some table
+part-read strict (Some x) table is = cc
+part-read true None table is = absurd cc
+part-read false None table is = absurd cc
+
+pub read_from : {A : Type 0} (asked strict : Bool) (reader : DataDirectory → Reading A)
+    (directory : Option DataDirectory) (bytes : List ℕ) (table : A)
+    → (pick asked (part_at strict reader directory) (given Absent)).value bytes
+    ≡ Some (part.Read table)
+    → IsReadFrom asked reader directory bytes table
+read_from false strict reader directory bytes table is = absurd cc
+read_from true strict reader None bytes table is = absurd cc
+read_from true strict reader (Some d) bytes table is = record {
+  is_asked = refl;
+  at = d;
+  is = refl;
+  read = part-read strict ((reader d).value bytes) table is;
+}
 
 -- ---- what holds of a table
 

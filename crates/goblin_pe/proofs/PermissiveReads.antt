@@ -45,6 +45,7 @@ use Rattle.goblin_pe.specs.Whole.{entry_format, export_part, imports_in, listed_
 use Rattle.goblin_pe.specs.Whole.{mapped_in, numbered_data_part, offset_by, part_at, part_map, part_of}
 use Rattle.goblin_pe.specs.Whole.{places_in, relocation_part, section_table_offset, sections_after}
 use Rattle.goblin_pe.specs.Whole.{table_parts, whole_file, whole_in, whole_of, whole_with}
+use Rattle.goblin_pe.proofs.Parts.{read_from}
 
 -- ---- answers
 
@@ -236,19 +237,16 @@ module _ (format : Format EntryValue) (offset_of : ℕ → Option ℕ) (bytes : 
       → (imports_left_out_at format offset_of bytes (cond asked imports None)).libraries ≡ 0
       → IfRead (IsUnhidden (place_by offset_of imports)) p
   unfolding import_data
-  imports_unhidden false imports p e none =
-      let is : Absent ≡ p = same_value Absent p e in
-      rw (← is) tt
-  imports_unhidden true None p e none =
-      let is : Absent ≡ p = same_value Absent p e in
-      rw (← is) tt
-  imports_unhidden true (Some d) p e none =
-      let own = part_of-some ((libraries_of format offset_of bytes true d).value bytes) p e in
-      let whole = unnumbered true format offset_of bytes d.virtual_address
-      ∙ ap (option_map (map (λ x. x.library))) own.is in
-      rw own.read
-      (unhidden_numbered (offset_of d.virtual_address) own.table
-      (data_unhidden format offset_of bytes (offset_of d.virtual_address) _ whole none))
+  imports_unhidden asked imports Absent e none = tt
+  imports_unhidden asked imports (part.Read xs) e none =
+      let from = read_from asked true (libraries_of format offset_of bytes true) imports bytes xs e in
+      let place = offset_of from.at.virtual_address in
+      let whole = unnumbered true format offset_of bytes from.at.virtual_address
+      ∙ ap (option_map (map (λ x. x.library))) from.read in
+      rw from.is
+      (unhidden_numbered place xs
+      (data_unhidden format offset_of bytes place _ whole (rw (from.is_asked, from.is) at none)))
+  imports_unhidden asked imports Refused e none = tt
 
 -- ---- the tables
 
