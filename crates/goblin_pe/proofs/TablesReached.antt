@@ -13,7 +13,7 @@ use Rattle.goblin_pe_head.specs.declared.header.pe_header.Header.{Header}
 use Rattle.goblin_pe_head.specs.PeHeader.{header_value}
 use Rattle.goblin_pe_import.specs.ImportEntries.{EntryValue}
 use Rattle.goblin_pe_import.specs.ImportReadings.{import_data, numbered_data}
-use Rattle.goblin_pe_import.proofs.NumberedReach.{numbered-reach}
+use Rattle.goblin_pe_import.proofs.LibraryIndexes.{numbered-reach}
 use Rattle.goblin_pe.specs.declared.whole.layout.Layout.{Layout}
 use Rattle.goblin_pe.specs.Layouts.{IsLayoutOf, layout_map, layout_places}
 use Rattle.goblin_pe.specs.Whole.{sections_after, table_parts, whole_after, whole_with}
