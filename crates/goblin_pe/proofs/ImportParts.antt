@@ -5,11 +5,11 @@ use Rattle.std.proofs.lemmas.Simd.{map-map}
 use Rattle.goblin_base.specs.declared.error.ErrorOf.{ErrorOf}
 use Rattle.goblin_base.specs.Answers.{◌>>=◌, all_of}
 use Rattle.goblin_base.specs.Bytes.{IsBytes}
-use Rattle.goblin_base.specs.Reading.{IsRefused, Reading, ReadsOrMemory}
+use Rattle.goblin_base.specs.Reading.{IsRefused, Reading}
 use Rattle.goblin_base.specs.Tables as tables
 use Rattle.goblin_base.specs.Tables.{Format, ends_table, made_of, slot_at, slot_table, stop}
 use Rattle.goblin_base.proofs.Below.{each_below-there, least-before}
-use Rattle.goblin_base.proofs.Steps.{unmapped}
+use Rattle.goblin_base.proofs.Steps.{same_value, unmapped}
 use Rattle.goblin_base.proofs.Steps.{mapped as mapped_of}
 use Rattle.readings.specs.Reads.{given, in_its_place, mapped, pick}
 use Rattle.readings.specs.Walks.{IsWalkOf, Walks}
@@ -30,11 +30,12 @@ use Rattle.goblin_pe.specs.declared.whole.Part.TheVariants.{Absent, Refused}
 use Rattle.goblin_pe.specs.declared.whole.Part.TheVariants as part
 use Rattle.goblin_pe.specs.declared.whole.imports.FileImports.{FileImports}
 use Rattle.goblin_pe.specs.Layouts.{IsFileImportsCause, file_imports_left}
-use Rattle.goblin_pe.specs.Whole.{TablePlaces, entry_format, import_data_part, import_list, part_map}
-use Rattle.goblin_pe.specs.Whole.{AreListed, both_import_parts, collected_imports, listed_in}
-use Rattle.goblin_pe.specs.Whole.{numbered_data_part, part_at, part_of, without_numbers}
+use Rattle.goblin_pe.specs.Whole.{TablePlaces, both_lists, entry_format, import_data_part, import_list}
+use Rattle.goblin_pe.specs.Whole.{imports_in, listed_imports_part, numbered_data_part, part_at, part_map}
+use Rattle.goblin_pe.specs.Whole.{part_of, without_indexes, without_numbers}
 use Rattle.goblin_pe.proofs.KeptImports.{listed_imports, part-kept}
 use Rattle.goblin_pe.proofs.ListedImports.{data-listed}
+use Rattle.goblin_pe.proofs.Parts.{part_of-mapped}
 
 -- ---- permissive mode refuses no import data
 
@@ -140,27 +141,18 @@ off-numbers size (x ∷ xs) =
     (map-map (λ (i : NumberedImport). i.import) (at_library x.index) (unwrap_or (library_imports size x.library) []))
     ∙ ap (λ (ys : List ImportValue). kept_imports (λ x. x) size x.library ++ ys) (off-numbers size xs)
 
--- libraries without their indexes
-abbrev part_libraries : Part (List NumberedLibrary) → Part (List ImportedLibrary)
-part_libraries p = part_map (map (λ x. x.library)) p
-
-off-part : (size : ℕ) (p : Part (List NumberedLibrary))
-    → without_numbers (part_map (flat_map (numbered_imports size)) p)
-    ≡ part_map (flat_map (kept_imports (λ x. x) size)) (part_libraries p)
-off-part size Absent = refl
-off-part size (part.Read xs) = ap (λ (ys : List ImportValue). part.Read ys) (off-numbers size xs)
-off-part size Refused = refl
+off-part : (magic : ℕ) (p : Part (List NumberedLibrary))
+    → without_numbers (imports_in magic p)
+    ≡ part_map (flat_map (kept_imports (λ x. x) (entry_format magic).width)) (without_indexes p)
+off-part magic Absent = refl
+off-part magic (part.Read xs) =
+    ap (λ (ys : List ImportValue). part.Read ys) (off-numbers (entry_format magic).width xs)
+off-part magic Refused = refl
 
 same-part : {A : Type 0} (p : Part (List A)) → part_map (map (λ x. x)) p ≡ p
 same-part Absent = refl
 same-part {A} (part.Read xs) = ap (λ (ys : List A). part.Read ys) (map-id xs)
 same-part Refused = refl
-
-part-mapped : {A B : Type 0} (f : A → B) (mode : Bool) (o : Option A)
-    → part_of mode (option_map f o) ≡ option_map (part_map f) (part_of mode o)
-part-mapped f mode (Some x) = refl
-part-mapped f true None = refl
-part-mapped f false None = refl
 
 module _ (opts : ParseOptions) (offset_of : ℕ → Option ℕ) (places : TablePlaces) (bytes : List ℕ) where
   abbrev in_mode : Bool
@@ -168,72 +160,57 @@ module _ (opts : ParseOptions) (offset_of : ℕ → Option ℕ) (places : TableP
 
   -- the libraries are those with numbers
   data-off : (import_data_part opts offset_of places).value bytes
-      ≡ option_map part_libraries ((numbered_data_part opts offset_of places).value bytes)
+      ≡ option_map without_indexes ((numbered_data_part opts offset_of places).value bytes)
   unfolding import_data_part numbered_data_part
   data-off = by opts.parse_imports places.imports
     where
       by : (asked : Bool) (directory : Option DataDirectory)
           → (pick asked (part_at in_mode (λ d. import_data in_mode (entry_format places.magic) offset_of d.virtual_address) directory) (given Absent)).value bytes
-          ≡ option_map part_libraries
+          ≡ option_map without_indexes
           ((pick asked (part_at in_mode (λ d. numbered_data in_mode (entry_format places.magic) offset_of d.virtual_address) directory) (given Absent)).value bytes)
       by false directory = refl
       by true None = refl
       by true (Some d) =
           ap (part_of in_mode) (unnumbered in_mode (entry_format places.magic) offset_of bytes d.virtual_address)
-          ∙ part-mapped _ in_mode ((numbered_data in_mode (entry_format places.magic) offset_of d.virtual_address).value bytes)
+          ∙ part_of-mapped _ in_mode ((numbered_data in_mode (entry_format places.magic) offset_of d.virtual_address).value bytes)
 
-  data-cause : (e : ErrorOf) → (numbered_data_part opts offset_of places).IsCause bytes e
-      → (import_data_part opts offset_of places).IsCause bytes e
+  -- what is numbered is refused where import data is, for the same cause
+  pub data-refused : (e : ErrorOf) → IsRefused (import_data_part opts offset_of places) bytes e
+      → IsRefused (numbered_data_part opts offset_of places) bytes e
   unfolding import_data_part numbered_data_part
-  data-cause e h = by opts.parse_imports places.imports h
+  data-refused e h = (unmapped _ _ (sym data-off ∙ h.0), by opts.parse_imports places.imports h.1)
     where
       by : (asked : Bool) (directory : Option DataDirectory)
-          → (pick asked (part_at in_mode (λ d. numbered_data in_mode (entry_format places.magic) offset_of d.virtual_address) directory) (given Absent)).IsCause bytes e
           → (pick asked (part_at in_mode (λ d. import_data in_mode (entry_format places.magic) offset_of d.virtual_address) directory) (given Absent)).IsCause bytes e
+          → (pick asked (part_at in_mode (λ d. numbered_data in_mode (entry_format places.magic) offset_of d.virtual_address) directory) (given Absent)).IsCause bytes e
       by false directory h = h
       by true None h = h
       by true (Some d) h = unnumbered-cause in_mode (entry_format places.magic) offset_of bytes d.virtual_address e h
 
 module _ (opts : ParseOptions) (offset_of : ℕ → Option ℕ) (places : TablePlaces) (bytes : List ℕ) (short : length bytes < 2 ^ 63) (fit : IsBytes bytes) where
-  list-by : (o : Option (Part (List NumberedLibrary))) → (numbered_data_part opts offset_of places).value bytes ≡ o → option_map without_numbers ((import_list opts offset_of places).value bytes) ≡ option_map (λ read. read.1) ((both_import_parts opts offset_of places).value bytes)
-  unfolding import_list both_import_parts
-  list-by None is =
-      let none : (import_data_part opts offset_of places).value bytes ≡ None =
-      data-off opts offset_of places bytes ∙ ap (option_map part_libraries) is in
-      rw (is, none) refl
-  list-by (Some p) is =
-      let some : (import_data_part opts offset_of places).value bytes ≡ Some (part_libraries p) =
-      data-off opts offset_of places bytes ∙ ap (option_map part_libraries) is in
-      let listed = data-listed opts bytes places short fit offset_of (part_libraries p) some in
-      rw (is, some, listed)
-      (ap (λ (q : Part (List ImportValue)). Some q)
-      (off-part (entry_format places.magic).width p
-      ∙ part-kept (λ x. x) opts places (part_libraries p) listed
-      ∙ same-part (listed_imports places.magic (part_libraries p))))
+  -- the lists of what is numbered are the libraries of import data and the list made of these
+  pub both_listed : (p : Part (List ImportedLibrary)) (q : Part (List ImportValue))
+      → (import_data_part opts offset_of places).value bytes ≡ Some p
+      → listed_imports_part opts places p ≡ Some q
+      → option_map (both_lists places.magic) ((numbered_data_part opts offset_of places).value bytes)
+      ≡ Some (p, q)
+  both_listed p q is made =
+      let read = mapped_of ((numbered_data_part opts offset_of places).value bytes) without_indexes p
+      (sym (data-off opts offset_of places bytes) ∙ is) in
+      let kept = data-listed opts bytes places short fit offset_of p is in
+      let list = off-part places.magic read.value
+      ∙ ap (part_map (flat_map (kept_imports (λ x. x) (entry_format places.magic).width))) read.made
+      ∙ part-kept (λ x. x) opts places p kept
+      ∙ same-part (listed_imports places.magic p)
+      ∙ same_value _ q (sym kept ∙ made) in
+      rw read.is
+      (ap (λ (l : Part (List ImportedLibrary)). Some (l, without_numbers (imports_in places.magic read.value))) read.made
+      ∙ ap (λ (l : Part (List ImportValue)). Some (p, l)) list)
 
-  -- it is the list that is made of the libraries
-  pub list_value : option_map without_numbers ((import_list opts offset_of places).value bytes) ≡ option_map (λ read. read.1) ((both_import_parts opts offset_of places).value bytes)
-  list_value = list-by ((numbered_data_part opts offset_of places).value bytes) refl
-
-  pub list_cause : (e : ErrorOf) → (import_list opts offset_of places).value bytes ≡ None → (import_list opts offset_of places).IsCause bytes e → (both_import_parts opts offset_of places).IsCause bytes e
-  unfolding import_list both_import_parts
-  list_cause e none fault =
-      let missing = unmapped _ ((numbered_data_part opts offset_of places).value bytes) none in
-      rw (data-off opts offset_of places bytes ∙ ap (option_map part_libraries) missing)
-      (data-cause opts offset_of places bytes e fault)
-
-  pub are_listed : AreListed opts offset_of places bytes
-  are_listed = record { value = list_value; cause = list_cause }
-
--- what is made of the list of imports
-pub list_collected : {R X : Type 0} (opts : ParseOptions) (offset_of : ℕ → Option ℕ) (places : TablePlaces) (bytes : List ℕ) → AreListed opts offset_of places bytes → (view : R → X) (made : Part (List NumberedImport) → X) (read : Result R ErrorOf) → ReadsOrMemory view read (mapped made (import_list opts offset_of places)) bytes → ReadsOrMemory view read (mapped (collected_imports (λ _. made (listed_in opts offset_of places bytes))) (both_import_parts opts offset_of places)) bytes
-list_collected {R} {X} opts offset_of places bytes listed view made (Ok r) h =
-    let list = mapped_of _ _ _ h in
-    let both = mapped_of ((both_import_parts opts offset_of places).value bytes) _ (without_numbers list.value)
-    (sym listed.value ∙ ap (option_map without_numbers) list.is) in
-    rw (both.is, list.is) (ap (λ (x : X). Some x) list.made)
-list_collected opts offset_of places bytes listed view made (Err e) h = λ other.
-    let none = unmapped _ ((import_list opts offset_of places).value bytes) (h other).0 in
-    let both = unmapped _ ((both_import_parts opts offset_of places).value bytes)
-    (sym listed.value ∙ ap (option_map without_numbers) none) in
-    rw both (refl, listed.cause e none (h other).1)
+  -- and there is such a list
+  pub never_unlisted : (p : Part (List ImportedLibrary))
+      → (import_data_part opts offset_of places).value bytes ≡ Some p
+      → listed_imports_part opts places p ≡ None → ⊥
+  never_unlisted p is none =
+      let kept = data-listed opts bytes places short fit offset_of p is in
+      absurd cc

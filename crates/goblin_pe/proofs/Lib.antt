@@ -19,9 +19,6 @@ pub mod KeptImports
 pub mod Keys
 pub mod Layouts
 pub mod ListedImports
-pub mod NumberedExports
-pub mod ListedReach
-pub mod NumberedFootprints
 pub mod Parts
 pub mod PermissiveReads
 pub mod RefusedParts

@@ -1,16 +1,17 @@
 -- What becomes of a table that was asked for, as a part of a file.
-use Rattle.std.proofs.Common.{◌≡◌, ℕ, List, Bool, true, false, Option, Some, None, refl, ap, ◌∙◌}
+use Rattle.std.proofs.Common.{◌≡◌, ℕ, List, Bool, true, false, Option, Some, None, option_map, refl, ap, subst, ◌∙◌}
 use Rattle.std.specs.Prelude.{IfOk, Result, Ok, Err}
 use Rattle.goblin_base.specs.declared.error.ErrorOf.{ErrorOf}
 use Rattle.goblin_base.specs.declared.error.ErrorOf.TheVariants.{BadMagic, BufferTooShort}
 use Rattle.goblin_base.specs.declared.error.ErrorOf.TheVariants.{Malformed, Memory, Read}
 use Rattle.goblin_base.specs.Answers.{Answers, AnswersOrMemory, IsMemory}
 use Rattle.goblin_base.specs.Reading.{Reading, Reads, ReadsOrMemory}
-use Rattle.readings.specs.Reads.{pick, turned}
+use Rattle.readings.specs.Reads.{given, mapped, pick, turned}
+use Rattle.goblin_pe_sect.specs.declared.data_directories.DataDirectory.{DataDirectory}
 use Rattle.goblin_pe.specs.declared.whole.Part.{Part}
 use Rattle.goblin_pe.specs.declared.whole.Part.TheVariants.{Absent, Refused}
 use Rattle.goblin_pe.specs.declared.whole.Part.TheVariants as part
-use Rattle.goblin_pe.specs.Whole.{BecomesPart, IfRead, part_map, part_of}
+use Rattle.goblin_pe.specs.Whole.{BecomesPart, IfRead, part_at, part_map, part_of}
 
 abbrev IsNoMemory : {X : Type 0} → Result X ErrorOf → Type 0
 IsNoMemory (Ok x) = Unit {0}
@@ -90,16 +91,26 @@ module _ {X Y : Type 0} (view : X → Y) (r : Reading Y) (bytes : List ℕ) (str
   becomes_part h is =
       becomes_answered view (r.value bytes) (r.IsCause bytes) made strict asked h is
 
+pub part_of-mapped : {A B : Type 0} (f : A → B) (strict : Bool) (o : Option A)
+    → part_of strict (option_map f o) ≡ option_map (part_map f) (part_of strict o)
+part_of-mapped f strict (Some x) = refl
+part_of-mapped f true None = refl
+part_of-mapped f false None = refl
+
+-- the part of what is made of a table
+pub becomes_mapped : {X Y Z : Type 0} (view : X → Z) (f : Y → Z) (r : Reading Y) (bytes : List ℕ)
+    (strict : Bool) (asked : Result X ErrorOf) (made : Result (Part X) ErrorOf)
+    → ReadsOrMemory view asked (mapped f r) bytes → BecomesPart strict asked made
+    → ReadsOrMemory (part_map view) made (mapped (part_map f) (turned (part_of strict) r)) bytes
+becomes_mapped {X} {Y} {Z} view f r bytes strict asked made h is =
+    subst (λ (o : Option (Part Z)). AnswersOrMemory (part_map view) made o (r.IsCause bytes))
+    (part_of-mapped f strict (r.value bytes))
+    (becomes_part view (mapped f r) bytes strict asked made h is)
+
 pub part_map-same : {X : Type 0} (p : Part X) → part_map (λ x. x) p ≡ p
 part_map-same Absent = refl
 part_map-same (part.Read x) = refl
 part_map-same Refused = refl
-
-pub part_map-twice : {A B C : Type 0} (f : A → B) (g : B → C) (p : Part A)
-    → part_map (λ x. g (f x)) p ≡ part_map g (part_map f p)
-part_map-twice f g Absent = refl
-part_map-twice f g (part.Read x) = refl
-part_map-twice f g Refused = refl
 
 same_part : {X : Type 0} (made : Result (Part X) ErrorOf) (r : Reading (Part X)) (bytes : List ℕ)
     → ReadsOrMemory (part_map (λ x. x)) made r bytes → ReadsOrMemory (λ x. x) made r bytes
@@ -121,6 +132,36 @@ pub picked : {X Y : Type 0} (view : X → Y) (result : Result X ErrorOf) (bytes 
     → ReadsOrMemory view result (pick test r s) bytes
 picked view result bytes true r s is h = h
 picked view result bytes false r s is h = absurd cc
+
+-- ---- where a table was read
+
+-- A table was read: it is asked for, and a directory leads to it.
+pub record IsReadFrom {A : Type 0} (asked : Bool) (reader : DataDirectory → Reading A)
+    (directory : Option DataDirectory) (bytes : List ℕ) (table : A) : Type 0 where
+  pub is_asked : asked ≡ true
+  pub at : DataDirectory
+  pub is : directory ≡ Some at
+  pub read : (reader at).value bytes ≡ Some table
+
+part-read : {A : Type 0} (strict : Bool) (o : Option A) (table : A)
+    → part_of strict o ≡ Some (part.Read table) → o ≡ Some table
+part-read strict (Some x) table is = cc
+part-read true None table is = absurd cc
+part-read false None table is = absurd cc
+
+pub read_from : {A : Type 0} (asked strict : Bool) (reader : DataDirectory → Reading A)
+    (directory : Option DataDirectory) (bytes : List ℕ) (table : A)
+    → (pick asked (part_at strict reader directory) (given Absent)).value bytes
+    ≡ Some (part.Read table)
+    → IsReadFrom asked reader directory bytes table
+read_from false strict reader directory bytes table is = absurd cc
+read_from true strict reader None bytes table is = absurd cc
+read_from true strict reader (Some d) bytes table is = record {
+  is_asked = refl;
+  at = d;
+  is = refl;
+  read = part-read strict ((reader d).value bytes) table is;
+}
 
 -- ---- what holds of a table
 

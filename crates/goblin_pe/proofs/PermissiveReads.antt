@@ -1,6 +1,7 @@
 -- What strict mode reads of tables and of whole files, permissive mode reads, too.
 use Rattle.std.proofs.Common.{◌≡◌, ◌==◌, ◌⊎◌, ◌∙◌, ℕ, Bool, true, false, cond, List, [], Option, Some}
-use Rattle.std.proofs.Common.{None, Result, ap, refl, sym, subst, nat_eq, inl, inr}
+use Rattle.std.proofs.Common.{None, Result, ap, refl, sym, nat_eq, inl, inr, ◌∷◌, map}
+use Rattle.std.proofs.Common.{flat_map, option_map}
 use Rattle.goblin_base.specs.declared.error.ErrorOf.{ErrorOf}
 use Rattle.goblin_base.specs.declared.permissive.ParseMode.{ParseMode}
 use Rattle.goblin_base.specs.declared.permissive.ParseMode.TheVariants.{Permissive, Strict}
@@ -8,7 +9,7 @@ use Rattle.goblin_base.specs.Answers.{◌>>=◌}
 use Rattle.goblin_base.specs.Reading.{InModes, Reading, Reads, ReadsOrMemory, Repeats, RepeatsAs}
 use Rattle.goblin_base.specs.Tables.{Format}
 use Rattle.goblin_base.proofs.Kept.{Keeps}
-use Rattle.goblin_base.proofs.Steps.{mapped, same_value, step}
+use Rattle.goblin_base.proofs.Steps.{mapped, same_value}
 use Rattle.readings.specs.Reads as reads
 use Rattle.readings.specs.Reads.{given, in_its_place, pair_of}
 use Rattle.readings.proofs.Modes.{as-beside, as-mapped, as-then, repeats-same}
@@ -26,24 +27,25 @@ use Rattle.goblin_pe_head.proofs.PermissiveReads.{repeats-header, sections_at-ke
 use Rattle.goblin_pe.specs.declared.whole.Part.{Part}
 use Rattle.goblin_pe.specs.declared.whole.Part.TheVariants.{Absent, Refused}
 use Rattle.goblin_pe.specs.declared.whole.Part.TheVariants as part
-use Rattle.goblin_pe_export.specs.ExportReadings.{export_read}
+use Rattle.goblin_pe_export.specs.ExportReadings.{numbered_read}
 use Rattle.goblin_pe_import.specs.ImportEntries.{EntryValue}
-use Rattle.goblin_pe_import.specs.ImportReadings.{import_data, libraries_at, read_if}
+use Rattle.goblin_pe_import.specs.ImportReadings.{import_data, libraries_at, numbered_data, read_if}
 use Rattle.goblin_pe_import.specs.ImportReadings.{read_past_front}
-use Rattle.goblin_pe_import.specs.ImportRecords.{ImportedLibrary}
-use Rattle.goblin_pe_import.specs.Imports.{ImportValue, imports_of}
+use Rattle.goblin_pe_import.specs.ImportRecords.{ImportedLibrary, NumberedLibrary}
+use Rattle.goblin_pe_import.specs.Imports.{numbered_imports}
 use Rattle.goblin_pe_import.specs.LeftOut.{amount_of, libraries_of_directory}
-use Rattle.goblin_pe_import.proofs.ImportBound.{pair_of-left, pair_of-right}
+use Rattle.goblin_pe_import.proofs.ImportBound.{pair_of-left}
 use Rattle.goblin_pe_import.proofs.LeftOutLibraries.{front_has_none, none_made}
-use Rattle.goblin_pe_import.proofs.PermissiveReads.{libraries_at-repeats}
+use Rattle.goblin_pe_import.proofs.LibraryIndexes.{unnumbered}
+use Rattle.goblin_pe_import.proofs.PermissiveReads.{libraries_at-repeats, numbered_libraries_at-repeats}
 use Rattle.goblin_pe.specs.Damages.{imports_left_out_at, left_out_of}
 use Rattle.goblin_pe.specs.Modes.{ReadsInModes, in_mode, in_permissive_mode, is_front, unless_front}
-use Rattle.goblin_pe.specs.Whole.{IfRead, TableParts, TablePlaces, WholeFile, entry_format, export_part}
-use Rattle.goblin_pe.specs.Whole.{import_data_part, mapped_in}
-use Rattle.goblin_pe.specs.Whole.{both_import_parts, listed_imports_part, offset_by, part_at, part_map, part_of}
-use Rattle.goblin_pe.specs.Whole.{part_then, places_in, relocation_part, section_table_offset}
-use Rattle.goblin_pe.specs.Whole.{sections_after, table_parts, whole_file, whole_in, whole_of}
-use Rattle.goblin_pe.specs.Whole.{whole_with}
+use Rattle.goblin_pe.specs.Whole.{IfRead, ListedParts, NumberedTables, TablePlaces, WholeFile}
+use Rattle.goblin_pe.specs.Whole.{entry_format, export_part, imports_in, listed_tables, lists_of}
+use Rattle.goblin_pe.specs.Whole.{mapped_in, numbered_data_part, offset_by, part_at, part_map, part_of}
+use Rattle.goblin_pe.specs.Whole.{places_in, relocation_part, section_table_offset, sections_after}
+use Rattle.goblin_pe.specs.Whole.{table_parts, whole_file, whole_in, whole_of, whole_with}
+use Rattle.goblin_pe.proofs.Parts.{read_from}
 
 -- ---- answers
 
@@ -68,25 +70,20 @@ header_in_modes bytes strict permissive h k =
 
 -- ---- import data
 
-past_front : (test : Bool) (format : Format EntryValue) (offset_of : ℕ → Option ℕ)
-    (bytes : List ℕ) (o : ℕ) (xs : List ImportedLibrary)
-    → (libraries_at false format offset_of o).value bytes ≡ Some xs
-    → (read_if (libraries_at false format offset_of) (cond test None (Some o))).value bytes
-    ≡ Some (cond test [] xs)
-past_front true format offset_of bytes o xs is = refl
-past_front false format offset_of bytes o xs is = is
+past_front : {A : Type 0} (test : Bool) (read : ℕ → Reading (List A)) (bytes : List ℕ) (o : ℕ)
+    (xs : List A) → (read o).value bytes ≡ Some xs
+    → (read_if read (cond test None (Some o))).value bytes ≡ Some (cond test [] xs)
+past_front true read bytes o xs is = refl
+past_front false read bytes o xs is = is
 
-front_or_not : (format : Format EntryValue) (offset_of : ℕ → Option ℕ) (bytes : List ℕ)
-    (place : Option ℕ) (xs : List ImportedLibrary)
-    → (in_its_place true 0 place
-    >>= λ o. (read_past_front true (libraries_at true format offset_of) o).value bytes) ≡ Some xs
-    → (in_its_place false 0 place
-    >>= λ o. (read_past_front false (libraries_at false format offset_of) o).value bytes)
+front_or_not : {A : Type 0} (read again : ℕ → Reading (List A))
+    → ((o : ℕ) → Repeats (read o) (again o)) → (bytes : List ℕ) (place : Option ℕ) (xs : List A)
+    → (in_its_place true 0 place >>= λ o. (read_past_front true read o).value bytes) ≡ Some xs
+    → (in_its_place false 0 place >>= λ o. (read_past_front false again o).value bytes)
     ≡ Some (unless_front place xs)
-front_or_not format offset_of bytes None xs is = absurd cc
-front_or_not format offset_of bytes (Some o) xs is =
-    past_front (nat_eq o 0) format offset_of bytes o xs
-    ((libraries_at-repeats offset_of format o).kept bytes xs is)
+front_or_not read again repeats bytes None xs is = absurd cc
+front_or_not read again repeats bytes (Some o) xs is =
+    past_front (nat_eq o 0) again bytes o xs ((repeats o).kept bytes xs is)
 
 -- import data of a directory that is not at the front of the file
 pub repeats-import_data : (format : Format EntryValue) (offset_of : ℕ → Option ℕ) (rva : ℕ)
@@ -94,7 +91,16 @@ pub repeats-import_data : (format : Format EntryValue) (offset_of : ℕ → Opti
     (import_data false format offset_of rva)
 unfolding import_data
 repeats-import_data format offset_of rva = record {
-  kept = λ bytes xs is. front_or_not format offset_of bytes (offset_of rva) xs is;
+  kept = λ bytes. front_or_not _ _ (libraries_at-repeats offset_of format) bytes (offset_of rva);
+}
+
+repeats-numbered_data : (format : Format EntryValue) (offset_of : ℕ → Option ℕ) (rva : ℕ)
+    → RepeatsAs (unless_front (offset_of rva)) (numbered_data true format offset_of rva)
+    (numbered_data false format offset_of rva)
+unfolding numbered_data
+repeats-numbered_data format offset_of rva = record {
+  kept = λ bytes.
+      front_or_not _ _ (numbered_libraries_at-repeats offset_of format) bytes (offset_of rva);
 }
 
 -- ---- import data of which no library is left out
@@ -170,61 +176,44 @@ abbrev place_by : (ℕ → Option ℕ) → Option DataDirectory → Option ℕ
 place_by offset_of imports = imports >>= λ directory. offset_of directory.virtual_address
 
 module _ (format : Format EntryValue) (offset_of : ℕ → Option ℕ) (bytes : List ℕ) where
-  abbrev libraries_of : Bool → DataDirectory → Reading (List ImportedLibrary)
-  libraries_of strict d = import_data strict format offset_of d.virtual_address
+  abbrev libraries_of : Bool → DataDirectory → Reading (List NumberedLibrary)
+  libraries_of strict d = numbered_data strict format offset_of d.virtual_address
 
-  imports_read : (d : DataDirectory) (p : Part (List ImportedLibrary))
+  imports_read : (d : DataDirectory) (p : Part (List NumberedLibrary))
       → IsPart ((libraries_of true d).value bytes) p
       → part_of false ((libraries_of false d).value bytes)
       ≡ Some (part_map (unless_front (offset_of d.virtual_address)) p)
   imports_read d p own =
-      let again = repeats-import_data format offset_of d.virtual_address in
+      let again = repeats-numbered_data format offset_of d.virtual_address in
       rw (again.kept bytes own.table own.is, own.read) refl
 
-  import_data_part-kept : (asked : Bool) (imports : Option DataDirectory)
-      (p : Part (List ImportedLibrary))
+  numbered-kept : (asked : Bool) (imports : Option DataDirectory)
+      (p : Part (List NumberedLibrary))
       → cond asked ((part_at true (libraries_of true) imports).value bytes) (Some Absent)
       ≡ Some p
       → cond asked ((part_at false (libraries_of false) imports).value bytes) (Some Absent)
       ≡ Some (part_map (unless_front (place_by offset_of imports)) p)
-  import_data_part-kept false imports p e =
+  numbered-kept false imports p e =
       let is : Absent ≡ p = same_value Absent p e in
       rw (← is) refl
-  import_data_part-kept true None p e =
+  numbered-kept true None p e =
       let is : Absent ≡ p = same_value Absent p e in
       rw (← is) refl
-  import_data_part-kept true (Some d) p e =
+  numbered-kept true (Some d) p e =
       imports_read d p (part_of-some ((libraries_of true d).value bytes) p e)
 
-no_imports : (size : ℕ) → imports_of size [] ≡ Some []
-unfolding imports_of
-no_imports size = refl
-
-imports_unless : (size : ℕ) (front : Bool) (libraries : List ImportedLibrary)
-    (imports : List ImportValue) → imports_of size libraries ≡ Some imports
-    → imports_of size (cond front [] libraries) ≡ Some (cond front [] imports)
-imports_unless size true libraries imports e = no_imports size
-imports_unless size false libraries imports e = e
-
-imports_made : (size : ℕ) (place : Option ℕ) (libraries : List ImportedLibrary)
-    (p : Part (List ImportValue)) → IsPart (imports_of size libraries) p
-    → part_of false (imports_of size (unless_front place libraries))
-    ≡ Some (part_map (unless_front place) p)
-imports_made size place libraries p own =
-    rw (imports_unless size (is_front place) libraries own.table own.is, own.read) refl
-
-listed_imports_part-kept : (size : ℕ) (place : Option ℕ) (from : Part (List ImportedLibrary))
-    (p : Part (List ImportValue)) → part_then true (imports_of size) from ≡ Some p
-    → part_then false (imports_of size) (part_map (unless_front place) from)
-    ≡ Some (part_map (unless_front place) p)
-listed_imports_part-kept size place Absent p e =
-    let is : Absent ≡ p = same_value Absent p e in
-    rw (← is) refl
-listed_imports_part-kept size place Refused p e =
-    let is : Refused ≡ p = same_value Refused p e in
-    rw (← is) refl
-listed_imports_part-kept size place (part.Read libraries) p e =
-    imports_made size place libraries p (part_of-some (imports_of size libraries) p e)
+-- a list that is made of a list, which makes nothing of nothing
+unless_made : {A B : Type 0} (made : List A → List B) → made [] ≡ [] → (place : Option ℕ)
+    (p : Part (List A))
+    → part_map made (part_map (unless_front place) p) ≡ part_map (unless_front place) (part_map made p)
+unless_made made none place Absent = refl
+unless_made {A} {B} made none place (part.Read xs) =
+    ap (λ (ys : List B). part.Read ys) (by (is_front place))
+  where
+    by : (front : Bool) → made (cond front [] xs) ≡ cond front [] (made xs)
+    by true = none
+    by false = refl
+unless_made made none place Refused = refl
 
 -- ---- imports of which no library is left out
 
@@ -234,45 +223,30 @@ part_unhidden place Absent h = refl
 part_unhidden place (part.Read xs) h = ap part.Read (unhidden place xs h)
 part_unhidden place Refused h = refl
 
+unhidden_numbered : (place : Option ℕ) (xs : List NumberedLibrary)
+    → IsUnhidden place (map (λ x. x.library) xs) → IsUnhidden place xs
+unhidden_numbered place xs (inl past) = inl past
+unhidden_numbered place [] (inr none) = inr refl
+unhidden_numbered place (x ∷ xs) (inr none) = absurd cc
+
 module _ (format : Format EntryValue) (offset_of : ℕ → Option ℕ) (bytes : List ℕ) where
-  import_data_unhidden : (asked : Bool) (imports : Option DataDirectory)
-      (p : Part (List ImportedLibrary))
+  imports_unhidden : (asked : Bool) (imports : Option DataDirectory)
+      (p : Part (List NumberedLibrary))
       → cond asked ((part_at true (libraries_of format offset_of bytes true) imports).value bytes)
       (Some Absent) ≡ Some p
       → (imports_left_out_at format offset_of bytes (cond asked imports None)).libraries ≡ 0
       → IfRead (IsUnhidden (place_by offset_of imports)) p
   unfolding import_data
-  import_data_unhidden false imports p e none =
-      let is : Absent ≡ p = same_value Absent p e in
-      rw (← is) tt
-  import_data_unhidden true None p e none =
-      let is : Absent ≡ p = same_value Absent p e in
-      rw (← is) tt
-  import_data_unhidden true (Some d) p e none =
-      let own = part_of-some ((libraries_of format offset_of bytes true d).value bytes) p e in
-      rw own.read
-      (data_unhidden format offset_of bytes (offset_of d.virtual_address) own.table own.is none)
-
-list_unhidden : (size : ℕ) (place : Option ℕ) (libraries : List ImportedLibrary)
-    (imports : List ImportValue) → imports_of size libraries ≡ Some imports
-    → IsUnhidden place libraries → IsUnhidden place imports
-list_unhidden size place libraries imports is (inl past) = inl past
-list_unhidden size place libraries imports is (inr none) =
-    let made : Some [] ≡ Some imports = sym (no_imports size) ∙ ap (imports_of size) (sym none) ∙ is in
-    inr (sym (same_value [] imports made))
-
-imports_unhidden : (size : ℕ) (place : Option ℕ) (from : Part (List ImportedLibrary))
-    (p : Part (List ImportValue)) → part_then true (imports_of size) from ≡ Some p
-    → IfRead (IsUnhidden place) from → IfRead (IsUnhidden place) p
-imports_unhidden size place Absent p e h =
-    let is : Absent ≡ p = same_value Absent p e in
-    rw (← is) tt
-imports_unhidden size place Refused p e h =
-    let is : Refused ≡ p = same_value Refused p e in
-    rw (← is) tt
-imports_unhidden size place (part.Read libraries) p e h =
-    let own = part_of-some (imports_of size libraries) p e in
-    rw own.read (list_unhidden size place libraries own.table own.is h)
+  imports_unhidden asked imports Absent e none = tt
+  imports_unhidden asked imports (part.Read xs) e none =
+      let from = read_from asked true (libraries_of format offset_of bytes true) imports bytes xs e in
+      let place = offset_of from.at.virtual_address in
+      let whole = unnumbered true format offset_of bytes from.at.virtual_address
+      ∙ ap (option_map (map (λ x. x.library))) from.read in
+      rw from.is
+      (unhidden_numbered place xs
+      (data_unhidden format offset_of bytes place _ whole (rw (from.is_asked, from.is) at none)))
+  imports_unhidden asked imports Refused e none = tt
 
 -- ---- the tables
 
@@ -286,80 +260,56 @@ module _ (opts : ParseOptions) (offset_of : ℕ → Option ℕ) (places : TableP
   abbrev place : Option ℕ
   place = place_by offset_of places.imports
 
-  abbrev pub permissive_imports : Part (List ImportedLibrary) × Part (List ImportValue)
-      → Part (List ImportedLibrary) × Part (List ImportValue)
-  permissive_imports p = (part_map (unless_front place) p.0, part_map (unless_front place) p.1)
-
-  imports_again : (bytes : List ℕ) (p : Part (List ImportedLibrary) × Part (List ImportValue))
-      → (both_import_parts strictly offset_of places).value bytes ≡ Some p
-      → (both_import_parts permissively offset_of places).value bytes ≡ Some (permissive_imports p)
-  unfolding both_import_parts import_data_part listed_imports_part
-  imports_again bytes p is =
-      let format = entry_format places.magic in
-      let u : Part (List ImportedLibrary) → Part (List ImportedLibrary) =
-      part_map (unless_front place) in
-      let v : Part (List ImportValue) → Part (List ImportValue) = part_map (unless_front place) in
-      let s = step ((import_data_part strictly offset_of places).value bytes) _ p is in
-      let made = listed_imports_part strictly places s.value in
-      let first = pair_of-left (Some s.value) made p s.then in
-      let second = pair_of-right (Some s.value) made p s.then in
-      rw (
-        import_data_part-kept format offset_of bytes opts.parse_imports places.imports s.value s.is,
-        listed_imports_part-kept format.width place s.value p.1 second,
-      )
-      (ap (λ (l : Part (List ImportedLibrary)). pair_of (Some (u l)) (Some (v p.1)))
-      (same_value s.value p.0 first))
-
   -- what permissive mode has of tables that strict mode has
-  abbrev pub permissive_tables : TableParts → TableParts
-  permissive_tables t = record t { imports = permissive_imports t.imports }
+  abbrev pub permissive_tables : NumberedTables → NumberedTables
+  permissive_tables t = record t { imports = part_map (unless_front place) t.imports }
 
   repeats-table_parts : RepeatsAs permissive_tables (table_parts strictly offset_of places)
       (table_parts permissively offset_of places)
-  unfolding table_parts export_part relocation_part
+  unfolding table_parts numbered_data_part export_part relocation_part
   repeats-table_parts =
       as-mapped _ _ permissive_tables _ _
       (as-beside _ (λ x. x) _ _ _ _
-      (as-beside permissive_imports (λ x. x) (both_import_parts strictly offset_of places)
-      (both_import_parts permissively offset_of places) _ _ (record { kept = imports_again })
-      (repeats-part_at (export_read offset_of) places.exports))
+      (as-beside (part_map (unless_front place)) (λ x. x) (numbered_data_part strictly offset_of places)
+      (numbered_data_part permissively offset_of places) _ _
+      (record {
+        kept = λ bytes.
+            numbered-kept (entry_format places.magic) offset_of bytes opts.parse_imports places.imports;
+      })
+      (repeats-part_at (numbered_read offset_of) places.exports))
       (repeats-part_at (relocation_data offset_of) places.relocations))
       (λ all. refl)
 
-  module _ (bytes : List ℕ) (none : (left_out_of opts offset_of places bytes).libraries ≡ 0) where
-    imports_same : (p : Part (List ImportedLibrary) × Part (List ImportValue))
-        → (both_import_parts strictly offset_of places).value bytes ≡ Some p
-        → permissive_imports p ≡ p
-    unfolding both_import_parts import_data_part listed_imports_part left_out_of
-    imports_same p is =
-        let format = entry_format places.magic in
-        let s = step ((import_data_part strictly offset_of places).value bytes) _ p is in
-        let made = listed_imports_part strictly places s.value in
-        let first = pair_of-left (Some s.value) made p s.then in
-        let second = pair_of-right (Some s.value) made p s.then in
-        let read : IfRead (IsUnhidden place) s.value =
-        import_data_unhidden format offset_of bytes opts.parse_imports places.imports s.value s.is none in
-        let listed : IfRead (IsUnhidden place) p.1 =
-        imports_unhidden format.width place s.value p.1 second read in
-        let same : s.value ≡ p.0 = same_value s.value p.0 first in
-        let here : IfRead (IsUnhidden place) p.0 =
-        subst (λ (q : Part (List ImportedLibrary)). IfRead (IsUnhidden place) q) same read in
-        rw (part_unhidden place p.0 here, part_unhidden place p.1 listed) refl
+  -- what it has of their lists
+  abbrev pub permissive_lists : ListedParts → ListedParts
+  permissive_lists l =
+      record l {
+        imports = (part_map (unless_front place) l.imports.0, part_map (unless_front place) l.imports.1);
+      }
 
-    -- permissive mode has the same tables where strict mode has them, and no library is left out
-    pub tables_same : (t : TableParts)
-        → (table_parts strictly offset_of places).value bytes ≡ Some t → permissive_tables t ≡ t
-    unfolding table_parts
-    tables_same t is =
-        let m = mapped _ _ t is in
-        let both = pair_of-left _ _ m.value m.is in
-        let imports = pair_of-left _ _ m.value.0 both in
-        let with_imports
-        : Part (List ImportedLibrary) × Part (List ImportValue) → TableParts =
-        λ i. record { imports = i; exports = m.value.0.1; relocations = m.value.1 } in
-        ap permissive_tables (sym m.made)
-        ∙ ap with_imports (imports_same m.value.0.0 imports)
-        ∙ m.made
+  pub lists_again : (t : NumberedTables)
+      → lists_of places.magic (permissive_tables t) ≡ permissive_lists (lists_of places.magic t)
+  lists_again t =
+      let made = unless_made (flat_map (numbered_imports (entry_format places.magic).width)) refl place t.imports in
+      rw (
+        unless_made (map (λ x. x.library)) refl place t.imports,
+        made,
+        unless_made (map (λ x. x.import)) refl place (imports_in places.magic t.imports),
+      ) refl
+
+  -- permissive mode has the same tables where strict mode has them, and no library is left out
+  pub tables_same : (bytes : List ℕ) → (left_out_of opts offset_of places bytes).libraries ≡ 0
+      → (t : NumberedTables) → (table_parts strictly offset_of places).value bytes ≡ Some t
+      → permissive_tables t ≡ t
+  unfolding table_parts numbered_data_part left_out_of
+  tables_same bytes none t is =
+      let m = mapped _ _ t is in
+      let imports = pair_of-left _ _ m.value.0 (pair_of-left _ _ m.value m.is) in
+      let same = part_unhidden place m.value.0.0
+      (imports_unhidden (entry_format places.magic) offset_of bytes opts.parse_imports places.imports m.value.0.0 imports none) in
+      ap permissive_tables (sym m.made)
+      ∙ ap (λ (i : Part (List NumberedLibrary)). record { imports = i; exports = m.value.0.1; relocations = m.value.1 }) same
+      ∙ m.made
 
 -- ---- a whole file
 
@@ -380,9 +330,12 @@ module _ (opts : ParseOptions) (header : PeHeader) where
   with_sections_repeat sections =
       let places = places_in header.optional_header in
       let m = offset_by opts (mapped_in Sections header sections) places in
-      as-mapped (whole_of header sections) (permissive_tables opts m places)
-      (in_permissive_mode opts) (table_parts (in_mode Strict opts) m places)
-      (table_parts (in_mode Permissive opts) m places) (repeats-table_parts opts m places)
+      as-mapped (whole_of header sections) (permissive_lists opts m places)
+      (in_permissive_mode opts) (listed_tables (in_mode Strict opts) m places)
+      (listed_tables (in_mode Permissive opts) m places)
+      (as-mapped (lists_of places.magic) (permissive_tables opts m places) (permissive_lists opts m places)
+      (table_parts (in_mode Strict opts) m places) (table_parts (in_mode Permissive opts) m places)
+      (repeats-table_parts opts m places) (lists_again opts m places))
       (λ t. refl)
 
 -- What strict mode has of a file, permissive mode has, too, but for imports from the front of the

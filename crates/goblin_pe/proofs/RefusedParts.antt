@@ -1,7 +1,6 @@
 -- No part of a file is refused exactly where the file is read.
-use Rattle.std.proofs.Common.{◌≡◌, ℕ, ◌<◌, ◌^◌, List, length, Bool, true, false, cond, Option, Some, None, IsSome, refl, sym, subst}
+use Rattle.std.proofs.Common.{◌≡◌, ℕ, List, Bool, true, false, cond, Option, Some, None, IsSome, refl, sym, subst}
 use Rattle.std.specs.Option.{is_some}
-use Rattle.goblin_base.specs.Bytes.{IsBytes}
 use Rattle.goblin_base.proofs.Steps.{mapped, step}
 use Rattle.readings.specs.Reads.{pair_of}
 use Rattle.goblin_pe_sect.specs.declared.options.ParseOptions.{ParseOptions}
@@ -13,9 +12,9 @@ use Rattle.goblin_pe_head.specs.PeHeader.{PeHeader}
 use Rattle.goblin_pe.specs.declared.whole.refused.RefusedPart.{RefusedPart}
 use Rattle.goblin_pe.specs.declared.whole.refused.RefusedPart.TheVariants.{Exports, Imports, Nothing, Relocations}
 use Rattle.goblin_pe.specs.RefusedParts.{IsReadWithout, IsWithoutRead, refused_by, refused_part, refused_table, refused_with}
-use Rattle.goblin_pe.specs.Whole.{TablePlaces, WholeFile, both_import_parts, export_part, import_list, mapped_in, offset_by, places_in}
-use Rattle.goblin_pe.specs.Whole.{relocation_part, sections_after, table_parts, whole_after, whole_in, whole_of, whole_with}
-use Rattle.goblin_pe.proofs.ImportParts.{list_value}
+use Rattle.goblin_pe.specs.Whole.{TablePlaces, WholeFile, export_part, import_list, imports_in, listed_tables}
+use Rattle.goblin_pe.specs.Whole.{lists_of, mapped_in, numbered_data_part, offset_by, places_in, relocation_part}
+use Rattle.goblin_pe.specs.Whole.{sections_after, table_parts, whole_after, whole_in, whole_of, whole_with}
 use Rattle.goblin_pe.proofs.SoundFiles.{all-there, mapped-there, unmapped-there}
 
 -- ---- values that are there
@@ -47,26 +46,24 @@ all-pass true false relocations none = absurd cc
 all-pass true true false none = absurd cc
 all-pass true true true none = record { imports = refl; exports = refl; relocations = refl }
 
-module _ (view : View) (opts : ParseOptions) (bytes : List ℕ) (short : length bytes < 2 ^ 63) (fit : IsBytes bytes) where
+module _ (view : View) (opts : ParseOptions) (bytes : List ℕ) where
   -- ---- the tables
 
   tables-read : (offset_of : ℕ → Option ℕ) (places : TablePlaces) → refused_table opts offset_of places bytes ≡ Nothing → IsSome ((table_parts opts offset_of places).value bytes)
-  unfolding table_parts
+  unfolding table_parts import_list
   tables-read offset_of places none =
       let pass = all-pass (is_some ((import_list opts offset_of places).value bytes)) (is_some ((export_part opts offset_of places).value bytes)) (is_some ((relocation_part opts offset_of places).value bytes)) none in
-      let parts = unmapped-there _ ((both_import_parts opts offset_of places).value bytes) _ (list_value opts offset_of places bytes short fit) (mapped-there _ _ pass.imports) in
-      mapped-there _ _ (all-there (both_import_parts opts offset_of places) (export_part opts offset_of places) (relocation_part opts offset_of places) bytes parts pass.exports pass.relocations)
+      mapped-there _ _ (all-there (numbered_data_part opts offset_of places) (export_part opts offset_of places) (relocation_part opts offset_of places) bytes (unmapped-there _ _ _ refl pass.imports) pass.exports pass.relocations)
 
   no-table : (offset_of : ℕ → Option ℕ) (places : TablePlaces) → IsSome ((table_parts opts offset_of places).value bytes) → refused_table opts offset_of places bytes ≡ Nothing
-  unfolding table_parts
+  unfolding table_parts import_list
   no-table offset_of places some =
-      let imports = (both_import_parts opts offset_of places).value bytes in
+      let imports = (numbered_data_part opts offset_of places).value bytes in
       let exports = (export_part opts offset_of places).value bytes in
       let relocations = (relocation_part opts offset_of places).value bytes in
       let all = unmapped-there _ (pair_of (pair_of imports exports) relocations) _ refl some in
       let both = first-there (pair_of imports exports) relocations all in
-      let listed = unmapped-there _ ((import_list opts offset_of places).value bytes) _ (sym (list_value opts offset_of places bytes short fit)) (mapped-there _ imports (first-there imports exports both)) in
-      rw (listed, second-there imports exports both, second-there (pair_of imports exports) relocations all) refl
+      rw (mapped-there (imports_in places.magic) _ (first-there imports exports both), second-there imports exports both, second-there (pair_of imports exports) relocations all) refl
 
   -- ---- the file
 
@@ -75,7 +72,7 @@ module _ (view : View) (opts : ParseOptions) (bytes : List ℕ) (short : length 
   with-read h None is none = absurd cc
   with-read h (Some s) is none =
       let places = places_in h.optional_header in
-      rw is (mapped-there (whole_of h s) _ (tables-read (offset_by opts (mapped_in view h s) places) places none))
+      rw is (mapped-there (whole_of h s) _ (mapped-there (lists_of places.magic) _ (tables-read (offset_by opts (mapped_in view h s) places) places none)))
 
   by-read : (header : Option PeHeader) → (pe_header (is_strict opts.parse_mode)).value bytes ≡ header → refused_by view opts bytes header ≡ Nothing → IsSome ((whole_in view opts).value bytes)
   unfolding whole_in
@@ -94,7 +91,8 @@ module _ (view : View) (opts : ParseOptions) (bytes : List ℕ) (short : length 
       let sections = step ((sections_after (is_strict opts.parse_mode) header.value).value bytes) (λ s. (whole_with view opts header.value s).value bytes) w header.then in
       let places = places_in header.value.optional_header in
       let offset_of = offset_by opts (mapped_in view header.value sections.value) places in
-      let tables = mapped ((table_parts opts offset_of places).value bytes) (whole_of header.value sections.value) w sections.then in
+      let lists = mapped ((listed_tables opts offset_of places).value bytes) (whole_of header.value sections.value) w sections.then in
+      let tables = mapped ((table_parts opts offset_of places).value bytes) (lists_of places.magic) lists.value lists.is in
       rw (header.is, sections.is) (no-table offset_of places (is-there _ tables.value tables.is))
 
   pub without_read : IsWithoutRead view opts bytes

@@ -1,9 +1,8 @@
 -- A file of which nothing is damaged is one that strict mode reads, and where no library is left out,
 -- permissive mode reads the same.
-use Rattle.std.proofs.Common.{◌≡◌, ℕ, ◌<◌, ◌^◌, List, length, Bool, true, false, Option, Some, None, IsSome, refl, sym, ap, subst, ◌∙◌, IfOk, IsSomeAnd, Result, Ok, Err, option_map}
+use Rattle.std.proofs.Common.{◌≡◌, ℕ, List, Bool, true, false, Option, Some, None, IsSome, refl, sym, ap, subst, ◌∙◌, IfOk, IsSomeAnd, Result, Ok, Err, option_map}
 use Rattle.goblin_base.specs.declared.error.ErrorOf.{ErrorOf}
 use Rattle.goblin_base.specs.declared.permissive.ParseMode.TheVariants.{Strict}
-use Rattle.goblin_base.specs.Bytes.{IsBytes}
 use Rattle.goblin_base.specs.Reading.{Reading}
 use Rattle.goblin_base.proofs.Steps.{mapped, step}
 use Rattle.readings.specs.Reads.{◌beside◌, in_its_place, pair_of}
@@ -19,12 +18,11 @@ use Rattle.goblin_pe_import.specs.declared.import.left_out.LeftOut.{LeftOut}
 use Rattle.goblin_pe.specs.declared.whole.damage.Damage.{Damage}
 use Rattle.goblin_pe.specs.Damages.{AreDamaged, IsDamage, IsDamaged, IsReadByBoth, IsSound, TellsDamage, left_out_of}
 use Rattle.goblin_pe.specs.Modes.{in_mode, in_permissive_mode}
-use Rattle.goblin_pe.specs.Whole.{TableParts, TablePlaces, both_import_parts, export_part, import_list, layout}
-use Rattle.goblin_pe.specs.Whole.{mapped_in, offset_by}
-use Rattle.goblin_pe.specs.Whole.{places_in, relocation_part, sections_after, table_parts, whole_file, whole_in}
-use Rattle.goblin_pe.specs.Whole.{whole_of, whole_with}
-use Rattle.goblin_pe.proofs.ImportParts.{list_value}
-use Rattle.goblin_pe.proofs.PermissiveReads.{permissive_tables, repeats-whole_file, sections_repeat, tables_same}
+use Rattle.goblin_pe.specs.Whole.{ListedParts, NumberedTables, TablePlaces, export_part, import_list}
+use Rattle.goblin_pe.specs.Whole.{layout, lists_of, mapped_in, numbered_data_part, offset_by, places_in}
+use Rattle.goblin_pe.specs.Whole.{relocation_part, sections_after, table_parts, tables_with, whole_file}
+use Rattle.goblin_pe.specs.Whole.{whole_in, whole_of, whole_with}
+use Rattle.goblin_pe.proofs.PermissiveReads.{lists_again, repeats-whole_file, sections_repeat, tables_same}
 
 there : {A : Type 0} (reading : Reading A) (bytes : List ℕ) (damage : Option ErrorOf) → damage ≡ None → IsDamage reading bytes damage → IsSome (reading.value bytes)
 there reading bytes None is h = h
@@ -77,29 +75,32 @@ both-there (Some x) (Some y) first second = refl
 pub all-there : {A B C : Type 0} (a : Reading A) (b : Reading B) (c : Reading C) (bytes : List ℕ) → IsSome (a.value bytes) → IsSome (b.value bytes) → IsSome (c.value bytes) → IsSome ((a beside b beside c).value bytes)
 all-there a b c bytes first second third = both-there (pair_of (a.value bytes) (b.value bytes)) (c.value bytes) (both-there (a.value bytes) (b.value bytes) first second) third
 
-module _ (opts : ParseOptions) (bytes : List ℕ) (short : length bytes < 2 ^ 63) (fit : IsBytes bytes) where
+module _ (opts : ParseOptions) (bytes : List ℕ) where
   tables-there : (offset_of : ℕ → Option ℕ) (places : TablePlaces) (imports exports relocations : Option ErrorOf) (left_out : LeftOut) → imports ≡ None → exports ≡ None → relocations ≡ None → AreDamaged opts offset_of places bytes imports exports relocations left_out → IsSome ((table_parts (in_mode Strict opts) offset_of places).value bytes)
-  unfolding table_parts
+  unfolding table_parts import_list
   tables-there offset_of places imports exports relocations left_out no_imports no_exports no_relocations damage =
       let listed = there (import_list (in_mode Strict opts) offset_of places) bytes imports no_imports damage.imports in
-      let parts = unmapped-there _ ((both_import_parts (in_mode Strict opts) offset_of places).value bytes) _ (list_value (in_mode Strict opts) offset_of places bytes short fit) (mapped-there _ _ listed) in
       mapped-there _ _
-      (all-there (both_import_parts (in_mode Strict opts) offset_of places) (export_part (in_mode Strict opts) offset_of places) (relocation_part (in_mode Strict opts) offset_of places) bytes parts
+      (all-there (numbered_data_part (in_mode Strict opts) offset_of places) (export_part (in_mode Strict opts) offset_of places) (relocation_part (in_mode Strict opts) offset_of places) bytes (unmapped-there _ _ _ refl listed)
       (there (export_part (in_mode Strict opts) offset_of places) bytes exports no_exports damage.exports)
       (there (relocation_part (in_mode Strict opts) offset_of places) bytes relocations no_relocations damage.relocations))
 
   -- strict mode reads a file of these tables, and permissive mode the same
-  alike : (h : PeHeader) (s : List Section) (tables : Option TableParts) → (table_parts (in_mode Strict opts) (offset_by opts (mapped_in Sections h s) (places_in h.optional_header)) (places_in h.optional_header)).value bytes ≡ tables → IsSome tables → (left_out_of opts (offset_by opts (mapped_in Sections h s) (places_in h.optional_header)) (places_in h.optional_header) bytes).libraries ≡ 0 → (whole_file (in_mode Strict opts)).value bytes ≡ (whole_with Sections (in_mode Strict opts) h s).value bytes → IsReadByBoth Sections opts bytes
+  alike : (h : PeHeader) (s : List Section) (tables : Option NumberedTables) → (tables_with Sections (in_mode Strict opts) h s).value bytes ≡ tables → IsSome tables → (left_out_of opts (offset_by opts (mapped_in Sections h s) (places_in h.optional_header)) (places_in h.optional_header) bytes).libraries ≡ 0 → (whole_file (in_mode Strict opts)).value bytes ≡ (whole_with Sections (in_mode Strict opts) h s).value bytes → IsReadByBoth Sections opts bytes
   unfolding whole_with in_permissive_mode file_offset
   alike h s None is some none whole = absurd cc
   alike h s (Some t) is some none whole =
       let places = places_in h.optional_header in
-      let made : (whole_file (in_mode Strict opts)).value bytes ≡ Some (whole_of h s t) = whole ∙ ap (option_map (whole_of h s)) is in
-      let same : permissive_tables opts (offset_by opts (mapped_in Sections h s) places) places t ≡ t = tables_same opts (offset_by opts (mapped_in Sections h s) places) places bytes none t is in
-      rw made ((repeats-whole_file opts).kept bytes (whole_of h s t) made ∙ ap (λ (tables : TableParts). Some (whole_of h s tables)) same)
+      let listed = λ (t : NumberedTables). whole_of h s (lists_of places.magic t) in
+      let offset_of = offset_by opts (mapped_in Sections h s) places in
+      let made : (whole_file (in_mode Strict opts)).value bytes ≡ Some (listed t) = whole ∙ ap (λ (o : Option NumberedTables). option_map (whole_of h s) (option_map (lists_of places.magic) o)) is in
+      let same = tables_same opts offset_of places bytes none t is in
+      rw made ((repeats-whole_file opts).kept bytes (listed t) made
+      ∙ ap (λ (l : ListedParts). Some (whole_of h s l)) (sym (lists_again opts offset_of places t))
+      ∙ ap (λ (t : NumberedTables). Some (listed t)) same)
 
   sound_read : (l : PeHeader × List Section) (d : Damage) → (layout opts).value bytes ≡ Some l → IsDamaged Sections opts l.0 l.1 bytes d → IsSound d → IsReadByBoth Sections opts bytes
-  unfolding layout whole_in
+  unfolding layout whole_in file_offset
   sound_read l d found damaged sound =
       let strict = is_strict opts.parse_mode in
       let first = step ((pe_header strict).value bytes) (λ h. option_map (λ s. (h, s)) ((sections_after strict h).value bytes)) l found in

@@ -2,6 +2,7 @@
 use Rattle.std.proofs.Common.{◌≡◌, Bool, List, ℕ, None, Option, Some, ap, append-nil, sym, ◌∙◌, map}
 use Rattle.std.specs.Option.{option_map}
 use Rattle.goblin_base.specs.Marks.{marked}
+use Rattle.goblin_base.specs.Tables.{Format}
 use Rattle.goblin_base.proofs.Marks.{marked_append}
 use Rattle.goblin_pe_sect.specs.declared.options.ParseOptions.{ParseOptions}
 use Rattle.goblin_pe_sect.specs.declared.options.View.{View}
@@ -10,10 +11,21 @@ use Rattle.goblin_pe_sect.specs.Options.{is_strict}
 use Rattle.goblin_pe_sect.specs.SectionTable.{Section, unnamed}
 use Rattle.goblin_pe_head.specs.declared.header.pe_header.Header.{Header}
 use Rattle.goblin_pe_head.specs.PeHeader.{header_value}
+use Rattle.goblin_pe_import.specs.ImportEntries.{EntryValue}
+use Rattle.goblin_pe_import.specs.ImportReadings.{import_data, numbered_data}
+use Rattle.goblin_pe_import.proofs.LibraryIndexes.{numbered-reach}
 use Rattle.goblin_pe.specs.declared.whole.layout.Layout.{Layout}
 use Rattle.goblin_pe.specs.Layouts.{IsLayoutOf, layout_map, layout_places}
 use Rattle.goblin_pe.specs.Whole.{sections_after, table_parts, whole_after, whole_with}
 use Rattle.goblin_pe.proofs.SectionNames.{of_file}
+
+-- marking what import data reaches marks what it reaches with its numbers
+pub numbered_marked : (old new : List Bool) (strict : Bool) (format : Format EntryValue)
+    (offset_of : ℕ → Option ℕ) (bytes : List ℕ) (rva : ℕ)
+    → new ≡ marked old ((import_data strict format offset_of rva).reaches bytes)
+    → new ≡ marked old ((numbered_data strict format offset_of rva).reaches bytes)
+numbered_marked old new strict format offset_of bytes rva is =
+    is ∙ ap (marked old) (numbered-reach strict format offset_of bytes rva)
 
 module _ (view : View) (opts : ParseOptions) (bytes : List ℕ) (header : Header) (old new : List Bool) where
   abbrev reached : List (ℕ × ℕ)

@@ -15,8 +15,8 @@ use Rattle.goblin_pe_head.specs.PeHeader.{PeHeader}
 use Rattle.goblin_pe_import.specs.declared.import.left_out.LeftOut.{LeftOut}
 use Rattle.goblin_pe_import.specs.ImportEntries.{EntryValue}
 use Rattle.goblin_pe_import.specs.LeftOut.{entries_left_out, libraries_left_out, unmapped_entries}
-use Rattle.goblin_pe_export.specs.ExportReadings.{export_read}
-use Rattle.goblin_pe_export.specs.ExportRecords.{ExportRow, ExportTables}
+use Rattle.goblin_pe_export.specs.ExportReadings.{numbered_read}
+use Rattle.goblin_pe_export.specs.ExportRecords.{ExportTables, NumberedExport}
 use Rattle.goblin_pe_export.specs.LeftOutExports.{pointers_left_out}
 use Rattle.goblin_pe.specs.declared.whole.damage.Damage.{Damage}
 use Rattle.goblin_pe.specs.Modes.{in_mode}
@@ -52,7 +52,7 @@ left_out_of opts offset_of places bytes =
 
 -- how many name pointers of the export directory that was read give no export; 0 without one
 abbrev pub exports_left_out_of : (ℕ → Option ℕ) → List ℕ
-    → Option (ExportTables × List ExportRow) → ℕ
+    → Option (ExportTables × List NumberedExport) → ℕ
 exports_left_out_of offset_of bytes None = 0
 exports_left_out_of offset_of bytes (Some read) = pointers_left_out offset_of bytes read.0
 
@@ -60,7 +60,7 @@ exports_left_out_of offset_of bytes (Some read) = pointers_left_out offset_of by
 unfoldable pub exports_left_out : (ℕ → Option ℕ) → TablePlaces → List ℕ → ℕ
 exports_left_out offset_of places bytes =
     exports_left_out_of offset_of bytes
-    (places.exports >>= λ d. (export_read offset_of d).value bytes)
+    (places.exports >>= λ d. (numbered_read offset_of d).value bytes)
 
 -- What strict mode would refuse of the tables whose addresses are mapped so.
 pub record AreDamaged (opts : ParseOptions) (offset_of : ℕ → Option ℕ) (places : TablePlaces)

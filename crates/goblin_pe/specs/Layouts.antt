@@ -1,5 +1,5 @@
 -- What all tables of a file are read by, and the tables as walks.
-use Rattle.std.specs.Prelude.{◌≡◌, ℕ, List, Option, Some, Result, Ok, Err, map}
+use Rattle.std.specs.Prelude.{◌≡◌, ℕ, List, Option, Some, Result, Ok, Err}
 use Rattle.goblin_base.specs.declared.error.ErrorOf.{ErrorOf}
 use Rattle.goblin_base.specs.Reading.{IsRefused, Reading}
 use Rattle.readings.specs.Walks.{IsWalkOf}
@@ -9,7 +9,7 @@ use Rattle.goblin_pe_head.specs.declared.header.pe_header.Header.{Header}
 use Rattle.goblin_pe_sect.specs.Addresses.{MapOfAddresses, map_in, map_of, offset_of}
 use Rattle.goblin_pe_export.specs.declared.export.exports.Exports.{Exports}
 use Rattle.goblin_pe_export.specs.ExportReadings.{export_addresses}
-use Rattle.goblin_pe_export.specs.ExportRecords.{ExportRow, ExportTables}
+use Rattle.goblin_pe_export.specs.ExportRecords.{ExportTables, NumberedExport}
 use Rattle.goblin_pe_export.specs.ExportWalks.{AreExportsOver, exports_left, numbered_from}
 use Rattle.goblin_pe_export.specs.ExportWalks.{walked_tables}
 use Rattle.goblin_pe_import.specs.ImportLookup.{entries_32, entries_64}
@@ -93,8 +93,8 @@ file_imports_bound (Wide imports) = imports_bound imports
 -- ---- the walk over the exports
 
 -- what an export directory leads to, and the exports that are still to come
-abbrev pub walked_exports : Exports → ExportTables × List ExportRow
-walked_exports walk = (walked_tables walk, map (λ x. x.row) (exports_left walk))
+abbrev pub walked_exports : Exports → ExportTables × List NumberedExport
+walked_exports walk = (walked_tables walk, exports_left walk)
 
 -- what the export directory leads to besides the names of exports
 unfoldable pub address_part : ParseOptions → (ℕ → Option ℕ) → TablePlaces

@@ -1,16 +1,12 @@
 -- A whole file: its header, its sections, and the tables that its directories lead to.
 use Rattle.std.specs.Prelude.{◌≡◌, ℕ, ◌+◌, ◌==◌, Bool, true, false, if◌then◌else◌, List, Option, Ok}
-use Rattle.std.specs.Prelude.{Some, None, Result, Err, Vec, IsSomeAnd, map, option_map, flat_map, unwrap_or}
+use Rattle.std.specs.Prelude.{Some, None, Result, Err, Vec, map, flat_map}
 use Rattle.std.specs.Global.{Global}
-use Rattle.std.specs.declared.alloc.AllocError.{AllocError}
-use Rattle.std.proofs.Common.{inl, inr}
 use Rattle.goblin_base.specs.declared.error.ErrorOf.{ErrorOf}
 use Rattle.goblin_base.specs.declared.error.ErrorOf.TheVariants.{Memory}
-use Rattle.goblin_base.specs.Answers.{IsMemory}
 use Rattle.goblin_base.specs.Reading.{Reading}
 use Rattle.goblin_base.specs.Tables.{Format}
-use Rattle.goblin_base.proofs.Picks.{by_cases-not_memory}
-use Rattle.readings.specs.Reads.{◌>>=◌, ◌beside◌, checked, given, mapped, pair_of, pick, turned}
+use Rattle.readings.specs.Reads.{◌>>=◌, ◌beside◌, given, mapped, pick, turned}
 use Rattle.goblin_pe_sect.specs.declared.data_directories.DataDirectory.{DataDirectory}
 use Rattle.goblin_pe_sect.specs.declared.options.ParseOptions.{ParseOptions}
 use Rattle.goblin_pe_sect.specs.declared.options.View.{View}
@@ -31,14 +27,15 @@ use Rattle.goblin_pe.specs.declared.whole.Part.TheVariants.{Absent, Refused}
 use Rattle.goblin_pe.specs.declared.whole.Part.TheVariants as part
 use Rattle.goblin_pe.specs.declared.whole.listed.ListedTables.{ListedTables}
 use Rattle.goblin_pe.specs.declared.whole.places.Places.{Places}
-use Rattle.goblin_pe_export.specs.ExportReadings.{export_read}
-use Rattle.goblin_pe_export.specs.ExportRecords.{ExportRow, ExportTables, export_read_view}
+use Rattle.goblin_pe_export.specs.ExportReadings.{numbered_read}
+use Rattle.goblin_pe_export.specs.ExportRecords.{ExportRow, ExportTables, NumberedExport}
+use Rattle.goblin_pe_export.specs.ExportRecords.{export_read_view, read_rows}
 use Rattle.goblin_pe_import.specs.ImportEntries.{EntryValue}
 use Rattle.goblin_pe_import.specs.ImportLookup.{entries_32, entries_64}
 use Rattle.goblin_pe_import.specs.ImportReadings.{import_data, numbered_data}
 use Rattle.goblin_pe_import.specs.ImportRecords.{ImportedLibrary, NumberedLibrary}
 use Rattle.goblin_pe_import.specs.Imports.{ImportValue, IsImportListFault, NumberedImport}
-use Rattle.goblin_pe_import.specs.Imports.{first_without_slots, imports_of, numbered_imports}
+use Rattle.goblin_pe_import.specs.Imports.{imports_of, numbered_imports}
 
 -- ---- parts
 
@@ -175,60 +172,34 @@ IsListedImportsFault Absent e = ⊥
 IsListedImportsFault (part.Read libraries) e = IsImportListFault libraries e
 IsListedImportsFault Refused e = ⊥
 
-never_some : {A : Type 0} (o : Option A) → IsSomeAnd o (λ x. ⊥) → ⊥
-never_some None h = h
-never_some (Some x) h = h
+-- the imports from numbered libraries, one by one, by the magic
+abbrev pub imports_in : ℕ → Part (List NumberedLibrary) → Part (List NumberedImport)
+imports_in magic libraries = part_map (flat_map (numbered_imports (entry_format magic).width)) libraries
 
-imports_no_memory : (libraries : List ImportedLibrary) (m : AllocError)
-    → IsImportListFault libraries (Memory m) → ⊥
-imports_no_memory libraries m (inl h) = never_some (first_without_slots libraries) h
-imports_no_memory libraries m (inr h) = h.1
-
-pub listed_imports_part-not_memory : (p : Part (List ImportedLibrary)) (e : ErrorOf)
-    → IsListedImportsFault p e → ¬ IsMemory e
-listed_imports_part-not_memory Absent e h = absurd h
-listed_imports_part-not_memory (part.Read libraries) e h =
-    by_cases-not_memory (IsImportListFault libraries) (imports_no_memory libraries) e h
-listed_imports_part-not_memory Refused e h = absurd h
-
--- import data, with the list of imports made from it
-unfoldable pub both_import_parts : ParseOptions → (ℕ → Option ℕ) → TablePlaces
-    → Reading (Part (List ImportedLibrary) × Part (List ImportValue))
-both_import_parts opts offset_of places =
-    checked (λ libraries. pair_of (Some libraries) (listed_imports_part opts places libraries))
-    IsListedImportsFault listed_imports_part-not_memory (import_data_part opts offset_of places)
-
--- the imports alone, those of each library one by one, each with the index of the library's record
+-- the imports alone, each with the index of its library's record
 unfoldable pub import_list : ParseOptions → (ℕ → Option ℕ) → TablePlaces
     → Reading (Part (List NumberedImport))
 import_list opts offset_of places =
-    mapped (part_map (flat_map (numbered_imports (entry_format places.magic).width)))
-    (numbered_data_part opts offset_of places)
+    mapped (imports_in places.magic) (numbered_data_part opts offset_of places)
 
--- those of a file that has such a list
-abbrev pub listed_in : ParseOptions → (ℕ → Option ℕ) → TablePlaces → List ℕ
-    → Part (List NumberedImport)
-listed_in opts offset_of places bytes =
-    unwrap_or ((import_list opts offset_of places).value bytes) Absent
+-- libraries and imports without the indexes of the records
+abbrev pub without_indexes : Part (List NumberedLibrary) → Part (List ImportedLibrary)
+without_indexes libraries = part_map (map (λ x. x.library)) libraries
 
--- imports without the indexes of their libraries
 abbrev pub without_numbers : Part (List NumberedImport) → Part (List ImportValue)
 without_numbers imports = part_map (map (λ x. x.import)) imports
 
--- The imports alone are the list that is made of the libraries, and are refused as that is.
-pub record AreListed (opts : ParseOptions) (offset_of : ℕ → Option ℕ) (places : TablePlaces)
-    (bytes : List ℕ) : Type 0 where
-  pub value : option_map without_numbers ((import_list opts offset_of places).value bytes)
-      ≡ option_map (λ read. read.1) ((both_import_parts opts offset_of places).value bytes)
-  pub cause : (e : ErrorOf) → (import_list opts offset_of places).value bytes ≡ None
-      → (import_list opts offset_of places).IsCause bytes e
-      → (both_import_parts opts offset_of places).IsCause bytes e
+-- both lists of the imports
+abbrev pub both_lists : ℕ → Part (List NumberedLibrary)
+    → Part (List ImportedLibrary) × Part (List ImportValue)
+both_lists magic libraries =
+    (without_indexes libraries, without_numbers (imports_in magic libraries))
 
--- the export data, with the exports that it lists
+-- the export data, with the exports that it lists, each with its numbers
 unfoldable pub export_part : ParseOptions → (ℕ → Option ℕ) → TablePlaces
-    → Reading (Part (ExportTables × List ExportRow))
+    → Reading (Part (ExportTables × List NumberedExport))
 export_part opts offset_of places =
-    part_at (is_strict opts.parse_mode) (export_read offset_of) places.exports
+    part_at (is_strict opts.parse_mode) (numbered_read offset_of) places.exports
 
 -- the bytes of the base relocations
 unfoldable pub relocation_part : ParseOptions → (ℕ → Option ℕ) → TablePlaces
@@ -236,18 +207,43 @@ unfoldable pub relocation_part : ParseOptions → (ℕ → Option ℕ) → Table
 relocation_part opts offset_of places =
     part_at (is_strict opts.parse_mode) (relocation_data offset_of) places.relocations
 
--- the tables of a file: imports, exports and base relocations
-pub record TableParts : Type 0 where
-  pub imports : Part (List ImportedLibrary) × Part (List ImportValue)
-  pub exports : Part (ExportTables × List ExportRow)
+-- what is kept of the tables of a file: imports, exports and base relocations
+pub record TableParts (I E : Type 0) : Type 0 where
+  pub imports : I
+  pub exports : E
   pub relocations : Part (List ℕ)
 
-unfoldable pub table_parts : ParseOptions → (ℕ → Option ℕ) → TablePlaces → Reading TableParts
+-- the tables with the numbers of imports and exports
+abbrev pub NumberedTables : Type 0
+NumberedTables = TableParts (Part (List NumberedLibrary)) (Part (ExportTables × List NumberedExport))
+
+unfoldable pub table_parts : ParseOptions → (ℕ → Option ℕ) → TablePlaces → Reading NumberedTables
 table_parts opts offset_of places =
     mapped (λ all. record { imports = all.0.0; exports = all.0.1; relocations = all.1 })
-    (both_import_parts opts offset_of places
+    (numbered_data_part opts offset_of places
     beside export_part opts offset_of places
     beside relocation_part opts offset_of places)
+
+-- what a caller makes of the imports and of the exports
+abbrev pub collected_tables : {I E : Type 0} → (Part (List NumberedLibrary) → I)
+    → (Part (ExportTables × List NumberedExport) → E) → NumberedTables → TableParts I E
+collected_tables imports_of exports_of tables = record {
+  imports = imports_of tables.imports;
+  exports = exports_of tables.exports;
+  relocations = tables.relocations;
+}
+
+-- the lists of a file, without the numbers
+abbrev pub ListedParts : Type 0
+ListedParts = TableParts (Part (List ImportedLibrary) × Part (List ImportValue))
+    (Part (ExportTables × List ExportRow))
+
+abbrev pub lists_of : ℕ → NumberedTables → ListedParts
+lists_of magic tables = collected_tables (both_lists magic) (part_map read_rows) tables
+
+abbrev pub listed_tables : ParseOptions → (ℕ → Option ℕ) → TablePlaces → Reading ListedParts
+listed_tables opts offset_of places =
+    mapped (lists_of places.magic) (table_parts opts offset_of places)
 
 -- ---- the whole file
 
@@ -261,8 +257,8 @@ pub record WholeFile : Type 0 where
   pub exports : Part (List ExportRow)
   pub relocations : Part (List ℕ)
 
--- a file of its header, its sections and its tables
-abbrev pub whole_of : PeHeader → List Section → TableParts → WholeFile
+-- a file of its header, its sections and its lists
+abbrev pub whole_of : PeHeader → List Section → ListedParts → WholeFile
 whole_of header sections tables = record {
   header = header;
   sections = sections;
@@ -294,65 +290,33 @@ unfoldable pub whole_with : View → ParseOptions → PeHeader → List Section 
 whole_with view opts h sections =
     let places = places_in h.optional_header in
     let offset_of = offset_by opts (mapped_in view h sections) places in
-    mapped (whole_of h sections) (table_parts opts offset_of places)
+    mapped (whole_of h sections) (listed_tables opts offset_of places)
+
+-- what is read of a file by its header and its sections, which both modes require
+abbrev pub by_layout : {A : Type 0} → ParseOptions → (PeHeader → List Section → Reading A)
+    → Reading A
+by_layout opts read =
+    let strict = is_strict opts.parse_mode in
+    pe_header strict >>= λ h. sections_after strict h >>= read h
+
+-- the tables of a file with this header and these sections, in a view
+abbrev pub tables_with : View → ParseOptions → PeHeader → List Section → Reading NumberedTables
+tables_with view opts h sections =
+    let places = places_in h.optional_header in
+    table_parts opts (offset_by opts (mapped_in view h sections) places) places
 
 -- the file that begins with this header
 abbrev pub whole_after : View → ParseOptions → PeHeader → Reading WholeFile
 whole_after view opts h =
-    sections_after (is_strict opts.parse_mode) h >>= λ sections. whole_with view opts h sections
+    sections_after (is_strict opts.parse_mode) h >>= whole_with view opts h
 
--- a whole file: its header and its sections, which both modes require, and its tables, whose
--- addresses are mapped as the view says
+-- a whole file: its header, its sections and its tables, whose addresses are mapped as the view says
 unfoldable pub whole_in : View → ParseOptions → Reading WholeFile
-whole_in view opts = pe_header (is_strict opts.parse_mode) >>= λ h. whole_after view opts h
+whole_in view opts = by_layout opts (whole_with view opts)
 
 -- a whole file, by its sections
 abbrev pub whole_file : ParseOptions → Reading WholeFile
 whole_file opts = whole_in Sections opts
-
--- ---- what a caller makes of a file, of its imports and of the export tables
-
--- what is made of the imports that were read with their libraries
-abbrev pub collected_imports : {X : Type 0} → (Part (List ImportValue) → X)
-    → Part (List ImportedLibrary) × Part (List ImportValue) → X
-collected_imports imports_of read = imports_of read.1
-
--- what is made of the export tables that were read with their rows
-abbrev pub collected_exports : {Y : Type 0} → (Part ExportTables → Y)
-    → Part (ExportTables × List ExportRow) → Y
-collected_exports exports_of read = exports_of (part_map (λ read. read.0) read)
-
--- what is made of the tables of a file
-pub record CollectedParts (X Y : Type 0) : Type 0 where
-  pub imports : X
-  pub exports : Y
-  pub relocations : Part (List ℕ)
-
-abbrev pub collected_tables : {X Y : Type 0} → (Part (List ImportValue) → X)
-    → (Part ExportTables → Y) → TableParts → CollectedParts X Y
-collected_tables imports_of exports_of parts = record {
-  imports = collected_imports imports_of parts.imports;
-  exports = collected_exports exports_of parts.exports;
-  relocations = parts.relocations;
-}
-
--- a whole file with X made of its imports, and Y of its export tables
-pub record CollectedFileValue (X Y : Type 0) : Type 0 where
-  pub header : PeHeader
-  pub sections : List Section
-  pub imports : X
-  pub exports : Y
-  pub relocations : Part (List ℕ)
-
-abbrev pub collected_file : {X Y : Type 0} → (Part (List ImportValue) → X)
-    → (Part ExportTables → Y) → WholeFile → CollectedFileValue X Y
-collected_file imports_of exports_of w = record {
-  header = w.header;
-  sections = w.sections;
-  imports = imports_of w.imports;
-  exports = exports_of w.export_data;
-  relocations = w.relocations;
-}
 
 -- ---- what contracts see
 
@@ -366,7 +330,7 @@ abbrev pub import_read_view : Part (List ImportedLibrary) × Part (Vec ImportVal
 import_read_view read = (read.0, items_part read.1)
 
 -- the tables that their reader returns
-abbrev pub listed_view : ListedTables → TableParts
+abbrev pub listed_view : ListedTables → ListedParts
 listed_view t = record {
   imports = import_read_view t.imports;
   exports = part_map export_read_view t.exports;

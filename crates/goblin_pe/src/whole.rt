@@ -1,6 +1,7 @@
 //! A whole file: its header, its sections, and the tables that its directories lead to.
 
-ghost use Rattle.std.specs.Prelude.{◌≡◌, ◌<◌, ◌/◌, IfErr, IfSome, IsErrAnd, IsSomeAnd, length};
+ghost use Rattle.std.specs.Prelude.{◌≡◌, ◌<◌, ◌/◌, IfErr, IfOk, IfSome, IsErrAnd, IsSomeAnd, Some};
+ghost use Rattle.std.specs.Prelude.{length};
 ghost use Rattle.goblin_base.specs.Answers.{IsMemory};
 ghost use Rattle.goblin_base.specs.Reading.{Reads, ReadsOrMemory};
 ghost use Rattle.goblin_pe_sect.specs.AddressReadings.{text_at_address};
@@ -9,7 +10,7 @@ ghost use Rattle.goblin_pe_head.specs.HeaderReadings.{pe_header};
 ghost use Rattle.goblin_pe_head.specs.CoffHeader.{IsTooManySections};
 ghost use Rattle.goblin_pe_sect.specs.Addresses.{map_by, offset_of};
 ghost use Rattle.goblin_pe.specs.TakenMemory.{TakesLists};
-ghost use Rattle.goblin_pe.specs.Whole.{places_in, whole_file};
+ghost use Rattle.goblin_pe.specs.Whole.{listed_imports_part, places_in, whole_file};
 
 use crate::export::{Export, ExportData};
 use crate::import::{Import, ImportData};
@@ -112,6 +113,9 @@ impl<'a> Whole<'a> {
     #[tactic(auto, unfolding(crate::specs::Whole::whole_in, crate::specs::Whole::whole_with), using(goblin_pe_head::proofs::HeaderFaults::header_there))]
     pub fn read(alloc: Global, bytes: &'a [u8], opts: &ParseOptions) -> Result<Whole<'a>>
         ensures value { ReadsOrMemory (λ x. x) result (whole_file opts.now) bytes.now }
+        ensures listed { IfOk result (λ w.
+            let places = places_in w.header.optional_header in
+            listed_imports_part opts.now places w.import_data ≡ Some w.imports) }
         ensures first { let found = (pe_header (is_strict opts.now.parse_mode)).value bytes.now in
             IfSome found (λ header.
             let count = header.coff_header.number_of_sections in

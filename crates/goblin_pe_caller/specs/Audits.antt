@@ -8,7 +8,7 @@ use Rattle.goblin_pe.specs.declared.optional_header.OptionalHeader.{OptionalHead
 use Rattle.goblin_pe.specs.declared.options.ParseOptions.{ParseOptions}
 use Rattle.goblin_pe.specs.Callers.{file_table, read_or}
 use Rattle.goblin_pe.specs.ErrorText.{error_text}
-use Rattle.goblin_pe.specs.ExportRecords.{ExportRow, ExportTables}
+use Rattle.goblin_pe.specs.ExportRecords.{ExportRow, ExportTables, NumberedExport}
 use Rattle.goblin_pe.specs.Imports.{NumberedImport}
 use Rattle.goblin_pe.specs.Mapping.{section_at}
 use Rattle.goblin_pe.specs.Options.{default_options}
@@ -36,8 +36,8 @@ abbrev pub is_forwarder : ExportRow → Bool
 is_forwarder row = is_some row.reexport
 
 -- how many of the exports that were read are forwarders
-abbrev pub forwarder_count : ExportTables × List ExportRow → ℕ
-forwarder_count read = count_by is_forwarder read.1
+abbrev pub forwarder_count : ExportTables × List NumberedExport → ℕ
+forwarder_count read = count_by (λ x. is_forwarder x.row) read.1
 
 -- how many exports of a file are forwarders
 abbrev pub forwarders : ParseOptions → Reading ℕ

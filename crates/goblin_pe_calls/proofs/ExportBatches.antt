@@ -11,7 +11,7 @@ use Rattle.goblin_pe_export.specs.ExportWalks.{GivesExportBefore, exports_positi
 use Rattle.goblin_pe_export.proofs.ExportWalk.{from_end}
 use Rattle.goblin_base.proofs.RecordItems.{length-records_in}
 use Rattle.goblin_pe.specs.Addresses.{MapOfAddresses, map_of, offset_of}
-use Rattle.goblin_pe.specs.ExportRecords.{ExportRow, ExportTables}
+use Rattle.goblin_pe.specs.ExportRecords.{ExportTables}
 use Rattle.goblin_pe.specs.ExportWalks.{KeepsOver, NumberedExport, exports_at, exports_left, numbered_from, walked_export, walked_tables}
 use Rattle.goblin_pe.specs.Layouts.{IsExportWalk, walked_exports}
 use Rattle.goblin_pe.specs.Whole.{IfRead, TablePlaces, export_part, part_map}
@@ -170,11 +170,11 @@ module _ (m : MapOfAddresses) (places : TablePlaces) (bytes : List ℕ) (found :
           looked = λ some. omega (arith, limit some, within, at);
           stays = λ none. ap exports_position (stays none) ∙ at;
         } in
-        subst (λ (v : Option (Part (ExportTables × List ExportRow))). IsSomeAnd v (λ p.
+        subst (λ (v : Option (Part (ExportTables × List NumberedExport))). IsSomeAnd v (λ p.
         FillsExports steps (pointers_in p) (exports_in m bytes x p) (exports_in m bytes (exports_position next) p) (record { position = x; records = old }) (record { position = exports_position next; records = new }) count))
         (sym value) fills
 
-  nothing : (steps : ℕ) (p : Part (ExportTables × List ExportRow)) → ((y : ℕ) → exports_in m bytes y p ≡ [])
+  nothing : (steps : ℕ) (p : Part (ExportTables × List NumberedExport)) → ((y : ℕ) → exports_in m bytes y p ≡ [])
       → (export_part m.opts (offset_of m) places).value bytes ≡ Some p
       → GivesExports m places bytes steps (record { position = x; records = old }) (record { position = x; records = old }) 0
   nothing steps p none is =
@@ -189,7 +189,7 @@ module _ (m : MapOfAddresses) (places : TablePlaces) (bytes : List ℕ) (found :
         looked = λ some. omega arith;
         stays = λ none. refl;
       } in
-      subst (λ (v : Option (Part (ExportTables × List ExportRow))). IsSomeAnd v (λ p.
+      subst (λ (v : Option (Part (ExportTables × List NumberedExport))). IsSomeAnd v (λ p.
       FillsExports steps (pointers_in p) (exports_in m bytes x p) (exports_in m bytes x p) (record { position = x; records = old }) (record { position = x; records = old }) 0))
       (sym is)
       (subst (λ (items : List NumberedExport). FillsExports steps (pointers_in p) items items (record { position = x; records = old }) (record { position = x; records = old }) 0) (sym (none x)) fills)

@@ -28,13 +28,15 @@ use Rattle.goblin_pe_head.specs.SectionRoom.{HasRoom}
 use Rattle.goblin_pe.specs.declared.whole.Part.{Part}
 use Rattle.goblin_pe.specs.declared.whole.Part.TheVariants as part
 use Rattle.goblin_pe_import.specs.Imports.{NumberedImport}
-use Rattle.goblin_pe.specs.Whole.{AreListed, TableParts, TablePlaces, WholeFile, import_list}
-use Rattle.goblin_pe.specs.Whole.{both_import_parts, mapped_in, offset_by, places_in, sections_after, table_parts}
-use Rattle.goblin_pe.specs.Whole.{whole_in, whole_of, whole_with, without_numbers}
+use Rattle.goblin_pe.specs.ExportRecords.{ExportTables, NumberedExport, read_rows}
+use Rattle.goblin_pe.specs.Whole.{NumberedTables, TablePlaces, WholeFile, imports_in, lists_of, mapped_in, part_map}
+use Rattle.goblin_pe.specs.Whole.{places_in, sections_after, table_parts, tables_with, whole_in, whole_of, whole_with}
+use Rattle.goblin_pe.specs.Whole.{without_numbers}
 use Rattle.goblin_pe.proofs.Layouts.{tables-value}
 use Rattle.goblin_pe_calls.specs.Blocks.{blocks_in}
 use Rattle.goblin_pe_calls.specs.Growth.{FileBegins, HasEntries, HasRecords, HasTables}
-use Rattle.goblin_pe_calls.specs.Growth.{TablesBegin, TakesRecords}
+use Rattle.goblin_pe_calls.specs.Growth.{TablesBegin, TakesRecords, export_count}
+use Rattle.goblin_pe_calls.specs.Files.{entries_of}
 use Rattle.goblin_pe_calls.specs.Opened.{RecordsOfFile}
 use Rattle.goblin_pe_records.specs.RichHeaders.{entries_of_rich}
 use Rattle.goblin_pe_calls.proofs.Opened.{IsOf}
@@ -88,38 +90,27 @@ imports-begin m magic bytes None imports at begun = absurd at
 imports-begin m magic bytes (Some c) imports at begun =
     subst IsBegun (walk-left m magic bytes c imports at) begun
 
--- ---- the imports with their libraries
+-- ---- what is made of a table
 
-entries-numbered : (p : Part (List NumberedImport)) → HasEntries p → HasEntries (without_numbers p)
-entries-numbered Absent some = absurd (omega (arith, some))
-entries-numbered (part.Read xs) some =
-    omega (arith, some, length-map xs (λ (x : NumberedImport). x.import))
-entries-numbered Refused some = absurd (omega (arith, some))
+-- it has entries where what is made of it has
+pub entries_made : {A B : Type 0} (of : A → Part (List B)) (o : Option A)
+    → IfSome (option_map of o) HasEntries → IfSome o (λ x. HasEntries (of x))
+entries_made of None some = tt
+entries_made of (Some x) some = some
 
-second-entries : {A B : Type 0} (o : Option (A × Part (List B))) (p : Part (List B))
-    → Some p ≡ option_map (λ read. read.1) o → HasEntries p → IfSome o (λ read. HasEntries read.1)
-second-entries None p is some = tt
-second-entries (Some read) p is some = subst HasEntries (same_value p read.1 is) some
+-- there are as many imports and exports without their numbers
+imports-counted : (p : Part (List NumberedImport))
+    → length (entries_of (without_numbers p)) ≡ length (entries_of p)
+imports-counted Absent = refl
+imports-counted (part.Read xs) = length-map xs (λ (x : NumberedImport). x.import)
+imports-counted Refused = refl
 
-second-none : {A B : Type 0} (o : Option (A × Part (List B)))
-    → None ≡ option_map (λ read. read.1) o → IfSome o (λ read. HasEntries read.1)
-second-none None is = tt
-second-none (Some read) is = absurd cc
-
-pub parts_entries : (opts : ParseOptions) (offset_of : ℕ → Option ℕ) (places : TablePlaces)
-    (bytes : List ℕ) → AreListed opts offset_of places bytes
-    → IfSome ((import_list opts offset_of places).value bytes) HasEntries
-    → IfSome ((both_import_parts opts offset_of places).value bytes) (λ read. HasEntries read.1)
-parts_entries opts offset_of places bytes listed h =
-    by ((import_list opts offset_of places).value bytes) listed.value h
-  where
-    by : (list : Option (Part (List NumberedImport)))
-        → option_map without_numbers list
-        ≡ option_map (λ read. read.1) ((both_import_parts opts offset_of places).value bytes)
-        → IfSome list HasEntries
-        → IfSome ((both_import_parts opts offset_of places).value bytes) (λ read. HasEntries read.1)
-    by None is some = second-none _ is
-    by (Some p) is some = second-entries _ (without_numbers p) is (entries-numbered p some)
+exports-counted : (p : Part (ExportTables × List NumberedExport))
+    → export_count (part_map (λ r. r.0) (part_map read_rows p)) (part_map (λ r. r.1) (part_map read_rows p))
+    ≡ export_count (part_map (λ r. r.0) p) (part_map (λ r. r.1) p)
+exports-counted Absent = refl
+exports-counted (part.Read read) = rw (length-map read.1 (λ (x : NumberedExport). x.row)) refl
+exports-counted Refused = refl
 
 -- what something is made of is there
 pub mapped-some : {A B : Type 0} (f : A → B) (o : Option A) (y : B) → option_map f o ≡ Some y → IsSome o
@@ -154,19 +145,22 @@ module _ {A B C T : Type 0} (f : (A × B) × C → T) (Q : T → Type 0) where
 
 -- ---- a whole file
 
-by-sections : (h : PeHeader) (sections : Option (List Section)) (tables : List Section → Option TableParts)
+by-sections : (h : PeHeader) (sections : Option (List Section)) (tables : List Section → Option NumberedTables)
     → 0 < h.coff_header.number_of_sections
-    → IfSome (sections >>= (λ s. option_map (whole_of h s) (tables s))) HasRecords
+    → IfSome (sections >>= (λ s. option_map (whole_of h s) (option_map (lists_of (places_in h.optional_header).magic) (tables s)))) HasRecords
 by-sections h None tables some = tt
-by-sections h (Some s) tables some = elim (tables s) as (λ o. IfSome (option_map (whole_of h s) o) HasRecords) [
+by-sections h (Some s) tables some = elim (tables s) as (λ o. IfSome (option_map (whole_of h s) (option_map (lists_of (places_in h.optional_header).magic) o)) HasRecords) [
   | None ↦ tt
   | Some parts ↦ omega (arith, some)
 ]
 
-by-tables : (h : PeHeader) (s : List Section) (tables : Option TableParts)
-    → IfSome tables HasTables → IfSome (option_map (whole_of h s) tables) HasRecords
+by-tables : (h : PeHeader) (s : List Section) (tables : Option NumberedTables)
+    → IfSome tables (HasTables (places_in h.optional_header).magic)
+    → IfSome (option_map (whole_of h s) (option_map (lists_of (places_in h.optional_header).magic) tables)) HasRecords
 by-tables h s None some = tt
-by-tables h s (Some parts) some = omega (arith, some)
+by-tables h s (Some parts) some =
+    let magic = (places_in h.optional_header).magic in
+    omega (arith, some, imports-counted (imports_in magic parts.imports), exports-counted parts.exports)
 
 module _ (view : View) (opts : ParseOptions) (bytes : List ℕ) (h : PeHeader)
     (header : (pe_header (is_strict opts.parse_mode)).value bytes ≡ Some h) where
@@ -175,15 +169,15 @@ module _ (view : View) (opts : ParseOptions) (bytes : List ℕ) (h : PeHeader)
   unfolding whole_in whole_with
   sections-kept some =
       rw header (by-sections h ((sections_after (is_strict opts.parse_mode) h).value bytes)
-      (λ s. (table_parts opts (offset_by opts (mapped_in view h s) (places_in h.optional_header)) (places_in h.optional_header)).value bytes) some)
+      (λ s. (tables_with view opts h s).value bytes) some)
 
   pub tables-kept : (s : List Section)
       → (sections_after (is_strict opts.parse_mode) h).value bytes ≡ Some s
-      → IfSome ((table_parts opts (offset_by opts (mapped_in view h s) (places_in h.optional_header)) (places_in h.optional_header)).value bytes) HasTables
+      → IfSome ((tables_with view opts h s).value bytes) (HasTables (places_in h.optional_header).magic)
       → IfSome ((whole_in view opts).value bytes) HasRecords
-  unfolding whole_with
+  unfolding whole_in whole_with
   tables-kept s sections some =
-      rw (tables-value view opts bytes h header s sections) (by-tables h s _ some)
+      rw (tables-value opts (whole_with view opts) bytes h header s sections) (by-tables h s _ some)
 
   pub takes-records : HasRoom bytes h
       → MatchOption ((whole_in view opts).value bytes) (FileBegins view opts bytes h) HasRecords
@@ -191,20 +185,24 @@ module _ (view : View) (opts : ParseOptions) (bytes : List ℕ) (h : PeHeader)
   takes-records room kept =
       subst (λ (o : Option PeHeader). IsSomeAnd o (TakesRecords view opts bytes)) (sym header) (room, kept)
 
+-- the tables that are read so have an entry
+abbrev HasTablesIn : MapOfAddresses → TablePlaces → List ℕ → Type 0
+HasTablesIn m places bytes = IfSome ((table_parts m.opts (offset_of m) places).value bytes) (HasTables places.magic)
+
 -- what is read by a layout is read of its file
 pub layout-kept : (view : View) (opts : ParseOptions) (bytes : List ℕ) (h : Header)
     → (pe_header (is_strict opts.parse_mode)).value bytes ≡ Some (header_value h) → (l : Layout) (s : List Section)
     → (sections_after (is_strict opts.parse_mode) (header_value h)).value bytes ≡ Some s
     → IsLayoutOf view opts bytes h l
-    → IfSome ((table_parts (layout_map l).opts (offset_of (layout_map l)) (layout_places l)).value l.bytes.now) HasTables
+    → HasTablesIn (layout_map l) (layout_places l) l.bytes.now
     → IfSome ((whole_in view opts).value bytes) HasRecords
 layout-kept view opts bytes h header l s sections of some =
     let places = places_in h.optional_header in
     let m = map_in opts (mapped_in view (header_value h) s) places.file_alignment in
     tables-kept view opts bytes (header_value h) header s sections
-    (subst (λ (file : List ℕ). IfSome ((table_parts m.opts (offset_of m) places).value file) HasTables) of.over
-    (subst (λ (at : TablePlaces). IfSome ((table_parts m.opts (offset_of m) at).value l.bytes.now) HasTables) of.placed
-    (subst (λ (m : MapOfAddresses). IfSome ((table_parts m.opts (offset_of m) (layout_places l)).value l.bytes.now) HasTables) (of.mapped s sections) some)))
+    (subst (λ (file : List ℕ). HasTablesIn m places file) of.over
+    (subst (λ (at : TablePlaces). HasTablesIn m at l.bytes.now) of.placed
+    (subst (λ (m : MapOfAddresses). HasTablesIn m (layout_places l) l.bytes.now) (of.mapped s sections) some)))
 
 by-counts : (count sections others : ℕ) → (0 < sections → 0 < count) → 0 < sections + others
     → 0 < count + others
@@ -214,12 +212,12 @@ by-counts count (suc sections) others counted some = omega (arith, counted (omeg
 -- the sections, the entries of the Rich header and the blocks of a file that was read
 pub made-kept : (view : View) (opts : ParseOptions) (bytes : List ℕ) (v : RecordsOfFile) → IsOf view opts bytes v
     → (0 < length v.sections → 0 < v.header.coff_header.number_of_sections)
-    → 0 < length v.sections + length (entries_of_rich v.header.rich_header) + length (blocks_in v.relocations)
+    → 0 < length v.sections + length (entries_of_rich v.header.rich_header) + length (blocks_in v.tables.relocations)
     → IfSome ((whole_in view opts).value bytes) HasRecords
 made-kept view opts bytes v of counted some =
-    let others = length (entries_of_rich v.header.rich_header) + length (blocks_in v.relocations) in
+    let others = length (entries_of_rich v.header.rich_header) + length (blocks_in v.tables.relocations) in
     let n = by-counts v.header.coff_header.number_of_sections (length v.sections) others counted (omega (arith, some)) in
-    subst (λ (o : Option WholeFile). IfSome o HasRecords) (sym of.read)
+    subst (λ (o : Option WholeFile). IfSome o HasRecords) (sym of.is.whole)
     (rw (of.header, of.relocations) (omega (arith, n)))
 
 -- ---- a file that can be read, and one that is refused

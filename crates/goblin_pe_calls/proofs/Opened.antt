@@ -1,10 +1,11 @@
 -- The records that were collected of a file are those of its imports and its exports.
-use Rattle.std.proofs.Common.{◌≡◌, ◌∙◌, ℕ, List, map, Option, Some, None, refl, ap, subst, sym, option_map, unwrap_or, Result, Ok, Err, Vec, Global}
+use Rattle.std.proofs.Common.{◌≡◌, ◌∙◌, ℕ, List, map, Option, Some, refl, ap, subst, option_map, Result, Ok, Err, Vec, Global}
 use Rattle.std.proofs.lemmas.List.{length-map}
 use Rattle.goblin_base.specs.declared.error.ErrorOf.{ErrorOf}
 use Rattle.goblin_base.specs.Answers.{IsMemory}
 use Rattle.goblin_base.specs.Reading.{IsRefused, ReadsOrMemory}
 use Rattle.goblin_base.proofs.Steps as steps
+use Rattle.goblin_base.proofs.Steps.{step}
 use Rattle.readings.specs.Reads.{mapped}
 use Rattle.goblin_pe_sect.specs.declared.options.ParseOptions.{ParseOptions}
 use Rattle.goblin_pe_sect.specs.declared.options.View.{View}
@@ -12,29 +13,24 @@ use Rattle.goblin_pe_sect.specs.Options.{is_strict}
 use Rattle.goblin_pe_sect.specs.SectionTable.{Section, recorded_sections, unnamed}
 use Rattle.goblin_pe_head.specs.declared.header.pe_header.Header.{Header}
 use Rattle.goblin_pe_head.specs.HeaderReadings.{pe_header}
-use Rattle.goblin_pe_head.specs.PeHeader.{PeHeader, header_value}
-use Rattle.goblin_pe_export.specs.ExportRecords.{ExportTables}
-use Rattle.goblin_pe_export.specs.ExportWalks.{numbered_from}
+use Rattle.goblin_pe_head.specs.PeHeader.{header_value}
+use Rattle.goblin_pe_export.specs.ExportRecords.{ExportTables, NumberedExport, read_rows}
 use Rattle.goblin_pe_sect.specs.Addresses.{MapOfAddresses, map_in, offset_of}
 use Rattle.goblin_pe.specs.declared.whole.Part.{Part}
 use Rattle.goblin_pe.specs.declared.whole.Part.TheVariants.{Absent, Refused}
 use Rattle.goblin_pe.specs.declared.whole.Part.TheVariants as part
 use Rattle.goblin_pe.specs.declared.whole.layout.Layout.{Layout}
 use Rattle.goblin_pe.specs.Layouts.{IsLayoutOf, layout_map, layout_places}
-use Rattle.goblin_pe.specs.Whole.{AreListed, TableParts, TablePlaces, WholeFile, both_import_parts}
-use Rattle.goblin_pe.specs.Whole.{collected_file, collected_tables, import_list, mapped_in, offset_by, part_map}
-use Rattle.goblin_pe.specs.Whole.{places_in, sections_after, without_numbers}
-use Rattle.goblin_pe.specs.Whole.{table_parts, whole_in, whole_of, whole_with}
-use Rattle.goblin_pe.proofs.Collected.{file_read}
+use Rattle.goblin_pe.specs.Whole.{NumberedTables, TableParts, TablePlaces, collected_tables, imports_in, lists_of, mapped_in, part_map}
+use Rattle.goblin_pe.specs.Whole.{places_in, sections_after, table_parts, tables_with, whole_in, whole_of, whole_with}
+use Rattle.goblin_pe.specs.Whole.{without_numbers}
 use Rattle.goblin_pe.proofs.Layouts.{tables-cause, tables-value}
-use Rattle.goblin_pe.proofs.NumberedExports.{rows_of_file}
 use Rattle.goblin_pe_calls.specs.declared.records.FileRecords.{FileRecords}
-use Rattle.goblin_pe_calls.specs.Exports.{ExportsSaid, export_said, exports_said, file_exports}
+use Rattle.goblin_pe_calls.specs.Exports.{ExportsSaid, export_said, exports_said}
 use Rattle.goblin_pe_calls.specs.Files.{table_of}
-use Rattle.goblin_pe_calls.specs.Imports.{file_imports, import_said, imports_said}
+use Rattle.goblin_pe_calls.specs.Imports.{ImportSaid, import_said, imports_said}
 use Rattle.goblin_pe_import.specs.Imports.{NumberedImport}
-use Rattle.goblin_pe_import.proofs.ImportBound.{pair_of-left}
-use Rattle.goblin_pe_calls.specs.Opened.{RecordsOfFile, opened_file, opened_of, records_of_file, records_view, tables_view}
+use Rattle.goblin_pe_calls.specs.Opened.{OpenedFile, RecordsOfFile, opened_file, opened_of, opened_with, records_of_file, records_view, tables_view}
 
 -- ---- tables by what is made of each entry
 
@@ -54,101 +50,68 @@ numbers-table (part.Read xs) =
     rw (length-map xs (λ (x : NumberedImport). x.import), length-map xs import_said) refl
 numbers-table Refused = refl
 
-imports-in : (opts : ParseOptions) (offset_of : ℕ → Option ℕ) (places : TablePlaces)
-    (bytes : List ℕ) (t : TableParts) → (table_parts opts offset_of places).value bytes ≡ Some t
-    → (both_import_parts opts offset_of places).value bytes ≡ Some t.imports
-unfolding table_parts
-imports-in opts offset_of places bytes t is =
-    let all = steps.mapped _ _ t is in
-    pair_of-left _ _ all.value.0 (pair_of-left _ _ all.value all.is)
-    ∙ ap (λ (x : TableParts). Some x.imports) all.made
-
-imports-table : (opts : ParseOptions) (offset_of : ℕ → Option ℕ) (places : TablePlaces)
-    (bytes : List ℕ) (t : TableParts) → AreListed opts offset_of places bytes
-    → (table_parts opts offset_of places).value bytes ≡ Some t
-    → table_of t.imports.1 ≡ table_of (imports_said opts offset_of places bytes)
-imports-table opts offset_of places bytes t listed is =
-    let both = imports-in opts offset_of places bytes t is in
-    let list = steps.mapped ((import_list opts offset_of places).value bytes) without_numbers t.imports.1
-    (listed.value ∙ ap (option_map (λ read. read.1)) both) in
-    ap table_of (sym list.made)
-    ∙ numbers-table list.value
-    ∙ ap
-    (λ (o : Option (Part (List NumberedImport))).
-    table_of (part_map (map import_said) (unwrap_or o Absent)))
-    (sym list.is)
-
 -- there are as many records of exports as rows
-rows-table : (offset_of : ℕ → Option ℕ) (bytes : List ℕ) (tables : Part ExportTables)
-    → table_of (part_map (map (λ x. x.row)) (part_map (λ t. numbered_from offset_of bytes t 0) tables))
-    ≡ table_of (exports_said offset_of bytes tables).exports
-rows-table offset_of bytes Absent = refl
-rows-table offset_of bytes (part.Read tables) =
-    let exports = numbered_from offset_of bytes tables 0 in
-    rw (length-map exports (λ x. x.row), length-map exports export_said) refl
-rows-table offset_of bytes Refused = refl
+rows-table : (p : Part (ExportTables × List NumberedExport))
+    → table_of (part_map (λ read. read.1) (part_map read_rows p)) ≡ table_of (exports_said p).exports
+rows-table Absent = refl
+rows-table (part.Read read) = rw (length-map read.1 (λ x. x.row), length-map read.1 export_said) refl
+rows-table Refused = refl
 
--- ---- a file whose records were collected
+-- ---- a file that is opened
+
+-- It is the whole file, with a record for each of its imports and exports.
+pub record IsOpened (view : View) (opts : ParseOptions) (bytes : List ℕ) (read : OpenedFile)
+    : Type 0 where
+  pub whole : (whole_in view opts).value bytes ≡ Some read.whole
+  pub imports_table : table_of read.whole.imports ≡ table_of read.imports
+  pub exports_table : table_of read.whole.exports ≡ table_of read.exports.exports
+
+is-opened : (view : View) (opts : ParseOptions) (bytes : List ℕ) (read : OpenedFile)
+    → (opened_file view opts).value bytes ≡ Some read → IsOpened view opts bytes read
+unfolding whole_in whole_with
+is-opened view opts bytes read is =
+    let strict = is_strict opts.parse_mode in
+    let h = step ((pe_header strict).value bytes) _ read is in
+    let s = step ((sections_after strict h.value).value bytes) _ read h.then in
+    let tables = steps.mapped ((tables_with view opts h.value s.value).value bytes) (opened_of h.value s.value) read s.then in
+    let magic = (places_in h.value.optional_header).magic in
+    subst (IsOpened view opts bytes) tables.made
+    (record {
+      whole =
+          tables-value opts (whole_with view opts) bytes h.value h.is s.value s.is
+          ∙ ap (λ (o : Option NumberedTables). option_map (whole_of h.value s.value) (option_map (lists_of magic) o)) tables.is;
+      imports_table = numbers-table (imports_in magic tables.value.imports);
+      exports_table = rows-table tables.value.exports;
+    })
 
 -- The file of which these are the records.
 pub record IsOf (view : View) (opts : ParseOptions) (bytes : List ℕ) (v : RecordsOfFile) : Type 0 where
-  pub whole : WholeFile
-  pub read : (whole_in view opts).value bytes ≡ Some whole
-  pub header : whole.header ≡ v.header
-  pub sections : map unnamed whole.sections ≡ v.sections
-  pub relocations : whole.relocations ≡ v.relocations
-  pub imports : file_imports view opts bytes whole ≡ v.imports
-  pub exports : file_exports view opts bytes whole ≡ v.exports
-  pub exports_table : table_of whole.exports ≡ table_of v.exports.exports
+  pub opened : OpenedFile
+  pub read : (opened_file view opts).value bytes ≡ Some opened
+  pub is : IsOpened view opts bytes opened
+  pub header : opened.whole.header ≡ v.header
+  pub sections : map unnamed opened.whole.sections ≡ v.sections
+  pub relocations : opened.whole.relocations ≡ v.tables.relocations
+  pub imports : opened.imports ≡ v.tables.imports
+  pub exports : opened.exports ≡ v.tables.exports
 
 pub file-of-records : (view : View) (opts : ParseOptions) (bytes : List ℕ) (v : RecordsOfFile)
-    → option_map (records_of_file view opts bytes) ((whole_in view opts).value bytes) ≡ Some v
+    → option_map records_of_file ((opened_file view opts).value bytes) ≡ Some v
     → IsOf view opts bytes v
 file-of-records view opts bytes v is =
-    let m = steps.mapped ((whole_in view opts).value bytes) (records_of_file view opts bytes) v is in
-    let w = m.value in
-    let imports : file_imports view opts bytes w ≡ v.imports =
-    ap (λ (x : RecordsOfFile). x.imports) m.made in
-    let exports : file_exports view opts bytes w ≡ v.exports =
-    ap (λ (x : RecordsOfFile). x.exports) m.made in
+    let m = steps.mapped ((opened_file view opts).value bytes) records_of_file v is in
     record {
-      whole = w;
+      opened = m.value;
       read = m.is;
+      is = is-opened view opts bytes m.value m.is;
       header = ap (λ (x : RecordsOfFile). x.header) m.made;
       sections = ap (λ (x : RecordsOfFile). x.sections) m.made;
-      relocations = ap (λ (x : RecordsOfFile). x.relocations) m.made;
-      imports = imports;
-      exports = exports;
-      exports_table =
-          ap table_of (rows_of_file view opts bytes w m.is)
-          ∙ rows-table (offset_by opts (mapped_in view w.header w.sections) (places_in w.header.optional_header)) bytes w.export_data
-          ∙ ap (λ (x : ExportsSaid). table_of x.exports) exports;
+      relocations = ap (λ (x : RecordsOfFile). x.tables.relocations) m.made;
+      imports = ap (λ (x : RecordsOfFile). x.tables.imports) m.made;
+      exports = ap (λ (x : RecordsOfFile). x.tables.exports) m.made;
     }
 
--- a file that is refused is not opened, for the same cause
-pub unopened : (view : View) (opts : ParseOptions) (bytes : List ℕ) (e : ErrorOf)
-    → IsRefused (whole_in view opts) bytes e
-    → IsRefused (opened_file view opts) bytes e
-unopened view opts bytes e refused =
-    (ap (option_map (opened_of view opts bytes)) refused.0, refused.1)
-
 -- ---- the records of a file's tables
-
-abbrev without_names : RecordsOfFile → RecordsOfFile
-without_names x = record x { sections = map unnamed x.sections }
-
--- what is collected of a file with these sections
-collected-whole : (view : View) (opts : ParseOptions) (bytes : List ℕ) (h : PeHeader) (s : List Section)
-    (tables : Option TableParts)
-    → option_map (records_of_file view opts bytes) (option_map (whole_of h s) tables)
-    ≡ option_map without_names
-    (option_map
-    (collected_file
-    (λ _. imports_said opts (offset_by opts (mapped_in view h s) (places_in h.optional_header)) (places_in h.optional_header) bytes)
-    (exports_said (offset_by opts (mapped_in view h s) (places_in h.optional_header)) bytes))
-    (option_map (whole_of h s) tables))
-collected-whole view opts bytes h s None = refl
-collected-whole view opts bytes h s (Some tables) = refl
 
 module _ (view : View) (opts : ParseOptions) (bytes : List ℕ) (h : Header)
     (header : (pe_header (is_strict opts.parse_mode)).value bytes ≡ Some (header_value h))
@@ -161,8 +124,7 @@ module _ (view : View) (opts : ParseOptions) (bytes : List ℕ) (h : Header)
   abbrev MakesTables : Result FileRecords ErrorOf → MapOfAddresses → TablePlaces → List ℕ → Type 0
   MakesTables result m at file =
       ReadsOrMemory tables_view result
-      (mapped (collected_tables (λ _. imports_said m.opts (offset_of m) at file) (exports_said (offset_of m) file))
-      (table_parts m.opts (offset_of m) at)) file
+      (mapped (collected_tables (imports_said at.magic) exports_said) (table_parts m.opts (offset_of m) at)) file
 
   makes : (result : Result FileRecords ErrorOf)
       → MakesTables result (layout_map l) (layout_places l) l.bytes.now
@@ -173,45 +135,29 @@ module _ (view : View) (opts : ParseOptions) (bytes : List ℕ) (h : Header)
       (subst (λ (at : TablePlaces). MakesTables result m at l.bytes.now) of.placed
       (subst (λ (m : MapOfAddresses). MakesTables result m (layout_places l) l.bytes.now) (of.mapped s sections) made))
 
+  abbrev records_with : List Section → TableParts (Part (List ImportSaid)) ExportsSaid → Option RecordsOfFile
+  records_with xs tables = Some (record { header = header_value h; sections = xs; tables = tables })
+
   -- they are those of the file
   pub records-read : map unnamed s ≡ recorded_sections l.records → (r : FileRecords)
       → MakesTables (Ok r) (layout_map l) (layout_places l) l.bytes.now
-      → option_map (records_of_file view opts bytes) ((whole_in view opts).value bytes)
+      → option_map records_of_file ((opened_file view opts).value bytes)
       ≡ Some (records_view h l r)
-  unfolding whole_with
   records-read names r made =
-      ap (option_map (records_of_file view opts bytes)) (tables-value view opts bytes (header_value h) header s sections)
-      ∙ collected-whole view opts bytes (header_value h) s _
-      ∙ ap (option_map without_names) (file_read (λ _. imports_said opts (offset_by opts (mapped_in view (header_value h) s) places) places bytes) (exports_said (offset_by opts (mapped_in view (header_value h) s) places) bytes) (header_value h) s _ (tables_view r) (makes (Ok r) made))
-      ∙ ap (λ (x : List Section). Some (record (records_view h l r) { sections = x })) names
-
-  abbrev ListsTables : MapOfAddresses → TablePlaces → List ℕ → Type 0
-  ListsTables m at file = AreListed m.opts (offset_of m) at file
-
-  -- there are as many records of imports as imports
-  pub imports-counted : ListsTables (layout_map l) (layout_places l) l.bytes.now → (w : WholeFile)
-      → (whole_in view opts).value bytes ≡ Some w
-      → table_of w.imports ≡ table_of (file_imports view opts bytes w)
-  unfolding whole_with
-  imports-counted listed w is =
-      let m = map_in opts (mapped_in view (header_value h) s) places.file_alignment in
-      let of_file : ListsTables m places bytes =
-      subst (λ (file : List ℕ). ListsTables m places file) of.over
-      (subst (λ (at : TablePlaces). ListsTables m at l.bytes.now) of.placed
-      (subst (λ (m : MapOfAddresses). ListsTables m (layout_places l) l.bytes.now) (of.mapped s sections) listed)) in
-      let all = steps.mapped _ (whole_of (header_value h) s) w
-      (sym (tables-value view opts bytes (header_value h) header s sections) ∙ is) in
-      subst (λ (w : WholeFile). table_of w.imports ≡ table_of (file_imports view opts bytes w)) all.made
-      (imports-table opts (offset_by opts (mapped_in view (header_value h) s) places) places bytes all.value of_file all.is)
+      let tables = steps.mapped _ _ (tables_view r) (makes (Ok r) made) in
+      ap (option_map records_of_file)
+      (tables-value opts (opened_with view opts) bytes (header_value h) header s sections
+      ∙ ap (option_map (opened_of (header_value h) s)) tables.is)
+      ∙ ap (records_with (map unnamed s)) tables.made
+      ∙ ap (λ (xs : List Section). records_with xs (tables_view r)) names
 
   -- and a file is refused as they are
   pub records-refused : (e : ErrorOf)
       → MakesTables (Err e) (layout_map l) (layout_places l) l.bytes.now → ¬ IsMemory e
-      → IsRefused (whole_in view opts) bytes e
-  unfolding whole_with
+      → IsRefused (opened_file view opts) bytes e
   records-refused e made other =
       let none = makes (Err e) made other in (
-        tables-value view opts bytes (header_value h) header s sections
-            ∙ ap (option_map (whole_of (header_value h) s)) (steps.unmapped _ _ none.0),
-        tables-cause view opts bytes (header_value h) header s sections e none.1,
+        tables-value opts (opened_with view opts) bytes (header_value h) header s sections
+            ∙ ap (option_map (opened_of (header_value h) s)) (steps.unmapped _ _ none.0),
+        tables-cause opts (opened_with view opts) bytes (header_value h) header s sections e none.1,
       )

@@ -1,7 +1,6 @@
 -- A file that was read has room for its sections; and which table of one is refused.
-use Rattle.std.proofs.Common.{◌≡◌, ◌∙◌, ◌<◌, List, ℕ, ap, arith, length, ◌/◌, true, IfSome, IsSome, IsSomeAnd, Option, None, Some, option_map, refl}
-use Rattle.std.specs.Option.{is_some}
-use Rattle.goblin_base.proofs.Steps.{mapped, unmapped}
+use Rattle.std.proofs.Common.{◌≡◌, ◌∙◌, ◌<◌, List, ℕ, ap, arith, length, ◌/◌, IfSome, IsSome, IsSomeAnd, Option, None, Some, option_map, refl}
+use Rattle.goblin_base.proofs.Steps.{mapped}
 use Rattle.goblin_pe_sect.specs.declared.options.ParseOptions.{ParseOptions}
 use Rattle.goblin_pe_sect.specs.declared.options.View.{View}
 use Rattle.goblin_pe_sect.specs.Options.{is_strict}
@@ -10,16 +9,15 @@ use Rattle.goblin_pe_head.specs.HeaderReadings.{pe_header}
 use Rattle.goblin_pe_head.specs.PeHeader.{PeHeader, header_value}
 use Rattle.goblin_pe_head.specs.declared.header.pe_header.Header.{Header}
 use Rattle.goblin_pe_head.specs.SectionRoom.{HasRoom}
-use Rattle.goblin_pe.specs.ExportRecords.{ExportRow, ExportTables}
-use Rattle.goblin_pe_import.specs.ImportRecords.{ImportedLibrary}
-use Rattle.goblin_pe_import.specs.Imports.{ImportValue}
+use Rattle.goblin_pe.specs.ExportRecords.{ExportTables, NumberedExport}
+use Rattle.goblin_pe_import.specs.ImportRecords.{NumberedLibrary}
 use Rattle.goblin_pe.specs.declared.whole.Part.{Part}
 use Rattle.goblin_pe.specs.declared.whole.refused.RefusedPart.TheVariants as refused
 use Rattle.goblin_pe.specs.Addresses.{MapOfAddresses, map_in, offset_of}
 use Rattle.goblin_pe.specs.declared.whole.layout.Layout.{Layout}
 use Rattle.goblin_pe.specs.Layouts.{IsLayoutOf, layout_map, layout_places}
 use Rattle.goblin_pe.specs.RefusedParts.{refused_part, refused_table}
-use Rattle.goblin_pe.specs.Whole.{AreListed, TablePlaces, both_import_parts, export_part, import_list, mapped_in, places_in, relocation_part, sections_after, without_numbers}
+use Rattle.goblin_pe.specs.Whole.{TablePlaces, export_part, import_list, mapped_in, numbered_data_part, places_in, relocation_part, sections_after}
 
 pub room-there : (header : Option PeHeader) (bytes : List ℕ)
     → IfSome header (λ h. length bytes / 40 < h.coff_header.number_of_sections → ⊥) → IsSome header → IsSomeAnd header (HasRoom bytes)
@@ -30,38 +28,29 @@ room-there (Some h) bytes first there =
 
 -- ---- the table that is refused
 
-module _ (opts : ParseOptions) (offset_of : ℕ → Option ℕ) (places : TablePlaces) (bytes : List ℕ)
-    (listed : AreListed opts offset_of places bytes) where
-  abbrev imports_read : Option (Part (List ImportedLibrary) × Part (List ImportValue))
-  imports_read = (both_import_parts opts offset_of places).value bytes
-
-  -- imports have a list where they have import data with it
-  list-there : {A : Type 0} (of : Part (List ImportedLibrary) × Part (List ImportValue) → A) (a : A)
-      → option_map of imports_read ≡ Some a → is_some ((import_list opts offset_of places).value bytes) ≡ true
-  list-there of a is =
-      let read = mapped imports_read of a is in
-      let list = mapped ((import_list opts offset_of places).value bytes) without_numbers read.value.1
-      (listed.value ∙ ap (option_map (λ read. read.1)) read.is) in
-      ap is_some list.is
+module _ (opts : ParseOptions) (offset_of : ℕ → Option ℕ) (places : TablePlaces) (bytes : List ℕ) where
+  abbrev imports_read : Option (Part (List NumberedLibrary))
+  imports_read = (numbered_data_part opts offset_of places).value bytes
 
   pub imports-refused : imports_read ≡ None → refused_table opts offset_of places bytes ≡ refused.Imports
-  imports-refused none =
-      let list = unmapped without_numbers ((import_list opts offset_of places).value bytes) (listed.value ∙ ap (option_map (λ read. read.1)) none) in
-      rw list refl
+  unfolding import_list
+  imports-refused none = rw none refl
 
-  pub exports-refused : {A : Type 0} (of : Part (List ImportedLibrary) × Part (List ImportValue) → A) (a : A)
+  pub exports-refused : {A : Type 0} (of : Part (List NumberedLibrary) → A) (a : A)
       → option_map of imports_read ≡ Some a → (export_part opts offset_of places).value bytes ≡ None
       → refused_table opts offset_of places bytes ≡ refused.Exports
-  exports-refused of a is none = rw (list-there of a is, none) refl
+  unfolding import_list
+  exports-refused of a is none = rw ((mapped imports_read of a is).is, none) refl
 
-  pub relocations-refused : {A B : Type 0} (of : Part (List ImportedLibrary) × Part (List ImportValue) → A) (a : A)
+  pub relocations-refused : {A B : Type 0} (of : Part (List NumberedLibrary) → A) (a : A)
       → option_map of imports_read ≡ Some a
-      → (from : Part (ExportTables × List ExportRow) → B) (b : B) → option_map from ((export_part opts offset_of places).value bytes) ≡ Some b
+      → (from : Part (ExportTables × List NumberedExport) → B) (b : B) → option_map from ((export_part opts offset_of places).value bytes) ≡ Some b
       → (relocation_part opts offset_of places).value bytes ≡ None
       → refused_table opts offset_of places bytes ≡ refused.Relocations
+  unfolding import_list
   relocations-refused of a is from b rows none =
       let read = mapped ((export_part opts offset_of places).value bytes) from b rows in
-      rw (list-there of a is, read.is, none) refl
+      rw ((mapped imports_read of a is).is, read.is, none) refl
 
 -- ---- the part of a file
 

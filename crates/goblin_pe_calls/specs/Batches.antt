@@ -10,7 +10,7 @@ use Rattle.goblin_pe_sect.specs.BaseRelocations.{Block, block_items}
 use Rattle.goblin_pe_import.specs.ImportLookup.{entries_32, entries_64}
 use Rattle.goblin_pe_import.specs.declared.import.imports.ImportCursor.{ImportCursor}
 use Rattle.goblin_pe.specs.Addresses.{MapOfAddresses, offset_of}
-use Rattle.goblin_pe.specs.ExportRecords.{ExportRow, ExportTables}
+use Rattle.goblin_pe.specs.ExportRecords.{ExportTables}
 use Rattle.goblin_pe.specs.ExportWalks.{NumberedExport, numbered_from}
 use Rattle.goblin_pe.specs.Imports.{NumberedImport}
 use Rattle.goblin_pe.specs.ImportWalks.{no_imports}
@@ -220,14 +220,14 @@ pub record GoesOn (m : MapOfAddresses) (places : TablePlaces) (bytes : List ℕ)
 -- ---- exports
 
 -- the exports of tables from a name pointer on
-abbrev pub exports_in : MapOfAddresses → List ℕ → ℕ → Part (ExportTables × List ExportRow)
+abbrev pub exports_in : MapOfAddresses → List ℕ → ℕ → Part (ExportTables × List NumberedExport)
     → List NumberedExport
 exports_in m bytes x Absent = []
 exports_in m bytes x (part.Read read) = numbered_from (offset_of m) bytes read.0 x
 exports_in m bytes x Refused = []
 
 -- how many name pointers tables have
-abbrev pub pointers_in : Part (ExportTables × List ExportRow) → ℕ
+abbrev pub pointers_in : Part (ExportTables × List NumberedExport) → ℕ
 pointers_in Absent = 0
 pointers_in (part.Read read) = length read.0.export_name_pointer_table
 pointers_in Refused = 0

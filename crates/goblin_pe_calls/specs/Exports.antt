@@ -1,16 +1,14 @@
 -- The records of exports, as definitions.
 use Rattle.std.specs.Prelude.{ℕ, Bool, List, [], Option, Some, None, Vec, map, unwrap_or, is_some}
 use Rattle.std.specs.Global.{Global}
-use Rattle.goblin_pe_sect.specs.declared.options.ParseOptions.{ParseOptions}
-use Rattle.goblin_pe_sect.specs.declared.options.View.{View}
 use Rattle.goblin_pe.specs.ExportRecords.{ExportTables}
-use Rattle.goblin_pe.specs.ExportWalks.{NumberedExport, numbered_from}
+use Rattle.goblin_pe.specs.ExportWalks.{NumberedExport}
 use Rattle.goblin_pe.specs.Forwarders.{Forwarder}
 use Rattle.goblin_pe.specs.Forwarders.Forwarder.{ByName, ByOrdinal}
 use Rattle.goblin_pe.specs.declared.whole.Part.{Part}
 use Rattle.goblin_pe.specs.declared.whole.Part.TheVariants.{Absent, Refused}
 use Rattle.goblin_pe.specs.declared.whole.Part.TheVariants as part
-use Rattle.goblin_pe.specs.Whole.{WholeFile, mapped_in, offset_by, part_map, places_in}
+use Rattle.goblin_pe.specs.Whole.{part_map}
 use Rattle.goblin_pe_calls.specs.declared.export.ExportRecords.{ExportRecords}
 use Rattle.goblin_pe_calls.specs.declared.export.Forwards.{Forwards}
 use Rattle.goblin_pe_calls.specs.declared.export.Forwards.TheVariants as forwards
@@ -125,18 +123,11 @@ read_said tables exports = record {
   directory = directory_said tables;
 }
 
--- the records of the tables in a file whose addresses are mapped so
-abbrev pub exports_said : (ℕ → Option ℕ) → List ℕ → Part ExportTables → ExportsSaid
-exports_said offset_of bytes Absent = unread_said Absent
-exports_said offset_of bytes (part.Read tables) =
-    read_said tables (numbered_from offset_of bytes tables 0)
-exports_said offset_of bytes Refused = unread_said Refused
-
--- those of a file
-abbrev pub file_exports : View → ParseOptions → List ℕ → WholeFile → ExportsSaid
-file_exports view opts bytes w =
-    exports_said (offset_by opts (mapped_in view w.header w.sections) (places_in w.header.optional_header)) bytes
-    w.export_data
+-- the records of what an export directory leads to
+abbrev pub exports_said : Part (ExportTables × List NumberedExport) → ExportsSaid
+exports_said Absent = unread_said Absent
+exports_said (part.Read read) = read_said read.0 read.1
+exports_said Refused = unread_said Refused
 
 -- what the records hold
 abbrev pub exports_view : ExportRecords → ExportsSaid

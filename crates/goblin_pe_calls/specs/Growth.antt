@@ -6,11 +6,11 @@ use Rattle.goblin_pe_sect.specs.declared.options.View.{View}
 use Rattle.goblin_pe.specs.Addresses.{MapOfAddresses, map_in, offset_of}
 use Rattle.goblin_pe.specs.declared.whole.Part.{Part}
 use Rattle.goblin_pe.specs.LayoutCursors.{file_cursor_left, import_begin}
-use Rattle.goblin_pe.specs.ExportRecords.{ExportRow, ExportTables}
+use Rattle.goblin_pe.specs.ExportRecords.{ExportTables, NumberedExport}
 use Rattle.goblin_pe.specs.PeHeader.{PeHeader}
 use Rattle.goblin_pe_head.specs.SectionRoom.{HasRoom}
-use Rattle.goblin_pe.specs.Whole.{TableParts, TablePlaces, WholeFile, both_import_parts}
-use Rattle.goblin_pe.specs.Whole.{export_part, mapped_in, part_map, places_in, whole_in}
+use Rattle.goblin_pe.specs.Whole.{NumberedTables, TablePlaces, WholeFile, export_part, imports_in}
+use Rattle.goblin_pe.specs.Whole.{mapped_in, numbered_data_part, part_map, places_in, whole_in}
 use Rattle.goblin_pe_calls.specs.Blocks.{blocks_in}
 use Rattle.goblin_pe_calls.specs.Files.{entries_of}
 use Rattle.goblin_pe_records.specs.RichHeaders.{entries_of_rich}
@@ -21,19 +21,19 @@ abbrev pub HasEntries : {A : Type 0} → Part (List A) → Type 0
 HasEntries table = 0 < length (entries_of table)
 
 -- how many exports and export addresses there are
-abbrev pub export_count : Part ExportTables → Part (List ExportRow) → ℕ
+abbrev pub export_count : {E : Type 0} → Part ExportTables → Part (List E) → ℕ
 export_count tables exports =
     length (entries_of exports)
     + length (entries_of (part_map (λ t. t.export_address_table) tables))
 
 -- there is one of these
-abbrev pub HasExports : Part (ExportTables × List ExportRow) → Type 0
+abbrev pub HasExports : Part (ExportTables × List NumberedExport) → Type 0
 HasExports read = 0 < export_count (part_map (λ r. r.0) read) (part_map (λ r. r.1) read)
 
--- there is an import, an export or an export address
-abbrev pub HasTables : TableParts → Type 0
-HasTables parts =
-    0 < length (entries_of parts.imports.1)
+-- there is an import, by the magic, an export or an export address
+abbrev pub HasTables : ℕ → NumberedTables → Type 0
+HasTables magic parts =
+    0 < length (entries_of (imports_in magic parts.imports))
     + export_count (part_map (λ r. r.0) parts.exports) (part_map (λ r. r.1) parts.exports)
 
 -- A file of which records are kept: its header says that there are sections, or one of its tables
@@ -56,7 +56,7 @@ ImportsBegin m places bytes =
 abbrev pub TablesBegin : MapOfAddresses → TablePlaces → List ℕ → Type 0
 TablesBegin m places bytes =
     ImportsBegin m places bytes
-    ⊎ (IsSome ((both_import_parts m.opts (offset_of m) places).value bytes)
+    ⊎ (IsSome ((numbered_data_part m.opts (offset_of m) places).value bytes)
     × IsSomeAnd ((export_part m.opts (offset_of m) places).value bytes) HasExports)
 
 -- a file with this header has sections, or its tables begin without any

@@ -1,5 +1,5 @@
 -- The records of imports, as definitions.
-use Rattle.std.specs.Prelude.{◌≡◌, ℕ, Bool, List, [], ◌++◌, Option, Some, Vec, if◌then◌else◌}
+use Rattle.std.specs.Prelude.{◌≡◌, ℕ, Bool, List, [], ◌++◌, Some, Vec, if◌then◌else◌}
 use Rattle.std.specs.Prelude.{◌+◌, length, map}
 use Rattle.std.specs.Global.{Global}
 use Rattle.goblin_base.specs.declared.error.ErrorOf.{ErrorOf}
@@ -9,11 +9,10 @@ use Rattle.goblin_pe_import.specs.ImportWalks.{AreImportsOver, HasName, IsImport
 use Rattle.goblin_pe_import.specs.ImportWalks.{imports_bytes, imports_left, imports_map}
 use Rattle.goblin_pe_import.specs.StepsAhead.{imports_ahead}
 use Rattle.goblin_pe_import.specs.declared.import.imports.Imports.{Imports}
+use Rattle.goblin_pe_import.specs.ImportRecords.{NumberedLibrary}
 use Rattle.goblin_pe_import.specs.Imports.{NumberedImport}
-use Rattle.goblin_pe_sect.specs.declared.options.ParseOptions.{ParseOptions}
-use Rattle.goblin_pe_sect.specs.declared.options.View.{View}
 use Rattle.goblin_pe.specs.declared.whole.Part.{Part}
-use Rattle.goblin_pe.specs.Whole.{TablePlaces, WholeFile, listed_in, mapped_in, offset_by, part_map, places_in}
+use Rattle.goblin_pe.specs.Whole.{imports_in, part_map}
 use Rattle.goblin_pe_calls.specs.declared.import.PeImport.{PeImport}
 
 -- a record of an import, its slices as lists
@@ -42,17 +41,9 @@ import_said x = record {
   reserved = 0;
 }
 
--- the records of the imports of a file that has a list of them
-abbrev pub imports_said : ParseOptions → (ℕ → Option ℕ) → TablePlaces → List ℕ
-    → Part (List ImportSaid)
-imports_said opts offset_of places bytes =
-    part_map (map import_said) (listed_in opts offset_of places bytes)
-
--- those of a file
-abbrev pub file_imports : View → ParseOptions → List ℕ → WholeFile → Part (List ImportSaid)
-file_imports view opts bytes w =
-    let places = places_in w.header.optional_header in
-    imports_said opts (offset_by opts (mapped_in view w.header w.sections) places) places bytes
+-- the records of the imports from libraries, by the magic
+abbrev pub imports_said : ℕ → Part (List NumberedLibrary) → Part (List ImportSaid)
+imports_said magic libraries = part_map (map import_said) (imports_in magic libraries)
 
 -- what a record holds
 abbrev pub import_view : PeImport → ImportSaid

@@ -1,24 +1,20 @@
 -- The tables of a whole file, which are in memory of their own.
-use Rattle.std.specs.Prelude.{◌≡◌, ℕ, List, map, Option, None, Some, option_map, refl}
+use Rattle.std.specs.Prelude.{◌≡◌, ℕ, List, map, Option}
 use Rattle.std.proofs.Common.{◌∙◌, ap}
-use Rattle.goblin_base.specs.Footprints.{Agree, led_to}
+use Rattle.goblin_base.specs.Footprints.{Agree}
 use Rattle.goblin_base.specs.Reading.{Reading}
 use Rattle.goblin_base.proofs.Footprints.{agree-left}
+use Rattle.readings.specs.Reads.{mapped}
 use Rattle.goblin_pe_sect.specs.declared.options.ParseOptions.{ParseOptions}
 use Rattle.goblin_pe_sect.specs.declared.options.View.{View}
 use Rattle.goblin_pe_sect.specs.Options.{is_strict}
-use Rattle.goblin_pe_sect.specs.SectionTable.{unnamed}
+use Rattle.goblin_pe_sect.specs.SectionTable.{Section, unnamed}
 use Rattle.goblin_pe_head.specs.HeaderReadings.{pe_header}
 use Rattle.goblin_pe_head.specs.PeHeader.{PeHeader}
-use Rattle.goblin_pe_export.specs.ExportRecords.{ExportTables}
-use Rattle.goblin_pe_export.specs.ExportWalks.{NumberedExport, numbered_from}
 use Rattle.goblin_pe.specs.declared.whole.Part.{Part}
-use Rattle.goblin_pe.specs.declared.whole.Part.TheVariants.{Absent, Refused}
-use Rattle.goblin_pe.specs.declared.whole.Part.TheVariants as part
 use Rattle.goblin_pe.specs.Layouts.{layout_sections}
-use Rattle.goblin_pe.specs.Whole.{CollectedFileValue, CollectedParts, WholeFile, collected_file}
-use Rattle.goblin_pe.specs.Whole.{mapped_in, offset_by, part_map, places_in, whole_after, whole_in}
-use Rattle.goblin_pe.proofs.NumberedFootprints.{same-listed, same-numbered}
+use Rattle.goblin_pe.specs.Whole.{NumberedTables, TableParts, WholeFile, by_layout, lists_of, part_map}
+use Rattle.goblin_pe.specs.Whole.{places_in, tables_with, whole_of}
 use Rattle.goblin_pe.specs.declared.whole.layout.Layout.{Layout}
 use Rattle.goblin_pe.specs.BaseRelocations.{relocation_bytes}
 use Rattle.goblin_pe.specs.PeHeader.{header_value}
@@ -32,39 +28,15 @@ use Rattle.goblin_pe_records.specs.Directories.{directories_of, entry_record}
 use Rattle.goblin_pe_calls.specs.declared.records.FileRecords.{FileRecords}
 use Rattle.goblin_pe_calls.specs.ExportDirectories.{directory_view}
 use Rattle.goblin_pe_calls.specs.Exports.{ExportsSaid, export_view, exports_said, exports_view}
-use Rattle.goblin_pe_calls.specs.Exports.{file_exports, read_said}
 use Rattle.goblin_pe_calls.specs.Files.{entries_of, file_of}
 use Rattle.goblin_pe_records.specs.Filled.{Filled, without_text}
 use Rattle.goblin_pe_records.specs.Options.{alignment_in, alignment_of, options_at, options_in, view_of}
 use Rattle.goblin_pe_records.specs.declared.options.PeOptions.{PeOptions}
-use Rattle.goblin_pe_calls.specs.Imports.{ImportSaid, file_imports, import_said, import_view}
-use Rattle.goblin_pe_calls.specs.Imports.{import_views}
-use Rattle.goblin_pe_import.specs.Imports.{NumberedImport}
+use Rattle.goblin_pe_calls.specs.Imports.{ImportSaid, import_view, import_views, imports_said}
 use Rattle.goblin_pe_records.specs.RichHeaders.{entries_of_rich}
 use Rattle.goblin_pe_records.specs.Sections.{section_said}
 
--- ---- a file with the records of its exports
-
--- a table that was read is there whole
-read-inside : {A : Type 0} (xs ys : List A) → part.Read xs ≡ part.Read ys → xs ≡ ys
-read-inside xs ys same = ap entries_of same
-
--- the same exports have the same records
-pub said-same : (offset_of : ℕ → Option ℕ) (a b : List ℕ) (p : Part ExportTables)
-    → part_map (λ tables. numbered_from offset_of a tables 0) p
-    ≡ part_map (λ tables. numbered_from offset_of b tables 0) p
-    → exports_said offset_of a p ≡ exports_said offset_of b p
-said-same offset_of a b Absent same = refl
-said-same offset_of a b (part.Read tables) same =
-    ap (λ (exports : List NumberedExport). read_said tables exports) (read-inside _ _ same)
-said-same offset_of a b Refused same = refl
-
--- what is made of a value that two files have
-pub made-same : {A B : Type 0} (first again : Option A) (f g : A → B) → first ≡ again
-    → ((x : A) → first ≡ Some x → f x ≡ g x) → option_map f first ≡ option_map g again
-made-same None again f g same made = ap (option_map g) same
-made-same {A} {B} (Some x) again f g same made =
-    ap (λ (y : B). Some y) (made x refl) ∙ ap (option_map g) same
+-- ---- a file with the records of its imports and exports
 
 -- A whole file, with the records of its imports and of what its export directory leads to, which have
 -- numbers that those of a file do not have.
@@ -73,48 +45,33 @@ pub record OpenedFile : Type 0 where
   pub imports : Part (List ImportSaid)
   pub exports : ExportsSaid
 
-abbrev pub opened_of : View → ParseOptions → List ℕ → WholeFile → OpenedFile
-opened_of view opts bytes w = record {
-  whole = w;
-  imports = file_imports view opts bytes w;
-  exports = file_exports view opts bytes w;
-}
-
--- what is opened reaches what the file does
-abbrev pub opened_file : View → ParseOptions → Reading OpenedFile
-opened_file view opts =
-    let whole = whole_in view opts in
+abbrev pub opened_of : PeHeader → List Section → NumberedTables → OpenedFile
+opened_of h sections tables =
+    let magic = (places_in h.optional_header).magic in
     record {
-      value = λ bytes. option_map (opened_of view opts bytes) (whole.value bytes);
-      IsCause = whole.IsCause;
-      reaches = whole.reaches;
-      is_local = λ a b agree.
-          made-same (whole.value a) (whole.value b) (opened_of view opts a) (opened_of view opts b)
-          (whole.is_local a b agree)
-          (λ w is.
-          let offset_of = offset_by opts (mapped_in view w.header w.sections) (places_in w.header.optional_header) in
-          ap (λ (exports : ExportsSaid). record (opened_of view opts a w) { exports = exports })
-          (said-same offset_of a b w.export_data (same-numbered view opts a b w is agree))
-          ∙ ap
-          (λ (list : Part (List NumberedImport)).
-          record (opened_of view opts b w) { imports = part_map (map import_said) list })
-          (same-listed view opts a b w is agree));
-      is_inside = whole.is_inside;
-      not_memory = whole.not_memory;
+      whole = whole_of h sections (lists_of magic tables);
+      imports = imports_said magic tables.imports;
+      exports = exports_said tables.exports;
     }
+
+abbrev pub opened_with : View → ParseOptions → PeHeader → List Section → Reading OpenedFile
+opened_with view opts h sections =
+    mapped (opened_of h sections) (tables_with view opts h sections)
+
+abbrev pub opened_file : View → ParseOptions → Reading OpenedFile
+opened_file view opts = by_layout opts (opened_with view opts)
 
 -- ---- a file by the options that a caller says
 
 -- Files that agree on what a read of the first reaches have one header, so by one file alignment.
 pub same-options : (o : PeOptions) (a b : List ℕ)
-    → Agree ((whole_in (view_of o) (options_in o a)).reaches a) a b → options_in o a ≡ options_in o b
-unfolding whole_in alignment_in
+    → Agree ((opened_file (view_of o) (options_in o a)).reaches a) a b
+    → options_in o a ≡ options_in o b
+unfolding alignment_in
 same-options o a b agree =
-    let opts = options_in o a in
-    let header = pe_header (is_strict opts.parse_mode) in
-    let later = led_to (header.value a) (λ h. (whole_after (view_of o) opts h).reaches a) in
+    let header = pe_header (is_strict (options_in o a).parse_mode) in
     ap (λ (h : Option PeHeader). options_at o (alignment_of h))
-    (header.is_local a b (agree-left (header.reaches a) later a b agree))
+    (header.is_local a b (agree-left (header.reaches a) _ a b agree))
 
 -- what is opened by these options, of which the file's own alignment may decide one, and in the view
 -- that they say
@@ -165,17 +122,25 @@ Opens read old new =
 
 -- A file whose imports and exports are records, and whose sections have no names from the string
 -- table.
-abbrev pub RecordsOfFile : Type 0
-RecordsOfFile = CollectedFileValue (Part (List ImportSaid)) ExportsSaid
+pub record RecordsOfFile : Type 0 where
+  pub header : PeHeader
+  pub sections : List Section
+  pub tables : TableParts (Part (List ImportSaid)) ExportsSaid
 
-abbrev pub records_of_file : View → ParseOptions → List ℕ → WholeFile → RecordsOfFile
-records_of_file view opts bytes w =
-    let offset_of = offset_by opts (mapped_in view w.header w.sections) (places_in w.header.optional_header) in
-    record (collected_file (λ _. file_imports view opts bytes w) (exports_said offset_of bytes) w)
-    { sections = map unnamed w.sections }
+abbrev pub records_of_file : OpenedFile → RecordsOfFile
+records_of_file read = record {
+  header = read.whole.header;
+  sections = map unnamed read.whole.sections;
+  tables =
+      record {
+        imports = read.imports;
+        exports = read.exports;
+        relocations = read.whole.relocations;
+      };
+}
 
 -- the tables as records
-abbrev pub tables_view : FileRecords → CollectedParts (Part (List ImportSaid)) ExportsSaid
+abbrev pub tables_view : FileRecords → TableParts (Part (List ImportSaid)) ExportsSaid
 tables_view x = record {
   imports = part_map import_views x.imports;
   exports = exports_view x.exports;
@@ -184,10 +149,5 @@ tables_view x = record {
 
 -- the file, by its header, what its tables are read by and their records
 abbrev pub records_view : Header → Layout → FileRecords → RecordsOfFile
-records_view h l x = record {
-  header = header_value h;
-  sections = layout_sections l;
-  imports = part_map import_views x.imports;
-  exports = exports_view x.exports;
-  relocations = part_map relocation_bytes x.relocations;
-}
+records_view h l x =
+    record { header = header_value h; sections = layout_sections l; tables = tables_view x }

@@ -11,7 +11,7 @@ ghost use Rattle.goblin_pe_export.specs.ExportWalks.{exports_left, walked_export
 ghost use Rattle.goblin_pe_export.specs.Forwarders.{forwarder_value};
 ghost use Rattle.goblin_pe.specs.Callers.{layout_table};
 ghost use Rattle.goblin_pe.specs.Layouts.{layout_bytes, layout_map};
-ghost use Rattle.goblin_pe.specs.Whole.{collected_exports, export_part, part_map};
+ghost use Rattle.goblin_pe.specs.Whole.{export_part, part_map};
 ghost use Rattle.goblin_pe_records.specs.Blocked.{HasLittleRoom, more_room};
 ghost use Rattle.goblin_pe_calls.specs.Blocked.{HasLittleRoomIn, HaveLittleRoom};
 ghost use Rattle.goblin_pe_calls.specs.Exports.{export_said, export_view, export_views};
@@ -289,11 +289,8 @@ pub fn export_records<'a, 'm>(
     finder: Finder<'m>,
 ) -> Result<ExportRecords<'a>>
     requires { map_of finder ≡ layout_map layout.now }
-    ensures value { let m = layout_map layout.now in
-        ReadsOrMemory exports_view result
-        (mapped (collected_exports (exports_said (offset_of m) (layout_bytes layout.now)))
-        (layout_table export_part layout.now))
-        (layout_bytes layout.now) }
+    ensures value { ReadsOrMemory exports_view result
+        (mapped exports_said (layout_table export_part layout.now)) (layout_bytes layout.now) }
     ensures none { IfOk result HaveLittleRoom }
     ensures grown { let read = layout_table export_part layout.now in
         OnErr result (IfSome (read.value (layout_bytes layout.now)) HasExports) }

@@ -14,9 +14,7 @@ ghost use Rattle.goblin_pe.specs.Callers.{layout_table};
 ghost use Rattle.goblin_pe.specs.Layouts.{IsFileImportsCause, file_imports_left, layout_map};
 ghost use Rattle.goblin_pe.specs.Layouts.{layout_bytes, layout_places};
 ghost use Rattle.goblin_pe.specs.LayoutCursors.{file_map};
-ghost use Rattle.goblin_pe.specs.Whole.{AreListed, both_import_parts, collected_imports};
-ghost use Rattle.goblin_pe.specs.Whole.{import_list};
-ghost use Rattle.goblin_pe.specs.Whole.{part_map};
+ghost use Rattle.goblin_pe.specs.Whole.{import_list, imports_in, numbered_data_part, part_map};
 ghost use Rattle.goblin_pe_records.specs.Blocked.{HasLittleRoom, more_room};
 ghost use Rattle.goblin_pe_calls.specs.Blocked.{HasLittleRoomIn};
 ghost use Rattle.readings.specs.Walks.{IsBegun};
@@ -237,8 +235,6 @@ fn listed_records<'a, 'm>(
     ensures value { ReadsOrMemory (part_map import_views) result
         (mapped (part_map (map import_said)) (layout_table import_list layout.now))
         (layout_bytes layout.now) }
-    ensures listed { let m = layout_map layout.now in
-        AreListed m.opts (offset_of m) (layout_places layout.now) (layout_bytes layout.now) }
     ensures none { IfOk result HasLittleRoomIn }
     ensures grown { let list = layout_table import_list layout.now in
         OnErr result (IfSome (list.value (layout_bytes layout.now)) HasEntries) }
@@ -259,24 +255,22 @@ fn listed_records<'a, 'm>(
 
 /// The records of a file's imports, in the order of the libraries and of their entries. The finder
 /// is left where they end.
-#[tactic(auto, using(goblin_pe::proofs::ImportParts::list_collected, crate::proofs::Growth::parts_entries))]
+#[tactic(auto, unfolding(goblin_pe::specs::Whole::import_list), using(goblin_pe::proofs::Collected::twice_read, crate::proofs::Growth::entries_made))]
 pub fn import_records<'a, 'm>(
     alloc: Global,
     layout: &'m Layout<'a>,
     finder: &mut Finder<'m>,
 ) -> Result<Part<Vec<PeImport<'a>>>>
     requires { map_of finder.old ≡ layout_map layout.now }
-    ensures value { let m = layout_map layout.now in
-        ReadsOrMemory (part_map import_views) result
-        (mapped (collected_imports (λ _. imports_said m.opts (offset_of m)
-        (layout_places layout.now) (layout_bytes layout.now)))
-        (layout_table both_import_parts layout.now))
+    ensures value { ReadsOrMemory (part_map import_views) result
+        (mapped (imports_said (layout_places layout.now).magic)
+        (layout_table numbered_data_part layout.now))
         (layout_bytes layout.now) }
-    ensures listed { let m = layout_map layout.now in
-        AreListed m.opts (offset_of m) (layout_places layout.now) (layout_bytes layout.now) }
     ensures none { IfOk result HasLittleRoomIn }
-    ensures grown { let parts = layout_table both_import_parts layout.now in
-        OnErr result (IfSome (parts.value (layout_bytes layout.now)) (λ read. HasEntries read.1)) }
+    ensures grown { let read = layout_table numbered_data_part layout.now in
+        let magic = (layout_places layout.now).magic in
+        OnErr result
+        (IfSome (read.value (layout_bytes layout.now)) (λ p. HasEntries (imports_in magic p))) }
     ensures begun { let m = layout_map layout.now in
         IfErr result
         (λ e. IsMemory e → ImportsBegin m (layout_places layout.now) (layout_bytes layout.now)) }

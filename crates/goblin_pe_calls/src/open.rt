@@ -84,25 +84,24 @@ fn made_of<'a>(
     view: View,
     opts: &ParseOptions,
 ) -> Result<Made<'a>>
-    requires { let records_of = records_of_file view opts.now bytes.now in
-        option_map records_of ((whole_in view opts.now).value bytes.now)
+    requires { option_map records_of_file ((opened_file view opts.now).value bytes.now)
         ≡ Some (records_view header.now layout.now records.now) }
     ensures refused { IfErr result IsMemory }
     ensures rich_header { let v = records_view header.now layout.now records.now in
         IfOk result (λ m. m.rich_header ≡ rich_of v.header.rich_header) }
     ensures relocations { let v = records_view header.now layout.now records.now in
-        IfOk result (λ m. m.relocations ≡ base_relocations_of v.relocations) }
+        IfOk result (λ m. m.relocations ≡ base_relocations_of v.tables.relocations) }
     ensures rich_entries { let v = records_view header.now layout.now records.now in
         IfOk result (λ m. m.rich_entries.items ≡ entries_of_rich v.header.rich_header) }
     ensures sections { (w : WholeFile) → (whole_in view opts.now).value bytes.now ≡ Some w
         → IfOk result (λ m. map section_said m.sections.items ≡ map without_text w.sections) }
     ensures blocks { let v = records_view header.now layout.now records.now in
-        IfOk result (λ m. map block_view m.blocks.items ≡ blocks_in v.relocations) }
+        IfOk result (λ m. map block_view m.blocks.items ≡ blocks_in v.tables.relocations) }
     ensures none { IfOk result
         (λ m. HasNoSpareRoom m.rich_entries × HasNoSpareRoom m.sections × HasLittleRoom m.blocks) }
     ensures grown { let v = records_view header.now layout.now records.now in
         OnErr result (0 < length v.sections + length (entries_of_rich v.header.rich_header)
-        + length (blocks_in v.relocations)) }
+        + length (blocks_in v.tables.relocations)) }
 {
     let table = header.coff_header.symbols_end();
     let sections = named_sections(alloc, bytes, layout.section_records(), table, opts)?;

@@ -74,6 +74,7 @@ fn handed_over<'a>(records: Vec<PeRange>) -> PeRanges<'a>
 ///
 /// # Errors
 /// Only [`Error::Memory`](goblin_pe::Error::Memory); nothing is then changed.
+#[tactic(auto, unfolding(goblin_pe::specs::Whole::whole_in, goblin_pe::specs::Whole::whole_with))]
 pub fn list<'a>(
     alloc: Global,
     bytes: &[u8],

@@ -7,7 +7,7 @@ ghost use Rattle.goblin_pe.specs.Reads.{mapped};
 ghost use Rattle.goblin_pe_sect.specs.Addresses.{offset_of};
 ghost use Rattle.goblin_pe.specs.Callers.{layout_table};
 ghost use Rattle.goblin_pe.specs.Layouts.{layout_bytes, layout_map, layout_places};
-ghost use Rattle.goblin_pe.specs.Whole.{AreListed, collected_tables, table_parts};
+ghost use Rattle.goblin_pe.specs.Whole.{collected_tables, table_parts};
 ghost use Rattle.goblin_pe.specs.RefusedParts.{refused_table};
 ghost use Rattle.goblin_pe_records.specs.Calls.{IsRefusedFor};
 ghost use Rattle.goblin_pe_calls.specs.Blocked.{HasLittleRoomIn, HaveLittleRoom};
@@ -39,20 +39,15 @@ pub fn file_records<'a>(
     layout: &Layout<'a>,
     part: &mut RefusedPart,
 ) -> Result<FileRecords<'a>>
-    ensures value { let m = layout_map layout.now in
-        ReadsOrMemory tables_view result
-        (mapped (collected_tables (λ _. imports_said m.opts (offset_of m)
-        (layout_places layout.now) (layout_bytes layout.now))
-        (exports_said (offset_of m) (layout_bytes layout.now)))
+    ensures value { ReadsOrMemory tables_view result
+        (mapped (collected_tables (imports_said (layout_places layout.now).magic) exports_said)
         (layout_table table_parts layout.now))
         (layout_bytes layout.now) }
-    ensures listed { let m = layout_map layout.now in
-        IfOk result (λ _.
-        AreListed m.opts (offset_of m) (layout_places layout.now) (layout_bytes layout.now)) }
     ensures none { IfOk result
         (λ r. HasLittleRoomIn r.imports × HaveLittleRoom r.exports) }
     ensures grown { let parts = layout_table table_parts layout.now in
-        OnErr result (IfSome (parts.value (layout_bytes layout.now)) HasTables) }
+        OnErr result
+        (IfSome (parts.value (layout_bytes layout.now)) (HasTables (layout_places layout.now).magic)) }
     ensures begun { let m = layout_map layout.now in
         IfErr result
         (λ e. IsMemory e → TablesBegin m (layout_places layout.now) (layout_bytes layout.now)) }

@@ -43,12 +43,12 @@ pub(crate) fn fill_file<'a>(
     rich_header: PeRichHeader,
 )
     requires relocations { let v = records_view header.now layout.now records.now in
-        relocations ≡ base_relocations_of v.relocations }
+        relocations ≡ base_relocations_of v.tables.relocations }
     requires rich_header { rich_header ≡ rich_of (header_value header.now).rich_header }
     ensures { let v = records_view header.now layout.now records.now in
         file.new
-        ≡ summary v.header (length v.sections) (table_of v.imports) (table_of v.exports.exports)
-        v.relocations }
+        ≡ summary v.header (length v.sections) (table_of v.tables.imports)
+        (table_of v.tables.exports.exports) v.tables.relocations }
 {
     fill_optional(&mut file.optional_header, &header.optional_header);
     file.directories = directories_of(&header.optional_header).len();

@@ -5,33 +5,40 @@ use Rattle.std.proofs.Common.{option_and_then, option_to_list, slice_get, Vec, v
 use Rattle.std.proofs.Common.{vec_len, length-append, Global}
 use Rattle.std.proofs.lemmas.Option.{slice_get_cases}
 use Rattle.goblin_base.specs.Tables.{concat_below}
-use Rattle.readings.specs.Reads.{◌>>=◌, taken}
+use Rattle.goblin_base.specs.Reading.{Reading}
+use Rattle.readings.specs.Reads.{◌>>=◌, mapped, taken}
 use Rattle.goblin_pe_export.specs.ExportReadings as reading
-use Rattle.goblin_pe_export.specs.ExportRecords.{ExportRow, ExportTables}
+use Rattle.goblin_pe_export.specs.ExportRecords.{ExportRow, ExportTables, NumberedExport, numbered_by}
 use Rattle.goblin_pe_export.specs.Exports.{TakesRoomFor, export_row, is_own, leads_to_own}
 use Rattle.goblin_pe_export.specs.Exports.{own_exports}
+use Rattle.goblin_pe_export.specs.declared.export.tables.ExportAddressTableEntry.{ExportAddressTableEntry}
 use Rattle.goblin_pe_export.specs.declared.export.tables.ExportAddressTableEntry.TheVariants.{ExportRVA, ForwarderRVA}
 
 module _ (offset_of : ℕ → Option ℕ) (bytes : List ℕ) (tables : ExportTables) where
   -- the row of a name pointer and an entry of the ordinal table
-  abbrev row : Option ℕ → Option ℕ → Option ExportRow
-  row pointer ordinal =
+  abbrev numbered : ℕ → ℕ → ℕ → Option ExportAddressTableEntry → Reading NumberedExport
+  numbered x pointer ordinal address =
+      taken address >>= (λ address. mapped (numbered_by tables x pointer ordinal) (reading.row_of offset_of pointer address))
+
+  abbrev row : ℕ → Option ℕ → Option ℕ → Option ExportRow
+  row x pointer ordinal =
+      (mapped (λ n. n.row)
       (taken pointer
       >>= (λ pointer.
       taken ordinal
       >>= (λ ordinal.
-      taken (slice_get tables.export_address_table ordinal) >>= reading.row_of offset_of pointer))).value bytes
+      numbered x pointer ordinal (slice_get tables.export_address_table ordinal))))).value bytes
 
   -- one that leads to an address that is not a forwarder's has a row
-  has-row : (pointer : ℕ) (ordinal : Option ℕ)
+  has-row : (x pointer : ℕ) (ordinal : Option ℕ)
       → (if is_own (option_and_then (slice_get tables.export_address_table) ordinal) then 1 else 0)
-      ≤ length (option_to_list (row (Some pointer) ordinal))
+      ≤ length (option_to_list (row x (Some pointer) ordinal))
   unfolding reading.row_of
-  has-row pointer None = omega arith
-  has-row pointer (Some ordinal) =
+  has-row x pointer None = omega arith
+  has-row x pointer (Some ordinal) =
       elim (slice_get tables.export_address_table ordinal) as (λ o.
       (if is_own o then 1 else 0)
-      ≤ length (option_to_list ((taken o >>= reading.row_of offset_of pointer).value bytes))) [
+      ≤ length (option_to_list ((mapped (λ n. n.row) (numbered x pointer ordinal o)).value bytes))) [
         | None ↦ omega arith
         | Some (ExportRVA rva) ↦ omega arith
         | Some (ForwarderRVA rva) ↦ omega arith
@@ -40,10 +47,10 @@ module _ (offset_of : ℕ → Option ℕ) (bytes : List ℕ) (tables : ExportTab
   own-row : (x : ℕ) → x < length tables.export_name_pointer_table
       → (if leads_to_own tables x then 1 else 0)
       ≤ length (option_to_list (export_row offset_of bytes tables x))
-  unfolding reading.export_row
+  unfolding reading.export_row reading.numbered_row
   own-row x below =
       elim (slice_get_cases tables.export_name_pointer_table x).1 [
-        | inl found ↦ rw found.2 (has-row found.0 (slice_get tables.export_ordinal_table x))
+        | inl found ↦ rw found.2 (has-row x found.0 (slice_get tables.export_ordinal_table x))
         | inr past ↦ absurd (omega (arith, past.0))
       ]
 

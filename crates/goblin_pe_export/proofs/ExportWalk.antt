@@ -1,7 +1,7 @@
 -- What comes of a walk over exports.
 use Rattle.std.proofs.Common.{◌≡◌, ◌<◌, ◌≤◌, ◌++◌, ◌+◌, ◌-◌, ℕ, zero, suc, List, [], ◌∷◌, Option}
-use Rattle.std.proofs.Common.{Some, None, length, map, refl, sym, ap, ◌∙◌, arith, ◌==◌, false}
-use Rattle.std.proofs.Common.{filter_map, option_map, option_to_list, ne_eqb}
+use Rattle.std.proofs.Common.{Some, None, length, refl, sym, ap, ◌∙◌, arith, ◌==◌, false}
+use Rattle.std.proofs.Common.{filter_map, option_to_list, ne_eqb}
 use Rattle.std.specs.List.{cons_option, range_with_len}
 use Rattle.std.proofs.lemmas.List.Elements.{filter_map-append}
 use Rattle.std.proofs.lemmas.List.FromFn.{length-range_with_len}
@@ -12,14 +12,13 @@ use Rattle.goblin_base.proofs.Steps.{step}
 use Rattle.readings.proofs.WalkValues.{range-next}
 use Rattle.goblin_pe_sect.specs.declared.data_directories.DataDirectory.{DataDirectory}
 use Rattle.goblin_pe_export.specs.ExportReadings as reading
-use Rattle.goblin_pe_export.specs.ExportRecords.{ExportRow, ExportTables, export_directory_record}
-use Rattle.goblin_pe_export.specs.Exports.{export_data, export_row}
+use Rattle.goblin_pe_export.specs.ExportRecords.{ExportTables, export_directory_record}
+use Rattle.goblin_pe_export.specs.Exports.{export_data}
 use Rattle.goblin_pe_export.specs.ExportRecords.{name_pointers}
 use Rattle.goblin_pe_export.specs.ExportWalks.{GivesExport, GivesExportBefore, NumberedExport, exports_position, numbered_export, numbered_from, walked_tables}
 use Rattle.goblin_pe_export.specs.declared.export.exports.Exports.{Exports}
 use Rattle.goblin_pe_export.specs.declared.export.exports.WalkedExport.{WalkedExport}
 use Rattle.goblin_pe_export.proofs.WholeEntries.{entry_count}
-use Rattle.goblin_pe_export.proofs.ExportRows.{rows_listed}
 
 -- ---- what is kept of a list of indexes
 
@@ -46,20 +45,6 @@ module _ {A : Type 0} (f : ℕ → Option A) where
         | Some y ↦ omega arith
       ]
 
-  -- what is made of each that is kept
-  map-kept : {B : Type 0} (of : A → B) (g : ℕ → Option B)
-      → ((i : ℕ) → option_map of (f i) ≡ g i) → (xs : List ℕ)
-      → map of (filter_map f xs) ≡ filter_map g xs
-  map-kept of g same [] = refl
-  map-kept {B} of g same (x ∷ xs) =
-      elim (f x) as (λ o. option_map of o ≡ g x
-      → map of (cons_option o (filter_map f xs)) ≡ cons_option (g x) (filter_map g xs)) [
-        | None ↦ λ is. map-kept of g same xs ∙ ap (λ (o : Option B). cons_option o (filter_map g xs)) is
-        | Some y ↦ λ is.
-            ap (λ (ys : List B). of y ∷ ys) (map-kept of g same xs)
-            ∙ ap (λ (o : Option B). cons_option o (filter_map g xs)) is
-      ] (same x)
-
 -- ---- the exports from a name pointer on
 
 module _ (offset_of : ℕ → Option ℕ) (bytes : List ℕ) (tables : ExportTables) where
@@ -68,26 +53,6 @@ module _ (offset_of : ℕ → Option ℕ) (bytes : List ℕ) (tables : ExportTab
 
   abbrev count : ℕ
   count = length tables.export_name_pointer_table
-
-  taken-back : (of : ExportRow → NumberedExport) → ((row : ExportRow) → (of row).row ≡ row)
-      → (o : Option ExportRow) → option_map (λ n. n.row) (option_map of o) ≡ o
-  taken-back of same None = refl
-  taken-back of same (Some row) = ap (λ (r : ExportRow). Some r) (same row)
-
-  row-of : (x : ℕ) → option_map (λ n. n.row) (numbered x) ≡ export_row offset_of bytes tables x
-  unfolding numbered_export
-  row-of x =
-      taken-back _ (λ row. refl) (export_row offset_of bytes tables x)
-
-  -- the rows of all that come are those that export data lists
-  pub rows_numbered : map (λ n. n.row) (numbered_from offset_of bytes tables 0)
-      ≡ concat_below (λ x. option_to_list (export_row offset_of bytes tables x)) count
-  unfolding numbered_from
-  rows_numbered =
-      let all : count - 0 ≡ count = omega arith in
-      ap (λ (k : ℕ). map (λ n. n.row) (filter_map numbered (range_with_len 0 k))) all
-      ∙ map-kept numbered (λ n. n.row) (export_row offset_of bytes tables) row-of (range_with_len 0 count)
-      ∙ sym (joined (export_row offset_of bytes tables) count)
 
   -- those from x on begin with that of x, if it has one
   from-first : (x : ℕ) → x < count
@@ -148,12 +113,14 @@ data-there offset_of d bytes tables is =
     let found = record_at-some 40 (export_directory_record Little) bytes at.value here.value here.is in
     ne_eqb (length bytes) 0 (λ none. omega (arith, found.start))
 
--- the tables of a directory with the rows of all that comes are what is read
+-- the tables of a directory with all that comes are what is read
 pub read_walked : (offset_of : ℕ → Option ℕ) (d : DataDirectory) (bytes : List ℕ)
     (tables : ExportTables) → export_data offset_of d bytes ≡ Some tables
-    → (reading.export_read offset_of d).value bytes
-    ≡ Some (tables, map (λ n. n.row) (numbered_from offset_of bytes tables 0))
-unfolding reading.export_read
+    → (reading.numbered_read offset_of d).value bytes
+    ≡ Some (tables, numbered_from offset_of bytes tables 0)
+unfolding reading.numbered_read reading.numbered_rows numbered_from
 read_walked offset_of d bytes tables is =
-    rw (is, rows_listed offset_of bytes tables (data-there offset_of d bytes tables is))
-    (ap (λ (rows : List ExportRow). Some (tables, rows)) (sym (rows_numbered offset_of bytes tables)))
+    let n = length tables.export_name_pointer_table in
+    let all : n - 0 ≡ n = omega arith in
+    rw (is, data-there offset_of d bytes tables is, all)
+    (ap (λ (exports : List NumberedExport). Some (tables, exports)) (joined (numbered_export offset_of bytes tables) n))

@@ -6,7 +6,7 @@ use Rattle.std.proofs.lemmas.List.Sums.{sum_by-append}
 use Rattle.std.proofs.lemmas.List.FromFn.{length-range_with_len, sum_by-map-range_with_len_more}
 use Rattle.goblin_pe_export.specs.ExportRecords.{ExportTables}
 use Rattle.goblin_pe_export.specs.ExportWalks.{numbered_export, numbered_from}
-use Rattle.goblin_pe_export.specs.Exports.{export_row}
+use Rattle.goblin_pe_export.specs.ExportReadings as reading
 use Rattle.goblin_pe_export.specs.LeftOutExports.{gives_export, pointers_left_out}
 
 some-mapped : {A B : Type 0} (f : A → B) (o : Option A) → is_some o ≡ is_some (option_map f o)
@@ -38,8 +38,8 @@ module _ {X Y : Type 0} (f : X → Option Y) (p : X → Bool) (same : (x : X) �
       (one-item (f x) (p x) (filter_map f xs) (count_by (λ x. not (p x)) xs) (length xs) (same x) (given-or-not xs))
 
 numbered-some : (offset_of : ℕ → Option ℕ) (bytes : List ℕ) (tables : ExportTables) (x : ℕ) → gives_export offset_of bytes tables x ≡ is_some (numbered_export offset_of bytes tables x)
-unfolding numbered_export
-numbered-some offset_of bytes tables x = some-mapped _ (export_row offset_of bytes tables x)
+unfolding reading.export_row
+numbered-some offset_of bytes tables x = sym (some-mapped (λ n. n.row) (numbered_export offset_of bytes tables x))
 
 -- each name pointer is listed or left out
 pub listed_or_left_out : (offset_of : ℕ → Option ℕ) (bytes : List ℕ) (tables : ExportTables)

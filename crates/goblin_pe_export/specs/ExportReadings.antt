@@ -1,6 +1,6 @@
 -- The exports: the export directory, its tables, and a row for each name pointer, over a map of
 -- addresses to file offsets.
-use Rattle.std.specs.Prelude.{◌≡◌, ℕ, ◌==◌, if◌then◌else◌, nat_le, List, [], length, slice_get}
+use Rattle.std.specs.Prelude.{◌≡◌, ℕ, ◌==◌, if◌then◌else◌, nat_le, List, [], length, map, slice_get}
 use Rattle.std.specs.Prelude.{IfSome}
 use Rattle.std.specs.Prelude.{Option, Some, None}
 use Rattle.goblin_base.specs.declared.endian.Endian.TheVariants.{Little}
@@ -11,7 +11,8 @@ use Rattle.readings.specs.Reads.{given, mapped, needs_by, or_none, record_at, ta
 use Rattle.goblin_pe_sect.specs.declared.data_directories.DataDirectory.{DataDirectory}
 use Rattle.goblin_pe_export.specs.ExportRecords.{ExportRow, ExportTables, IsAddressCountFault}
 use Rattle.goblin_pe_export.specs.ExportRecords.{IsCountFault, address_count-not_memory, addresses}
-use Rattle.goblin_pe_export.specs.ExportRecords.{count-not_memory, counts_fit, name_pointers}
+use Rattle.goblin_pe_export.specs.ExportRecords.{NumberedExport, count-not_memory, counts_fit}
+use Rattle.goblin_pe_export.specs.ExportRecords.{name_pointers, numbered_by, read_rows}
 use Rattle.goblin_pe_export.specs.ExportRecords.{export_directory_record, ordinals, rva_of}
 use Rattle.goblin_pe_export.specs.Forwarders.{Forwarder, forwarder_at}
 use Rattle.goblin_pe_sect.specs.AddressReadings.{at_address, name_at}
@@ -128,25 +129,41 @@ row_of offset_of pointer address =
 abbrev pub entry_of : {A : Type 0} → List A → ℕ → Reading A
 entry_of entries x = taken (slice_get entries x)
 
--- The row of the name pointer at index x. Its ordinal is at x too, and numbers its address.
-unfoldable pub export_row : (ℕ → Option ℕ) → ExportTables → ℕ → Reading ExportRow
-export_row offset_of tables x =
+-- The export of the name pointer at index x. Its entry of the ordinal table is at x too, and numbers
+-- its address; with the ordinal base added it is its ordinal.
+unfoldable pub numbered_row : (ℕ → Option ℕ) → ExportTables → ℕ → Reading NumberedExport
+numbered_row offset_of tables x =
     entry_of tables.export_name_pointer_table x
     >>= (λ pointer.
     entry_of tables.export_ordinal_table x
     >>= (λ ordinal.
-    entry_of tables.export_address_table ordinal >>= row_of offset_of pointer))
+    entry_of tables.export_address_table ordinal
+    >>= (λ address.
+    mapped (numbered_by tables x pointer ordinal) (row_of offset_of pointer address))))
 
--- The exports that export data lists: the existing rows, in the order of the name pointers. An
--- empty file has none.
-unfoldable pub exports : (ℕ → Option ℕ) → ExportTables → Reading (List ExportRow)
-exports offset_of tables =
+-- its row alone
+unfoldable pub export_row : (ℕ → Option ℕ) → ExportTables → ℕ → Reading ExportRow
+export_row offset_of tables x = mapped (λ x. x.row) (numbered_row offset_of tables x)
+
+-- The exports that export data lists: those that exist, in the order of the name pointers. An empty
+-- file has none.
+unfoldable pub numbered_rows : (ℕ → Option ℕ) → ExportTables → Reading (List NumberedExport)
+numbered_rows offset_of tables =
     mapped (λ read. if read.0 == 0 then [] else read.1)
     (file_length
-    beside each_kept (export_row offset_of tables) (length tables.export_name_pointer_table))
+    beside each_kept (numbered_row offset_of tables) (length tables.export_name_pointer_table))
+
+-- their rows alone
+unfoldable pub exports : (ℕ → Option ℕ) → ExportTables → Reading (List ExportRow)
+exports offset_of tables = mapped (map (λ x. x.row)) (numbered_rows offset_of tables)
 
 -- the export data of a directory, and the exports that it lists
+unfoldable pub numbered_read : (ℕ → Option ℕ) → DataDirectory
+    → Reading (ExportTables × List NumberedExport)
+numbered_read offset_of d =
+    export_data offset_of d >>= (λ tables. given tables beside numbered_rows offset_of tables)
+
+-- with the rows alone
 unfoldable pub export_read : (ℕ → Option ℕ) → DataDirectory
     → Reading (ExportTables × List ExportRow)
-export_read offset_of d =
-    export_data offset_of d >>= (λ tables. given tables beside exports offset_of tables)
+export_read offset_of d = mapped read_rows (numbered_read offset_of d)

@@ -2,7 +2,7 @@
 -- values.
 use Rattle.std.specs.Prelude.{◌≤◌, ◌⊎◌, ℕ, ◌+◌, ◌&&◌, nat_le, nat_lt, if◌then◌else◌, Bool}
 use Rattle.std.specs.Prelude.{List, [], ◌∷◌, codes, None, Option, Some, Vec}
-use Rattle.std.specs.Prelude.{◌*◌, ◌-◌, ◌/◌, length, min, option_map, slice_range}
+use Rattle.std.specs.Prelude.{◌*◌, ◌-◌, ◌/◌, length, map, min, option_map, slice_range}
 use Rattle.std.specs.Global.{Global}
 use Rattle.std.proofs.Common.{inl, inr}
 use Rattle.goblin_base.specs.declared.endian.Endian.{Endian}
@@ -149,6 +149,26 @@ pub record ExportRow : Type 0 where
   pub rva : ℕ
   pub size : ℕ
   pub reexport : Option Forwarder
+
+-- an export, with the index of its name pointer, its own ordinal and the address of its name
+pub record NumberedExport : Type 0 where
+  pub hint : ℕ
+  pub ordinal : ℕ
+  pub name_rva : ℕ
+  pub row : ExportRow
+
+-- the export of the name pointer at index x, by that and its entry of the ordinal table
+abbrev pub numbered_by : ExportTables → ℕ → ℕ → ℕ → ExportRow → NumberedExport
+numbered_by tables x pointer ordinal row = record {
+  hint = x;
+  ordinal = tables.export_directory_table.ordinal_base + ordinal;
+  name_rva = pointer;
+  row = row;
+}
+
+-- tables and the rows of their exports, without the numbers
+abbrev pub read_rows : ExportTables × List NumberedExport → ExportTables × List ExportRow
+read_rows read = (read.0, map (λ x. x.row) read.1)
 
 -- tables and exports, as their reader returns them
 abbrev pub export_read_view : ExportTables × Vec ExportRow Global → ExportTables × List ExportRow

@@ -1,36 +1,20 @@
 -- The walk over the exports of an image: what is still to come.
 use Rattle.std.specs.Prelude.{◌≡◌, ℕ, ◌+◌, ◌-◌, ◌/◌, ◌<◌, ◌≤◌, IfSome, List, MatchOption, Option}
-use Rattle.std.specs.Prelude.{Some, filter_map, length, max, min, option_map, slice_get, unwrap_or}
+use Rattle.std.specs.Prelude.{Some, filter_map, length, max, min}
 use Rattle.std.specs.Iterator.{YieldsFirstBy}
 use Rattle.std.specs.List.{range_with_len}
 use Rattle.goblin_pe_sect.specs.Addresses.{MapOfAddresses, map_of, offset_of}
-use Rattle.goblin_pe_export.specs.ExportRecords.{ExportRow, ExportTables, tables_in}
-use Rattle.goblin_pe_export.specs.Exports.{export_row}
+use Rattle.goblin_pe_export.specs.ExportReadings.{numbered_row}
+use Rattle.goblin_pe_export.specs.ExportRecords.{ExportTables, tables_in}
+pub use Rattle.goblin_pe_export.specs.ExportRecords.{NumberedExport}
 use Rattle.goblin_pe_export.specs.declared.export.exports.Exports.{Exports}
 use Rattle.goblin_pe_export.specs.declared.export.exports.WalkedExport.{WalkedExport}
 
 -- ---- the exports with their numbers
 
--- an export, with the index of its name pointer, its own ordinal and the address of its name
-pub record NumberedExport : Type 0 where
-  pub hint : ℕ
-  pub ordinal : ℕ
-  pub name_rva : ℕ
-  pub row : ExportRow
-
--- The export of the name pointer at index x, where that has one. Its ordinal is the entry of the
--- ordinal table at x, and the ordinal base added; an export has both entries at x.
-unfoldable pub numbered_export : (ℕ → Option ℕ) → List ℕ → ExportTables → ℕ
-    → Option NumberedExport
-numbered_export offset_of bytes tables x =
-    option_map (λ row. record {
-      hint = x;
-      ordinal = tables.export_directory_table.ordinal_base
-          + unwrap_or (slice_get tables.export_ordinal_table x) 0;
-      name_rva = unwrap_or (slice_get tables.export_name_pointer_table x) 0;
-      row = row;
-    })
-    (export_row offset_of bytes tables x)
+-- the export of the name pointer at index x, where that has one
+abbrev pub numbered_export : (ℕ → Option ℕ) → List ℕ → ExportTables → ℕ → Option NumberedExport
+numbered_export offset_of bytes tables x = (numbered_row offset_of tables x).value bytes
 
 -- the exports of the name pointers from x on, in order
 unfoldable pub numbered_from : (ℕ → Option ℕ) → List ℕ → ExportTables → ℕ → List NumberedExport

@@ -14,6 +14,8 @@ ghost use Rattle.goblin_base.specs.Reading.{ReadsOrMemory};
 ghost use Rattle.goblin_pe_sect.specs.Options.{default_options};
 ghost use Rattle.goblin_pe_sect.specs.Addresses.{TakesMap, map_by, map_of, offset_of};
 ghost use Rattle.goblin_pe_export.specs.ExportReadings as reading;
+ghost use Rattle.goblin_pe_export.specs.ExportRecords.{numbered_by};
+ghost use Rattle.goblin_pe_export.specs.ExportWalks.{numbered_export};
 ghost use Rattle.goblin_pe_export.specs.Exports.{HasExportEntries, HasRow, export_data, export_row};
 ghost use Rattle.goblin_pe_export.specs.Exports.{TakesRoomFor, exports, own_exports, rva_of};
 ghost use Rattle.goblin_pe_export.specs.Forwarders.{forwarder_at, forwarder_value};
@@ -378,7 +380,7 @@ impl<'a> Export<'a> {
     // The export of the name pointer at an index, with that and its entry of the ordinal table,
     // where its ordinal, its address and, of a forwarder, the text are there.
     #[inline(always)]
-    #[tactic(auto, unfolding(crate::specs::ExportReadings::export_row))]
+    #[tactic(auto, unfolding(crate::specs::ExportReadings::export_row, crate::specs::ExportReadings::numbered_row))]
     fn of_pointer<T: Entries>(
         bytes: &'a [u8],
         tables: &T,
@@ -387,10 +389,12 @@ impl<'a> Export<'a> {
     ) -> Option<((u32, u16), Export<'a>)>
         ensures value { let m = map_of finder.old in
             let t = T.entries tables.now in
-            let row = export_row (offset_of m) bytes.now t index in
-            MatchOption result (row ≡ None)
-            (λ x. (row ≡ Some x.1) × (slice_get t.export_name_pointer_table index ≡ Some x.0.0)
-            × (slice_get t.export_ordinal_table index ≡ Some x.0.1)) }
+            let export = numbered_export (offset_of m) bytes.now t index in
+            MatchOption result (export ≡ None)
+            (λ x. export ≡ Some (numbered_by t index x.0.0 x.0.1 x.1)) }
+        ensures row { let m = map_of finder.old in
+            let row = export_row (offset_of m) bytes.now (T.entries tables.now) index in
+            MatchOption result (row ≡ None) (λ x. row ≡ Some x.1) }
         ensures same { finder.new ≡ finder.old }
     {
         let pointer = tables.pointer(index)?;
@@ -433,7 +437,7 @@ impl<'a> Export<'a> {
     /// # Errors
     /// Only [`Error::Memory`], never for an empty file, which takes no memory, and otherwise only
     /// if there is an export or addresses are mapped by sections.
-    #[tactic(auto, unfolding(crate::specs::ExportReadings::exports))]
+    #[tactic(auto, unfolding(crate::specs::ExportReadings::exports, crate::specs::ExportReadings::numbered_rows))]
     pub fn parse_with_opts(
         alloc: Global,
         bytes: &'a [u8],
@@ -461,7 +465,7 @@ impl<'a> Export<'a> {
     ///
     /// # Errors
     /// As [`Export::parse_with_opts`].
-    #[tactic(auto, unfolding(crate::specs::ExportReadings::exports))]
+    #[tactic(auto, unfolding(crate::specs::ExportReadings::exports, crate::specs::ExportReadings::numbered_rows))]
     pub fn parse_by(
         alloc: Global,
         bytes: &'a [u8],

@@ -16,7 +16,6 @@ pub mod LibraryIndexes
 pub mod LookupSlots
 pub mod LookupWalk
 pub mod Modes
-pub mod NumberedReach
 pub mod PermissiveReads
 pub mod PlainEntries
 mod SlotSums

@@ -6,6 +6,7 @@ use Rattle.std.specs.List.{filter, range_with_len}
 use Rattle.std.proofs.lemmas.List.Elements.{filter-append}
 use Rattle.goblin_base.specs.declared.error.ErrorOf.{ErrorOf}
 use Rattle.goblin_base.specs.Answers.{◌>>=◌, FirstFault}
+use Rattle.goblin_base.specs.Footprints.{led_to}
 use Rattle.goblin_base.specs.Tables.{Format, each_below, is_kept, join, kept_slots, made_of}
 use Rattle.goblin_base.specs.Tables.{slot_at, slot_table, stop}
 use Rattle.readings.specs.Reads.{in_its_place, with_slots}
@@ -201,23 +202,45 @@ module _ (strict : Bool) (format : Format EntryValue) (offset_of : ℕ → Optio
   unnumbered rva = then-off (in_its_place strict 0 (offset_of rva))
 
   if-cause : (p : Option ℕ) (e : ErrorOf)
-      → (read_if (numbered_libraries_at strict format offset_of) p).IsCause bytes e
       → (read_if (libraries_at strict format offset_of) p).IsCause bytes e
+      → (read_if (numbered_libraries_at strict format offset_of) p).IsCause bytes e
   unfolding numbered_libraries_at
   if-cause None e h = h
   if-cause (Some o) e h = h
 
-  -- it is refused as that is
+  -- what is numbered is refused as import data is
   pub unnumbered-cause : (rva : ℕ) (e : ErrorOf)
-      → (numbered_data strict format offset_of rva).IsCause bytes e
       → (import_data strict format offset_of rva).IsCause bytes e
+      → (numbered_data strict format offset_of rva).IsCause bytes e
   unfolding import_data numbered_data
   unnumbered-cause rva e h = by (in_its_place strict 0 (offset_of rva)) h
     where
       by : (o : Option ℕ)
           → FirstFault o ((offset_at offset_of rva).IsCause bytes)
-          (λ p. (read_past_front strict (numbered_libraries_at strict format offset_of) p).IsCause bytes) e
-          → FirstFault o ((offset_at offset_of rva).IsCause bytes)
           (λ p. (read_past_front strict (libraries_at strict format offset_of) p).IsCause bytes) e
+          → FirstFault o ((offset_at offset_of rva).IsCause bytes)
+          (λ p. (read_past_front strict (numbered_libraries_at strict format offset_of) p).IsCause bytes) e
       by None h = h
       by (Some p) h = if-cause (first_record_offset strict (Some p)) e h
+
+  if-reach : (p : Option ℕ)
+      → (read_if (libraries_at strict format offset_of) p).reaches bytes
+      ≡ (read_if (numbered_libraries_at strict format offset_of) p).reaches bytes
+  unfolding numbered_libraries_at
+  if-reach None = refl
+  if-reach (Some o) = refl
+
+  -- what is numbered reaches what import data does
+  pub numbered-reach : (rva : ℕ) → (import_data strict format offset_of rva).reaches bytes
+      ≡ (numbered_data strict format offset_of rva).reaches bytes
+  unfolding import_data numbered_data
+  numbered-reach rva = by (in_its_place strict 0 (offset_of rva))
+    where
+      by : (o : Option ℕ)
+          → [] ++ led_to o
+          (λ p. (read_past_front strict (libraries_at strict format offset_of) p).reaches bytes)
+          ≡ [] ++ led_to o
+          (λ p.
+          (read_past_front strict (numbered_libraries_at strict format offset_of) p).reaches bytes)
+      by None = refl
+      by (Some p) = if-reach (first_record_offset strict (Some p))

@@ -13,7 +13,7 @@ use Rattle.goblin_pe_import.specs.ImportLookup.{EntryValue, entry_slots}
 use Rattle.goblin_pe_import.specs.ImportEntries.LookupEntry.{ByOrdinal}
 use Rattle.goblin_pe_sect.specs.AddressReadings.{at_address, name_at}
 use Rattle.goblin_pe_import.specs.ImportReadings.{kept_library, libraries_at}
-use Rattle.goblin_pe_import.specs.ImportReadings.{import_record_at, library_of, lookup_if}
+use Rattle.goblin_pe_import.specs.ImportReadings.{import_record_at, library_of, lookup_if, numbered_libraries_at}
 use Rattle.goblin_pe_import.specs.LookupReadings.{address_table, hint_name, kept_entry, kept_name}
 use Rattle.goblin_pe_import.specs.LookupReadings.{lookup_entry_at, lookup_table, lookup_with_slots}
 use Rattle.goblin_pe_import.specs.declared.import.directory_entry.ImportDirectoryEntry.{ImportDirectoryEntry}
@@ -75,6 +75,16 @@ module _ (offset_of : ℕ → Option ℕ) where
         repeats-table import_slots import_record_at import_record_at (kept_library true format offset_of)
         (kept_library false format offset_of) o
         (λ r. repeats-or_left_out _ _ (library_repeats r))
+
+    pub numbered_libraries_at-repeats : (o : ℕ)
+        → Repeats (numbered_libraries_at true format offset_of o)
+        (numbered_libraries_at false format offset_of o)
+    unfolding numbered_libraries_at
+    numbered_libraries_at-repeats o =
+        repeats-mapped _ _ _
+        (repeats-table_with_slots import_slots import_record_at import_record_at
+        (kept_library true format offset_of) (kept_library false format offset_of) o
+        (λ r. repeats-or_left_out _ _ (library_repeats r)))
 
 -- ---- permissive mode refuses no entry and no name
 

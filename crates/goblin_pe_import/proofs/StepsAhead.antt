@@ -11,7 +11,7 @@ use Rattle.goblin_pe_import.specs.LookupReadings.{entry_number}
 use Rattle.goblin_pe_import.proofs.LookupWalk.{in_slot}
 use Rattle.goblin_pe_import.specs.LeftOut.{amount_of, sum_below, sum_of_slots}
 use Rattle.goblin_pe_import.specs.StepsAhead.{AreBounded, AreCounted, HasSteps, HaveRunOut, IsOut}
-use Rattle.goblin_pe_import.specs.StepsAhead.{later_ahead, record_steps, records_ahead, slots_ahead}
+use Rattle.goblin_pe_import.specs.StepsAhead.{later_ahead, record_steps, slots_ahead}
 use Rattle.goblin_pe_import.specs.StepsAhead.{spent, tested_ahead, untested_ahead, walk_ahead}
 use Rattle.goblin_pe_import.specs.ImportRecords.{address_table_rva, import_slots, is_last_record, lookup_offset}
 use Rattle.goblin_pe_import.specs.ImportWalks.{is_left_out, no_imports}

@@ -1,5 +1,5 @@
 -- Where the imports of an image begin.
-use Rattle.std.specs.Prelude.{◌≡◌, ℕ, Bool, List, Option, Some, None, IsSomeAnd, Result, Ok, Err}
+use Rattle.std.specs.Prelude.{ℕ, Bool, List, Option, Some, None, IsSomeAnd, Result, Ok, Err}
 use Rattle.goblin_base.specs.declared.error.ErrorOf.{ErrorOf}
 use Rattle.goblin_base.specs.Reading.{IsRefused, Reading}
 use Rattle.readings.specs.Reads.{mapped, or_else}

@@ -32,7 +32,7 @@ ghost use Rattle.goblin_pe.specs.Layouts.{address_part, walked_exports};
 ghost use Rattle.goblin_pe_export.specs.ExportWalks.{walked_tables};
 ghost use Rattle.goblin_pe_head.specs.SectionRoom.{TakesSections};
 ghost use Rattle.goblin_pe.specs.TakenMemory.{TakesIndex};
-ghost use Rattle.goblin_pe.specs.Whole.{AreListed, IfRead, TablePlaces, entry_format, export_part};
+ghost use Rattle.goblin_pe.specs.Whole.{IfRead, TablePlaces, entry_format, export_part};
 ghost use Rattle.goblin_pe.specs.Whole.{import_list};
 ghost use Rattle.goblin_pe.specs.Whole.{part_map, relocation_part, section_table_offset};
 ghost use Rattle.goblin_pe.specs.Whole.{places_in, sections_after, table_places};
@@ -145,17 +145,6 @@ pub fn sections_of(
     header
         .coff_header
         .sections_with_opts(alloc, bytes, &mut offset, opts)
-}
-
-// The bytes over which imports are walked. By their type, the list of imports has what a walk
-// gives.
-#[inline(always)]
-fn walked(bytes: &[u8]) -> &[u8]
-    ensures same { result.now ≡ bytes.now }
-    ensures listed { (opts : ParseOptions) (offset_of : ℕ → Option ℕ) (places : TablePlaces)
-        → AreListed opts offset_of places bytes.now }
-{
-    bytes
 }
 
 impl<'a> Layout<'a> {
@@ -314,19 +303,16 @@ impl<'a> Layout<'a> {
     pub fn imports<'m, 'e>(&'m self) -> ResultOf<'e, Part<FileImports<'a, 'm, 'e>>>
         ensures walks { PartWalks file_imports_left IsFileImportsCause (λ xs. xs) result
             (layout_table import_list self.now) (layout_bytes self.now) }
-        ensures listed { let m = layout_map self.now in
-            AreListed m.opts (offset_of m) (layout_places self.now) (layout_bytes self.now) }
         ensures starts { let m = layout_map self.now in
             let places = layout_places self.now in
             StartsAt m places.magic (layout_bytes self.now)
             (import_begin m.opts (offset_of m) places) result }
         ensures over { IfOk result (IfRead (λ walk. file_map walk ≡ layout_map self.now)) }
     {
-        let bytes = walked(self.bytes);
         let opts = self.address_map.opts();
         match self.places.imports {
             Some(directory) if opts.parse_imports => {
-                let imports = self.imports_in(bytes, directory)?;
+                let imports = self.imports_in(directory)?;
                 Ok(Part::Read(imports))
             }
             _ => Ok(Part::Absent),
@@ -484,7 +470,6 @@ impl<'a> Layout<'a> {
     #[tactic(auto, unfolding(crate::specs::Whole::entry_format))]
     fn imports_in<'m, 'e>(
         &'m self,
-        bytes: &'a [u8],
         directory: DataDirectory,
     ) -> ResultOf<'e, FileImports<'a, 'm, 'e>>
         ensures walks { let m = layout_map self.now in
@@ -493,18 +478,18 @@ impl<'a> Layout<'a> {
             Walks file_imports_left IsFileImportsCause (λ xs. xs) result
             (mapped (flat_map (numbered_imports format.width))
             (numbered_data (reads_strictly m) format (offset_of m) rva))
-            bytes.now }
+            (layout_bytes self.now) }
         ensures first { let m = layout_map self.now in
             let rva = directory.virtual_address in
-            GivesFirst m (layout_places self.now).magic bytes.now
+            GivesFirst m (layout_places self.now).magic (layout_bytes self.now)
             (first_import (reads_strictly m) (offset_of m) rva) result }
         ensures over { IfOk result (λ walk. file_map walk ≡ layout_map self.now) }
     {
         if self.places.has_narrow_entries() {
-            let imports = Imports::<u32>::of(bytes, directory, &self.address_map)?;
+            let imports = Imports::<u32>::of(self.bytes, directory, &self.address_map)?;
             Ok(FileImports::Narrow(imports))
         } else {
-            let imports = Imports::<u64>::of(bytes, directory, &self.address_map)?;
+            let imports = Imports::<u64>::of(self.bytes, directory, &self.address_map)?;
             Ok(FileImports::Wide(imports))
         }
     }

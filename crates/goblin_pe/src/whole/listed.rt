@@ -1,26 +1,27 @@
 //! The tables that a file's data directories lead to, as lists.
 
-ghost use Rattle.std.specs.Prelude.{◌≡◌, ◌<◌, IfErr, IfOk, IsSomeAnd};
+ghost use Rattle.std.specs.Prelude.{◌≡◌, ◌<◌, IfErr, IfOk, IsSomeAnd, Some};
 ghost use Rattle.goblin_base.specs.Answers.{AnswersOrMemory, IsMemory};
 ghost use Rattle.goblin_base.specs.Reading.{ReadsOrMemory};
+ghost use Rattle.readings.specs.Reads.{mapped};
 ghost use Rattle.goblin_pe_sect.specs.Addresses.{IsIndexed, map_of, offset_of, reads_strictly};
 ghost use Rattle.goblin_pe_export.specs.ExportReadings.{export_read};
-ghost use Rattle.goblin_pe_export.specs.ExportRecords.{export_read_view};
+ghost use Rattle.goblin_pe_export.specs.ExportRecords.{export_read_view, read_rows};
 ghost use Rattle.goblin_pe_export.specs.Exports.{HasExportEntries, TakesRoomFor, export_data};
 ghost use Rattle.goblin_pe_import.specs.ImportDirectory.{TakesLibraries};
 ghost use Rattle.goblin_pe_import.specs.ImportReadings.{first_record_offset, import_data};
 ghost use Rattle.goblin_pe_import.specs.Imports.{IsImportListFault, imports_of, kept_count};
 ghost use Rattle.goblin_pe.specs.TakenMemory.{TakesExports, TakesImports, TakesTables};
-ghost use Rattle.goblin_pe.specs.Whole.{IsReadAnd, IsListedImportsFault, entry_format, export_part};
-ghost use Rattle.goblin_pe.specs.Whole.{import_data_part, both_import_parts, import_read_view};
-ghost use Rattle.goblin_pe.specs.Whole.{items_part, listed_imports_part, listed_view, part_map};
-ghost use Rattle.goblin_pe.specs.Whole.{table_parts, table_places};
+ghost use Rattle.goblin_pe.specs.Whole.{IsReadAnd, IsListedImportsFault, both_lists, entry_format};
+ghost use Rattle.goblin_pe.specs.Whole.{export_part, import_data_part, import_read_view, items_part};
+ghost use Rattle.goblin_pe.specs.Whole.{listed_imports_part, listed_tables, listed_view};
+ghost use Rattle.goblin_pe.specs.Whole.{numbered_data_part, part_map, table_places};
 
 use crate::export::{Export, ExportData};
 use crate::import::{Import, ImportData};
 use crate::whole::Part;
 use crate::whole::places::{Places, part_of};
-use goblin_base::{Result, is_passed_over};
+use goblin_base::Result;
 use goblin_pe_sect::address_map::AddressMap;
 use goblin_pe_sect::relocation::RelocationData;
 use goblin_pe_sect::{DataDirectory, ParseOptions, SectionTable};
@@ -125,8 +126,7 @@ impl Places {
     }
 
     // The import data, and the list of imports made from it.
-    #[tactic(auto, unfolding(crate::specs::Whole::both_import_parts))]
-    fn both_import_parts<'a>(
+    fn import_lists<'a>(
         &self,
         alloc: Global,
         bytes: &'a [u8],
@@ -135,8 +135,12 @@ impl Places {
     ) -> Result<ImportRead<'a>>
         ensures made { let m = map_of address_map.now in
             let places = table_places self.now in
-            ReadsOrMemory import_read_view result (both_import_parts m.opts (offset_of m) places)
+            ReadsOrMemory import_read_view result
+            (mapped (both_lists places.magic) (numbered_data_part m.opts (offset_of m) places))
             bytes.now }
+        ensures listed { let m = map_of address_map.now in
+            IfOk result (λ read.
+            listed_imports_part m.opts (table_places self.now) read.0 ≡ Some (items_part read.1)) }
         ensures grown { let m = map_of address_map.now in
             IfErr result
             (λ e. IsMemory e → TakesImports m (table_places self.now) bytes.now) }
@@ -147,7 +151,7 @@ impl Places {
     }
 
     // The export data, and the exports that it lists.
-    #[tactic(auto, unfolding(crate::specs::Whole::export_part))]
+    #[tactic(auto, unfolding(crate::specs::Whole::export_part, goblin_pe_export::specs::ExportReadings::export_read), using(crate::proofs::Parts::becomes_mapped, crate::proofs::TakenTables::becomes_taken))]
     fn exports<'a>(
         &self,
         alloc: Global,
@@ -157,7 +161,7 @@ impl Places {
         ensures made { let m = map_of address_map.now in
             let places = table_places self.now in
             ReadsOrMemory (part_map export_read_view) result
-            (export_part m.opts (offset_of m) places) bytes.now }
+            (mapped (part_map read_rows) (export_part m.opts (offset_of m) places)) bytes.now }
         ensures grown { let m = map_of address_map.now in
             IfErr result
             (λ e. IsMemory e → TakesExports m (table_places self.now) bytes.now) }
@@ -165,17 +169,13 @@ impl Places {
         let Some(directory) = self.exports else {
             return Ok(Part::Absent);
         };
-        match exports_of(alloc, bytes, directory, address_map) {
-            Ok(read) => Ok(Part::Read(read)),
-            Err(error) if is_passed_over(&error, !address_map.reads_strictly()) => Ok(
-                Part::Refused,
-            ),
-            Err(error) => Err(error),
-        }
+        part_of(
+            exports_of(alloc, bytes, directory, address_map),
+            address_map.opts(),
+        )
     }
 
     // All tables, by this index of the sections.
-    #[tactic(auto, unfolding(crate::specs::Whole::table_parts))]
     pub(super) fn listed<'a>(
         &self,
         alloc: Global,
@@ -186,12 +186,15 @@ impl Places {
         requires { IsIndexed address_map.now }
         ensures made { let m = map_of address_map.now in
             let places = table_places self.now in
-            ReadsOrMemory listed_view result (table_parts m.opts (offset_of m) places) bytes.now }
+            ReadsOrMemory listed_view result (listed_tables m.opts (offset_of m) places) bytes.now }
+        ensures listed { let m = map_of address_map.now in
+            IfOk result (λ t. listed_imports_part m.opts (table_places self.now) t.imports.0
+            ≡ Some (items_part t.imports.1)) }
         ensures grown { let m = map_of address_map.now in
             IfErr result
             (λ e. IsMemory e → TakesTables m (table_places self.now) bytes.now) }
     {
-        let imports = self.both_import_parts(alloc, bytes, address_map, sections)?;
+        let imports = self.import_lists(alloc, bytes, address_map, sections)?;
         let exports = self.exports(alloc, bytes, address_map)?;
         let relocations = self.relocations(bytes, address_map)?;
         Ok(ListedTables {
@@ -216,7 +219,7 @@ pub(super) struct ListedTables<'a> {
 }
 
 // The export data of a directory, and the exports that it lists.
-#[tactic(auto, unfolding(goblin_pe_export::specs::ExportReadings::export_read, goblin_pe_export::specs::ExportReadings::exports))]
+#[tactic(auto, unfolding(goblin_pe_export::specs::ExportReadings::export_read, goblin_pe_export::specs::ExportReadings::exports, goblin_pe_export::specs::ExportReadings::numbered_read, goblin_pe_export::specs::ExportReadings::numbered_rows))]
 fn exports_of<'a>(
     alloc: Global,
     bytes: &'a [u8],

@@ -3,10 +3,10 @@
 ghost use Rattle.std.specs.Prelude.{◌≡◌};
 ghost use Rattle.goblin_base.specs.Marks.{marked};
 ghost use Rattle.goblin_pe_sect.specs.Addresses.{offset_of, reads_strictly};
-ghost use Rattle.goblin_pe_import.specs.ImportReadings.{import_data};
+ghost use Rattle.goblin_pe_import.specs.ImportReadings.{numbered_data};
 ghost use Rattle.goblin_pe.specs.Callers.{layout_table};
 ghost use Rattle.goblin_pe.specs.Layouts.{layout_bytes, layout_map, layout_places};
-ghost use Rattle.goblin_pe.specs.Whole.{both_import_parts, entry_format, export_part};
+ghost use Rattle.goblin_pe.specs.Whole.{entry_format, export_part, numbered_data_part};
 ghost use Rattle.goblin_pe.specs.Whole.{relocation_part, table_parts};
 
 use crate::whole::Layout;
@@ -16,11 +16,11 @@ use goblin_pe_import::laws::add_imports;
 
 impl Layout<'_> {
     // Marks what the import data of a directory reaches.
-    #[tactic(auto, unfolding(crate::specs::Whole::entry_format))]
+    #[tactic(auto, unfolding(crate::specs::Whole::entry_format), using(crate::proofs::TablesReached::numbered_marked))]
     fn mark_import_data(&self, marks: &mut Marks, rva: u32)
         ensures { let m = layout_map self.now in
             let format = entry_format (layout_places self.now).magic in
-            let read = import_data (reads_strictly m) format (offset_of m) rva in
+            let read = numbered_data (reads_strictly m) format (offset_of m) rva in
             marks.new ≡ marked marks.old (read.reaches (layout_bytes self.now)) }
     {
         if self.places.has_narrow_entries() {
@@ -31,9 +31,9 @@ impl Layout<'_> {
     }
 
     // Marks what the imports reach, if they are asked for and there is a directory for them.
-    #[tactic(auto, unfolding(crate::specs::Whole::both_import_parts, crate::specs::Whole::import_data_part), using(goblin_base::proofs::Marks::marking))]
+    #[tactic(auto, unfolding(crate::specs::Whole::numbered_data_part), using(goblin_base::proofs::Marks::marking))]
     fn mark_imports(&self, marks: &mut Marks)
-        ensures { let read = layout_table both_import_parts self.now in
+        ensures { let read = layout_table numbered_data_part self.now in
             marks.new ≡ marked marks.old (read.reaches (layout_bytes self.now)) }
     {
         match self.places.imports {

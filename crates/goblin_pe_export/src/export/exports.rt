@@ -1,17 +1,17 @@
 //! A walk over the exports of an image.
 
 ghost use Rattle.std.specs.Prelude.{◌≡◌, ◌≤◌, ◌+◌, IfOk, IfSome, MatchOption, None, Some, length};
-ghost use Rattle.std.specs.Prelude.{map, option_map, slice_get};
+ghost use Rattle.std.specs.Prelude.{option_map, slice_get};
 ghost use Rattle.std.specs.Iterator.{UpTo, at_most};
 ghost use Rattle.std.specs.Iterator.SizeHint.{IsWithinCount};
 ghost use Rattle.goblin_base.specs.Reading.{Reads};
 ghost use Rattle.goblin_pe_sect.specs.Addresses.{map_of, offset_of};
 ghost use Rattle.goblin_pe_export.specs.ExportReadings.{RepeatsAddresses, export_addresses};
-ghost use Rattle.goblin_pe_export.specs.ExportReadings.{export_read};
-ghost use Rattle.goblin_pe_export.specs.ExportRecords.{tables_in};
+ghost use Rattle.goblin_pe_export.specs.ExportReadings.{numbered_read};
+ghost use Rattle.goblin_pe_export.specs.ExportRecords.{numbered_by, tables_in};
 ghost use Rattle.goblin_pe_export.specs.ExportWalks.{AreExportsOver, GivesExport, GivesExportBefore};
 ghost use Rattle.goblin_pe_export.specs.ExportWalks.{KeepsOver};
-ghost use Rattle.goblin_pe_export.specs.ExportWalks.{exports_at, exports_position, NumberedExport};
+ghost use Rattle.goblin_pe_export.specs.ExportWalks.{exports_at, exports_position};
 ghost use Rattle.goblin_pe_export.specs.ExportWalks.{exports_bound, exports_left, numbered_export};
 ghost use Rattle.goblin_pe_export.specs.ExportWalks.{numbered_from, pointer_count, walked_export};
 ghost use Rattle.goblin_pe_export.specs.ExportWalks.{walked_tables};
@@ -69,8 +69,8 @@ impl<'a, 'm> Exports<'a, 'm> {
         address_map: &'m AddressMap,
     ) -> Result<Exports<'a, 'm>>
         ensures value { let m = map_of address_map.now in
-            Reads (λ walk. (walked_tables walk, map (λ x. x.row) (exports_left walk))) result
-            (export_read (offset_of m) directory) bytes.now }
+            Reads (λ walk. (walked_tables walk, exports_left walk)) result
+            (numbered_read (offset_of m) directory) bytes.now }
         ensures left { let m = map_of address_map.now in
             IfOk result (λ walk. exports_left walk
             ≡ numbered_from (offset_of m) bytes.now (walked_tables walk) 0) }
@@ -86,15 +86,15 @@ impl<'a, 'm> Exports<'a, 'm> {
     /// # Errors
     /// As [`Exports::of`].
     #[inline(always)]
-    #[tactic(auto, unfolding(crate::specs::ExportReadings::export_read), using(crate::proofs::ExportWalk::read_walked))]
+    #[tactic(auto, unfolding(crate::specs::ExportReadings::numbered_read), using(crate::proofs::ExportWalk::read_walked))]
     pub fn by(
         bytes: &'a [u8],
         directory: DataDirectory,
         mut finder: Finder<'m>,
     ) -> Result<Exports<'a, 'm>>
         ensures value { let m = map_of finder.entry in
-            Reads (λ walk. (walked_tables walk, map (λ x. x.row) (exports_left walk))) result
-            (export_read (offset_of m) directory) bytes.now }
+            Reads (λ walk. (walked_tables walk, exports_left walk)) result
+            (numbered_read (offset_of m) directory) bytes.now }
         ensures left { let m = map_of finder.entry in
             IfOk result (λ walk. exports_left walk
             ≡ numbered_from (offset_of m) bytes.now (walked_tables walk) 0) }
@@ -227,14 +227,8 @@ impl<'a, 'm> Exports<'a, 'm> {
         ordinal: u16,
         export: Export<'a>,
     ) -> WalkedExport<'a>
-        ensures { let base = (tables_in tables.now).export_directory_table.ordinal_base in
-            let made : NumberedExport = record {
-              hint = index;
-              ordinal = base + ordinal;
-              name_rva = pointer;
-              row = export.entry;
-            } in
-            walked_export result ≡ made }
+        ensures { walked_export result
+            ≡ numbered_by (tables_in tables.now) index pointer ordinal export.entry }
     {
         let base = tables.export_directory_table.ordinal_base;
         WalkedExport {
@@ -247,7 +241,6 @@ impl<'a, 'm> Exports<'a, 'm> {
 
     // The export of the name pointer at an index, where that has one.
     #[inline(always)]
-    #[tactic(auto, unfolding(crate::specs::ExportWalks::numbered_export))]
     fn export_at(
         bytes: &'a [u8],
         tables: &TablesInFile<'a>,
@@ -267,7 +260,7 @@ impl<'a, 'm> Exports<'a, 'm> {
     // The same, where it is plain, as `Export::plain_of_address` says; else `None`, which says
     // nothing of it.
     #[inline(always)]
-    #[tactic(auto, unfolding(crate::specs::ExportReadings::export_row, crate::specs::ExportWalks::numbered_export))]
+    #[tactic(auto, unfolding(crate::specs::ExportReadings::numbered_row))]
     fn plain_at(
         bytes: &'a [u8],
         tables: &TablesInFile<'a>,

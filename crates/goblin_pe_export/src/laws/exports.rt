@@ -21,7 +21,7 @@ pub type ExportRead<'a> = (ExportData<'a>, Vec<Export<'a>>);
 ///
 /// # Errors
 /// As [`ExportData::parse_with_opts`] and [`Export::parse_with_opts`].
-#[tactic(auto, unfolding(crate::specs::ExportReadings::export_read, crate::specs::ExportReadings::exports))]
+#[tactic(auto, unfolding(crate::specs::ExportReadings::export_read, crate::specs::ExportReadings::exports, crate::specs::ExportReadings::numbered_read, crate::specs::ExportReadings::numbered_rows))]
 pub fn read_exports<'a>(
     alloc: Global,
     bytes: &'a [u8],

@@ -131,7 +131,7 @@ fn add_names(
 }
 
 // Marks what the name pointer at an index leads to.
-#[tactic(auto, unfolding(crate::specs::ExportReadings::export_row), using(goblin_base::proofs::Marks::marking))]
+#[tactic(auto, unfolding(crate::specs::ExportReadings::numbered_row), using(goblin_base::proofs::Marks::marking))]
 fn add_pointer<T: Entries>(
     marks: &mut Marks,
     bytes: &[u8],
@@ -141,7 +141,7 @@ fn add_pointer<T: Entries>(
 )
     ensures { let m = map_of address_map.now in
         let tables = T.entries tables.now in
-        let reached = (reading.export_row (offset_of m) tables index).reaches bytes.now in
+        let reached = (reading.numbered_row (offset_of m) tables index).reaches bytes.now in
         marks.new ≡ marked marks.old reached }
 {
     let Some(pointer) = tables.pointer(index) else {
@@ -157,10 +157,10 @@ fn add_pointer<T: Entries>(
 }
 
 // Marks the footprint of the exports that tables list.
-#[tactic(auto, unfolding(crate::specs::ExportReadings::exports), using(goblin_base::proofs::Marks::marking))]
+#[tactic(auto, unfolding(crate::specs::ExportReadings::numbered_rows), using(goblin_base::proofs::Marks::marking))]
 fn add_pointers<T: Entries>(marks: &mut Marks, bytes: &[u8], tables: &T, address_map: &AddressMap)
     ensures { let m = map_of address_map.now in
-        let reached = (reading.exports (offset_of m) (T.entries tables.now)).reaches bytes.now in
+        let reached = (reading.numbered_rows (offset_of m) (T.entries tables.now)).reaches bytes.now in
         marks.new ≡ marked marks.old reached }
 {
     'pointers: for index in 0..tables.pointers() {
@@ -169,7 +169,7 @@ fn add_pointers<T: Entries>(marks: &mut Marks, bytes: &[u8], tables: &T, address
 }
 
 /// Marks the footprint of the export data of a directory, and of the exports that it lists.
-#[tactic(auto, unfolding(crate::specs::ExportReadings::export_read), using(goblin_base::proofs::Marks::marking))]
+#[tactic(auto, unfolding(crate::specs::ExportReadings::numbered_read), using(goblin_base::proofs::Marks::marking))]
 pub fn add_exports(
     marks: &mut Marks,
     bytes: &[u8],
@@ -177,7 +177,7 @@ pub fn add_exports(
     address_map: &AddressMap,
 )
     ensures { let m = map_of address_map.now in
-        let reached = (reading.export_read (offset_of m) directory).reaches bytes.now in
+        let reached = (reading.numbered_read (offset_of m) directory).reaches bytes.now in
         marks.new ≡ marked marks.old reached }
 {
     add_export_data(marks, bytes, directory, address_map);

@@ -10,10 +10,9 @@ use Rattle.goblin_pe.proofs.Layouts.{sections-refused}
 use Rattle.goblin_pe.proofs.SectionRoom.{sections_counted}
 use Rattle.goblin_pe.specs.Whole.{whole_in}
 use Rattle.goblin_pe_calls.specs.Growth.{FileBegins, HasRecords}
-use Rattle.goblin_pe_calls.specs.Files.{table_of}
-use Rattle.goblin_pe_calls.specs.Opened.{records_view}
+use Rattle.goblin_pe_calls.specs.Opened.{opened_with, records_view}
 use Rattle.goblin_pe_calls.proofs.Growth.{as-read, either-way, layout-begins, layout-kept, made-kept, sections-kept, takes-records}
-use Rattle.goblin_pe_calls.proofs.Opened.{file-of-records, imports-counted, records-read, records-refused, unopened}
+use Rattle.goblin_pe_calls.proofs.Opened.{file-of-records, records-read, records-refused}
 use Rattle.goblin_pe_calls.proofs.Refusals.{part-of-table, room-there}
 use Rattle.goblin_pe_calls.proofs.open.open_by.Goals as goal
 
@@ -26,7 +25,7 @@ returns-in_err-layout-clause-opened c =
     let error = err_from_is_err_and c.from_residual.result c.from_residual.ensures.1 in
     let counted_some : IsMemory c.in_err-layout.field-0.0 → 0 < h.coff_header.number_of_sections = λ memory. omega (arith, (c.in_err-layout.ensures.grown memory).1) in
     rw (error.1, error.2) (
-      λ other. (let refused = c.in_err-layout.ensures.value other in unopened c.args.view opts bytes _ (sections-refused c.args.view opts bytes h found _ (unmapped _ _ refused.0, refused.1))),
+      λ other. (let refused = c.in_err-layout.ensures.value other in sections-refused opts (opened_with c.args.view opts) bytes h found _ (unmapped _ _ refused.0, refused.1)),
       λ memory. takes-records c.args.view opts bytes h found
           (c.in_err-layout.ensures.grown memory).2
           (either-way ((whole_in c.args.view opts).value bytes) HasRecords (FileBegins c.args.view opts bytes h)
@@ -43,7 +42,7 @@ returns-in_err-records-clause-opened c =
     let read = mapped _ _ _ c.in_ok-layout.ensures.value in
     let error = err_from_is_err_and c.from_residual-in_err-records.result c.from_residual-in_err-records.ensures.1 in
     rw (error.1, error.2) (
-      λ other. unopened c.args.view opts bytes _ (records-refused c.args.view opts bytes c.args.header.now found c.in_ok-layout.layout read.value read.is c.in_ok-layout.ensures.over _ c.in_err-records.ensures.value other),
+      λ other. records-refused c.args.view opts bytes c.args.header.now found c.in_ok-layout.layout read.value read.is c.in_ok-layout.ensures.over _ c.in_err-records.ensures.value other,
       λ memory. takes-records c.args.view opts bytes (header_value c.args.header.now) found
           (room-there (Some (header_value c.args.header.now)) bytes c.in_ok-layout.ensures.first refl)
           (either-way ((whole_in c.args.view opts).value bytes) HasRecords (FileBegins c.args.view opts bytes (header_value c.args.header.now))
@@ -72,7 +71,7 @@ returns-in_err-made-clause-opened c =
     rw (error.1, error.2) (
       λ other. absurd (other c.in_err-made.ensures.refused),
       λ memory. takes-records c.args.view opts bytes h found (room-there (Some h) bytes c.in_ok-layout.ensures.first refl)
-          (as-read ((whole_in c.args.view opts).value bytes) _ HasRecords (FileBegins c.args.view opts bytes h) of.read
+          (as-read ((whole_in c.args.view opts).value bytes) _ HasRecords (FileBegins c.args.view opts bytes h) of.is.whole
           (made-kept c.args.view opts bytes v of counted c.in_err-made.ensures.grown)),
       refl,
     )
@@ -85,10 +84,8 @@ returns-clause-opened c =
     let from = mapped _ _ _ c.in_ok-layout.ensures.value in
     let read = records-read c.args.view opts bytes c.args.header.now c.requires c.in_ok-layout.layout from.value from.is c.in_ok-layout.ensures.over from.made c.in_ok-records.records c.in_ok-records.ensures.value in
     let of = file-of-records c.args.view opts bytes v read in
-    let counted = sym (length-map of.whole.sections unnamed) ∙ ap length of.sections in
-    let imports = imports-counted c.args.view opts bytes c.args.header.now c.requires c.in_ok-layout.layout from.value from.is c.in_ok-layout.ensures.over c.in_ok-records.ensures.listed of.whole of.read in
-    let table = imports ∙ ap table_of of.imports in
-    rw (of.read, table, of.imports, of.exports, of.header, counted, of.relocations, of.exports_table) (search rules)
+    let counted = sym (length-map of.opened.whole.sections unnamed) ∙ ap length of.sections in
+    rw (of.read, of.is.imports_table, of.is.exports_table, of.imports, of.exports, of.header, counted, of.relocations) (search (rules, of.is.whole))
 
 pub returns-in_err-records-clause-part : goal.returns-in_err-records-clause-part
 returns-in_err-records-clause-part c =

@@ -29,7 +29,7 @@ fn reads_forwarder(bytes: &[u8], address: ExportAddressTableEntry, finder: &mut 
 }
 
 // Whether the name pointer at an index gives an export. Its name is not needed, so it is not read.
-#[tactic(auto, unfolding(crate::specs::ExportReadings::export_row, crate::specs::ExportReadings::row_of))]
+#[tactic(auto, unfolding(crate::specs::ExportReadings::export_row, crate::specs::ExportReadings::numbered_row, crate::specs::ExportReadings::row_of))]
 fn gives_export(bytes: &[u8], tables: &TablesInFile, index: usize, finder: &mut Finder<'_>) -> bool
     requires { index < length (tables_in tables.now).export_name_pointer_table }
     ensures value { let m = map_of finder.old in

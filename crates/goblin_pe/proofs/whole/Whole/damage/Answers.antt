@@ -1,6 +1,5 @@
-use Rattle.std.proofs.Common.{rules}
 use Rattle.goblin_pe.proofs.SoundFiles.{sound_told}
 use Rattle.goblin_pe.proofs.whole.Whole.damage.Goals as goal
 
 pub returns-clause-sound : goal.returns-clause-sound
-returns-clause-sound c = sound_told c.args.opts.now c.args.bytes.now (search rules) (search rules) c.file_damage.result c.file_damage.ensures.tells
+returns-clause-sound c = sound_told c.args.opts.now c.args.bytes.now c.file_damage.result c.file_damage.ensures.tells

@@ -24,8 +24,8 @@ rows-preserved c =
     elim c.match-export.branch [
       | in-Some+in_ok-add_row w ↦
           rw w.rows-is
-          (w.in_ok-add_row.ensures.added ∙ row_more each c.rows.index _ c.rows.invariant.0 _ (sym w.in-Some.ensures.value.0 ∙ here), w.in_ok-add_row.ensures.room c.rows.invariant.1, same)
-      | in_default w ↦ rw w.rows-is (row_none each c.rows.index _ c.rows.invariant.0 (sym w.in_default.ensures.value ∙ here), c.rows.invariant.1, same)
+          (w.in_ok-add_row.ensures.added ∙ row_more each c.rows.index _ c.rows.invariant.0 _ (sym w.in-Some.ensures.row ∙ here), w.in_ok-add_row.ensures.room c.rows.invariant.1, same)
+      | in_default w ↦ rw w.rows-is (row_none each c.rows.index _ c.rows.invariant.0 (sym w.in_default.ensures.row ∙ here), c.rows.invariant.1, same)
     ]
 
 pub returns-in_err-add_row-clause-grown : goal.returns-in_err-add_row-clause-grown
@@ -33,7 +33,7 @@ returns-in_err-add_row-clause-grown c =
     let e = err_from_is_err_and c.from_residual.result c.from_residual.ensures.1 in
     let row : AddressMap → Option ExportRow =
     λ m. export_row (offset_of (map_of m)) c.args.bytes.now c.args.export_data.now c.rows.index in
-    let there = sym (ap row c.rows.invariant.2) ∙ c.in-Some.ensures.value.0 in
+    let there = sym (ap row c.rows.invariant.2) ∙ c.in-Some.ensures.row in
     rw e.1 (c.rows.index, omega (arith, c.rows-test.true, c.pointers-index-end.ensures), rw there refl)
 
 pub returns-clause-value : goal.returns-clause-value

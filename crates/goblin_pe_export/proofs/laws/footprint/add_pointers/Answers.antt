@@ -3,13 +3,13 @@ use Rattle.goblin_base.specs.Footprints.{Range}
 use Rattle.goblin_base.proofs.Marks.{marked_nil}
 use Rattle.goblin_base.proofs.Ranges.{marked_below}
 use Rattle.goblin_pe_sect.specs.Addresses.{map_of, offset_of}
-use Rattle.goblin_pe_export.specs.ExportReadings.{export_row, exports}
+use Rattle.goblin_pe_export.specs.ExportReadings.{numbered_row, numbered_rows}
 use Rattle.goblin_pe_export.specs.ExportRecords.{ExportTables}
 use Rattle.goblin_pe_export.proofs.laws.footprint.add_pointers.Goals as goal
 
 -- what the name pointer at an index leads to
 row_reach : (ℕ → Option ℕ) → ExportTables → List ℕ → ℕ → List Range
-row_reach offset_of tables bytes i = (export_row offset_of tables i).reaches bytes
+row_reach offset_of tables bytes i = (numbered_row offset_of tables i).reaches bytes
 
 pub pointers-init : goal.pointers-init
 pointers-init g c = sym (marked_nil c.args.marks.now)
@@ -21,7 +21,7 @@ pointers-preserved g c =
     c.pointers.marks c.add_pointer.new.marks c.pointers.invariant c.add_pointer.ensures
 
 pub returns : goal.returns
-unfolding exports row_reach
+unfolding numbered_rows row_reach
 returns g c =
     let end : c.pointers.index ≡ length (g.T.Entries.entries c.args.tables.now).export_name_pointer_table = omega (arith, c.pointers-test.false, c.pointers.auto.index-end, c.pointers-index-end.ensures) in
     rw (← end) c.pointers.invariant

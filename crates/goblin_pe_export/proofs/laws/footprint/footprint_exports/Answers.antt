@@ -8,6 +8,7 @@ use Rattle.goblin_pe_export.specs.ExportReadings.{export_read}
 use Rattle.goblin_pe_export.proofs.laws.footprint.footprint_exports.Goals as goal
 
 pub returns-clause-ranges : goal.returns-clause-ranges
+unfolding export_read
 returns-clause-ranges c =
     let bytes = c.args.bytes.now in
     let n = length bytes in
@@ -20,6 +21,7 @@ returns-clause-ranges c =
     c.ranges-2.ensures.listed
 
 pub returns-clause-grown : goal.returns-clause-grown
+unfolding export_read
 returns-clause-grown c =
     let bytes = c.args.bytes.now in
     let reached = (export_read (offset_of (map_of c.in_ok-address_map.address_map)) c.args.directory).reaches bytes in

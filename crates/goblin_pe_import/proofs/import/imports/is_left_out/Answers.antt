@@ -1,4 +1,3 @@
-use Rattle.goblin_pe_sect.specs.Addresses.{map_of, offset_of}
 use Rattle.goblin_pe_import.proofs.StepsAhead.{slots-few}
 use Rattle.goblin_pe_import.proofs.import.imports.is_left_out.Goals as goal
 

@@ -17,13 +17,13 @@ returns-in_err-imports-in-Some-clause-walks c =
     let m = layout_map c.args.self.now in
     let asked : m.opts.parse_imports ≡ true = sym (ap (λ (o : ParseOptions). o.parse_imports) c.opts-opts.ensures) ∙ c.if-opts.true in
     let e = err_from_is_err_and c.from_residual.result c.from_residual.ensures.1 in
-    rw (e.1, e.2) (list-refused m.opts (offset_of m) (layout_places c.args.self.now) c.in-Some.directory asked c.in-Some.is (layout_bytes c.args.self.now) _ _ (rw c.walked-bytes.ensures.same at c.imports_in.ensures.walks) c.in_err-imports-in-Some.was)
+    rw (e.1, e.2) (list-refused m.opts (offset_of m) (layout_places c.args.self.now) c.in-Some.directory asked c.in-Some.is (layout_bytes c.args.self.now) _ _ c.imports_in.ensures.walks c.in_err-imports-in-Some.was)
 
 pub returns-in_ok-imports-in-Some-clause-walks : goal.returns-in_ok-imports-in-Some-clause-walks
 returns-in_ok-imports-in-Some-clause-walks c =
     let m = layout_map c.args.self.now in
     let asked : m.opts.parse_imports ≡ true = sym (ap (λ (o : ParseOptions). o.parse_imports) c.opts-opts.ensures) ∙ c.if-opts.true in
-    list-walked m.opts (offset_of m) (layout_places c.args.self.now) c.in-Some.directory asked c.in-Some.is (layout_bytes c.args.self.now) _ _ (rw c.walked-bytes.ensures.same at c.imports_in.ensures.walks) c.in_ok-imports-in-Some.was
+    list-walked m.opts (offset_of m) (layout_places c.args.self.now) c.in-Some.directory asked c.in-Some.is (layout_bytes c.args.self.now) _ _ c.imports_in.ensures.walks c.in_ok-imports-in-Some.was
 
 pub returns-in_default-clause-walks : goal.returns-in_default-clause-walks
 unfolding import_list numbered_data_part
@@ -45,10 +45,10 @@ returns-in_err-imports-in-Some-clause-starts c =
     let m = layout_map c.args.self.now in
     let asked : m.opts.parse_imports ≡ true = sym (ap (λ (o : ParseOptions). o.parse_imports) c.opts-opts.ensures) ∙ c.if-opts.true in
     let e = err_from_is_err_and c.from_residual.result c.from_residual.ensures.1 in
-    rw (e.1, e.2) (start-refused m (layout_places c.args.self.now) (layout_bytes c.args.self.now) c.in-Some.directory asked c.in-Some.is c.imports_in.result (rw c.walked-bytes.ensures.same at c.imports_in.ensures.first) _ c.in_err-imports-in-Some.was)
+    rw (e.1, e.2) (start-refused m (layout_places c.args.self.now) (layout_bytes c.args.self.now) c.in-Some.directory asked c.in-Some.is c.imports_in.result c.imports_in.ensures.first _ c.in_err-imports-in-Some.was)
 
 pub returns-in_ok-imports-in-Some-clause-starts : goal.returns-in_ok-imports-in-Some-clause-starts
 returns-in_ok-imports-in-Some-clause-starts c =
     let m = layout_map c.args.self.now in
     let asked : m.opts.parse_imports ≡ true = sym (ap (λ (o : ParseOptions). o.parse_imports) c.opts-opts.ensures) ∙ c.if-opts.true in
-    start-read m (layout_places c.args.self.now) (layout_bytes c.args.self.now) c.in-Some.directory asked c.in-Some.is c.imports_in.result (rw c.walked-bytes.ensures.same at c.imports_in.ensures.first) _ c.in_ok-imports-in-Some.was
+    start-read m (layout_places c.args.self.now) (layout_bytes c.args.self.now) c.in-Some.directory asked c.in-Some.is c.imports_in.result c.imports_in.ensures.first _ c.in_ok-imports-in-Some.was
