@@ -261,10 +261,13 @@ class Triage(Case):
         self.written("nowhere.dll", images.import_from_nowhere(BY_NAME.read_bytes()))
         self.written("unmapped.dll", images.with_directory(BY_NAME.read_bytes(), 1, 0x9000, 40))
         self.written("cut.dll", BY_NAME.read_bytes()[:-16])
+        self.written("hidden.dll", images.without_a_place(data))
         found = self.triaged()
         self.assertEqual((list(found["unmapped.dll"]["damage"]), found["unmapped.dll"]["libraries"]), (["imports"], {}))
         # (what is left of the last section follows the others, and is no overlay)
         self.assertEqual((found["cut.dll"]["overlay"], ["refused" in it for it in found["cut.dll"]["sections"]]), (None, [False] * 3 + [True]))
+        # (a section without a place in the file hides none)
+        self.assertEqual(found["hidden.dll"]["overlay"], len(data) - 0x200)
         self.assertEqual([found[it]["left_out"] for it in ("front.dll", "nowhere.dll")],
                          [{"left_out_libraries": 1, "left_out_entries": 1}, {"unmapped_entries": 1}])
         self.assertEqual((list(found["damaged.dll"]["damage"]), found["damaged.dll"]["exports"]), (["exports"], 0))
