@@ -366,6 +366,14 @@ class Recipes(Case):
                     recipe.main(str(path), str(self.folder / "lost.dll"))
                 self.assertRegex(said.getvalue(), "(?s)^.*some.dll: .*lost.dll: ", name)
 
+    def test_a_name_that_the_output_does_not_have_is_escaped(self):
+        name, output = "R\u0416ADME".encode("utf-16-le"), io.TextIOWrapper(io.BytesIO(), "ascii")
+        path = self.written("some.dll", images.with_others().replace("README".encode("utf-16-le"), name))
+        with contextlib.redirect_stdout(output):
+            self.recipes["resources"].main(str(path))
+        output.flush()
+        self.assertIn(rb"'TEXT'/'R\u0416ADME'/0 ", output.buffer.getvalue())
+
     def test_they_tell_what_pefile_does(self):
         try:
             import pefile
