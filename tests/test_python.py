@@ -392,6 +392,11 @@ class Recipes(Case):
         self.assertEqual(self.told(ring)[2], [])
         many = images.with_parts(wide, (0x200 + 12, struct.pack("<2H", 0xFFFF, 0xFFFF)), (0x210, struct.pack("<2I", 1, 1 << 31) * 20000))
         self.assertLessEqual(len(self.told(many)[2]), 100_000)
+        # (many entries lead to one long path)
+        entries = struct.pack("<2I2H4I", 0, 0, 0, 0, 2, 0xFFFFFFFF, 0, 0x10000) * 2000
+        shared = images.with_parts(wide, (0x150, struct.pack("<4I", 0x20000, 0x1000, 0x20000, 0x200)), (0x400, entries), (0x10000, b"RSDS" + b"x" * 0x20000))
+        pdbs = self.told(images.with_directory(shared, 6, 0x1200, len(entries)))[1]
+        self.assertEqual((len(pdbs), {len(it.path) for it in pdbs}), (1000, {0x10000 - 24}))
         for data in hostile.files():
             with contextlib.suppress(package().Refused):
                 self.told(data)
