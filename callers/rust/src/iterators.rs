@@ -450,7 +450,8 @@ impl<T: Copy, P: Position> Batches<T, P> {
                 told => told,
             };
             if let Some(taken) = taken {
-                self.is_over = (count == 0 && steps == 0) || self.is_end(steps);
+                // (what gives nothing and takes no step is at the end, wherever the position is)
+                self.is_over = (count == 0 && taken == 0) || self.is_end(steps);
                 self.steps = self.next_steps(steps);
                 return Ok(taken);
             }
