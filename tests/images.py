@@ -48,6 +48,11 @@ def import_from_nowhere(image):
     return with_parts(image, (0x698, struct.pack("<Q", 0x7FFFFFF0)))
 
 
+def without_a_place(image):
+    """The sample that imports by name, whose last section says a megabyte from the raw pointer 0 on: its data is an overlay then."""
+    return with_parts(image, (0x208, struct.pack("<2I", 1 << 20, 0)))
+
+
 def large_image(libraries=64, functions=1500, exports=60000, blocks=20000, size=16 << 20):
     """An image for 64 bits with many imports, exports and base relocations, and data after them."""
     base = 0x1000

@@ -261,10 +261,13 @@ class Triage(Case):
         self.written("nowhere.dll", images.import_from_nowhere(BY_NAME.read_bytes()))
         self.written("unmapped.dll", images.with_directory(BY_NAME.read_bytes(), 1, 0x9000, 40))
         self.written("cut.dll", BY_NAME.read_bytes()[:-16])
+        self.written("hidden.dll", images.without_a_place(data))
         found = self.triaged()
         self.assertEqual((list(found["unmapped.dll"]["damage"]), found["unmapped.dll"]["libraries"]), (["imports"], {}))
         # (what is left of the last section follows the others, and is no overlay)
         self.assertEqual((found["cut.dll"]["overlay"], ["refused" in it for it in found["cut.dll"]["sections"]]), (None, [False] * 3 + [True]))
+        # (a section without a place in the file hides none)
+        self.assertEqual(found["hidden.dll"]["overlay"], len(data) - 0x200)
         self.assertEqual([found[it]["left_out"] for it in ("front.dll", "nowhere.dll")],
                          [{"left_out_libraries": 1, "left_out_entries": 1}, {"unmapped_entries": 1}])
         self.assertEqual((list(found["damaged.dll"]["damage"]), found["damaged.dll"]["exports"]), (["exports"], 0))
@@ -363,6 +366,14 @@ class Recipes(Case):
                     recipe.main(str(path), str(self.folder / "lost.dll"))
                 self.assertRegex(said.getvalue(), "(?s)^.*some.dll: .*lost.dll: ", name)
 
+    def test_a_name_that_the_output_does_not_have_is_escaped(self):
+        name, output = "R\u0416ADME".encode("utf-16-le"), io.TextIOWrapper(io.BytesIO(), "ascii")
+        path = self.written("some.dll", images.with_others().replace("README".encode("utf-16-le"), name))
+        with contextlib.redirect_stdout(output):
+            self.recipes["resources"].main(str(path))
+        output.flush()
+        self.assertIn(rb"'TEXT'/'R\u0416ADME'/0 ", output.buffer.getvalue())
+
     def test_they_tell_what_pefile_does(self):
         try:
             import pefile
@@ -381,6 +392,11 @@ class Recipes(Case):
         self.assertEqual(self.told(ring)[2], [])
         many = images.with_parts(wide, (0x200 + 12, struct.pack("<2H", 0xFFFF, 0xFFFF)), (0x210, struct.pack("<2I", 1, 1 << 31) * 20000))
         self.assertLessEqual(len(self.told(many)[2]), 100_000)
+        # (many entries lead to one long path)
+        entries = struct.pack("<2I2H4I", 0, 0, 0, 0, 2, 0xFFFFFFFF, 0, 0x10000) * 2000
+        shared = images.with_parts(wide, (0x150, struct.pack("<4I", 0x20000, 0x1000, 0x20000, 0x200)), (0x400, entries), (0x10000, b"RSDS" + b"x" * 0x20000))
+        pdbs = self.told(images.with_directory(shared, 6, 0x1200, len(entries)))[1]
+        self.assertEqual((len(pdbs), {len(it.path) for it in pdbs}), (1000, {0x10000 - 24}))
         for data in hostile.files():
             with contextlib.suppress(package().Refused):
                 self.told(data)

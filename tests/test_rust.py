@@ -147,6 +147,9 @@ class Crate(Case):
                 begin = wanted[name]["overlay"]
                 self.assertEqual((hashlib.md5(text).hexdigest() if text else None, overlay),
                                  (wanted[name]["rich_hash"], b"" if begin is None else data[begin:]))
+        data = BY_NAME.read_bytes()
+        hidden = run([example("fingerprint"), "--overlay", self.written("hidden.dll", images.without_a_place(data))])
+        self.assertEqual(hidden, (0, data[-0x200:], b""))
 
     def test_the_programs_of_the_readmes(self):
         user, env = self.folder / "user", environment(GOBLIN_PE_LIB=str(library()), CARGO_TARGET_DIR=str(folder() / "target"))

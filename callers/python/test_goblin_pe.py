@@ -1260,7 +1260,7 @@ class Files(unittest.TestCase):
     def test_names_of_ordinals(self):
         """By the spelling of the libraries' own exports, as pefile 2023.2.7 tells them."""
         for dll, ordinal, wanted in ((b"WS2_32.dll", 115, b"WSAStartup"), (b"wsock32.DLL", 3, b"closesocket"), (b"OLEAUT32.dll", 2, b"SysAllocString"),
-                                     (b"oleaut32.dll", 999, None), (b"kernel32.dll", 1, None), (b"OLEAUT32", 2, None)):
+                                     ("ws2_32.DLL", 115, b"WSAStartup"), (b"oleaut32.dll", 999, None), (b"kernel32.dll", 1, None), (b"OLEAUT32", 2, None)):
             self.assertEqual(goblin_pe.ordinal_name(dll, ordinal), wanted)
 
     def test_rows_that_are_walked_anyway_are_hashed(self):

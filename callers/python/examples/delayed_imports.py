@@ -1,5 +1,5 @@
 """Tells which imports of images are delayed until they are called, a line each: delayed_imports.py FILE.. The library leaves
-them to others. Of no file more are told than a limit says, as libraries may share a table."""
+them to others. Of no file more are told than a limit says, as libraries may share a table, nor more libraries looked at."""
 import itertools
 import struct
 import sys
@@ -7,7 +7,7 @@ from typing import Iterator, NamedTuple, Optional
 
 from goblin_pe import DirectoryType, Layout, Options, Refused
 
-# Of no file are more told.
+# Of no file are more told, nor more libraries looked at.
 MOST = 100_000
 
 
@@ -37,7 +37,7 @@ def entries(layout: Layout, dll: bytes, names: int, slots: int, base: int) -> It
 def delayed(layout: Layout) -> Iterator[Delayed]:
     """The delayed imports of an image, library by library. Records of old images for 32 bits have addresses with the base."""
     directory = layout.data_directories.get(DirectoryType.DELAY_IMPORT_DESCRIPTOR)
-    for index in itertools.count() if directory else ():
+    for index in range(MOST) if directory else ():
         record = layout.bytes_at(directory.virtual_address + 32 * index, 32) if directory else None
         attributes, dll, _, slots, names = struct.unpack_from("<5I", record or bytes(32))
         if not record or not any(record):

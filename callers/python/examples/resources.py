@@ -59,7 +59,7 @@ def main(*paths: str) -> None:
         try:
             with Layout.open(path, Options(is_permissive=True)) as layout:
                 for it in resources(layout):
-                    print("%s: %s %#x %d" % (path, "/".join(map(repr, it.path)), it.rva, it.size))
+                    print("%s: %s %#x %d" % (path, "/".join(map(ascii, it.path)), it.rva, it.size))
         except (OSError, Refused) as error:
             print("%s: %s" % (path, error))
 

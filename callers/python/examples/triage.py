@@ -50,8 +50,9 @@ def rich_hash(layout: Layout, data: Any) -> Optional[str]:
 
 def overlay(layout: Layout, data: Any) -> Optional[int]:
     """Where the bytes begin that follow the data of all sections in the file; None where there are none. What is left of a section
-    that the end of the file cuts is none of them, though pefile takes it for an overlay."""
-    ends = (s.pointer_to_raw_data + s.size_of_raw_data for s in layout.sections if s.size_of_raw_data)
+    that the end of the file cuts is none of them, though pefile takes it for an overlay. A section with the raw pointer 0 has no
+    data in the file: its size would hide an overlay."""
+    ends = (s.pointer_to_raw_data + s.size_of_raw_data for s in layout.sections if s.pointer_to_raw_data and s.size_of_raw_data)
     end = max((min(it, len(data)) for it in ends), default=0)
     return end if 0 < end < len(data) else None
 

@@ -75,7 +75,7 @@ from .rows import (
     OutOfSteps as OutOfSteps, RichHeader as RichHeader, Rows as _Rows,
     Section as Section, SectionData as SectionData, SectionView as SectionView, Symbol as Symbol,
     available_of as _available_of, batches as _batches, data_of as _data_of, growing_batches as _growing_batches,
-    room as _room, size as _size, view_of as _view_of)
+    in_bytes as _in_bytes, room as _room, size as _size, view_of as _view_of)
 
 __version__ = "0.4.0"
 
@@ -382,11 +382,6 @@ class _File:
 def _whole(path: _t.Union[str, "_os.PathLike[str]"]) -> bytes:
     with open(path, "rb") as file:
         return file.read()
-
-
-def _in_bytes(name: _t.Union[bytes, str]) -> bytes:
-    # a name as the file has it
-    return name.encode() if isinstance(name, str) else name
 
 
 class Layout(_File):

@@ -2,9 +2,9 @@
 imports in their order, each as library.name in lower case, joined by commas. An import by ordinal has the name `ord` and the
 number; but for those libraries that programs import by ordinal everywhere, it has the name that the ordinal has there."""
 import hashlib
-from typing import Dict, Iterable, Optional
+from typing import Dict, Iterable, Optional, Union
 
-from .rows import Import
+from .rows import Import, in_bytes
 
 # The endings that a library's name loses.
 ENDINGS = (b".dll", b".ocx", b".sys")
@@ -119,10 +119,10 @@ def _by_ordinal(table: str) -> Dict[int, bytes]:
 NAMES = {b"ws2_32.dll": _by_ordinal(SOCKETS), b"wsock32.dll": _by_ordinal(SOCKETS), b"oleaut32.dll": _by_ordinal(AUTOMATION)}
 
 
-def ordinal_name(dll: bytes, ordinal: int) -> Optional[bytes]:
+def ordinal_name(dll: Union[bytes, str], ordinal: int) -> Optional[bytes]:
     """The name that an ordinal has in a library that programs import by ordinals everywhere, WS2_32.dll, WSOCK32.dll or
     OLEAUT32.dll, in whatever case; None where it has none there, and of other libraries."""
-    return NAMES.get(dll.lower(), {}).get(ordinal)
+    return NAMES.get(in_bytes(dll).lower(), {}).get(ordinal)
 
 
 def _line(x: Import) -> bytes:

@@ -336,6 +336,11 @@ def available_of(s: Section, file: Union[Kept, memoryview], options: records.Opt
         return SectionData(bytes(file[begin: begin + found.bytes.length]), found.zeros)
 
 
+def in_bytes(name: Union[bytes, str]) -> bytes:
+    """A name as the file has it."""
+    return name.encode() if isinstance(name, str) else name
+
+
 def room(kind: Any, count: int) -> Any:
     """Records to be filled; one more than asked for, so that the pointer is never null."""
     return (kind * (count + 1))()

@@ -19,9 +19,12 @@ fn write_rich_text(pe: &Pe, bytes: &[u8], to: &mut impl Write) -> io::Result<()>
     to.write_all(&text)
 }
 
-// What follows the data of all sections; what is left of one that the file's end cuts is none of it.
+// What follows the data of all sections; what is left of one that the file's end cuts is none of it. One with the raw
+// pointer 0 has no data in the file.
 fn overlay<'a>(layout: &Layout, bytes: &'a [u8]) -> &'a [u8] {
-    let with_data = layout.sections().filter(|s| s.size_of_raw_data > 0);
+    let with_data = layout
+        .sections()
+        .filter(|s| s.pointer_to_raw_data > 0 && s.size_of_raw_data > 0);
     let ends = with_data.map(|s| s.pointer_to_raw_data as usize + s.size_of_raw_data as usize);
     &bytes[ends.max().unwrap_or(bytes.len()).min(bytes.len())..]
 }

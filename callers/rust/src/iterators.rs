@@ -457,7 +457,8 @@ impl<T: Copy, P: Position> Batches<T, P> {
             let told = self.position.taken_from(&before, count);
             let taken = told.or_else(|| self.has_taken(steps).then_some(steps));
             if let Some(taken) = taken {
-                self.is_over = self.is_end(steps);
+                // (what gives nothing and takes no step is at the end, wherever the position is)
+                self.is_over = (count == 0 && taken == 0) || self.is_end(steps);
                 self.limit.left -= taken;
                 self.limit.next = self.next_steps(steps);
                 return Ok(());

@@ -269,12 +269,12 @@ impl<'a> Layout<'a> {
     }
 
     /// The sections. What follows the data of all of them in the file is its overlay; what is left of a section that the
-    /// file's end cuts is none.
+    /// file's end cuts is none. A section with the raw pointer 0 has no data in the file.
     ///
     /// ```no_run
     /// # let bytes = [];
     /// # let layout = goblin_pe::Layout::read(&bytes, &goblin_pe::Options::permissive())?;
-    /// let with_data = layout.sections().filter(|s| s.size_of_raw_data > 0);
+    /// let with_data = layout.sections().filter(|s| s.pointer_to_raw_data > 0 && s.size_of_raw_data > 0);
     /// let ends = with_data.map(|s| s.pointer_to_raw_data as usize + s.size_of_raw_data as usize);
     /// let last = ends.max().unwrap_or(bytes.len()).min(bytes.len());
     /// let overlay = &bytes[last..];

@@ -243,6 +243,19 @@ fn a_walk_ends_after_so_many_steps() {
     }
 }
 
+#[test]
+fn a_walk_over_a_refused_directory_ends_within_its_steps() {
+    let mut bytes = sample("imports_by_name_x64.dll");
+    let layout = Layout::parse(&bytes).unwrap();
+    let directory = layout.dos_header().pe_pointer as usize + 0x88 + 8 * 5;
+    bytes[directory..][..4].copy_from_slice(&0x9000_u32.to_le_bytes());
+    let parts = Parts::read(&bytes, &Options::permissive()).unwrap();
+    let layout = Layout::read(&bytes, &Options::permissive()).unwrap();
+    for walk in [layout.walk_blocks(), parts.walk_blocks()] {
+        assert_eq!(walk.clone().within(5).count(), walk.count());
+    }
+}
+
 // What a walk within so many steps gives of these rows, which is as many, and then the error that says so; but the end,
 // where there are no more than `seen` steps show.
 fn test_steps<T, W>(rows: &[T], seen: usize, within: impl Fn(usize) -> W)
