@@ -174,7 +174,8 @@ IsListedImportsFault Refused e = ⊥
 
 -- the imports from numbered libraries, one by one, by the magic
 abbrev pub imports_in : ℕ → Part (List NumberedLibrary) → Part (List NumberedImport)
-imports_in magic libraries = part_map (flat_map (numbered_imports (entry_format magic).width)) libraries
+imports_in magic libraries =
+    part_map (flat_map (numbered_imports (entry_format magic).width)) libraries
 
 -- the imports alone, each with the index of its library's record
 unfoldable pub import_list : ParseOptions → (ℕ → Option ℕ) → TablePlaces
@@ -215,7 +216,8 @@ pub record TableParts (I E : Type 0) : Type 0 where
 
 -- the tables with the numbers of imports and exports
 abbrev pub NumberedTables : Type 0
-NumberedTables = TableParts (Part (List NumberedLibrary)) (Part (ExportTables × List NumberedExport))
+NumberedTables =
+    TableParts (Part (List NumberedLibrary)) (Part (ExportTables × List NumberedExport))
 
 unfoldable pub table_parts : ParseOptions → (ℕ → Option ℕ) → TablePlaces → Reading NumberedTables
 table_parts opts offset_of places =
@@ -310,7 +312,7 @@ abbrev pub whole_after : View → ParseOptions → PeHeader → Reading WholeFil
 whole_after view opts h =
     sections_after (is_strict opts.parse_mode) h >>= whole_with view opts h
 
--- a whole file: its header, its sections and its tables, whose addresses are mapped as the view says
+-- a whole file: its header, its sections and its tables, by addresses as the view maps them
 unfoldable pub whole_in : View → ParseOptions → Reading WholeFile
 whole_in view opts = by_layout opts (whole_with view opts)
 

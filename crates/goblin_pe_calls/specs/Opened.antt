@@ -13,8 +13,8 @@ use Rattle.goblin_pe_head.specs.HeaderReadings.{pe_header}
 use Rattle.goblin_pe_head.specs.PeHeader.{PeHeader}
 use Rattle.goblin_pe.specs.declared.whole.Part.{Part}
 use Rattle.goblin_pe.specs.Layouts.{layout_sections}
-use Rattle.goblin_pe.specs.Whole.{NumberedTables, TableParts, WholeFile, by_layout, lists_of, part_map}
-use Rattle.goblin_pe.specs.Whole.{places_in, tables_with, whole_of}
+use Rattle.goblin_pe.specs.Whole.{NumberedTables, TableParts, WholeFile, by_layout, lists_of}
+use Rattle.goblin_pe.specs.Whole.{part_map, places_in, tables_with, whole_of}
 use Rattle.goblin_pe.specs.declared.whole.layout.Layout.{Layout}
 use Rattle.goblin_pe.specs.BaseRelocations.{relocation_bytes}
 use Rattle.goblin_pe.specs.PeHeader.{header_value}

@@ -46,8 +46,8 @@ pub fn file_records<'a>(
     ensures none { IfOk result
         (λ r. HasLittleRoomIn r.imports × HaveLittleRoom r.exports) }
     ensures grown { let parts = layout_table table_parts layout.now in
-        OnErr result
-        (IfSome (parts.value (layout_bytes layout.now)) (HasTables (layout_places layout.now).magic)) }
+        let tables = parts.value (layout_bytes layout.now) in
+        OnErr result (IfSome tables (HasTables (layout_places layout.now).magic)) }
     ensures begun { let m = layout_map layout.now in
         IfErr result
         (λ e. IsMemory e → TablesBegin m (layout_places layout.now) (layout_bytes layout.now)) }

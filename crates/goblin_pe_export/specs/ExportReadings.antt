@@ -129,8 +129,8 @@ row_of offset_of pointer address =
 abbrev pub entry_of : {A : Type 0} → List A → ℕ → Reading A
 entry_of entries x = taken (slice_get entries x)
 
--- The export of the name pointer at index x. Its entry of the ordinal table is at x too, and numbers
--- its address; with the ordinal base added it is its ordinal.
+-- The export of the name pointer at index x. Its entry of the ordinal table is at x too, and
+-- numbers its address; with the ordinal base added it is its ordinal.
 unfoldable pub numbered_row : (ℕ → Option ℕ) → ExportTables → ℕ → Reading NumberedExport
 numbered_row offset_of tables x =
     entry_of tables.export_name_pointer_table x

@@ -13,8 +13,8 @@ ghost use Rattle.goblin_pe_import.specs.ImportReadings.{first_record_offset, imp
 ghost use Rattle.goblin_pe_import.specs.Imports.{IsImportListFault, imports_of, kept_count};
 ghost use Rattle.goblin_pe.specs.TakenMemory.{TakesExports, TakesImports, TakesTables};
 ghost use Rattle.goblin_pe.specs.Whole.{IsReadAnd, IsListedImportsFault, both_lists, entry_format};
-ghost use Rattle.goblin_pe.specs.Whole.{export_part, import_data_part, import_read_view, items_part};
-ghost use Rattle.goblin_pe.specs.Whole.{listed_imports_part, listed_tables, listed_view};
+ghost use Rattle.goblin_pe.specs.Whole.{export_part, import_data_part, import_read_view};
+ghost use Rattle.goblin_pe.specs.Whole.{items_part, listed_imports_part, listed_tables, listed_view};
 ghost use Rattle.goblin_pe.specs.Whole.{numbered_data_part, part_map, table_places};
 
 use crate::export::{Export, ExportData};

@@ -160,7 +160,8 @@ fn add_pointer<T: Entries>(
 #[tactic(auto, unfolding(crate::specs::ExportReadings::numbered_rows), using(goblin_base::proofs::Marks::marking))]
 fn add_pointers<T: Entries>(marks: &mut Marks, bytes: &[u8], tables: &T, address_map: &AddressMap)
     ensures { let m = map_of address_map.now in
-        let reached = (reading.numbered_rows (offset_of m) (T.entries tables.now)).reaches bytes.now in
+        let tables = T.entries tables.now in
+        let reached = (reading.numbered_rows (offset_of m) tables).reaches bytes.now in
         marks.new ≡ marked marks.old reached }
 {
     'pointers: for index in 0..tables.pointers() {
