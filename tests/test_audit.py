@@ -88,7 +88,7 @@ class Page(Case):
         specs = CRATES / "goblin_pe/specs"
         modules = re.findall(r"(?m)^pub (?:mod|use Rattle\.(\w+)\.specs\.)\s*(\w+)$", (specs / "Lib.antt").read_text("utf-8"))
         files = {name: CRATES / (crate or "goblin_pe") / "specs" / f"{name}.antt" for crate, name in modules}
-        table, = re.findall(r"(?ms)^\| Word \| File \|\n\S+\n(.*?)\n\n", PAGE.read_text("utf-8"))
+        table, = re.findall(r"(?ms)^Word \| File\n\S+\n(.*?)\n\n", PAGE.read_text("utf-8"))
         for row in table.splitlines():
             words, names = (cell.split("; ") for cell in row.strip("| ").split(" | "))
             for group, name in zip(words, names, strict=True):
