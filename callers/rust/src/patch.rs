@@ -138,9 +138,9 @@ fn written(present: &Header, header: &Header, table: usize) -> io::Result<Vec<u8
     let mut written = room(size)?;
     written.resize(size, 0);
     header.write(&mut written)?;
-    if let (Some(own), Some(given)) = (present.optional_header, header.optional_header) {
+    if let (Some(old), Some(new)) = (present.optional_header, header.optional_header) {
         let end = |count| size - SIZEOF_DATA_DIRECTORY * (NUM_DATA_DIRECTORIES - count);
-        test_directories(own, given, end(directories(header)) <= table)?;
+        test_directories(old, new, end(directories(header)) <= table)?;
         written.truncate(end(directories(present).max(directories(header))));
     }
     Ok(written)

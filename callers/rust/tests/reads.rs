@@ -1550,16 +1550,16 @@ fn sections_are_written_where_there_is_room() {
         .map(|s| s.pointer_to_raw_data as usize)
         .min()
         .unwrap();
-    let (own, room) = (sections.len(), (data - header.section_table()) / 40);
+    let (kept, room) = (sections.len(), (data - header.section_table()) / 40);
     sections.resize(room, sections[0]);
     let made = layout.patched(&header, &sections).unwrap();
     assert_eq!(made[data..], bytes[data..]);
     assert_ne!(made, bytes);
     let mut bound = bytes.clone();
-    bound[header.section_table() + 40 * own] = 1;
+    bound[header.section_table() + 40 * kept] = 1;
     let layout = Layout::parse(&bound).unwrap();
     assert!(is_no_place(layout.patched(&header, &sections)));
-    assert_eq!(layout.patched(&header, &sections[..own]).unwrap(), bound);
+    assert_eq!(layout.patched(&header, &sections[..kept]).unwrap(), bound);
     sections.push(sections[0]);
     let layout = Layout::parse(&bytes).unwrap();
     assert!(is_no_place(layout.patched(&header, &sections)));
@@ -1568,7 +1568,7 @@ fn sections_are_written_where_there_is_room() {
     header.coff_header.number_of_sections = room as u16;
     let made = layout.patched(&header, &[]).unwrap();
     let again = Layout::read(&made, &Options::permissive()).unwrap();
-    assert!(again.sections().len() == room && again.sections().take(own).eq(layout.sections()));
+    assert!(again.sections().len() == room && again.sections().take(kept).eq(layout.sections()));
     header.coff_header.number_of_sections += 1;
     assert!(is_no_place(layout.patched(&header, &[])));
 }
