@@ -13,6 +13,7 @@ from tests import images
 
 MIB = 1 << 20
 STRICT, PERMISSIVE = records.Options(False, True, 0, True), records.Options(True, True, 0, True)
+SHORT = records.Options(False, True, 0, True, False, 200)  # (names up to 200 bytes)
 
 
 def sections(count, name=b"/4"):
@@ -101,11 +102,11 @@ def left_out_entries_of_one_long_name(base, size):
     return record + struct.pack("<I", 0x70000000) * count + bytes(4) + "\u00E9".encode() * (size // 4 - 1) + b"\0\0"
 
 
-def exports_in_one_text(base, size):
+def exports_in_one_text(base, size, address=0x9000):
     """Exports of one address, the names of which begin so, too."""
     count = (size - 56) // 8
     pointers, ordinals, text = base + 48, base + 48 + 4 * count, base + 48 + 6 * count
-    record = struct.pack("<IIHHIIIIIII", 0, 0, 0, 0, text, 1, 1, count, base + 40, pointers, ordinals) + struct.pack("<II", 0x9000, 0)
+    record = struct.pack("<IIHHIIIIIII", 0, 0, 0, 0, text, 1, 1, count, base + 40, pointers, ordinals) + struct.pack("<II", address or text, 0)
     return record + struct.pack("<%dI" % count, *range(text, text + 2 * count, 2)) + bytes(2 * count) + "\u00E9".encode() * count + b"\0"
 
 
@@ -179,24 +180,32 @@ def open_without_imports(file):
     return fault.status, tables.count("exports")
 
 
-def next_imports(file, options=STRICT, batches=1, steps=0):
+def next_imports(file, options=STRICT, batches=1, steps=0, rows=256):
     layout, directories = records.Layout(), (records.Directory * 16)()
     LIB.goblin_pe_raw_read_layout(file, len(file), c.byref(options), c.byref(layout), directories, 16, (records.Section * 1)(), 0)
-    position, room, count, found = records.ImportCursor(), (records.Import * 256)(), c.c_size_t(), 0
+    position, room, count, found = records.ImportCursor(), (records.Import * rows)(), c.c_size_t(), 0
     for _ in range(batches):
         fault = LIB.goblin_pe_raw_next_imports(
-            file, len(file), c.byref(options), c.byref(layout.places), c.byref(position), room, 256, steps, c.byref(count))
+            file, len(file), c.byref(options), c.byref(layout.places), c.byref(position), room, rows, steps, c.byref(count))
         found += count.value
     return fault.status, found
 
 
-def exports_within_steps(file):
+def exports_within_steps(file, options=STRICT, rows=256):
     layout, directories = records.Layout(), (records.Directory * 16)()
-    LIB.goblin_pe_raw_read_layout(file, len(file), c.byref(STRICT), c.byref(layout), directories, 16, (records.Section * 1)(), 0)
-    position, room, count = c.c_size_t(), (records.Export * 256)(), c.c_size_t()
+    LIB.goblin_pe_raw_read_layout(file, len(file), c.byref(options), c.byref(layout), directories, 16, (records.Section * 1)(), 0)
+    position, room, count = c.c_size_t(), (records.Export * rows)(), c.c_size_t()
     fault = LIB.goblin_pe_raw_next_exports(
-        file, len(file), c.byref(STRICT), c.byref(layout.places), c.byref(position), room, 256, 100000, c.byref(count))
-    return fault.status, position.value + count.value
+        file, len(file), c.byref(options), c.byref(layout.places), c.byref(position), room, rows, 100000, c.byref(count))
+    return fault.status, position.value
+
+
+def imports_of_short_names(file):
+    return next_imports(file, SHORT, 1, 100000, 100000)
+
+
+def exports_of_short_names(file):
+    return exports_within_steps(file, SHORT, 100000)
 
 
 def next_imports_permissively(file):
@@ -239,6 +248,12 @@ ROWS = {
         imports_within_steps, lambda: in_one_section((0, 0, 0x1000, 40), libraries_of_no_address_table, MIB)),
     "name pointers without an export, within steps": (
         exports_within_steps, lambda: in_one_section((0x1000, 40, 0, 0), dead_name_pointers, MIB)),
+    "imports in one text, within steps, of names that are cut": (
+        imports_of_short_names, lambda: in_one_section((0, 0, 0x1000, 40), imports_in_one_text, MIB)),
+    "exports in one text, within steps, of names that are cut": (
+        exports_of_short_names, lambda: in_one_section((0x1000, 40, 0, 0), exports_in_one_text, MIB)),
+    "forwarders in one text, within steps, of names that are cut": (
+        exports_of_short_names, lambda: in_one_section((0x1000, MIB, 0, 0), lambda *of: exports_in_one_text(*of, address=0), MIB)),
     "a walk over imports of one long name, within steps": (
         walk_within_steps, lambda: in_one_section((0, 0, 0x1000, 40), left_out_entries_of_one_long_name, MIB)),
     "many batches of one library": (

@@ -211,6 +211,7 @@ class Damage(Case):
                  b"imports that are there only where raw pointers are rounded: 2\n"),
                 ("hidden", images.sample((0x94, b"\0\2\0\0"), (0x240, b"\xA0\1\0\0"), (0x1A0, b"\0\0VirtualAlloc\0")),
                  b"imports that lead nowhere, in either mode: 1\nimports that are there only where the headers are mapped: 1\n"),
+                ("long", images.importer([(b"a.dll", [b"f" * 512, b"g" * 513])]), b"imports whose names are cut: 1\n"),
                 ("seventeen", images.sample((0xB4, b"\x11")), b"refused: there are 17 data directories, more than sixteen\n"
                  b"sections that are there: 1\n"),
                 ("text", b"MZ", b"refused: the file is too short for the DOS header\nDOS header: the file is too short for the DOS header\n")):

@@ -91,6 +91,20 @@ FORWARDERS = [
 ]
 NO_FORWARDERS = [b"a.", b"a", b"", b"a.#4294967296", b"a.#"]
 
+# Texts, and what is told of them up to eight bytes: of a longer one the characters that begin within nine.
+UP_TO_8 = [
+    (b"12345678", b"12345678"), (b"123456789", b"123456789"), (b"123456789A", b"123456789"), (b"1" * 5000, b"1" * 9),
+    ("1234567\u00E9".encode(), "1234567\u00E9".encode()), ("12345678\u00E99".encode(), "12345678\u00E9".encode()),
+    ("1234567\u20AC9".encode(), "1234567\u20AC".encode()), ("12345678\U0001D11E9".encode(), "12345678\U0001D11E".encode()),
+    (b"123456789\xFF", b"123456789"), (b"123456789\x80", None), (b"12345678\xFF", None), (b"1234\xFF", None),
+]
+# Texts of forwarders, and what these are up to eight bytes: of a longer one what follows its first dot is a name.
+FORWARDERS_UP_TO_8 = [
+    (b"KERNEL.a", (b"KERNEL", b"a")), (b"KERNEL.ab", (b"KERNEL", b"ab")), (b"KERNEL.abc", (b"KERNEL", b"ab")),
+    (b"a.#00012", (b"a", 12)), (b"a.#0000012", (b"a", b"#000001")), (b"KERNEL32.HeapAlloc", (b"KERNEL32", b"")),
+    (b"KERNEL64a.HeapAlloc", (b"KERNEL64a", b"")), (b"KERNEL64and", (b"KERNEL64a", b"")),
+]
+
 # Files, and where the texts of their section, their imports and their exports lie, by their offsets and lengths: the real name;
 # the library and the name; the name, and the library and the name that it forwards to. One that is absent lies at the front.
 ABSENT = (0, 0)
@@ -259,6 +273,77 @@ class Exports(Read):
                 self.assertEqual((pe.exports, [it.forwards for it in pe.export_addresses]), ((), [True]))
                 self.assertEqual((pe.damage.left_out_exports, pe.forwarder_at(pe.export_addresses[0].rva)), (1, None))
                 self.assertEqual([it[2:] for it in pe.walk_export_addresses()], [(True, None)])
+
+
+class LongNames(Read):
+    """Names up to a limit, which is eight bytes here."""
+
+    def setUp(self):
+        self.strict, self.permissive = (package().Options(is_permissive=it, longest_name=8) for it in (False, True))
+
+    def layouts(self, file):
+        return (package().Layout(file, how) for how in (self.strict, self.permissive))
+
+    def test_the_names_of_imports_and_libraries(self):
+        for text, wanted in UP_TO_8:
+            file = images.importer([(text, [b"f"]), (b"a.dll", [text])])
+            with self.subTest(text):
+                strict, permissive = self.layouts(file)
+                names = [(wanted or b"", b"f"), (b"a.dll", wanted or b"")]
+                self.assertEqual([(it.dll, it.name) for it in permissive.walk_imports()], names)
+                self.assertEqual([it.name for it in permissive.walk_libraries()], [wanted, b"a.dll"])
+                if wanted is None:
+                    self.assertRaises(package().Refused, list, strict.walk_imports())
+                else:
+                    self.assertEqual([(it.dll, it.name) for it in strict.walk_imports()], names)
+                    self.assertEqual([it.name for it in strict.walk_libraries()], [wanted, b"a.dll"])
+
+    def test_the_names_of_exports(self):
+        for text, wanted in UP_TO_8:
+            for layout in self.layouts(images.library(text, [(text, 0x9000), (b"g", 0x9000)])):
+                with self.subTest(text):
+                    self.assertEqual([it.name for it in layout.walk_exports()], [wanted, b"g"])
+                    self.assertEqual(layout.export_directory.name, wanted)
+
+    def test_forwarders(self):
+        for text, wanted in FORWARDERS_UP_TO_8:
+            for layout in self.layouts(images.library(b"a.dll", [(b"f", text)])):
+                with self.subTest(text):
+                    self.assertEqual([it.forwarder for it in layout.walk_exports()], [wanted])
+                    self.assertEqual([it.forwarder for it in layout.walk_export_addresses()], [wanted])
+
+    def test_an_export_is_found_by_its_whole_name(self):
+        for layout in self.layouts(images.library(b"a.dll", [(b"123456789A", 0x9000)])):
+            self.assertEqual(layout.find_export(b"123456789"), None)
+            self.assertEqual(layout.find_export(b"123456789A").name, b"123456789A")
+
+    def test_imports_are_hashed_with_whole_names(self):
+        file = images.importer([(b"a_long_name.dll", [b"a_long_name", b"f"])])
+        wanted = package().Pe(file).imphash()
+        for layout in self.layouts(file):
+            self.assertEqual((layout.imphash(), package().Pe(file, package().Options(parse_imports=False, longest_name=8)).imphash()),
+                             (wanted, wanted))
+
+    def test_limits_at_the_ends(self):
+        file = images.importer([(b"a.dll", [b"\xC3\xA9t\xC3\xA9"])])
+        for longest, wanted in ((1, b"\xC3\xA9"), (2, b"\xC3\xA9t"), (3, b"\xC3\xA9t\xC3\xA9"), ((1 << 32) - 1, b"\xC3\xA9t\xC3\xA9")):
+            layout = package().Layout(file, package().Options(longest_name=longest))
+            self.assertEqual([it.name for it in layout.walk_imports()], [wanted])
+        cut = packed_sample(0x29B)[:0x292] + b"123456789"  # (which ends with the file)
+        for longest, wanted in ((7, b"12345678"), (8, b"123456789"), (9, b"123456789")):
+            layout = package().Layout(cut, package().Options(is_permissive=True, longest_name=longest))
+            self.assertEqual(next(layout.walk_imports()).name, wanted)
+
+    def test_whole_files_have_whole_names(self):
+        file = images.importer([(b"a_long_name.dll", [b"a_long_name"])])
+        self.assertEqual([(it.dll, it.name) for it in package().Pe(file, self.strict).imports], [(b"a_long_name.dll", b"a_long_name")])
+
+    def test_a_limit_is_a_number_of_bytes(self):
+        self.assertEqual(package().Options().longest_name, None)
+        for wrong in 0, -1, 1 << 32:
+            self.assertRaises(ValueError, package().Options, longest_name=wrong)
+        for wrong in True, 8.0, "8":
+            self.assertRaises(TypeError, package().Options, longest_name=wrong)
 
 
 class Damage(Read):

@@ -262,6 +262,8 @@ class Triage(Case):
         self.written("unmapped.dll", images.with_directory(BY_NAME.read_bytes(), 1, 0x9000, 40))
         self.written("cut.dll", BY_NAME.read_bytes()[:-16])
         self.written("hidden.dll", images.without_a_place(data))
+        self.written("long.dll", images.importer([(b"a.dll", [b"f" * 513])]))
+        self.written("exports.dll", images.library(b"a.dll", [(b"f" * 513, 0x9000), (b"g", b"a." + b"g" * 511)]))
         found = self.triaged()
         self.assertEqual((list(found["unmapped.dll"]["damage"]), found["unmapped.dll"]["libraries"]), (["imports"], {}))
         # (what is left of the last section follows the others, and is no overlay)
@@ -282,6 +284,9 @@ class Triage(Case):
         self.assertEqual((sum(found["hostile.dll"]["libraries"].values()), found["hostile.dll"]["imphash"]), (100000, None))
         self.assertEqual(found["names.dll"]["exports"], 100000)
         self.assertEqual([found[it]["cut_off"] for it in ("hostile.dll", "names.dll", "unmapped.dll")], [["imports"], ["exports"], []])
+
+        self.assertEqual([found["long.dll"][it] for it in ("cut_off", "imphash", "damage")], [["import_names"], None, {}])
+        self.assertEqual([found["exports.dll"][it] for it in ("cut_off", "imphash", "exports")], [["export_names"], "", 2])
 
     def test_hostile_files(self):
         """Each has a line."""

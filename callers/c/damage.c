@@ -11,11 +11,12 @@
 #define BATCH 64
 #define STEPS 1024         /* of a call */
 #define MOST_STEPS 1048576 /* of a walk over imports */
+#define LONGEST 512        /* bytes of a name: what is longer is cut */
 
 /* The imports of an image by one rule for raw pointers, some at a time. */
 struct view {
     const uint8_t *bytes;
-    size_t length, next, count, steps_left;
+    size_t length, next, count, steps_left, cut_names;
     struct goblin_pe_options options;
     struct goblin_pe_places places;
     struct goblin_pe_import_cursor cursor;
@@ -63,6 +64,7 @@ static struct goblin_pe_options permissive(uint8_t rule)
     struct goblin_pe_options options = GOBLIN_PE_DEFAULT_OPTIONS;
     options.is_permissive = true;
     options.raw_pointer_rule = rule;
+    options.longest_name = LONGEST;
     return options;
 }
 
@@ -79,6 +81,8 @@ static const struct goblin_pe_import *first_of(struct view *view)
         view->next = 0;
         if (view->is_refused)
             view->count = 0;
+        for (size_t i = 0; i < view->count; i++)
+            view->cut_names += view->imports[i].name.length > LONGEST || view->imports[i].dll.length > LONGEST;
     }
     return view->next < view->count ? view->imports + view->next : NULL;
 }
@@ -104,9 +108,10 @@ static bool is_same(const struct goblin_pe_import *a, const struct goblin_pe_imp
            (a->is_by_name ? is_same_text(a->name, b->name) : a->ordinal == b->ordinal);
 }
 
-/* Tells how many imports one of two rules finds and the other does not: whether there are none. */
+/* Tells how many imports one of two rules finds and the other does not: whether there are none. `cut_names` is made as
+   many as have a name that is cut, if it was less. */
 static bool are_alike(const uint8_t *bytes, size_t length, struct goblin_pe_places places, uint8_t rule, uint8_t other,
-                      const char *only, const char *never)
+                      const char *only, const char *never, size_t *cut_names)
 {
     static struct view views[2];
     size_t lone[2] = { 0, 0 };
@@ -132,6 +137,8 @@ static bool are_alike(const uint8_t *bytes, size_t length, struct goblin_pe_plac
     bool is_whole = !views[0].is_refused && !views[1].is_refused && !views[0].is_cut_off && !views[1].is_cut_off;
     if (!is_whole)
         puts("the imports are not compared to their end");
+    for (size_t i = 0; i < 2; i++)
+        *cut_names = views[i].cut_names > *cut_names ? views[i].cut_names : *cut_names;
     is_whole &= are_none(only, lone[0]);
     is_whole &= are_none(never, lone[1]);
     return is_whole;
@@ -140,14 +147,16 @@ static bool are_alike(const uint8_t *bytes, size_t length, struct goblin_pe_plac
 /* Tells which imports are there by one rule for raw pointers alone: whether none is. */
 static bool maps_alike(const uint8_t *bytes, size_t length, struct goblin_pe_places places)
 {
+    size_t cut_names = 0;
     bool is_alike = are_alike(bytes, length, places, GOBLIN_PE_RAW_POINTER_RULE_BY_FILE_ALIGNMENT,
                               GOBLIN_PE_RAW_POINTER_RULE_AS_STORED,
                               "imports that are there only where raw pointers are rounded",
-                              "imports that are there only where raw pointers are as stored");
+                              "imports that are there only where raw pointers are as stored", &cut_names);
     is_alike &= are_alike(bytes, length, places, GOBLIN_PE_RAW_POINTER_RULE_AS_LOADED,
                           GOBLIN_PE_RAW_POINTER_RULE_BY_FILE_ALIGNMENT,
                           "imports that are there only where the headers are mapped",
-                          "imports that are there only where the headers are not mapped");
+                          "imports that are there only where the headers are not mapped", &cut_names);
+    is_alike &= are_none("imports whose names are cut", cut_names);
     return is_alike;
 }
 

@@ -39,8 +39,9 @@
 
    What a file of n bytes may take, beside the caller's records. A name is a text of the file, which nothing
    bounds but the file's end, and which is read once for each who has it: m names take n * m steps at most. A step
-   of a long text takes some 0.15 nanoseconds where it is ASCII, else up to three. A walk is stopped after any batch,
-   and a batch by its `steps`; no other call is stopped.
+   of a long text takes some 0.15 nanoseconds where it is ASCII, else up to three. Where the options say a
+   `longest_name`, next_imports, next_libraries, next_exports, read_export_directory and forwarder_at read no more of a
+   name than that and four bytes. A walk is stopped after any batch, and a batch by its `steps`; no other call is stopped.
 
    The `steps` of a call are how many records of its table it may look at: of imports the records of libraries and the
    slots of their tables, of exports the name pointers, whether or not these give something; of all else each gives a
@@ -104,7 +105,7 @@
    Time is for the caller to limit, too. What is passed over for one record are libraries without an import, entries
    that permissive mode leaves out, and name pointers that give no export, with their forwarders' texts: where
    libraries share a table of such entries, 128 KiB may take a second, and 1 MiB a minute, so give steps: 100,000 take
-   some tens of milliseconds where names are short. Of half a mebibyte whose
+   some tens of milliseconds where names are short, or the limit is at most 200. Of half a mebibyte whose
    imports begin two bytes apart in one text read_damage takes some twelve seconds.
 
    goblin_pe_records.h has the records, the numbers in them and the default options, as the proved library

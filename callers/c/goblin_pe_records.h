@@ -16,15 +16,15 @@ extern "C" {
 #define GOBLIN_PE_INTERFACE_VERSION 4
 
 /* The sum of the interface that is declared here. goblin_pe_interface answers that of the library. */
-#define GOBLIN_PE_INTERFACE 0x55052f38u
+#define GOBLIN_PE_INTERFACE 0xdc0566c2u
 
 /* What follows .so. in the name by which programs ask for the shared library. */
-#define GOBLIN_PE_SONAME "4.55052f38"
+#define GOBLIN_PE_SONAME "4.dc0566c2"
 
 /* Only a library of this very interface has this call, so that a program is linked with no other. */
-uint32_t goblin_pe_interface_55052f38(void);
+uint32_t goblin_pe_interface_dc0566c2(void);
 #ifdef __GNUC__
-__attribute__((used)) static uint32_t (*const goblin_pe_needs_interface)(void) = goblin_pe_interface_55052f38;
+__attribute__((used)) static uint32_t (*const goblin_pe_needs_interface)(void) = goblin_pe_interface_dc0566c2;
 #endif
 
 /* What a file is, by its first bytes. This does not tell whether it can be read, and no call reads
@@ -381,6 +381,13 @@ struct goblin_pe_options {
        Else a name that begins with a slash is looked up there, in either mode. Only a read of a
        layout looks at it: an open, the damage and a footprint test each name. */
     bool raw_section_names;
+    /* The most bytes of a name that are read of imports, libraries and exports; 0 is no limit. Of a
+       longer one its front is given, up to where the first character ends that reaches past so
+       many: so a name that is longer than this is cut. A forwarder's text is such a name, too: of a
+       longer one the library is what stands before its first dot, and all that follows is a name.
+       Only calls that read a table from its places look at it; those that list a whole file, its
+       damage or a footprint read each name to its end. */
+    uint32_t longest_name;
 };
 
 /* Why a call gave no value, in numbers; the status 0 is that it gave one. */
@@ -1346,7 +1353,7 @@ struct goblin_pe_fault goblin_pe_raw_set_name_offset(
     struct goblin_pe_section *section, size_t offset);
 
 /* Strictly, with addresses mapped by the sections from their raw pointers as stored, and imports. */
-#define GOBLIN_PE_DEFAULT_OPTIONS { false, true, 0, true, false }
+#define GOBLIN_PE_DEFAULT_OPTIONS { false, true, 0, true, false, 0 }
 
 /* How the records lie in memory, where the language can test it. */
 #if defined(__cplusplus) && __cplusplus >= 201103L
@@ -1394,12 +1401,13 @@ GOBLIN_PE_IS_AT(aux_section_definition, number, 12);
 GOBLIN_PE_IS_AT(aux_section_definition, selection, 14);
 GOBLIN_PE_IS_AT(aux_section_definition, unused, 15);
 
-GOBLIN_PE_HAS_SIZE(options, 5, 1);
+GOBLIN_PE_HAS_SIZE(options, 12, 4);
 GOBLIN_PE_IS_AT(options, is_permissive, 0);
 GOBLIN_PE_IS_AT(options, resolve_rva, 1);
 GOBLIN_PE_IS_AT(options, raw_pointer_rule, 2);
 GOBLIN_PE_IS_AT(options, parse_imports, 3);
 GOBLIN_PE_IS_AT(options, raw_section_names, 4);
+GOBLIN_PE_IS_AT(options, longest_name, 8);
 
 GOBLIN_PE_HAS_SIZE(fault, 32, 8);
 GOBLIN_PE_IS_AT(fault, status, 0);
@@ -1423,7 +1431,7 @@ GOBLIN_PE_IS_AT(section, number_of_linenumbers, 50);
 GOBLIN_PE_IS_AT(section, characteristics, 52);
 GOBLIN_PE_IS_AT(section, has_real_name, 56);
 
-GOBLIN_PE_HAS_SIZE(image, 48, 8);
+GOBLIN_PE_HAS_SIZE(image, 56, 8);
 GOBLIN_PE_IS_AT(image, bytes, 0);
 GOBLIN_PE_IS_AT(image, sections, 16);
 GOBLIN_PE_IS_AT(image, section_count, 24);

@@ -1,6 +1,7 @@
 """Tells of each file of a folder what analysts compare, a line of JSON each: triage.py FOLDER. Four threads look at them. Of no
-file are more imports or exports counted than a limit says, nor more entries looked at for them: `cut_off` tells of which there are
-more, and where these are the imports `damage` tells nothing of them; but it looks at all exports, and all sections are told. What
+file are more imports or exports counted than a limit says, nor more entries looked at for them, nor more read of a name: `cut_off`
+tells of which there are more, and where these are the imports or their names, `damage` tells nothing of imports, and there is no
+hash of them; but it looks at all exports, and all sections are told. What
 imports only the Windows loader finds, and what only a reader does that takes raw pointers as stored and no names from the headers,
 has a finding of its own: packers hide imports so. What can't be read has a line, too, that says why, and of an image what is there
 of it all the same.
@@ -13,7 +14,7 @@ import math
 import os
 import sys
 from collections import Counter
-from typing import Any, Dict, Iterator, List, Optional, Set, TypeVar
+from typing import Any, Dict, Iterator, List, Optional, Set, Tuple, TypeVar, Union
 
 from goblin_pe import (
     Import, Kind, Layout, Options, OutOfSteps, Parts, RawPointerRule, Refused, imphash, kind, names_of)
@@ -21,6 +22,9 @@ from goblin_pe import (
 # Of no file are more imports counted, and no more exports; and for neither are more entries looked at.
 MOST = 100_000
 STEPS = 10 * MOST
+
+# Of a name no more is read than so many bytes, and the rest of a character. What is longer is cut.
+LONGEST = 512
 
 # Of the imports that one view alone has so many are told.
 TOLD = 100
@@ -80,11 +84,32 @@ def within(walk: Iterator[T], what: str, cut_off: Set[str]) -> Iterator[T]:
         cut_off.add(what)
 
 
-def counted(imports: Iterator[Import], libraries: "Counter[bytes]") -> Iterator[Import]:
+def note_cut_names(cut_off: Set[str], what: str, *names: Optional[bytes]) -> None:
+    """Says what is cut off, where one of these names is."""
+    if any(it is not None and len(it) > LONGEST for it in names):
+        cut_off.add(what)
+
+
+def counted(imports: Iterator[Import], libraries: "Counter[bytes]", cut_off: Set[str]) -> Iterator[Import]:
     """These imports, each of which counts for its library as it is handed on."""
     for it in imports:
         libraries[it.dll.lower()] += 1
+        note_cut_names(cut_off, "import_names", it.dll, it.name)
         yield it
+
+
+def text_of(forwarder: Optional[Tuple[bytes, Union[bytes, int]]]) -> Optional[bytes]:
+    """The text of a forwarder by name."""
+    return forwarder[0] + b"." + forwarder[1] if forwarder and isinstance(forwarder[1], bytes) else None
+
+
+def count_exports(layout: Layout, cut_off: Set[str]) -> int:
+    """How many exports there are, up to the limit."""
+    count = 0
+    for it in within(layout.walk_exports(steps=STEPS), "exports", cut_off):
+        note_cut_names(cut_off, "export_names", it.name, text_of(it.forwarder))
+        count += 1
+    return count
 
 
 def key(it: Import) -> bytes:
@@ -94,7 +119,7 @@ def key(it: Import) -> bytes:
 
 
 def only_in(one: Layout, other: Layout) -> List[str]:
-    """The imports of one view that the other has not, the first of them."""
+    """The imports of one view that the other has not, the first of them; long names are compared as far as they are read."""
     keys = set(map(key, within(other.walk_imports(steps=STEPS), "imports", set())))
     lone = (it for it in within(one.walk_imports(steps=STEPS), "imports", set()) if key(it) not in keys)
     return [text(it.dll) + " " + (f"#{it.ordinal}" if it.name is None else text(it.name)) for it in itertools.islice(lone, TOLD)]
@@ -104,7 +129,7 @@ def lone_imports(layout: Layout, data: Any) -> Dict[str, List[str]]:
     """What of the imports only is there where raw pointers are rounded, as the loader may do, what then is not, and what the headers
     lead to, where these are mapped."""
     def read(rule: RawPointerRule) -> Layout:
-        return type(layout)(data, Options(is_permissive=True, parse_imports=False, raw_pointer_rule=rule))
+        return type(layout)(data, Options(is_permissive=True, parse_imports=False, raw_pointer_rule=rule, longest_name=LONGEST))
     with read(RawPointerRule.BY_FILE_ALIGNMENT) as loaded, read(RawPointerRule.AS_LOADED) as mapped:
         found = {"only_loaded": only_in(loaded, layout), "never_loaded": only_in(layout, loaded), "in_headers": only_in(mapped, loaded)}
     return {what: names for what, names in found.items() if names}
@@ -114,21 +139,21 @@ def contents(layout: Layout, data: Any) -> Dict[str, Any]:
     """What is told of an image; its imports and its exports are counted up to the limit, and none of them is kept."""
     libraries: Counter[bytes] = Counter()
     cut_off: Set[str] = set()
-    hashed = imphash(counted(within(layout.walk_imports(steps=STEPS), "imports", cut_off), libraries))
-    exports = sum(1 for _ in within(layout.walk_exports(steps=STEPS), "exports", cut_off))
+    hashed = imphash(counted(within(layout.walk_imports(steps=STEPS), "imports", cut_off), libraries, cut_off))
+    exports = count_exports(layout, cut_off)
     header = layout.optional_header
     return {
         "machine": names_of(layout.coff_header.machine, "machine")[0], "time_date_stamp": layout.coff_header.time_date_stamp,
         "is_64": layout.is_64, "is_lib": layout.is_lib, "entry": layout.entry, "image_base": layout.image_base,
         "subsystem": header and names_of(header.windows_fields.subsystem, "subsystem")[0],
         "libraries": {text(name): count for name, count in sorted(libraries.items())},
-        "imphash": None if "imports" in cut_off else hashed, "exports": exports, "cut_off": sorted(cut_off),
+        "imphash": None if cut_off & {"imports", "import_names"} else hashed, "exports": exports, "cut_off": sorted(cut_off),
         **lone_imports(layout, data), "overlay": overlay(layout, data), "sections": list(sections(layout))}
 
 
 def image(data: Any) -> Dict[str, Any]:
     """What is told of an image that is read, and of its damage."""
-    with Layout(data, Options(is_permissive=True, parse_imports=False)) as layout:
+    with Layout(data, Options(is_permissive=True, parse_imports=False, longest_name=LONGEST)) as layout:
         told = contents(layout, data)
         is_counted = told["imphash"] is not None
         damage = (Layout(data, Options(is_permissive=True)) if is_counted else layout).damage  # (else not of the imports)
@@ -140,7 +165,7 @@ def image(data: Any) -> Dict[str, Any]:
 
 def parts(data: Any, refused: Refused) -> Dict[str, Any]:
     """What is told of an image that is refused: why, which parts of its header are, and what is there all the same."""
-    with Parts(data, Options(is_permissive=True)) as there:
+    with Parts(data, Options(is_permissive=True, longest_name=LONGEST)) as there:
         return {
             "refused": str(refused), "refused_parts": {part: str(why) for part, why in there.refused_parts.items()},
             "missing_sections": there.missing_sections, **contents(there, data)}

@@ -45,6 +45,7 @@ import ctypes as _c
 import dataclasses as _dataclasses
 import hashlib as _hashlib
 import itertools as _itertools
+import operator as _operator
 import os as _os
 import types as _types
 import typing as _t
@@ -213,8 +214,8 @@ class Damage(_t.NamedTuple):
 
 @_dataclasses.dataclass(frozen=True)
 class Options:
-    """How a file is read; by default strictly, with all its tables. Each but the rule is a bool; TypeError is raised
-    where one is not.
+    """How a file is read; by default strictly, with all its tables. Each but the rule and the length is a bool;
+    TypeError is raised where one is not.
 
     is_permissive: whether damaged parts are passed over, in permissive mode. An import directory at file offset 0 is an empty
         list there, whatever it holds; `damage` tells what strict mode would refuse of it, and how much is left out.
@@ -227,6 +228,12 @@ class Options:
     raw_section_names: whether the sections of a Layout have their raw names alone, which refuse no file; where not, a name that
         begins with a slash is looked up in the string table. Only the read of a Layout looks at this: a file with a name that
         can't be read is refused by Pe and by `damage` all the same, and footprint and fingerprint tell of that refusal alone.
+    longest_name: how many bytes a name of an import, a library or an export may have before it is cut, in a Layout, in Parts and
+        in their walks, from 1 to 2**32 - 1; None is no limit. Of a longer one the front is given, to the end of the character
+        that reaches past: what has more bytes than this is a longer name. What follows is not tested, so a walk may give what a
+        Pe refuses or leaves out. So is the text of a forwarder: of a longer one the library is what stands before its first dot,
+        or all without a dot, and the name what follows, which may be empty or begin with "#"; it is longer where library, dot and
+        name are. A Pe lists whole names, and imphash hashes these. ValueError is raised where it is another number.
 
     Neither mode passes over more than sixteen data directories (so number_of_rva_and_sizes is at most sixteen of what was read, and
     was not cut to that), a magic that is neither of the two, a header or a section table that the file's end cuts, a section's name
@@ -239,12 +246,19 @@ class Options:
     raw_pointer_rule: RawPointerRule = RawPointerRule.AS_STORED
     parse_imports: bool = True
     raw_section_names: bool = False
+    longest_name: _t.Optional[int] = None
 
     def __post_init__(self) -> None:
         for name, value in vars(self).items():
             kind = RawPointerRule if name == "raw_pointer_rule" else bool
-            if not isinstance(value, kind):
+            if name != "longest_name" and not isinstance(value, kind):
                 raise TypeError("%s has to be a %s, not %r" % (name, kind.__name__, value))
+        if self.longest_name is None:
+            return
+        if isinstance(self.longest_name, bool):
+            raise TypeError("longest_name has to be an integer, not %r" % self.longest_name)
+        if not 0 < _operator.index(self.longest_name) < 1 << 32:
+            raise ValueError("longest_name has to be from 1 to 2**32 - 1, not %r" % self.longest_name)
 
 
 # The name before there was a class.
@@ -256,7 +270,8 @@ def _record_of(how: _t.Optional[Options]) -> records.Options:
     how = Options() if how is None else how
     if not isinstance(how, Options):
         raise TypeError("options have to be Options, not %r" % (how,))
-    return records.Options(how.is_permissive, how.resolve_rva, how.raw_pointer_rule, how.parse_imports, how.raw_section_names)
+    return records.Options(
+        how.is_permissive, how.resolve_rva, how.raw_pointer_rule, how.parse_imports, how.raw_section_names, int(how.longest_name or 0))
 
 
 _V = _t.TypeVar("_V")
@@ -412,7 +427,8 @@ class Layout(_File):
     def _hold(self, data: Data, options: _t.Optional[Options]) -> None:
         self._data = _kept(data)
         how = self._options = _record_of(options)
-        self._with_imports = records.Options(how.is_permissive, how.resolve_rva, how.raw_pointer_rule, True, how.raw_section_names)
+        self._with_imports = records.Options(
+            how.is_permissive, how.resolve_rva, how.raw_pointer_rule, True, how.raw_section_names, how.longest_name)
         self._made = {}
         self._symbol_table: _t.Optional[records.SymbolTable] = None  # (until a symbol is asked for)
 
@@ -446,7 +462,7 @@ class Layout(_File):
     def imphash(self) -> str:
         """The hash of the imports that analysts compare: the MD5 in hexadecimal, or an empty text where there are no
         imports. Other tools tell the same where they see the same imports. It walks over them, and keeps none."""
-        return imphash(self.walk_imports())
+        return imphash(self._with_names_up_to(0, DirectoryType.IMPORT_TABLE, "imported"))
 
     @classmethod
     def open(cls: _t.Type[_L], path: _t.Union[str, "_os.PathLike[str]"], options: _t.Optional[Options] = None) -> _L:
@@ -647,11 +663,18 @@ class Layout(_File):
         call, asked = getattr(_LIB, _WALKED[table][0]), options or self._with_imports
         return lambda address, length, *to: call(address, length, _c.byref(asked), _c.byref(self._places), *to)
 
-    def _walked(self, table: DirectoryType, row: str, steps: _t.Optional[int], begin: _t.Tuple[int, ...] = ()) -> _t.Iterator[_t.Any]:
+    def _walked(self, table: DirectoryType, row: str, steps: _t.Optional[int], begin: _t.Tuple[int, ...] = (),
+                options: _t.Optional[records.Options] = None) -> _t.Iterator[_t.Any]:
         # the rows of a table, from where these numbers say, within so many steps
         _, kind, position = _WALKED[table]
-        return _walk(self._bytes(), kind, row, self._next(table), position(*begin), self._batch(), _limit(steps),
+        return _walk(self._bytes(), kind, row, self._next(table, options), position(*begin), self._batch(), _limit(steps),
                      self._options.is_permissive)
+
+    def _with_names_up_to(self, longest: int, table: DirectoryType, row: str) -> _t.Iterator[_t.Any]:
+        # the rows of a table, with names up to another limit than the options say; 0 is none
+        options = records.Options.from_buffer_copy(self._with_imports)
+        options.longest_name = longest
+        return self._walked(table, row, None, options=options)
 
     def _records(self, table: DirectoryType) -> _t.Iterator[_t.Tuple[int, _t.Iterable[_t.Any]]]:
         # the records of a table, batch by batch: how many, and these
@@ -676,7 +699,8 @@ class Layout(_File):
         if table not in self._directories:
             return State.ABSENT
         (_, kind, position), how = _WALKED[table], self._options
-        strict = records.Options(False, how.resolve_rva, how.raw_pointer_rule, True)
+        strict = records.Options.from_buffer_copy(self._with_imports)
+        strict.is_permissive = False
         try:
             next(_batches(self._bytes(), _room(kind, 0), self._next(table, strict), position()), None)
         except Refused as refused:
@@ -709,9 +733,12 @@ class Layout(_File):
         return self._walked(DirectoryType.EXPORT_TABLE, "exported", steps)
 
     def find_export(self, name: _t.Union[bytes, str]) -> _t.Optional[Export]:
-        """The first export of this name; None where there is none. It walks over the exports, of which it keeps none."""
-        wanted = _in_bytes(name)
-        return next((x for x in self.walk_exports() if x.name == wanted), None)
+        """The first export of this name; None where there is none. It walks over the exports, of which it keeps none. Where the
+        options say a limit for names, and this is longer, the limit is its length."""
+        wanted, longest = _in_bytes(name), self._options.longest_name
+        most = min(max(longest, len(wanted)), (1 << 32) - 1) if longest else 0
+        exports = self._with_names_up_to(most, DirectoryType.EXPORT_TABLE, "exported")
+        return next((x for x in exports if x.name == wanted), None)
 
     def find_export_by_ordinal(self, ordinal: int) -> _t.Optional[ExportEntry]:
         """The entry of the export address table for an ordinal, also of an export without a name; None where the table has none,
@@ -1103,7 +1130,7 @@ class Pe(Layout):
         imports. Other tools tell the same where they see the same imports. Where the options left the imports out, it
         walks over them, and keeps none."""
         if not self._options.parse_imports:
-            return imphash(self.walk_imports())
+            return imphash(self._with_names_up_to(0, DirectoryType.IMPORT_TABLE, "imported"))
         is_made = "imports" in self._made or not self._counts["imports"]
         return imphash(self.imports if is_made else self._each("imports"))
 

@@ -7,7 +7,7 @@ from typing import Annotated, Any, Dict, List, NamedTuple, Tuple
 from ._laid_out import Address, HandedOver, Record, header, record, tables, to
 
 # The sum of the interface that is declared here: of its records, the numbers in them, and its calls.
-INTERFACE = 0x55052f38
+INTERFACE = 0xdc0566c2
 
 
 @record
@@ -132,6 +132,12 @@ class Options(Record):
         images takes them: no name is tested, none refuses the file, and none is looked up in the
         string table. Else a name that begins with a slash is looked up there, in either mode. Only
         a read of a layout looks at it: an open, the damage and a footprint test each name.
+    longest_name: The most bytes of a name that are read of imports, libraries and exports; 0 is no
+        limit. Of a longer one its front is given, up to where the first character ends that reaches
+        past so many: so a name that is longer than this is cut. A forwarder's text is such a name,
+        too: of a longer one the library is what stands before its first dot, and all that follows
+        is a name. Only calls that read a table from its places look at it; those that list a whole
+        file, its damage or a footprint read each name to its end.
     """
 
     is_permissive: Annotated[bool, c.c_bool]
@@ -139,6 +145,7 @@ class Options(Record):
     raw_pointer_rule: Annotated[int, c.c_uint8]
     parse_imports: Annotated[bool, c.c_bool]
     raw_section_names: Annotated[bool, c.c_bool]
+    longest_name: Annotated[int, c.c_uint32]
 
 
 @record

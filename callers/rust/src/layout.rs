@@ -525,6 +525,12 @@ impl<'a> Layout<'a> {
         WalkExports::of(self.bytes, self.options, self.head.file.places)
     }
 
+    // The walk over imports with whole names, whatever the options say.
+    pub(crate) fn walk_whole_imports(&self) -> WalkImports<'a> {
+        let options = self.options.with_parse_imports(true).with_longest_name(0);
+        WalkImports::of(self.bytes, options, self.head.file.places)
+    }
+
     /// The record of the exports, read anew by each call; `None` where there are none, and where permissive mode passes
     /// over a refused directory. How many name pointers it counts does not matter, as it does to the exports.
     /// [`Pe::export_directory`] has it from the read of these.
@@ -546,8 +552,8 @@ impl<'a> Layout<'a> {
         Ok(ExportDirectory::of(&directory))
     }
 
-    /// The first export of this name, to which a walk goes anew by each call; `None` where there is none.
-    /// [`Pe::find_export`] has it from the read.
+    /// The first export of this name, to which a walk goes anew by each call; `None` where there is none. Where the options
+    /// say a limit for names, and this one is longer, the limit is its length. [`Pe::find_export`] has it from the read.
     ///
     /// # Errors
     /// As of [`walk_exports`](Self::walk_exports).
@@ -559,7 +565,13 @@ impl<'a> Layout<'a> {
     /// # Ok::<(), goblin_pe::Error>(())
     /// ```
     pub fn find_export(&self, name: impl AsRef<[u8]>) -> Result<Option<Export<'a>>, Error> {
-        let mut walk = self.walk_exports();
+        // (a name that is as long as this one is whole, and a longer one is told as longer)
+        let most = u32::try_from(name.as_ref().len()).unwrap_or(u32::MAX);
+        let options = match self.options.longest_name {
+            0 => self.options,
+            longest => self.options.with_longest_name(longest.max(most)),
+        };
+        let mut walk = WalkExports::of(self.bytes, options, self.head.file.places);
         walk.find(|it| it.is_err() || it.is_ok_and(|export| export.is_named(name.as_ref())))
             .transpose()
     }
@@ -776,7 +788,7 @@ impl<'a> Layout<'a> {
     /// # Ok::<(), std::io::Error>(())
     /// ```
     pub fn write_imphash_text(&self, to: &mut impl Write) -> io::Result<()> {
-        imphash::write_imphash_text(self.walk_imports(), to)
+        imphash::write_imphash_text(self.walk_whole_imports(), to)
     }
 
     /// What strict mode would refuse of the file, part by part, by the options of the read, and how much is left

@@ -244,7 +244,7 @@ impl<'a> Pe<'a> {
         if self.options.parse_imports {
             imphash::write_imphash_text(self.imports().map(Ok), to)
         } else {
-            imphash::write_imphash_text(self.walk_imports(), to)
+            imphash::write_imphash_text(self.walk_whole_imports(), to)
         }
     }
 

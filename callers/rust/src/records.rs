@@ -5,7 +5,7 @@ use crate::raw::{List, Shared, Slice};
 use std::mem::offset_of;
 
 /// The sum of the interface that is declared here: of its records, the numbers in them, and its calls.
-pub const INTERFACE: u32 = 0x5505_2f38;
+pub const INTERFACE: u32 = 0xdc05_66c2;
 
 /// What follows a symbol that defines a function.
 ///
@@ -111,6 +111,13 @@ pub struct Options {
     /// Else a name that begins with a slash is looked up there, in either mode. Only a read of a
     /// layout looks at it: an open, the damage and a footprint test each name.
     pub raw_section_names: bool,
+    /// The most bytes of a name that are read of imports, libraries and exports; 0 is no limit. Of
+    /// a longer one its front is given, up to where the first character ends that reaches past so
+    /// many: so a name that is longer than this is cut. A forwarder's text is such a name, too: of
+    /// a longer one the library is what stands before its first dot, and all that follows is a
+    /// name. Only calls that read a table from its places look at it; those that list a whole file,
+    /// its damage or a footprint read each name to its end.
+    pub longest_name: u32,
 }
 
 /// Why a call gave no value, in numbers; the status 0 is that it gave one.
@@ -1032,6 +1039,7 @@ impl Options {
         raw_pointer_rule: 0,
         parse_imports: true,
         raw_section_names: false,
+        longest_name: 0,
     };
 }
 
@@ -1061,12 +1069,13 @@ const _: () = {
     assert!(offset_of!(AuxSectionDefinition, number) == 12);
     assert!(offset_of!(AuxSectionDefinition, selection) == 14);
     assert!(offset_of!(AuxSectionDefinition, unused) == 15);
-    assert!(size_of::<Options>() == 5 && align_of::<Options>() == 1);
+    assert!(size_of::<Options>() == 12 && align_of::<Options>() == 4);
     assert!(offset_of!(Options, is_permissive) == 0);
     assert!(offset_of!(Options, resolve_rva) == 1);
     assert!(offset_of!(Options, raw_pointer_rule) == 2);
     assert!(offset_of!(Options, parse_imports) == 3);
     assert!(offset_of!(Options, raw_section_names) == 4);
+    assert!(offset_of!(Options, longest_name) == 8);
     assert!(size_of::<Fault>() == 32 && align_of::<Fault>() == 8);
     assert!(offset_of!(Fault, status) == 0);
     assert!(offset_of!(Fault, cause) == 4);
@@ -1087,7 +1096,7 @@ const _: () = {
     assert!(offset_of!(Section, number_of_linenumbers) == 50);
     assert!(offset_of!(Section, characteristics) == 52);
     assert!(offset_of!(Section, has_real_name) == 56);
-    assert!(size_of::<Image>() == 48 && align_of::<Image>() == 8);
+    assert!(size_of::<Image>() == 56 && align_of::<Image>() == 8);
     assert!(offset_of!(Image, bytes) == 0);
     assert!(offset_of!(Image, sections) == 16);
     assert!(offset_of!(Image, file_alignment) == 32);

@@ -1201,6 +1201,22 @@ fn raw_names_refuse_no_file() {
     assert_eq!(Pe::read(&bytes, &options).err(), Some(refused));
 }
 
+// A library's name of twelve bytes is cut behind eight, and tells so by its length; a whole file has whole names.
+#[test]
+fn names_up_to_a_limit() {
+    let bytes = sample("imports_by_name_x64.dll");
+    let options = Options::default().with_longest_name(8);
+    let layout = Layout::read(&bytes, &options).unwrap();
+    let cut: Vec<_> = layout.walk_imports().map(|it| it.unwrap().dll).collect();
+    let pe = Pe::read(&bytes, &options).unwrap();
+    let whole: Vec<_> = pe.imports().map(|it| it.dll).collect();
+    assert_eq!(whole, [Text(b"KERNEL32.dll")]);
+    assert_eq!(
+        cut,
+        whole.iter().map(|it| Text(&it.0[..9])).collect::<Vec<_>>()
+    );
+}
+
 // More name pointers are counted than the file has bytes: the exports are refused, and an ordinal is found all the same.
 #[test]
 fn an_ordinal_is_found_without_the_names() {

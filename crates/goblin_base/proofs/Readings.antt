@@ -9,7 +9,7 @@ use Rattle.goblin_base.specs.declared.error.CauseOf.{CauseOf}
 use Rattle.goblin_base.specs.declared.error.ErrorOf.{ErrorOf}
 use Rattle.goblin_base.specs.declared.error.ErrorOf.TheVariants.{BadMagic, BufferTooShort}
 use Rattle.goblin_base.specs.declared.error.ErrorOf.TheVariants.{Malformed, Memory, Read}
-use Rattle.goblin_base.specs.Answers.{◌>>=◌, FirstFault, IsMemory, IsSliceFault, IsTextFault}
+use Rattle.goblin_base.specs.Answers.{◌>>=◌, FirstFault, IsMemory, IsSliceFault, IsNoText, IsOffsetFault, IsTextFault}
 use Rattle.goblin_base.specs.Footprints.{Agree, led_to, rest_footprint, slot_footprint}
 use Rattle.goblin_base.specs.Reading.{IsRefused, Reading, Reads, ReadsOrMemory, Twins, TwinsOrMemory}
 use Rattle.goblin_base.specs.Tables.{IsTableFault, SlotFormat, kept_slots, slot_at}
@@ -74,6 +74,13 @@ slice-not_memory bytes p n = by_cases-not_memory (IsSliceFault bytes p n) (λ m 
 pub text-not_memory : (bytes : List ℕ) (p : ℕ) (e : ErrorOf)
     → IsTextFault bytes p e → ¬ IsMemory e
 text-not_memory bytes p = by_cases-not_memory (IsTextFault bytes p) (λ m h. h)
+
+pub offset-not_memory : (bytes : List ℕ) (p : ℕ) (e : ErrorOf)
+    → IsOffsetFault bytes p e → ¬ IsMemory e
+offset-not_memory bytes p = by_cases-not_memory (IsOffsetFault bytes p) (λ m h. h)
+
+pub no_text-not_memory : (bytes : List ℕ) (e : ErrorOf) → IsNoText bytes e → ¬ IsMemory e
+no_text-not_memory bytes = by_cases-not_memory (IsNoText bytes) (λ m h. h)
 
 -- ---- a typed value, which may depend on all bytes that follow
 

@@ -4,8 +4,8 @@ use Rattle.std.specs.Prelude.{ℕ, ◌+◌, ◌-◌, Bool, ◌&&◌, nat_le, if�
 use Rattle.std.specs.Prelude.{Option, None, Some, option_map, slice_range, take}
 use Rattle.std.specs.List.{find, range_with_len}
 use Rattle.goblin_base.specs.declared.endian.Endian.{Endian}
-use Rattle.goblin_base.specs.Bytes.{number}
-use Rattle.goblin_base.specs.Footprints.{Range, led_to, positions}
+use Rattle.goblin_base.specs.Bytes.{cut_window, number}
+use Rattle.goblin_base.specs.Footprints.{Range, led_to, positions, stretch_footprint}
 
 -- positions in the bytes from p on, as positions in all bytes
 abbrev pub moved_by : ℕ → List Range → List Range
@@ -39,3 +39,8 @@ front_through endian n more test bytes =
 abbrev pub search_footprint : ℕ → Option ℕ → List ℕ → List Range
 search_footprint width None bytes = positions 0 (length bytes)
 search_footprint width (Some i) bytes = positions 0 (i + width)
+
+-- what a text at p reaches, up to a limit: of a cut one the bytes that decide on it
+abbrev pub text_footprint : Option ℕ → List ℕ → ℕ → List Range
+text_footprint None bytes p = stretch_footprint bytes p
+text_footprint (Some n) bytes p = moved_by p (stretch_footprint (cut_window bytes p n) 0)

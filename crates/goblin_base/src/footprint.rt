@@ -8,10 +8,11 @@ ghost use Rattle.goblin_base.specs.Answers.{IsMemory};
 ghost use Rattle.goblin_base.specs.Footprints.{Range, positions, slice_footprint};
 ghost use Rattle.goblin_base.specs.Footprints.{stretch_footprint};
 ghost use Rattle.goblin_base.specs.Marks.{GivesRange, marked, ranges_of};
-ghost use Rattle.goblin_base.specs.Parts.{between_footprint};
+ghost use Rattle.goblin_base.specs.Bytes.{cut_window};
+ghost use Rattle.goblin_base.specs.Parts.{between_footprint, moved_by, text_footprint};
 
 use crate::error::ResultOf;
-use crate::read::before_nul;
+use crate::read::{before_nul, cut_window};
 use crate::words::{BITS, add_words, first_wanted, mark_words};
 use std::alloc::Global;
 use std::marker::Model;
@@ -162,4 +163,25 @@ pub fn add_stretch(marks: &mut Marks, bytes: &[u8], offset: usize)
     }
     let end = offset + before_nul(&bytes[offset..]).len();
     marks.add(offset, bytes.len().min(end + 1));
+}
+
+// Marks what a text at an offset, cut at `longest` bytes, depends on.
+fn add_cut_stretch(marks: &mut Marks, bytes: &[u8], offset: usize, longest: u32)
+    ensures { let window = cut_window bytes.now offset longest in
+        marks.new ≡ marked marks.old (moved_by offset (stretch_footprint window 0)) }
+{
+    let window = cut_window(bytes, offset, longest);
+    let end = window.len().min(before_nul(window).len() + 1);
+    marks.add(offset, offset + end);
+}
+
+/// Marks what the text at `offset` depends on, as [`pread_str_within`](crate::pread_str_within)
+/// reads it: of a text that is cut no more than `longest` and 4 bytes.
+pub fn add_text(marks: &mut Marks, bytes: &[u8], offset: usize, longest: Option<u32>)
+    ensures { marks.new ≡ marked marks.old (text_footprint longest bytes.now offset) }
+{
+    match longest {
+        None => add_stretch(marks, bytes, offset),
+        Some(longest) => add_cut_stretch(marks, bytes, offset, longest),
+    }
 }

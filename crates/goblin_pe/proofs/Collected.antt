@@ -8,6 +8,7 @@ use Rattle.goblin_base.proofs.Steps as steps
 use Rattle.readings.specs.Reads.{given, mapped, pick}
 use Rattle.goblin_pe_sect.specs.declared.data_directories.DataDirectory.{DataDirectory}
 use Rattle.goblin_pe_sect.specs.declared.options.ParseOptions.{ParseOptions}
+use Rattle.goblin_pe_sect.specs.Addresses.{Addressing}
 use Rattle.goblin_pe_export.specs.ExportRecords.{ExportTables, NumberedExport}
 use Rattle.goblin_pe_import.specs.ImportRecords.{NumberedLibrary}
 use Rattle.goblin_pe.specs.declared.whole.Part.{Part}
@@ -44,15 +45,15 @@ twice_read {R} {X} {Y} {Z} view f g r bytes result h =
 
 module _ {X Y : Type 0} (imports_of : Part (List NumberedLibrary) → X)
     (exports_of : Part (ExportTables × List NumberedExport) → Y)
-    (opts : ParseOptions) (offset_of : ℕ → Option ℕ) (places : TablePlaces) (bytes : List ℕ) where
+    (opts : ParseOptions) (addressing : Addressing) (places : TablePlaces) (bytes : List ℕ) where
   abbrev imports_made : Reading (X)
-  imports_made = mapped imports_of (numbered_data_part opts offset_of places)
+  imports_made = mapped imports_of (numbered_data_part opts addressing places)
 
   abbrev exports_made : Reading Y
-  exports_made = mapped exports_of (export_part opts offset_of places)
+  exports_made = mapped exports_of (export_part opts addressing places)
 
   abbrev all_made : Reading (TableParts X Y)
-  all_made = mapped (collected_tables imports_of exports_of) (table_parts opts offset_of places)
+  all_made = mapped (collected_tables imports_of exports_of) (table_parts opts addressing places)
 
   pub first-refused : (e : ErrorOf) → IsRefused imports_made bytes e → IsRefused all_made bytes e
   unfolding table_parts
@@ -66,7 +67,7 @@ module _ {X Y : Type 0} (imports_of : Part (List NumberedLibrary) → X)
 
   pub third-refused : (x : X) (y : Y) (e : ErrorOf)
       → imports_made.value bytes ≡ Some x → exports_made.value bytes ≡ Some y
-      → IsRefused (relocation_part opts offset_of places) bytes e → IsRefused all_made bytes e
+      → IsRefused (relocation_part opts addressing places) bytes e → IsRefused all_made bytes e
   unfolding table_parts
   third-refused x y e first second h =
       rw ((steps.mapped _ _ x first).is, (steps.mapped _ _ y second).is, h.0) (refl, h.1)
@@ -76,7 +77,7 @@ module _ {X Y : Type 0} (imports_of : Part (List NumberedLibrary) → X)
 
   pub all-read : (x : X) (y : Y) (z : Part (List ℕ))
       → imports_made.value bytes ≡ Some x → exports_made.value bytes ≡ Some y
-      → (relocation_part opts offset_of places).value bytes ≡ Some z
+      → (relocation_part opts addressing places).value bytes ≡ Some z
       → all_made.value bytes ≡ Some (parts_of x y z)
   unfolding table_parts
   all-read x y z first second third =

@@ -17,6 +17,7 @@ use Rattle.goblin_pe_sect.specs.declared.data_directories.DataDirectory.{DataDir
 use Rattle.goblin_pe_sect.specs.declared.options.ParseOptions.{ParseOptions}
 use Rattle.goblin_pe_sect.specs.AddressReadings.{offset_at}
 use Rattle.goblin_pe_sect.specs.Options.{is_strict}
+use Rattle.goblin_pe_sect.specs.Addresses.{Addressing}
 use Rattle.goblin_pe_import.specs.declared.import.directory_entry.ImportDirectoryEntry.{ImportDirectoryEntry}
 use Rattle.goblin_pe_import.specs.ImportEntries.{EntryValue}
 use Rattle.goblin_pe_import.specs.ImportReadings.{import_data, kept_library, libraries_at}
@@ -47,31 +48,31 @@ placed-there : {A B : Type 0} (d : A) (o : Option A) (f : A → Option B) → ((
 placed-there d None f all = all d
 placed-there d (Some x) f all = all x
 
-module _ (format : Format EntryValue) (offset_of : ℕ → Option ℕ) (bytes : List ℕ) where
-  slot-there : (slot : Option ImportDirectoryEntry) → ends_table import_slots.is_last slot ≡ false → IsSome (slot >>= λ r. (kept_library false format offset_of r).value bytes)
+module _ (format : Format EntryValue) (addressing : Addressing) (bytes : List ℕ) where
+  slot-there : (slot : Option ImportDirectoryEntry) → ends_table import_slots.is_last slot ≡ false → IsSome (slot >>= λ r. (kept_library false format addressing r).value bytes)
   slot-there None e = absurd cc
-  slot-there (Some r) e = left-there ((library_of false format offset_of r).value bytes)
+  slot-there (Some r) e = left-there ((library_of false format addressing r).value bytes)
 
-  libraries-there : (o : ℕ) → IsSome ((libraries_at false format offset_of o).value bytes)
+  libraries-there : (o : ℕ) → IsSome ((libraries_at false format addressing o).value bytes)
   unfolding slot_table stop
   libraries-there o =
-      each_below-there (made_of import_slots (λ r. (kept_library false format offset_of r).value bytes) bytes o) (stop import_slots bytes o)
+      each_below-there (made_of import_slots (λ r. (kept_library false format addressing r).value bytes) bytes o) (stop import_slots bytes o)
       (λ j below.
       slot-there (slot_at import_slots bytes o j)
       (least-before (λ i. ends_table import_slots.is_last (slot_at import_slots bytes o i)) (length bytes) j below))
 
-  past-front-there : (o : ℕ) → IsSome ((read_past_front false (libraries_at false format offset_of) o).value bytes)
+  past-front-there : (o : ℕ) → IsSome ((read_past_front false (libraries_at false format addressing) o).value bytes)
   past-front-there o = by (not false && o == 0)
     where
       by : (test : Bool)
-          → IsSome ((read_if (libraries_at false format offset_of) (cond test None (Some o))).value bytes)
+          → IsSome ((read_if (libraries_at false format addressing) (cond test None (Some o))).value bytes)
       by true = cc
       by false = libraries-there o
 
-  pub data-there : (strict : Bool) (rva : ℕ) → strict ≡ false → IsSome ((import_data strict format offset_of rva).value bytes)
+  pub data-there : (strict : Bool) (rva : ℕ) → strict ≡ false → IsSome ((import_data strict format addressing rva).value bytes)
   unfolding import_data
   data-there true rva permissive = absurd cc
-  data-there false rva permissive = placed-there 0 ((offset_at offset_of rva).value bytes) (λ o. (read_past_front false (libraries_at false format offset_of) o).value bytes) past-front-there
+  data-there false rva permissive = placed-there 0 ((offset_at addressing.offset rva).value bytes) (λ o. (read_past_front false (libraries_at false format addressing) o).value bytes) past-front-there
 
 -- ---- the part
 
@@ -91,7 +92,7 @@ part-refused kept strict (Some xs) there e = absurd cc
 part-refused kept true None there e = refl
 part-refused kept false None there e = let never = there refl in absurd cc
 
-module _ (opts : ParseOptions) (offset_of : ℕ → Option ℕ) (places : TablePlaces) (d : DataDirectory) (asked : opts.parse_imports ≡ true) (here : places.imports ≡ Some d) (bytes : List ℕ) where
+module _ (opts : ParseOptions) (addressing : Addressing) (places : TablePlaces) (d : DataDirectory) (asked : opts.parse_imports ≡ true) (here : places.imports ≡ Some d) (bytes : List ℕ) where
   abbrev strict : Bool
   strict = is_strict opts.parse_mode
 
@@ -102,23 +103,23 @@ module _ (opts : ParseOptions) (offset_of : ℕ → Option ℕ) (places : TableP
   kept = flat_map (numbered_imports format.width)
 
   abbrev libraries : Reading (List NumberedLibrary)
-  libraries = numbered_data strict format offset_of d.virtual_address
+  libraries = numbered_data strict format addressing d.virtual_address
 
   there : strict ≡ false → IsSome (libraries.value bytes)
   there permissive =
       was-there _ _
-      (subst IsSome (unnumbered strict format offset_of bytes d.virtual_address)
-      (data-there format offset_of bytes strict d.virtual_address permissive))
+      (subst IsSome (unnumbered strict format addressing bytes d.virtual_address)
+      (data-there format addressing bytes strict d.virtual_address permissive))
 
   -- a walk that is refused before its first import
-  pub list-refused : (result : Result FileImports ErrorOf) (e : ErrorOf) → Walks file_imports_left IsFileImportsCause (λ xs. xs) result (mapped kept libraries) bytes → result ≡ Err e → IsRefused (import_list opts offset_of places) bytes e
+  pub list-refused : (result : Result FileImports ErrorOf) (e : ErrorOf) → Walks file_imports_left IsFileImportsCause (λ xs. xs) result (mapped kept libraries) bytes → result ≡ Err e → IsRefused (import_list opts addressing places) bytes e
   unfolding import_list numbered_data_part
   list-refused result e walks is =
       let h = subst (λ (r : Result FileImports ErrorOf). Walks file_imports_left IsFileImportsCause (λ xs. xs) r (mapped kept libraries) bytes) is walks in
       rw (asked, here) (part-refused kept strict (libraries.value bytes) there h.0, h.1)
 
   -- what a walk collects
-  pub list-walked : (result : Result FileImports ErrorOf) (imports : FileImports) → Walks file_imports_left IsFileImportsCause (λ xs. xs) result (mapped kept libraries) bytes → result ≡ Ok imports → IsWalkOf (λ xs. part.Read xs) (import_list opts offset_of places) bytes (file_imports_left imports) (IsFileImportsCause imports)
+  pub list-walked : (result : Result FileImports ErrorOf) (imports : FileImports) → Walks file_imports_left IsFileImportsCause (λ xs. xs) result (mapped kept libraries) bytes → result ≡ Ok imports → IsWalkOf (λ xs. part.Read xs) (import_list opts addressing places) bytes (file_imports_left imports) (IsFileImportsCause imports)
   unfolding import_list numbered_data_part
   list-walked result imports walks is =
       let walk = subst (λ (r : Result FileImports ErrorOf). Walks file_imports_left IsFileImportsCause (λ xs. xs) r (mapped kept libraries) bytes) is walks in
@@ -154,50 +155,50 @@ same-part Absent = refl
 same-part {A} (part.Read xs) = ap (λ (ys : List A). part.Read ys) (map-id xs)
 same-part Refused = refl
 
-module _ (opts : ParseOptions) (offset_of : ℕ → Option ℕ) (places : TablePlaces) (bytes : List ℕ) where
+module _ (opts : ParseOptions) (addressing : Addressing) (places : TablePlaces) (bytes : List ℕ) where
   abbrev in_mode : Bool
   in_mode = is_strict opts.parse_mode
 
   -- the libraries are those with numbers
-  data-off : (import_data_part opts offset_of places).value bytes
-      ≡ option_map without_indexes ((numbered_data_part opts offset_of places).value bytes)
+  data-off : (import_data_part opts addressing places).value bytes
+      ≡ option_map without_indexes ((numbered_data_part opts addressing places).value bytes)
   unfolding import_data_part numbered_data_part
   data-off = by opts.parse_imports places.imports
     where
       by : (asked : Bool) (directory : Option DataDirectory)
-          → (pick asked (part_at in_mode (λ d. import_data in_mode (entry_format places.magic) offset_of d.virtual_address) directory) (given Absent)).value bytes
+          → (pick asked (part_at in_mode (λ d. import_data in_mode (entry_format places.magic) addressing d.virtual_address) directory) (given Absent)).value bytes
           ≡ option_map without_indexes
-          ((pick asked (part_at in_mode (λ d. numbered_data in_mode (entry_format places.magic) offset_of d.virtual_address) directory) (given Absent)).value bytes)
+          ((pick asked (part_at in_mode (λ d. numbered_data in_mode (entry_format places.magic) addressing d.virtual_address) directory) (given Absent)).value bytes)
       by false directory = refl
       by true None = refl
       by true (Some d) =
-          ap (part_of in_mode) (unnumbered in_mode (entry_format places.magic) offset_of bytes d.virtual_address)
-          ∙ part_of-mapped _ in_mode ((numbered_data in_mode (entry_format places.magic) offset_of d.virtual_address).value bytes)
+          ap (part_of in_mode) (unnumbered in_mode (entry_format places.magic) addressing bytes d.virtual_address)
+          ∙ part_of-mapped _ in_mode ((numbered_data in_mode (entry_format places.magic) addressing d.virtual_address).value bytes)
 
   -- what is numbered is refused where import data is, for the same cause
-  pub data-refused : (e : ErrorOf) → IsRefused (import_data_part opts offset_of places) bytes e
-      → IsRefused (numbered_data_part opts offset_of places) bytes e
+  pub data-refused : (e : ErrorOf) → IsRefused (import_data_part opts addressing places) bytes e
+      → IsRefused (numbered_data_part opts addressing places) bytes e
   unfolding import_data_part numbered_data_part
   data-refused e h = (unmapped _ _ (sym data-off ∙ h.0), by opts.parse_imports places.imports h.1)
     where
       by : (asked : Bool) (directory : Option DataDirectory)
-          → (pick asked (part_at in_mode (λ d. import_data in_mode (entry_format places.magic) offset_of d.virtual_address) directory) (given Absent)).IsCause bytes e
-          → (pick asked (part_at in_mode (λ d. numbered_data in_mode (entry_format places.magic) offset_of d.virtual_address) directory) (given Absent)).IsCause bytes e
+          → (pick asked (part_at in_mode (λ d. import_data in_mode (entry_format places.magic) addressing d.virtual_address) directory) (given Absent)).IsCause bytes e
+          → (pick asked (part_at in_mode (λ d. numbered_data in_mode (entry_format places.magic) addressing d.virtual_address) directory) (given Absent)).IsCause bytes e
       by false directory h = h
       by true None h = h
-      by true (Some d) h = unnumbered-cause in_mode (entry_format places.magic) offset_of bytes d.virtual_address e h
+      by true (Some d) h = unnumbered-cause in_mode (entry_format places.magic) addressing bytes d.virtual_address e h
 
-module _ (opts : ParseOptions) (offset_of : ℕ → Option ℕ) (places : TablePlaces) (bytes : List ℕ) (short : length bytes < 2 ^ 63) (fit : IsBytes bytes) where
+module _ (opts : ParseOptions) (addressing : Addressing) (places : TablePlaces) (bytes : List ℕ) (short : length bytes < 2 ^ 63) (fit : IsBytes bytes) where
   -- the lists of what is numbered are the libraries of import data and the list made of these
   pub both_listed : (p : Part (List ImportedLibrary)) (q : Part (List ImportValue))
-      → (import_data_part opts offset_of places).value bytes ≡ Some p
+      → (import_data_part opts addressing places).value bytes ≡ Some p
       → listed_imports_part opts places p ≡ Some q
-      → option_map (both_lists places.magic) ((numbered_data_part opts offset_of places).value bytes)
+      → option_map (both_lists places.magic) ((numbered_data_part opts addressing places).value bytes)
       ≡ Some (p, q)
   both_listed p q is made =
-      let read = mapped_of ((numbered_data_part opts offset_of places).value bytes) without_indexes p
-      (sym (data-off opts offset_of places bytes) ∙ is) in
-      let kept = data-listed opts bytes places short fit offset_of p is in
+      let read = mapped_of ((numbered_data_part opts addressing places).value bytes) without_indexes p
+      (sym (data-off opts addressing places bytes) ∙ is) in
+      let kept = data-listed opts bytes places short fit addressing p is in
       let list = off-part places.magic read.value
       ∙ ap (part_map (flat_map (kept_imports (λ x. x) (entry_format places.magic).width))) read.made
       ∙ part-kept (λ x. x) opts places p kept
@@ -209,8 +210,8 @@ module _ (opts : ParseOptions) (offset_of : ℕ → Option ℕ) (places : TableP
 
   -- and there is such a list
   pub never_unlisted : (p : Part (List ImportedLibrary))
-      → (import_data_part opts offset_of places).value bytes ≡ Some p
+      → (import_data_part opts addressing places).value bytes ≡ Some p
       → listed_imports_part opts places p ≡ None → ⊥
   never_unlisted p is none =
-      let kept = data-listed opts bytes places short fit offset_of p is in
+      let kept = data-listed opts bytes places short fit addressing p is in
       absurd cc

@@ -7,7 +7,7 @@ use Rattle.goblin_base.specs.Tables.{Format}
 use Rattle.readings.specs.Reads.{given, pick}
 use Rattle.readings.specs.Walks.{GivesNext}
 use Rattle.goblin_pe_sect.specs.declared.data_directories.DataDirectory.{DataDirectory}
-use Rattle.goblin_pe_sect.specs.Addresses.{MapOfAddresses, offset_of, reads_strictly}
+use Rattle.goblin_pe_sect.specs.Addresses.{MapOfAddresses, reads_strictly}
 use Rattle.goblin_pe_import.specs.ImportEntries.{EntryValue}
 use Rattle.goblin_pe_import.specs.ImportLookup.{entries_32, entries_64}
 use Rattle.goblin_pe_import.specs.ImportCursors.{first_import}
@@ -30,26 +30,26 @@ use Rattle.goblin_pe_import.proofs.ImportCursors.{cursor_left_of}
 module _ (m : MapOfAddresses) (places : TablePlaces) (bytes : List ℕ) (d : DataDirectory)
     (asked : m.opts.parse_imports ≡ true) (there : places.imports ≡ Some d) where
   abbrev first : Reading ImportCursor
-  first = first_import (reads_strictly m) (offset_of m) d.virtual_address
+  first = first_import (reads_strictly m) m.addressing d.virtual_address
 
   abbrev begin_by : Bool → Option DataDirectory → Reading ImportCursor
-  begin_by test directory = pick test (begin_in (reads_strictly m) (offset_of m) directory) (given no_imports)
+  begin_by test directory = pick test (begin_in (reads_strictly m) m.addressing directory) (given no_imports)
 
-  begin-value : (import_begin m.opts (offset_of m) places).value bytes ≡ first.value bytes
+  begin-value : (import_begin m.opts m.addressing places).value bytes ≡ first.value bytes
   unfolding import_begin
   begin-value =
       ap (λ (test : Bool). (begin_by test places.imports).value bytes) asked
       ∙ ap (λ (directory : Option DataDirectory). (begin_by true directory).value bytes) there
 
   begin-cause : (e : ErrorOf) → first.IsCause bytes e
-      → (import_begin m.opts (offset_of m) places).IsCause bytes e
+      → (import_begin m.opts m.addressing places).IsCause bytes e
   unfolding import_begin
   begin-cause e cause =
       subst (λ (test : Bool). (begin_by test places.imports).IsCause bytes e) (sym asked)
       (subst (λ (directory : Option DataDirectory). (begin_by true directory).IsCause bytes e) (sym there) cause)
 
   pub begin-reads : (r : Result ImportCursor ErrorOf) → Reads (λ c. c) r first bytes
-      → Reads (λ c. c) r (import_begin m.opts (offset_of m) places) bytes
+      → Reads (λ c. c) r (import_begin m.opts m.addressing places) bytes
   begin-reads (Ok c) h = begin-value ∙ h
   begin-reads (Err e) h = (begin-value ∙ h.0, begin-cause e h.1)
 
@@ -58,13 +58,13 @@ module _ (m : MapOfAddresses) (places : TablePlaces) (bytes : List ℕ) (d : Dat
     gives-by q is = subst (λ (q : Result FileImports ErrorOf). GivesFirst m places.magic bytes first q) is gives
 
     pub start-refused : (e : ErrorOf) → r ≡ Err e
-        → StartsAt m places.magic bytes (import_begin m.opts (offset_of m) places) (Err e)
+        → StartsAt m places.magic bytes (import_begin m.opts m.addressing places) (Err e)
     start-refused e is =
         let h = gives-by (Err e) is in
         (begin-value ∙ h.0, begin-cause e h.1)
 
     pub start-read : (imports : FileImports) → r ≡ Ok imports
-        → StartsAt m places.magic bytes (import_begin m.opts (offset_of m) places)
+        → StartsAt m places.magic bytes (import_begin m.opts m.addressing places)
         (Ok (part.Read imports))
     start-read imports is =
         subst (λ (v : Option ImportCursor). IsSomeAnd v (λ c. PartBegins m places.magic bytes c (part.Read imports)))

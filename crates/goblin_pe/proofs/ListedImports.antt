@@ -3,6 +3,7 @@ use Rattle.std.proofs.Common.{◌≡◌, ℕ, ◌<◌, ◌^◌, Bool, List, [], 
 use Rattle.goblin_base.specs.Bytes.{IsBytes}
 use Rattle.goblin_pe_sect.specs.declared.options.ParseOptions.{ParseOptions}
 use Rattle.goblin_pe_sect.specs.Options.{is_strict}
+use Rattle.goblin_pe_sect.specs.Addresses.{Addressing}
 use Rattle.goblin_pe_import.specs.ImportReadings.{import_data}
 use Rattle.goblin_pe_import.specs.ImportRecords.{ImportedLibrary}
 use Rattle.goblin_pe_import.specs.Imports.{imports_of}
@@ -19,17 +20,17 @@ part-there strict None there = absurd cc
 part-there strict (Some xs) there = refl
 
 module _ (opts : ParseOptions) (file : List ℕ) (places : TablePlaces) (short : length file < 2 ^ 63)
-    (bytes : IsBytes file) (offset_of : ℕ → Option ℕ) where
+    (bytes : IsBytes file) (addressing : Addressing) where
   -- of import data that was read a list of imports can be made
   pub data-listed : (p : Part (List ImportedLibrary))
-      → (import_data_part opts offset_of places).value file ≡ Some p → HasList opts places p
+      → (import_data_part opts addressing places).value file ≡ Some p → HasList opts places p
   unfolding import_data_part listed_imports_part listed_imports
   data-listed Absent e = refl
   data-listed (part.Read libraries) e =
       let strict = is_strict opts.parse_mode in
       let format = entry_format places.magic in
       let from = read_from opts.parse_imports strict
-      (λ d. import_data strict format offset_of d.virtual_address) places.imports file libraries e in
+      (λ d. import_data strict format addressing d.virtual_address) places.imports file libraries e in
       part-there strict (imports_of format.width libraries)
-      (imports_of-there strict format offset_of file short bytes from.at.virtual_address libraries from.read)
+      (imports_of-there strict format addressing file short bytes from.at.virtual_address libraries from.read)
   data-listed Refused e = refl

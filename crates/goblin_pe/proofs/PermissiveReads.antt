@@ -19,6 +19,7 @@ use Rattle.goblin_pe_sect.specs.AddressReadings.{relocation_data}
 use Rattle.goblin_pe_sect.specs.declared.options.View.TheVariants.{Sections}
 use Rattle.goblin_pe_sect.specs.Mapping.{file_offset}
 use Rattle.goblin_pe_sect.specs.SectionTable.{Section}
+use Rattle.goblin_pe_sect.specs.Addresses.{Addressing}
 use Rattle.goblin_pe_head.specs.CoffHeader.{symbols_end}
 use Rattle.goblin_pe_head.specs.HeaderReadings.{pe_header}
 use Rattle.goblin_pe_head.specs.declared.header.pe_header.Header.{Header}
@@ -42,7 +43,7 @@ use Rattle.goblin_pe.specs.Damages.{imports_left_out_at, left_out_of}
 use Rattle.goblin_pe.specs.Modes.{ReadsInModes, in_mode, in_permissive_mode, is_front, unless_front}
 use Rattle.goblin_pe.specs.Whole.{IfRead, ListedParts, NumberedTables, TablePlaces, WholeFile}
 use Rattle.goblin_pe.specs.Whole.{entry_format, export_part, imports_in, listed_tables, lists_of}
-use Rattle.goblin_pe.specs.Whole.{mapped_in, numbered_data_part, offset_by, part_at, part_map, part_of}
+use Rattle.goblin_pe.specs.Whole.{mapped_in, numbered_data_part, addressing_by, part_at, part_map, part_of}
 use Rattle.goblin_pe.specs.Whole.{places_in, relocation_part, section_table_offset, sections_after}
 use Rattle.goblin_pe.specs.Whole.{table_parts, whole_file, whole_in, whole_of, whole_with}
 use Rattle.goblin_pe.proofs.Parts.{read_from}
@@ -86,21 +87,21 @@ front_or_not read again repeats bytes (Some o) xs is =
     past_front (nat_eq o 0) again bytes o xs ((repeats o).kept bytes xs is)
 
 -- import data of a directory that is not at the front of the file
-pub repeats-import_data : (format : Format EntryValue) (offset_of : ℕ → Option ℕ) (rva : ℕ)
-    → RepeatsAs (unless_front (offset_of rva)) (import_data true format offset_of rva)
-    (import_data false format offset_of rva)
+pub repeats-import_data : (format : Format EntryValue) (addressing : Addressing) (rva : ℕ)
+    → RepeatsAs (unless_front (addressing.offset rva)) (import_data true format addressing rva)
+    (import_data false format addressing rva)
 unfolding import_data
-repeats-import_data format offset_of rva = record {
-  kept = λ bytes. front_or_not _ _ (libraries_at-repeats offset_of format) bytes (offset_of rva);
+repeats-import_data format addressing rva = record {
+  kept = λ bytes. front_or_not _ _ (libraries_at-repeats addressing format) bytes (addressing.offset rva);
 }
 
-repeats-numbered_data : (format : Format EntryValue) (offset_of : ℕ → Option ℕ) (rva : ℕ)
-    → RepeatsAs (unless_front (offset_of rva)) (numbered_data true format offset_of rva)
-    (numbered_data false format offset_of rva)
+repeats-numbered_data : (format : Format EntryValue) (addressing : Addressing) (rva : ℕ)
+    → RepeatsAs (unless_front (addressing.offset rva)) (numbered_data true format addressing rva)
+    (numbered_data false format addressing rva)
 unfolding numbered_data
-repeats-numbered_data format offset_of rva = record {
+repeats-numbered_data format addressing rva = record {
   kept = λ bytes.
-      front_or_not _ _ (numbered_libraries_at-repeats offset_of format) bytes (offset_of rva);
+      front_or_not _ _ (numbered_libraries_at-repeats addressing format) bytes (addressing.offset rva);
 }
 
 -- ---- import data of which no library is left out
@@ -118,22 +119,22 @@ unhidden : {A : Type 0} (place : Option ℕ) (xs : List A) → IsUnhidden place 
 unhidden place xs (inl past) = rw past refl
 unhidden place xs (inr none) = none_left (is_front place) xs none
 
-at_place : (format : Format EntryValue) (offset_of : ℕ → Option ℕ) (bytes : List ℕ) (o : ℕ)
-    (xs : List ImportedLibrary) → (libraries_at true format offset_of o).value bytes ≡ Some xs
-    → libraries_of_directory format offset_of bytes o ≡ 0
+at_place : (format : Format EntryValue) (addressing : Addressing) (bytes : List ℕ) (o : ℕ)
+    (xs : List ImportedLibrary) → (libraries_at true format addressing o).value bytes ≡ Some xs
+    → libraries_of_directory format addressing bytes o ≡ 0
     → (front : Bool) → (o == 0) ≡ front → IsUnhidden (Some o) xs
-at_place format offset_of bytes o xs is none false at = inl at
-at_place format offset_of bytes o xs is none true at =
-    inr (none_made _ true bytes o xs (front_has_none format offset_of bytes o at none) is)
+at_place format addressing bytes o xs is none false at = inl at
+at_place format addressing bytes o xs is none true at =
+    inr (none_made _ true bytes o xs (front_has_none format addressing bytes o at none) is)
 
-data_unhidden : (format : Format EntryValue) (offset_of : ℕ → Option ℕ) (bytes : List ℕ)
+data_unhidden : (format : Format EntryValue) (addressing : Addressing) (bytes : List ℕ)
     (place : Option ℕ) (xs : List ImportedLibrary)
     → (in_its_place true 0 place
-    >>= λ o. (read_past_front true (libraries_at true format offset_of) o).value bytes) ≡ Some xs
-    → amount_of (libraries_of_directory format offset_of bytes) place ≡ 0 → IsUnhidden place xs
-data_unhidden format offset_of bytes None xs is none = inl refl
-data_unhidden format offset_of bytes (Some o) xs is none =
-    at_place format offset_of bytes o xs is none (o == 0) refl
+    >>= λ o. (read_past_front true (libraries_at true format addressing) o).value bytes) ≡ Some xs
+    → amount_of (libraries_of_directory format addressing bytes) place ≡ 0 → IsUnhidden place xs
+data_unhidden format addressing bytes None xs is none = inl refl
+data_unhidden format addressing bytes (Some o) xs is none =
+    at_place format addressing bytes o xs is none (o == 0) refl
 
 -- ---- parts
 
@@ -172,19 +173,19 @@ unfolding file_offset
 map-mode mode opts sections alignment = refl
 
 -- where the import directory stands, by a map of addresses to file offsets
-abbrev place_by : (ℕ → Option ℕ) → Option DataDirectory → Option ℕ
-place_by offset_of imports = imports >>= λ directory. offset_of directory.virtual_address
+abbrev place_by : Addressing → Option DataDirectory → Option ℕ
+place_by addressing imports = imports >>= λ directory. addressing.offset directory.virtual_address
 
-module _ (format : Format EntryValue) (offset_of : ℕ → Option ℕ) (bytes : List ℕ) where
+module _ (format : Format EntryValue) (addressing : Addressing) (bytes : List ℕ) where
   abbrev libraries_of : Bool → DataDirectory → Reading (List NumberedLibrary)
-  libraries_of strict d = numbered_data strict format offset_of d.virtual_address
+  libraries_of strict d = numbered_data strict format addressing d.virtual_address
 
   imports_read : (d : DataDirectory) (p : Part (List NumberedLibrary))
       → IsPart ((libraries_of true d).value bytes) p
       → part_of false ((libraries_of false d).value bytes)
-      ≡ Some (part_map (unless_front (offset_of d.virtual_address)) p)
+      ≡ Some (part_map (unless_front (addressing.offset d.virtual_address)) p)
   imports_read d p own =
-      let again = repeats-numbered_data format offset_of d.virtual_address in
+      let again = repeats-numbered_data format addressing d.virtual_address in
       rw (again.kept bytes own.table own.is, own.read) refl
 
   numbered-kept : (asked : Bool) (imports : Option DataDirectory)
@@ -192,7 +193,7 @@ module _ (format : Format EntryValue) (offset_of : ℕ → Option ℕ) (bytes : 
       → cond asked ((part_at true (libraries_of true) imports).value bytes) (Some Absent)
       ≡ Some p
       → cond asked ((part_at false (libraries_of false) imports).value bytes) (Some Absent)
-      ≡ Some (part_map (unless_front (place_by offset_of imports)) p)
+      ≡ Some (part_map (unless_front (place_by addressing imports)) p)
   numbered-kept false imports p e =
       let is : Absent ≡ p = same_value Absent p e in
       rw (← is) refl
@@ -229,28 +230,28 @@ unhidden_numbered place xs (inl past) = inl past
 unhidden_numbered place [] (inr none) = inr refl
 unhidden_numbered place (x ∷ xs) (inr none) = absurd cc
 
-module _ (format : Format EntryValue) (offset_of : ℕ → Option ℕ) (bytes : List ℕ) where
+module _ (format : Format EntryValue) (addressing : Addressing) (bytes : List ℕ) where
   imports_unhidden : (asked : Bool) (imports : Option DataDirectory)
       (p : Part (List NumberedLibrary))
-      → cond asked ((part_at true (libraries_of format offset_of bytes true) imports).value bytes)
+      → cond asked ((part_at true (libraries_of format addressing bytes true) imports).value bytes)
       (Some Absent) ≡ Some p
-      → (imports_left_out_at format offset_of bytes (cond asked imports None)).libraries ≡ 0
-      → IfRead (IsUnhidden (place_by offset_of imports)) p
+      → (imports_left_out_at format addressing bytes (cond asked imports None)).libraries ≡ 0
+      → IfRead (IsUnhidden (place_by addressing imports)) p
   unfolding import_data
   imports_unhidden asked imports Absent e none = tt
   imports_unhidden asked imports (part.Read xs) e none =
-      let from = read_from asked true (libraries_of format offset_of bytes true) imports bytes xs e in
-      let place = offset_of from.at.virtual_address in
-      let whole = unnumbered true format offset_of bytes from.at.virtual_address
+      let from = read_from asked true (libraries_of format addressing bytes true) imports bytes xs e in
+      let place = addressing.offset from.at.virtual_address in
+      let whole = unnumbered true format addressing bytes from.at.virtual_address
       ∙ ap (option_map (map (λ x. x.library))) from.read in
       rw from.is
       (unhidden_numbered place xs
-      (data_unhidden format offset_of bytes place _ whole (rw (from.is_asked, from.is) at none)))
+      (data_unhidden format addressing bytes place _ whole (rw (from.is_asked, from.is) at none)))
   imports_unhidden asked imports Refused e none = tt
 
 -- ---- the tables
 
-module _ (opts : ParseOptions) (offset_of : ℕ → Option ℕ) (places : TablePlaces) where
+module _ (opts : ParseOptions) (addressing : Addressing) (places : TablePlaces) where
   abbrev strictly : ParseOptions
   strictly = in_mode Strict opts
 
@@ -258,26 +259,26 @@ module _ (opts : ParseOptions) (offset_of : ℕ → Option ℕ) (places : TableP
   permissively = in_mode Permissive opts
 
   abbrev place : Option ℕ
-  place = place_by offset_of places.imports
+  place = place_by addressing places.imports
 
   -- what permissive mode has of tables that strict mode has
   abbrev pub permissive_tables : NumberedTables → NumberedTables
   permissive_tables t = record t { imports = part_map (unless_front place) t.imports }
 
-  repeats-table_parts : RepeatsAs permissive_tables (table_parts strictly offset_of places)
-      (table_parts permissively offset_of places)
+  repeats-table_parts : RepeatsAs permissive_tables (table_parts strictly addressing places)
+      (table_parts permissively addressing places)
   unfolding table_parts numbered_data_part export_part relocation_part
   repeats-table_parts =
       as-mapped _ _ permissive_tables _ _
       (as-beside _ (λ x. x) _ _ _ _
-      (as-beside (part_map (unless_front place)) (λ x. x) (numbered_data_part strictly offset_of places)
-      (numbered_data_part permissively offset_of places) _ _
+      (as-beside (part_map (unless_front place)) (λ x. x) (numbered_data_part strictly addressing places)
+      (numbered_data_part permissively addressing places) _ _
       (record {
         kept = λ bytes.
-            numbered-kept (entry_format places.magic) offset_of bytes opts.parse_imports places.imports;
+            numbered-kept (entry_format places.magic) addressing bytes opts.parse_imports places.imports;
       })
-      (repeats-part_at (numbered_read offset_of) places.exports))
-      (repeats-part_at (relocation_data offset_of) places.relocations))
+      (repeats-part_at (numbered_read addressing) places.exports))
+      (repeats-part_at (relocation_data addressing.offset) places.relocations))
       (λ all. refl)
 
   -- what it has of their lists
@@ -298,15 +299,15 @@ module _ (opts : ParseOptions) (offset_of : ℕ → Option ℕ) (places : TableP
       ) refl
 
   -- permissive mode has the same tables where strict mode has them, and no library is left out
-  pub tables_same : (bytes : List ℕ) → (left_out_of opts offset_of places bytes).libraries ≡ 0
-      → (t : NumberedTables) → (table_parts strictly offset_of places).value bytes ≡ Some t
+  pub tables_same : (bytes : List ℕ) → (left_out_of opts addressing places bytes).libraries ≡ 0
+      → (t : NumberedTables) → (table_parts strictly addressing places).value bytes ≡ Some t
       → permissive_tables t ≡ t
   unfolding table_parts numbered_data_part left_out_of
   tables_same bytes none t is =
       let m = mapped _ _ t is in
       let imports = pair_of-left _ _ m.value.0 (pair_of-left _ _ m.value m.is) in
       let same = part_unhidden place m.value.0.0
-      (imports_unhidden (entry_format places.magic) offset_of bytes opts.parse_imports places.imports m.value.0.0 imports none) in
+      (imports_unhidden (entry_format places.magic) addressing bytes opts.parse_imports places.imports m.value.0.0 imports none) in
       ap permissive_tables (sym m.made)
       ∙ ap (λ (i : Part (List NumberedLibrary)). record { imports = i; exports = m.value.0.1; relocations = m.value.1 }) same
       ∙ m.made
@@ -329,7 +330,7 @@ module _ (opts : ParseOptions) (header : PeHeader) where
   unfolding whole_with in_permissive_mode file_offset
   with_sections_repeat sections =
       let places = places_in header.optional_header in
-      let m = offset_by opts (mapped_in Sections header sections) places in
+      let m = addressing_by opts (mapped_in Sections header sections) places in
       as-mapped (whole_of header sections) (permissive_lists opts m places)
       (in_permissive_mode opts) (listed_tables (in_mode Strict opts) m places)
       (listed_tables (in_mode Permissive opts) m places)

@@ -11,6 +11,7 @@ use Rattle.goblin_pe_sect.specs.declared.options.View.TheVariants.{Sections}
 use Rattle.goblin_pe_sect.specs.Mapping.{file_offset}
 use Rattle.goblin_pe_sect.specs.Options.{is_strict}
 use Rattle.goblin_pe_sect.specs.SectionTable.{Section}
+use Rattle.goblin_pe_sect.specs.Addresses.{Addressing}
 use Rattle.goblin_pe_head.specs.declared.header.dos.DosHeader.{DosHeader}
 use Rattle.goblin_pe_head.specs.HeaderReadings.{dos_header, header_after, pe_header, stub_at, stub_in}
 use Rattle.goblin_pe_head.specs.PeHeader.{PeHeader}
@@ -19,7 +20,7 @@ use Rattle.goblin_pe.specs.declared.whole.damage.Damage.{Damage}
 use Rattle.goblin_pe.specs.Damages.{AreDamaged, IsDamage, IsDamaged, IsReadByBoth, IsSound, TellsDamage, left_out_of}
 use Rattle.goblin_pe.specs.Modes.{in_mode, in_permissive_mode}
 use Rattle.goblin_pe.specs.Whole.{ListedParts, NumberedTables, TablePlaces, export_part, import_list}
-use Rattle.goblin_pe.specs.Whole.{layout, lists_of, mapped_in, numbered_data_part, offset_by, places_in}
+use Rattle.goblin_pe.specs.Whole.{layout, lists_of, mapped_in, numbered_data_part, addressing_by, places_in}
 use Rattle.goblin_pe.specs.Whole.{relocation_part, sections_after, table_parts, tables_with, whole_file}
 use Rattle.goblin_pe.specs.Whole.{whole_in, whole_of, whole_with}
 use Rattle.goblin_pe.proofs.PermissiveReads.{lists_again, repeats-whole_file, sections_repeat, tables_same}
@@ -76,27 +77,27 @@ pub all-there : {A B C : Type 0} (a : Reading A) (b : Reading B) (c : Reading C)
 all-there a b c bytes first second third = both-there (pair_of (a.value bytes) (b.value bytes)) (c.value bytes) (both-there (a.value bytes) (b.value bytes) first second) third
 
 module _ (opts : ParseOptions) (bytes : List ℕ) where
-  tables-there : (offset_of : ℕ → Option ℕ) (places : TablePlaces) (imports exports relocations : Option ErrorOf) (left_out : LeftOut) → imports ≡ None → exports ≡ None → relocations ≡ None → AreDamaged opts offset_of places bytes imports exports relocations left_out → IsSome ((table_parts (in_mode Strict opts) offset_of places).value bytes)
+  tables-there : (addressing : Addressing) (places : TablePlaces) (imports exports relocations : Option ErrorOf) (left_out : LeftOut) → imports ≡ None → exports ≡ None → relocations ≡ None → AreDamaged opts addressing places bytes imports exports relocations left_out → IsSome ((table_parts (in_mode Strict opts) addressing places).value bytes)
   unfolding table_parts import_list
-  tables-there offset_of places imports exports relocations left_out no_imports no_exports no_relocations damage =
-      let listed = there (import_list (in_mode Strict opts) offset_of places) bytes imports no_imports damage.imports in
+  tables-there addressing places imports exports relocations left_out no_imports no_exports no_relocations damage =
+      let listed = there (import_list (in_mode Strict opts) addressing places) bytes imports no_imports damage.imports in
       mapped-there _ _
-      (all-there (numbered_data_part (in_mode Strict opts) offset_of places) (export_part (in_mode Strict opts) offset_of places) (relocation_part (in_mode Strict opts) offset_of places) bytes (unmapped-there _ _ _ refl listed)
-      (there (export_part (in_mode Strict opts) offset_of places) bytes exports no_exports damage.exports)
-      (there (relocation_part (in_mode Strict opts) offset_of places) bytes relocations no_relocations damage.relocations))
+      (all-there (numbered_data_part (in_mode Strict opts) addressing places) (export_part (in_mode Strict opts) addressing places) (relocation_part (in_mode Strict opts) addressing places) bytes (unmapped-there _ _ _ refl listed)
+      (there (export_part (in_mode Strict opts) addressing places) bytes exports no_exports damage.exports)
+      (there (relocation_part (in_mode Strict opts) addressing places) bytes relocations no_relocations damage.relocations))
 
   -- strict mode reads a file of these tables, and permissive mode the same
-  alike : (h : PeHeader) (s : List Section) (tables : Option NumberedTables) → (tables_with Sections (in_mode Strict opts) h s).value bytes ≡ tables → IsSome tables → (left_out_of opts (offset_by opts (mapped_in Sections h s) (places_in h.optional_header)) (places_in h.optional_header) bytes).libraries ≡ 0 → (whole_file (in_mode Strict opts)).value bytes ≡ (whole_with Sections (in_mode Strict opts) h s).value bytes → IsReadByBoth Sections opts bytes
+  alike : (h : PeHeader) (s : List Section) (tables : Option NumberedTables) → (tables_with Sections (in_mode Strict opts) h s).value bytes ≡ tables → IsSome tables → (left_out_of opts (addressing_by opts (mapped_in Sections h s) (places_in h.optional_header)) (places_in h.optional_header) bytes).libraries ≡ 0 → (whole_file (in_mode Strict opts)).value bytes ≡ (whole_with Sections (in_mode Strict opts) h s).value bytes → IsReadByBoth Sections opts bytes
   unfolding whole_with in_permissive_mode file_offset
   alike h s None is some none whole = absurd cc
   alike h s (Some t) is some none whole =
       let places = places_in h.optional_header in
       let listed = λ (t : NumberedTables). whole_of h s (lists_of places.magic t) in
-      let offset_of = offset_by opts (mapped_in Sections h s) places in
+      let addressing = addressing_by opts (mapped_in Sections h s) places in
       let made : (whole_file (in_mode Strict opts)).value bytes ≡ Some (listed t) = whole ∙ ap (λ (o : Option NumberedTables). option_map (whole_of h s) (option_map (lists_of places.magic) o)) is in
-      let same = tables_same opts offset_of places bytes none t is in
+      let same = tables_same opts addressing places bytes none t is in
       rw made ((repeats-whole_file opts).kept bytes (listed t) made
-      ∙ ap (λ (l : ListedParts). Some (whole_of h s l)) (sym (lists_again opts offset_of places t))
+      ∙ ap (λ (l : ListedParts). Some (whole_of h s l)) (sym (lists_again opts addressing places t))
       ∙ ap (λ (t : NumberedTables). Some (listed t)) same)
 
   sound_read : (l : PeHeader × List Section) (d : Damage) → (layout opts).value bytes ≡ Some l → IsDamaged Sections opts l.0 l.1 bytes d → IsSound d → IsReadByBoth Sections opts bytes
@@ -110,7 +111,7 @@ module _ (opts : ParseOptions) (bytes : List ℕ) where
       let header = header-strict bytes strict l.0 (subst (λ (x : PeHeader). (pe_header strict).value bytes ≡ Some x) h first.is) (there (stub_at l.0.dos_header.pe_pointer) bytes d.dos_stub sound.dos_stub damaged.dos_stub) in
       let own : (sections_after strict l.0).value bytes ≡ Some l.1 = subst (λ (x : PeHeader). (sections_after strict x).value bytes ≡ Some l.1) h (subst (λ (y : List Section). (sections_after strict first.value).value bytes ≡ Some y) s second.is) in
       let sections = same-sections bytes opts strict l.0 l.1 own _ refl (there (sections_after true l.0) bytes d.section_names sound.section_names damaged.section_names) in
-      let parts = tables-there (offset_by opts (mapped_in Sections l.0 l.1) (places_in l.0.optional_header)) (places_in l.0.optional_header) d.imports d.exports d.relocations d.left_out sound.imports sound.exports sound.relocations damaged.tables in
+      let parts = tables-there (addressing_by opts (mapped_in Sections l.0 l.1) (places_in l.0.optional_header)) (places_in l.0.optional_header) d.imports d.exports d.relocations d.left_out sound.imports sound.exports sound.relocations damaged.tables in
       let whole : (whole_file (in_mode Strict opts)).value bytes ≡ (whole_with Sections (in_mode Strict opts) l.0 l.1).value bytes = rw (header, sections) refl in
       let left_out = ap (λ (x : LeftOut). x.libraries) damaged.tables.left_out in
       alike l.0 l.1 _ refl parts (sym left_out ∙ sound.libraries) whole

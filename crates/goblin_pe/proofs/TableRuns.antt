@@ -16,6 +16,7 @@ use Rattle.goblin_pe_sect.specs.declared.options.ParseOptions.{ParseOptions}
 use Rattle.goblin_pe_sect.specs.Mapping.{file_offset}
 use Rattle.goblin_pe_sect.specs.Options.{is_strict}
 use Rattle.goblin_pe_sect.specs.SectionTable.{Section}
+use Rattle.goblin_pe_sect.specs.Addresses.{Addressing, with_whole_names}
 use Rattle.goblin_pe.specs.declared.laws.order.Request.{Request}
 use Rattle.goblin_pe.specs.declared.laws.order.TablesOf.{TablesOf}
 use Rattle.goblin_pe_export.specs.ExportReadings.{export_read}
@@ -30,10 +31,10 @@ use Rattle.goblin_pe.proofs.PermissiveReads.{in_modes, map-mode, reads_in_modes}
 use Rattle.goblin_pe.proofs.PermissiveReads.{repeats-import_data}
 
 -- what permissive mode takes for a name that is missing, strict mode refuses
-repeats-name_or_none : (offset_of : ℕ → Option ℕ) (rva : ℕ)
-    → Repeats (name_or_none true offset_of rva) (name_or_none false offset_of rva)
-repeats-name_or_none offset_of rva =
-    let name : Reading (Option (List ℕ)) = mapped (λ name. Some name) (name_at offset_of rva) in
+repeats-name_or_none : (addressing : Addressing) (rva : ℕ)
+    → Repeats (name_or_none true addressing rva) (name_or_none false addressing rva)
+repeats-name_or_none addressing rva =
+    let name : Reading (Option (List ℕ)) = mapped (λ name. Some name) (name_at addressing rva) in
     repeats-or_else None name name (repeats-same name)
 
 module _ {D Y : Type 0} (format : Format EntryValue) (plain : D → Y)
@@ -44,28 +45,29 @@ module _ {D Y : Type 0} (format : Format EntryValue) (plain : D → Y)
   pub answered_in_mode : (mode : ParseMode) (opts own : ParseOptions) (sections : List Section)
       (alignment : ℕ) (tables : TablesOf D) → own ≡ in_mode mode opts
       → AreTables format plain value_of refusal (is_strict own.parse_mode)
-      (file_offset own sections alignment) bytes request tables
+      (with_whole_names (file_offset own sections alignment)) bytes request tables
       → AreTables format plain value_of refusal (is_strict mode)
-      (file_offset opts sections alignment) bytes request tables
+      (with_whole_names (file_offset opts sections alignment)) bytes request tables
   answered_in_mode mode opts own sections alignment tables is read =
       subst
       (λ (m : ℕ → Option ℕ).
-      AreTables format plain value_of refusal (is_strict mode) m bytes request tables)
+      AreTables format plain value_of refusal (is_strict mode) (with_whole_names m) bytes request
+      tables)
       (map-mode mode opts sections alignment)
       (subst
       (λ (o : ParseOptions).
       AreTables format plain value_of refusal (is_strict o.parse_mode)
-      (file_offset o sections alignment) bytes request tables)
+      (with_whole_names (file_offset o sections alignment)) bytes request tables)
       is read)
 
   module _ (first second : TablesOf D) where
     -- the answers under maps that are the same
-    pub are_alike : (strict : Bool) (offset_of other : ℕ → Option ℕ) → offset_of ≡ other
-        → AreTables format plain value_of refusal strict offset_of bytes request first
+    pub are_alike : (strict : Bool) (addressing other : Addressing) → addressing ≡ other
+        → AreTables format plain value_of refusal strict addressing bytes request first
         → AreTables format plain value_of refusal strict other bytes request second
         → AreAlike plain first second
-    are_alike strict offset_of other same one two =
-        let Map = ℕ → Option ℕ in
+    are_alike strict addressing other same one two =
+        let Map = Addressing in
         record {
           lookup =
               alike_or_memory_answers (map entry_view) _ _ _ _ _ _ one.lookup two.lookup
@@ -80,7 +82,7 @@ module _ {D Y : Type 0} (format : Format EntryValue) (plain : D → Y)
               (ap (λ (m : Map). (export_read m request.exports).value bytes) same);
           relocations =
               alike_answers relocation_bytes _ _ _ _ _ _ one.relocations two.relocations
-              (ap (λ (m : Map). (relocation_data m request.relocations).value bytes) same);
+              (ap (λ (m : Map). (relocation_data m.offset request.relocations).value bytes) same);
           name =
               alike_answers (option_map (λ s. s.now)) _ _ _ _ _ _ one.name two.name
               (ap (λ (m : Map). (name_or_none strict m request.name).value bytes) same);
@@ -88,38 +90,38 @@ module _ {D Y : Type 0} (format : Format EntryValue) (plain : D → Y)
               alike_answers plain _ _ _ _ _ _ one.value two.value
               (ap
               (λ (m : Map).
-              (data_at m value_of refusal request.value.virtual_address).value bytes)
+              (data_at m.offset value_of refusal request.value.virtual_address).value bytes)
               same);
         }
 
     -- the answers in both modes
-    pub are_in_modes : (offset_of : ℕ → Option ℕ)
-        → AreTables format plain value_of refusal true offset_of bytes request first
-        → AreTables format plain value_of refusal false offset_of bytes request second
-        → AreInModes format plain value_of refusal offset_of request bytes
+    pub are_in_modes : (addressing : Addressing)
+        → AreTables format plain value_of refusal true addressing bytes request first
+        → AreTables format plain value_of refusal false addressing bytes request second
+        → AreInModes format plain value_of refusal addressing request bytes
         (first, second)
-    are_in_modes offset_of one two = record {
+    are_in_modes addressing one two = record {
       lookup =
           in_modes (map entry_view) (λ x. x) _ _ _ _ _
-          (lookup_table-repeats offset_of format request.lookup) one.lookup two.lookup;
+          (lookup_table-repeats addressing format request.lookup) one.lookup two.lookup;
       imports =
-          in_modes (λ x. x) (unless_front (offset_of request.imports.virtual_address)) _ _ _ _ _
-          (repeats-import_data format offset_of request.imports.virtual_address) one.imports
+          in_modes (λ x. x) (unless_front (addressing.offset request.imports.virtual_address)) _ _ _ _ _
+          (repeats-import_data format addressing request.imports.virtual_address) one.imports
           two.imports;
       exports =
           in_modes export_read_view (λ x. x) _ _ _ _ _
-          (repeats-same (export_read offset_of request.exports)) one.exports two.exports;
+          (repeats-same (export_read addressing request.exports)) one.exports two.exports;
       relocations =
           reads_in_modes relocation_bytes (λ x. x) _ _ _ _ _
-          (repeats-same (relocation_data offset_of request.relocations)) one.relocations
+          (repeats-same (relocation_data addressing.offset request.relocations)) one.relocations
           two.relocations;
       name =
           reads_in_modes (option_map (λ s. s.now)) (λ x. x) _ _ _ _ _
-          (repeats-name_or_none offset_of request.name) one.name two.name;
+          (repeats-name_or_none addressing request.name) one.name two.name;
       value =
           reads_in_modes plain (λ x. x) _ _ _ _ _
           (repeats-same
-          (data_at offset_of value_of refusal request.value.virtual_address))
+          (data_at addressing.offset value_of refusal request.value.virtual_address))
           one.value two.value;
     }
 
@@ -128,19 +130,20 @@ pub grown_in_mode : {D : Type 0} (format : Format EntryValue) (bytes : List ℕ)
     (mode : ParseMode) (opts own : ParseOptions) (sections : List Section) (alignment : ℕ)
     (tables : TablesOf D) → own ≡ in_mode mode opts
     → AreGrown format (is_strict own.parse_mode) own sections alignment
-    (file_offset own sections alignment) bytes request tables
+    (with_whole_names (file_offset own sections alignment)) bytes request tables
     → AreGrown format (is_strict mode) opts sections alignment
-    (file_offset opts sections alignment) bytes request tables
+    (with_whole_names (file_offset opts sections alignment)) bytes request tables
 grown_in_mode format bytes request mode opts own sections alignment tables is read =
     let of_mode = in_mode mode opts in
     let mapped =
     subst
     (λ (m : ℕ → Option ℕ).
-    AreGrown format (is_strict mode) of_mode sections alignment m bytes request tables)
+    AreGrown format (is_strict mode) of_mode sections alignment (with_whole_names m) bytes request
+    tables)
     (map-mode mode opts sections alignment)
     (subst
     (λ (o : ParseOptions).
     AreGrown format (is_strict o.parse_mode) o sections alignment
-    (file_offset o sections alignment) bytes request tables)
+    (with_whole_names (file_offset o sections alignment)) bytes request tables)
     is read) in
     record { lookup = mapped.lookup; imports = mapped.imports; exports = mapped.exports }

@@ -4,7 +4,7 @@ use Rattle.goblin_base.specs.declared.error.ErrorOf.{ErrorOf}
 use Rattle.goblin_base.specs.declared.error.ErrorOf.TheVariants.{BadMagic, BufferTooShort}
 use Rattle.goblin_base.specs.declared.error.ErrorOf.TheVariants.{Malformed, Memory, Read}
 use Rattle.goblin_base.specs.Answers.{IsMemory}
-use Rattle.goblin_pe_sect.specs.Addresses.{MapOfAddresses, offset_of, reads_strictly}
+use Rattle.goblin_pe_sect.specs.Addresses.{MapOfAddresses, reads_strictly}
 use Rattle.goblin_pe_import.specs.ImportReadings.{import_data}
 use Rattle.goblin_pe_import.specs.ImportRecords.{ImportedLibrary}
 use Rattle.goblin_pe_import.specs.Imports.{kept_count}
@@ -37,7 +37,7 @@ some-library (x ∷ xs) some = omega arith
 
 -- import data of which an import is kept takes memory
 pub imports_taken : (m : MapOfAddresses) (places : TablePlaces) (bytes : List ℕ)
-    (p : Part (List ImportedLibrary)) → (import_data_part m.opts (offset_of m) places).value bytes ≡ Some p
+    (p : Part (List ImportedLibrary)) → (import_data_part m.opts m.addressing places).value bytes ≡ Some p
     → IsReadAnd (λ libraries. 0 < kept_count libraries) p → TakesImports m places bytes
 unfolding import_data_part
 imports_taken m places bytes Absent is kept = absurd kept
@@ -45,8 +45,8 @@ imports_taken m places bytes (part.Read libraries) is kept =
     let strict = reads_strictly m in
     let format = entry_format places.magic in
     let from = read_from m.opts.parse_imports strict
-    (λ d. import_data strict format (offset_of m) d.virtual_address) places.imports bytes libraries is in
-    let taken = libraries-taken format (offset_of m) bytes strict from.at.virtual_address libraries
+    (λ d. import_data strict format m.addressing d.virtual_address) places.imports bytes libraries is in
+    let taken = libraries-taken format m.addressing bytes strict from.at.virtual_address libraries
     from.read (some-library libraries kept) in
     (from.is_asked, rw from.is taken)
 imports_taken m places bytes Refused is kept = absurd kept

@@ -8,6 +8,7 @@ use Rattle.goblin_base.specs.Reading.{IsRefused}
 use Rattle.goblin_base.proofs.Readings.{twins, twins_or_memory}
 use Rattle.goblin_pe_sect.specs.AddressReadings.{data_at, relocation_data}
 use Rattle.goblin_pe_sect.specs.BaseRelocations.{relocation_bytes}
+use Rattle.goblin_pe_sect.specs.Addresses.{Addressing}
 use Rattle.goblin_pe_symbol.specs.Symbols.{symbol_bytes}
 use Rattle.goblin_pe_head.specs.CoffReadings.{strings_of, symbols_of}
 use Rattle.goblin_pe_head.specs.HeaderReadings.{header_without_dos}
@@ -27,12 +28,12 @@ te_there bytes p e refused memory = absurd ((te_header p).not_memory bytes e ref
 pub are_twin_parts : {D Y : Type 0} (plain : D → Y)
     (value_of : Endian → List ℕ → Option (Y × ℕ))
     (refusal : Endian → List ℕ → ErrorOf → Type 0)
-    (strict : Bool) (offset_of : ℕ → Option ℕ) (asked : PartsAsked) (a b : List ℕ)
+    (strict : Bool) (addressing : Addressing) (asked : PartsAsked) (a b : List ℕ)
     (first second : PartsOf D)
-    → AreParts plain value_of refusal strict offset_of asked a first
-    → AreParts plain value_of refusal strict offset_of asked b second
-    → AreTwinParts plain value_of refusal strict offset_of asked a b (first, second)
-are_twin_parts plain value_of refusal strict offset_of asked a b first second one two =
+    → AreParts plain value_of refusal strict addressing asked a first
+    → AreParts plain value_of refusal strict addressing asked b second
+    → AreTwinParts plain value_of refusal strict addressing asked a b (first, second)
+are_twin_parts plain value_of refusal strict addressing asked a b first second one two =
     record {
       header = twins header_value header_without_dos a b _ _ one.header two.header;
       sections =
@@ -44,9 +45,9 @@ are_twin_parts plain value_of refusal strict offset_of asked a b first second on
       strings = twins (λ t. t) (strings_of asked.coff_header) a b _ _ one.strings two.strings;
       te = twins_or_memory te_view (te_image asked.offset) a b _ _ one.te two.te;
       relocations =
-          twins relocation_bytes (relocation_data offset_of asked.relocations) a b _ _
+          twins relocation_bytes (relocation_data addressing.offset asked.relocations) a b _ _
           one.relocations two.relocations;
       value =
-          twins plain (data_at offset_of value_of refusal asked.value.virtual_address)
+          twins plain (data_at addressing.offset value_of refusal asked.value.virtual_address)
           a b _ _ one.value two.value;
     }

@@ -4,9 +4,9 @@ use Rattle.goblin_base.specs.Reading.{Reading}
 use Rattle.readings.specs.Reads.{◌>>=◌}
 use Rattle.goblin_pe_sect.specs.declared.options.ParseOptions.{ParseOptions}
 use Rattle.goblin_pe_sect.specs.declared.options.View.TheVariants.{Sections}
-use Rattle.goblin_pe_sect.specs.Addresses.{offset_of}
 use Rattle.goblin_pe_sect.specs.Options.{is_strict}
 use Rattle.goblin_pe_sect.specs.SectionTable.{Section}
+use Rattle.goblin_pe_sect.specs.Addresses.{Addressing}
 use Rattle.goblin_pe_head.specs.HeaderReadings.{pe_header}
 use Rattle.goblin_pe_head.specs.PeHeader.{PeHeader}
 use Rattle.goblin_pe.specs.declared.whole.Part.{Part}
@@ -14,19 +14,19 @@ use Rattle.goblin_pe.specs.declared.whole.Part.TheVariants.{Absent, Refused}
 use Rattle.goblin_pe.specs.declared.whole.Part.TheVariants as part
 use Rattle.goblin_pe.specs.declared.whole.layout.Layout.{Layout}
 use Rattle.goblin_pe.specs.Layouts.{layout_map, layout_places}
-use Rattle.goblin_pe.specs.Whole.{TablePlaces, mapped_in, offset_by, places_in, sections_after}
+use Rattle.goblin_pe.specs.Whole.{TablePlaces, mapped_in, addressing_by, places_in, sections_after}
 
 -- what reads a table, by how addresses are mapped and where the tables lie: `import_list`,
 -- `export_part` and `relocation_part` are such readers
 abbrev pub TableReader : Type 0 → Type 1
-TableReader A = ParseOptions → (ℕ → Option ℕ) → TablePlaces → Reading A
+TableReader A = ParseOptions → Addressing → TablePlaces → Reading A
 
 -- a table of the file with this header and these sections
 abbrev pub table_with : {A : Type 0} → TableReader A → ParseOptions → PeHeader → List Section
     → Reading A
 table_with read opts h sections =
     let places = places_in h.optional_header in
-    read opts (offset_by opts (mapped_in Sections h sections) places) places
+    read opts (addressing_by opts (mapped_in Sections h sections) places) places
 
 -- a table of a file by itself: of the rest of the file only the header and the sections are needed
 abbrev pub file_table : {A : Type 0} → TableReader A → ParseOptions → Reading A
@@ -36,7 +36,7 @@ file_table read opts =
 
 -- the same of a layout
 abbrev pub layout_table : {A : Type 0} → TableReader A → Layout → Reading A
-layout_table read l = let m = layout_map l in read m.opts (offset_of m) (layout_places l)
+layout_table read l = let m = layout_map l in read m.opts m.addressing (layout_places l)
 
 -- what is made of a table that was read, and a default where it was not
 abbrev pub read_or : {A B : Type 0} → B → (A → B) → Part A → B

@@ -10,6 +10,7 @@ use Rattle.goblin_pe_sect.specs.declared.data_directories.DataDirectory.{DataDir
 use Rattle.goblin_pe_sect.specs.declared.options.ParseOptions.{ParseOptions}
 use Rattle.goblin_pe_sect.specs.declared.options.View.{View}
 use Rattle.goblin_pe_sect.specs.SectionTable.{Section}
+use Rattle.goblin_pe_sect.specs.Addresses.{Addressing}
 use Rattle.goblin_pe_head.specs.HeaderReadings.{stub_at}
 use Rattle.goblin_pe_head.specs.PeHeader.{PeHeader}
 use Rattle.goblin_pe_import.specs.declared.import.left_out.LeftOut.{LeftOut}
@@ -21,7 +22,7 @@ use Rattle.goblin_pe_export.specs.LeftOutExports.{pointers_left_out}
 use Rattle.goblin_pe.specs.declared.whole.damage.Damage.{Damage}
 use Rattle.goblin_pe.specs.Modes.{in_mode}
 use Rattle.goblin_pe.specs.Whole.{TablePlaces, entry_format, export_part, import_list, layout}
-use Rattle.goblin_pe.specs.Whole.{mapped_in, offset_by, places_in, relocation_part, sections_after}
+use Rattle.goblin_pe.specs.Whole.{mapped_in, addressing_by, places_in, relocation_part, sections_after}
 use Rattle.goblin_pe.specs.Whole.{whole_in}
 
 -- There is a value and no damage, or there is none and the cause is true.
@@ -34,43 +35,43 @@ abbrev pub IsDamage : {A : Type 0} → Reading A → List ℕ → Option ErrorOf
 IsDamage reading bytes damage = IsDamageOf (reading.value bytes) (reading.IsCause bytes) damage
 
 -- how much is left out of the imports that a directory leads to, if there is one
-abbrev pub imports_left_out_at : Format EntryValue → (ℕ → Option ℕ) → List ℕ
+abbrev pub imports_left_out_at : Format EntryValue → Addressing → List ℕ
     → Option DataDirectory → LeftOut
-imports_left_out_at format offset_of bytes None =
+imports_left_out_at format addressing bytes None =
     record { libraries = 0; entries = 0; unmapped_entries = 0 }
-imports_left_out_at format offset_of bytes (Some d) = record {
-  libraries = libraries_left_out format offset_of bytes d.virtual_address;
-  entries = min (entries_left_out format offset_of bytes d.virtual_address) (2 ^ 64 - 1);
-  unmapped_entries = min (unmapped_entries format offset_of bytes d.virtual_address) (2 ^ 64 - 1);
+imports_left_out_at format addressing bytes (Some d) = record {
+  libraries = libraries_left_out format addressing bytes d.virtual_address;
+  entries = min (entries_left_out format addressing bytes d.virtual_address) (2 ^ 64 - 1);
+  unmapped_entries = min (unmapped_entries format addressing bytes d.virtual_address) (2 ^ 64 - 1);
 }
 
 -- the same of a file's imports; nothing where they are not asked for
-unfoldable pub left_out_of : ParseOptions → (ℕ → Option ℕ) → TablePlaces → List ℕ → LeftOut
-left_out_of opts offset_of places bytes =
-    imports_left_out_at (entry_format places.magic) offset_of bytes
+unfoldable pub left_out_of : ParseOptions → Addressing → TablePlaces → List ℕ → LeftOut
+left_out_of opts addressing places bytes =
+    imports_left_out_at (entry_format places.magic) addressing bytes
     (if opts.parse_imports then places.imports else None)
 
 -- how many name pointers of the export directory that was read give no export; 0 without one
-abbrev pub exports_left_out_of : (ℕ → Option ℕ) → List ℕ
+abbrev pub exports_left_out_of : Addressing → List ℕ
     → Option (ExportTables × List NumberedExport) → ℕ
-exports_left_out_of offset_of bytes None = 0
-exports_left_out_of offset_of bytes (Some read) = pointers_left_out offset_of bytes read.0
+exports_left_out_of addressing bytes None = 0
+exports_left_out_of addressing bytes (Some read) = pointers_left_out addressing bytes read.0
 
 -- the same of a file, where its export directory can be read
-unfoldable pub exports_left_out : (ℕ → Option ℕ) → TablePlaces → List ℕ → ℕ
-exports_left_out offset_of places bytes =
-    exports_left_out_of offset_of bytes
-    (places.exports >>= λ d. (numbered_read offset_of d).value bytes)
+unfoldable pub exports_left_out : Addressing → TablePlaces → List ℕ → ℕ
+exports_left_out addressing places bytes =
+    exports_left_out_of addressing bytes
+    (places.exports >>= λ d. (numbered_read addressing d).value bytes)
 
 -- What strict mode would refuse of the tables whose addresses are mapped so.
-pub record AreDamaged (opts : ParseOptions) (offset_of : ℕ → Option ℕ) (places : TablePlaces)
+pub record AreDamaged (opts : ParseOptions) (addressing : Addressing) (places : TablePlaces)
     (bytes : List ℕ) (of_imports of_exports of_relocations : Option ErrorOf) (of_left_out : LeftOut)
     : Type 0 where
-  pub imports : IsDamage (import_list (in_mode Strict opts) offset_of places) bytes of_imports
-  pub exports : IsDamage (export_part (in_mode Strict opts) offset_of places) bytes of_exports
-  pub relocations : IsDamage (relocation_part (in_mode Strict opts) offset_of places) bytes
+  pub imports : IsDamage (import_list (in_mode Strict opts) addressing places) bytes of_imports
+  pub exports : IsDamage (export_part (in_mode Strict opts) addressing places) bytes of_exports
+  pub relocations : IsDamage (relocation_part (in_mode Strict opts) addressing places) bytes
       of_relocations
-  pub left_out : of_left_out ≡ left_out_of opts offset_of places bytes
+  pub left_out : of_left_out ≡ left_out_of opts addressing places bytes
 
 -- What strict mode would refuse of a file with this header and these sections, in a view.
 pub record IsDamaged (view : View) (opts : ParseOptions) (h : PeHeader) (sections : List Section)
@@ -78,11 +79,11 @@ pub record IsDamaged (view : View) (opts : ParseOptions) (h : PeHeader) (section
   pub dos_stub : IsDamage (stub_at h.dos_header.pe_pointer) bytes d.dos_stub
   pub section_names : IsDamage (sections_after true h) bytes d.section_names
   pub tables : let places = places_in h.optional_header in
-      AreDamaged opts (offset_by opts (mapped_in view h sections) places) places bytes
+      AreDamaged opts (addressing_by opts (mapped_in view h sections) places) places bytes
       d.imports d.exports d.relocations d.left_out
   pub left_out_exports : let places = places_in h.optional_header in
       d.left_out_exports
-      ≡ exports_left_out (offset_by opts (mapped_in view h sections) places) places bytes
+      ≡ exports_left_out (addressing_by opts (mapped_in view h sections) places) places bytes
 
 -- A call tells the damage of a file that has a header and sections in its own mode; or these are
 -- refused, or memory.

@@ -10,6 +10,7 @@ use Rattle.goblin_pe_sect.specs.declared.data_directories.DataDirectory.{DataDir
 use Rattle.goblin_pe_sect.specs.declared.options.ParseOptions.{ParseOptions}
 use Rattle.goblin_pe_sect.specs.Options.{is_strict}
 use Rattle.goblin_pe_sect.specs.Addresses.{MapOfAddresses}
+use Rattle.goblin_pe_sect.specs.Addresses.{Addressing}
 use Rattle.goblin_pe_import.specs.ImportLookup.{entries_32, entries_64}
 use Rattle.goblin_pe_import.specs.ImportCursors.{first_import}
 use Rattle.goblin_pe_import.specs.Imports.{NumberedImport}
@@ -114,16 +115,16 @@ GivesFirst m magic bytes first (Err e) = IsRefused first bytes e
 
 -- ---- where a file's imports begin
 
-abbrev pub begin_in : Bool → (ℕ → Option ℕ) → Option DataDirectory → Reading ImportCursor
-begin_in strict offset_of None = given no_imports
-begin_in strict offset_of (Some directory) =
-    first_import strict offset_of directory.virtual_address
+abbrev pub begin_in : Bool → Addressing → Option DataDirectory → Reading ImportCursor
+begin_in strict addressing None = given no_imports
+begin_in strict addressing (Some directory) =
+    first_import strict addressing directory.virtual_address
 
 -- Before the first import of the directory. There are none without a directory, or where they are
 -- not asked for.
-unfoldable pub import_begin : ParseOptions → (ℕ → Option ℕ) → TablePlaces → Reading ImportCursor
-import_begin opts offset_of places =
-    pick opts.parse_imports (begin_in (is_strict opts.parse_mode) offset_of places.imports)
+unfoldable pub import_begin : ParseOptions → Addressing → TablePlaces → Reading ImportCursor
+import_begin opts addressing places =
+    pick opts.parse_imports (begin_in (is_strict opts.parse_mode) addressing places.imports)
     (given no_imports)
 
 -- the imports from there on

@@ -6,7 +6,7 @@ use Rattle.readings.specs.Walks.{IsWalkOf}
 use Rattle.goblin_pe_sect.specs.declared.options.ParseOptions.{ParseOptions}
 use Rattle.goblin_pe_sect.specs.declared.options.View.{View}
 use Rattle.goblin_pe_head.specs.declared.header.pe_header.Header.{Header}
-use Rattle.goblin_pe_sect.specs.Addresses.{MapOfAddresses, map_in, map_of, offset_of}
+use Rattle.goblin_pe_sect.specs.Addresses.{MapOfAddresses, map_in, map_of}
 use Rattle.goblin_pe_export.specs.declared.export.exports.Exports.{Exports}
 use Rattle.goblin_pe_export.specs.ExportReadings.{export_addresses}
 use Rattle.goblin_pe_export.specs.ExportRecords.{ExportTables, NumberedExport}
@@ -23,6 +23,7 @@ use Rattle.goblin_pe.specs.declared.whole.imports.FileImports.TheVariants.{Narro
 use Rattle.goblin_pe.specs.declared.whole.layout.Layout.{Layout}
 use Rattle.goblin_pe_sect.specs.Options.{is_strict}
 use Rattle.goblin_pe_sect.specs.SectionTable.{Section, recorded_sections}
+use Rattle.goblin_pe_sect.specs.Addresses.{Addressing}
 use Rattle.goblin_pe_head.specs.PeHeader.{header_value}
 use Rattle.goblin_pe.specs.Whole.{TablePlaces, mapped_in, part_at, places_in, sections_after}
 use Rattle.goblin_pe.specs.Whole.{table_places}
@@ -97,14 +98,14 @@ abbrev pub walked_exports : Exports → ExportTables × List NumberedExport
 walked_exports walk = (walked_tables walk, exports_left walk)
 
 -- what the export directory leads to besides the names of exports
-unfoldable pub address_part : ParseOptions → (ℕ → Option ℕ) → TablePlaces
+unfoldable pub address_part : ParseOptions → Addressing → TablePlaces
     → Reading (Part ExportTables)
-address_part opts offset_of places =
-    part_at (is_strict opts.parse_mode) (export_addresses offset_of) places.exports
+address_part opts addressing places =
+    part_at (is_strict opts.parse_mode) (export_addresses addressing) places.exports
 
 -- A walk over these bytes, whose addresses are mapped so: all exports are still to come, with their
 -- numbers.
 abbrev pub IsExportWalk : MapOfAddresses → List ℕ → Exports → Type 0
 IsExportWalk m bytes walk =
     AreExportsOver bytes m walk
-    × (exports_left walk ≡ numbered_from (offset_of m) bytes (walked_tables walk) 0)
+    × (exports_left walk ≡ numbered_from m.addressing bytes (walked_tables walk) 0)

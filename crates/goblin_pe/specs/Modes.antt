@@ -8,7 +8,7 @@ use Rattle.goblin_base.specs.Answers.{◌>>=◌}
 use Rattle.goblin_base.specs.Reading.{Reading, Reads}
 use Rattle.goblin_pe_sect.specs.declared.options.ParseOptions.{ParseOptions}
 use Rattle.goblin_pe_sect.specs.declared.options.View.TheVariants.{Sections}
-use Rattle.goblin_pe.specs.Whole.{TablePlaces, WholeFile, mapped_in, offset_by, part_map, places_in}
+use Rattle.goblin_pe.specs.Whole.{TablePlaces, WholeFile, mapped_in, addressing_by, part_map, places_in}
 
 -- these options in a mode
 abbrev pub in_mode : ParseMode → ParseOptions → ParseOptions
@@ -40,7 +40,8 @@ import_place opts whole =
     let places : TablePlaces = places_in whole.header.optional_header in
     places.imports
     >>= λ directory.
-    offset_by opts (mapped_in Sections whole.header whole.sections) places directory.virtual_address
+    (addressing_by opts (mapped_in Sections whole.header whole.sections) places).offset
+    directory.virtual_address
 
 -- what permissive mode has if strict mode has this
 unfoldable pub in_permissive_mode : ParseOptions → WholeFile → WholeFile

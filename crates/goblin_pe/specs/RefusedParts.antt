@@ -5,11 +5,12 @@ use Rattle.goblin_pe_sect.specs.declared.options.ParseOptions.{ParseOptions}
 use Rattle.goblin_pe_sect.specs.declared.options.View.{View}
 use Rattle.goblin_pe_sect.specs.Options.{is_strict}
 use Rattle.goblin_pe_sect.specs.SectionTable.{Section}
+use Rattle.goblin_pe_sect.specs.Addresses.{Addressing}
 use Rattle.goblin_pe_head.specs.HeaderReadings.{pe_header}
 use Rattle.goblin_pe_head.specs.PeHeader.{PeHeader}
 use Rattle.goblin_pe.specs.declared.whole.refused.RefusedPart.{RefusedPart}
 use Rattle.goblin_pe.specs.declared.whole.refused.RefusedPart.TheVariants as refused
-use Rattle.goblin_pe.specs.Whole.{TablePlaces, export_part, import_list, mapped_in, offset_by}
+use Rattle.goblin_pe.specs.Whole.{TablePlaces, export_part, import_list, mapped_in, addressing_by}
 use Rattle.goblin_pe.specs.Whole.{places_in, relocation_part, sections_after, whole_in}
 
 -- the number of a part
@@ -22,11 +23,11 @@ refused_number refused.Exports = 4
 refused_number refused.Relocations = 5
 
 -- the first of the tables that has no value; permissive mode has one for each
-abbrev pub refused_table : ParseOptions → (ℕ → Option ℕ) → TablePlaces → List ℕ → RefusedPart
-refused_table opts offset_of places bytes =
-    if is_some ((import_list opts offset_of places).value bytes)
-    then (if is_some ((export_part opts offset_of places).value bytes)
-    then (if is_some ((relocation_part opts offset_of places).value bytes)
+abbrev pub refused_table : ParseOptions → Addressing → TablePlaces → List ℕ → RefusedPart
+refused_table opts addressing places bytes =
+    if is_some ((import_list opts addressing places).value bytes)
+    then (if is_some ((export_part opts addressing places).value bytes)
+    then (if is_some ((relocation_part opts addressing places).value bytes)
     then refused.Nothing
     else refused.Relocations)
     else refused.Exports)
@@ -38,7 +39,7 @@ abbrev pub refused_with : View → ParseOptions → PeHeader → List ℕ → Op
 refused_with view opts h bytes None = refused.Sections
 refused_with view opts h bytes (Some sections) =
     let places = places_in h.optional_header in
-    refused_table opts (offset_by opts (mapped_in view h sections) places) places bytes
+    refused_table opts (addressing_by opts (mapped_in view h sections) places) places bytes
 
 abbrev pub refused_after : View → ParseOptions → List ℕ → PeHeader → RefusedPart
 refused_after view opts bytes h =

@@ -15,6 +15,7 @@ use Rattle.goblin_pe_sect.specs.SectionTable.{Section}
 use Rattle.goblin_pe.specs.declared.laws.order.Request.{Request}
 use Rattle.goblin_pe.specs.declared.laws.order.TablesOf.{TablesOf}
 use Rattle.goblin_pe_sect.specs.Addresses.{TakesMap}
+use Rattle.goblin_pe_sect.specs.Addresses.{Addressing}
 use Rattle.goblin_pe_export.specs.ExportReadings.{export_read}
 use Rattle.goblin_pe_export.specs.Exports.{HasExportEntries, export_data, export_read_view}
 use Rattle.goblin_pe_import.specs.ImportDirectory.{TakesLibraries}
@@ -27,41 +28,41 @@ use Rattle.goblin_pe.specs.Modes.{ReadsInModes, unless_front}
 pub record AreTables {D Y : Type 0} (format : Format EntryValue) (plain : D → Y)
     (value_of : Endian → List ℕ → Option (Y × ℕ))
     (refusal : Endian → List ℕ → ErrorOf → Type 0)
-    (strict : Bool) (offset_of : ℕ → Option ℕ)
+    (strict : Bool) (addressing : Addressing)
     (bytes : List ℕ) (request : Request) (tables : TablesOf D) : Type 0 where
   pub lookup : ReadsOrMemory (map entry_view) tables.lookup
-      (lookup_table strict format offset_of request.lookup) bytes
+      (lookup_table strict format addressing request.lookup) bytes
   pub imports : ReadsOrMemory (λ x. x) tables.imports
-      (import_data strict format offset_of request.imports.virtual_address) bytes
+      (import_data strict format addressing request.imports.virtual_address) bytes
   pub exports : ReadsOrMemory export_read_view tables.exports
-      (export_read offset_of request.exports) bytes
+      (export_read addressing request.exports) bytes
   pub relocations : Reads relocation_bytes tables.relocations
-      (relocation_data offset_of request.relocations) bytes
+      (relocation_data addressing.offset request.relocations) bytes
   pub name : Reads (option_map (λ s. s.now)) tables.name
-      (name_or_none strict offset_of request.name) bytes
+      (name_or_none strict addressing request.name) bytes
   pub value : Reads plain tables.value
-      (data_at offset_of value_of refusal request.value.virtual_address) bytes
+      (data_at addressing.offset value_of refusal request.value.virtual_address) bytes
 
 -- A reader is refused with Memory only if there is something to keep, or an index of the sections'
 -- windows to prepare; the three readers not listed take no memory.
 pub record AreGrown {D : Type 0} (format : Format EntryValue) (strict : Bool) (opts : ParseOptions)
-    (sections : List Section) (alignment : ℕ) (offset_of : ℕ → Option ℕ) (bytes : List ℕ)
+    (sections : List Section) (alignment : ℕ) (addressing : Addressing) (bytes : List ℕ)
     (request : Request) (tables : TablesOf D) : Type 0 where
   pub lookup : IfErr tables.lookup
       (λ e.
       IsMemory e
-      → KeepsEntries strict format offset_of bytes request.lookup
+      → KeepsEntries strict format addressing bytes request.lookup
       ⊎ TakesMap opts sections alignment)
   pub imports : IfErr tables.imports
       (λ e.
       IsMemory e
-      → IsSomeAnd (first_record_offset strict (offset_of request.imports.virtual_address))
-      (TakesLibraries strict format offset_of bytes)
+      → IsSomeAnd (first_record_offset strict (addressing.offset request.imports.virtual_address))
+      (TakesLibraries strict format addressing bytes)
       ⊎ TakesMap opts sections alignment)
   pub exports : IfErr tables.exports
       (λ e.
       IsMemory e
-      → IsSomeAnd (export_data offset_of request.exports bytes) HasExportEntries
+      → IsSomeAnd (export_data addressing request.exports bytes) HasExportEntries
       ⊎ TakesMap opts sections alignment)
 
 -- The answers of each reader are alike.
@@ -78,25 +79,25 @@ pub record AreAlike {D Y : Type 0} (plain : D → Y) (first second : TablesOf D)
 pub record AreInModes {D Y : Type 0} (format : Format EntryValue) (plain : D → Y)
     (value_of : Endian → List ℕ → Option (Y × ℕ))
     (refusal : Endian → List ℕ → ErrorOf → Type 0)
-    (offset_of : ℕ → Option ℕ) (request : Request) (bytes : List ℕ)
+    (addressing : Addressing) (request : Request) (bytes : List ℕ)
     (both : TablesOf D × TablesOf D) : Type 0 where
   pub lookup : InModes (map entry_view) (λ x. x)
-      (lookup_table true format offset_of request.lookup)
-      (lookup_table false format offset_of request.lookup) bytes
+      (lookup_table true format addressing request.lookup)
+      (lookup_table false format addressing request.lookup) bytes
       (both.0.lookup, both.1.lookup)
   pub imports : (let rva = request.imports.virtual_address in
-      InModes (λ x. x) (unless_front (offset_of rva)) (import_data true format offset_of rva)
-      (import_data false format offset_of rva) bytes
+      InModes (λ x. x) (unless_front (addressing.offset rva)) (import_data true format addressing rva)
+      (import_data false format addressing rva) bytes
       (both.0.imports, both.1.imports))
-  pub exports : InModes export_read_view (λ x. x) (export_read offset_of request.exports)
-      (export_read offset_of request.exports) bytes (both.0.exports, both.1.exports)
+  pub exports : InModes export_read_view (λ x. x) (export_read addressing request.exports)
+      (export_read addressing request.exports) bytes (both.0.exports, both.1.exports)
   pub relocations : ReadsInModes relocation_bytes (λ x. x)
-      (relocation_data offset_of request.relocations)
-      (relocation_data offset_of request.relocations) bytes
+      (relocation_data addressing.offset request.relocations)
+      (relocation_data addressing.offset request.relocations) bytes
       (both.0.relocations, both.1.relocations)
   pub name : ReadsInModes (option_map (λ s. s.now)) (λ x. x)
-      (name_or_none true offset_of request.name) (name_or_none false offset_of request.name) bytes
+      (name_or_none true addressing request.name) (name_or_none false addressing request.name) bytes
       (both.0.name, both.1.name)
   pub value : (let rva = request.value.virtual_address in
-      ReadsInModes plain (λ x. x) (data_at offset_of value_of refusal rva)
-      (data_at offset_of value_of refusal rva) bytes (both.0.value, both.1.value))
+      ReadsInModes plain (λ x. x) (data_at addressing.offset value_of refusal rva)
+      (data_at addressing.offset value_of refusal rva) bytes (both.0.value, both.1.value))

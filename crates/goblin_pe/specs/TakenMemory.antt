@@ -27,12 +27,12 @@ TakesImports m places bytes =
     IsTrue m.opts.parse_imports
     × IsSomeAnd places.imports (λ d.
     IsSomeAnd (first_record_offset (reads_strictly m) (offset_of m d.virtual_address))
-    (TakesLibraries (reads_strictly m) (entry_format places.magic) (offset_of m) bytes))
+    (TakesLibraries (reads_strictly m) (entry_format places.magic) m.addressing bytes))
 
 -- for the exports
 abbrev pub TakesExports : MapOfAddresses → TablePlaces → List ℕ → Type 0
 TakesExports m places bytes =
-    IsSomeAnd places.exports (λ d. IsSomeAnd (export_data (offset_of m) d bytes) HasExportEntries)
+    IsSomeAnd places.exports (λ d. IsSomeAnd (export_data m.addressing d bytes) HasExportEntries)
 
 -- for one of them
 abbrev pub TakesTables : MapOfAddresses → TablePlaces → List ℕ → Type 0

@@ -10,6 +10,7 @@ use Rattle.goblin_pe_sect.specs.declared.data_directories.DataDirectory.{DataDir
 use Rattle.goblin_pe_sect.specs.AddressReadings.{data_at, relocation_data}
 use Rattle.goblin_pe_sect.specs.BaseRelocations.{relocation_bytes}
 use Rattle.goblin_pe_sect.specs.SectionTable.{Section}
+use Rattle.goblin_pe_sect.specs.Addresses.{Addressing}
 use Rattle.goblin_pe_symbol.specs.Symbols.{symbol_bytes}
 use Rattle.goblin_pe_head.specs.declared.header.coff.CoffHeader.{CoffHeader}
 use Rattle.goblin_pe_head.specs.declared.header.te.TeHeader.{TeHeader}
@@ -50,7 +51,7 @@ sections_asked strict asked =
 -- Each answer is its reader's own for these bytes, over a map of addresses to file offsets.
 pub record AreParts {D Y : Type 0} (plain : D → Y) (value_of : Endian → List ℕ → Option (Y × ℕ))
     (refusal : Endian → List ℕ → ErrorOf → Type 0)
-    (strict : Bool) (offset_of : ℕ → Option ℕ)
+    (strict : Bool) (addressing : Addressing)
     (asked : PartsAsked) (bytes : List ℕ) (parts : PartsOf D) : Type 0 where
   pub header : Reads header_value parts.header header_without_dos bytes
   pub sections : ReadsOrMemory (λ v. v.items) parts.sections (sections_asked strict asked) bytes
@@ -58,9 +59,9 @@ pub record AreParts {D Y : Type 0} (plain : D → Y) (value_of : Endian → List
   pub strings : Reads (λ t. t) parts.strings (strings_of asked.coff_header) bytes
   pub te : ReadsOrMemory te_view parts.te (te_image asked.offset) bytes
   pub relocations : Reads relocation_bytes parts.relocations
-      (relocation_data offset_of asked.relocations) bytes
+      (relocation_data addressing.offset asked.relocations) bytes
   pub value : Reads plain parts.value
-      (data_at offset_of value_of refusal asked.value.virtual_address) bytes
+      (data_at addressing.offset value_of refusal asked.value.virtual_address) bytes
 
 -- A reader is refused with Memory only if there is a section and the file has room for all; the
 -- five readers not listed take no memory.
@@ -79,7 +80,7 @@ pub record ArePartsGrown {D : Type 0} (asked : PartsAsked) (bytes : List ℕ) (p
 pub record AreTwinParts {D Y : Type 0} (plain : D → Y)
     (value_of : Endian → List ℕ → Option (Y × ℕ))
     (refusal : Endian → List ℕ → ErrorOf → Type 0)
-    (strict : Bool) (offset_of : ℕ → Option ℕ)
+    (strict : Bool) (addressing : Addressing)
     (asked : PartsAsked) (a b : List ℕ) (both : PartsOf D × PartsOf D) : Type 0 where
   pub header : Twins header_value header_without_dos a b (both.0.header, both.1.header)
   pub sections : TwinsOrMemory (λ v. v.items) (sections_asked strict asked) a b
@@ -89,8 +90,8 @@ pub record AreTwinParts {D Y : Type 0} (plain : D → Y)
   pub strings : Twins (λ t. t) (strings_of asked.coff_header) a b
       (both.0.strings, both.1.strings)
   pub te : TwinsOrMemory te_view (te_image asked.offset) a b (both.0.te, both.1.te)
-  pub relocations : Twins relocation_bytes (relocation_data offset_of asked.relocations) a b
+  pub relocations : Twins relocation_bytes (relocation_data addressing.offset asked.relocations) a b
       (both.0.relocations, both.1.relocations)
   pub value : Twins plain
-      (data_at offset_of value_of refusal asked.value.virtual_address) a b
+      (data_at addressing.offset value_of refusal asked.value.virtual_address) a b
       (both.0.value, both.1.value)

@@ -17,6 +17,7 @@ use Rattle.goblin_pe_sect.specs.DataDirectories.{directory_in}
 use Rattle.goblin_pe_sect.specs.Addresses.{table_offset}
 use Rattle.goblin_pe_sect.specs.Options.{front_of, is_strict}
 use Rattle.goblin_pe_sect.specs.SectionTable.{MappedSections, Section}
+use Rattle.goblin_pe_sect.specs.Addresses.{Addressing, with_whole_names}
 use Rattle.goblin_pe_head.specs.declared.optional_header.OptionalHeader.{OptionalHeader}
 use Rattle.goblin_pe_head.specs.HeaderReadings.{pe_header}
 use Rattle.goblin_pe_head.specs.PeHeader.{PeHeader}
@@ -130,9 +131,10 @@ abbrev pub mapped_in : View → PeHeader → List Section → MappedSections
 mapped_in view h sections =
     record { sections = sections; front = front_of view (size_of_headers h.optional_header) }
 
--- the file offset of an address that a table says
-abbrev pub offset_by : ParseOptions → MappedSections → TablePlaces → ℕ → Option ℕ
-offset_by opts mapped places = table_offset opts mapped places.file_alignment
+-- where the addresses that tables say lead; names are read whole
+abbrev pub addressing_by : ParseOptions → MappedSections → TablePlaces → Addressing
+addressing_by opts mapped places =
+    with_whole_names (table_offset opts mapped places.file_alignment)
 
 -- ---- the tables
 
@@ -143,21 +145,21 @@ imports_part opts read places =
     pick opts.parse_imports (part_at (is_strict opts.parse_mode) read places.imports) (given Absent)
 
 -- the import data
-unfoldable pub import_data_part : ParseOptions → (ℕ → Option ℕ) → TablePlaces
+unfoldable pub import_data_part : ParseOptions → Addressing → TablePlaces
     → Reading (Part (List ImportedLibrary))
-import_data_part opts offset_of places =
+import_data_part opts addressing places =
     imports_part opts
     (λ d.
-    import_data (is_strict opts.parse_mode) (entry_format places.magic) offset_of d.virtual_address)
+    import_data (is_strict opts.parse_mode) (entry_format places.magic) addressing d.virtual_address)
     places
 
 -- the same libraries, each with the index of its record
-unfoldable pub numbered_data_part : ParseOptions → (ℕ → Option ℕ) → TablePlaces
+unfoldable pub numbered_data_part : ParseOptions → Addressing → TablePlaces
     → Reading (Part (List NumberedLibrary))
-numbered_data_part opts offset_of places =
+numbered_data_part opts addressing places =
     imports_part opts
     (λ d.
-    numbered_data (is_strict opts.parse_mode) (entry_format places.magic) offset_of d.virtual_address)
+    numbered_data (is_strict opts.parse_mode) (entry_format places.magic) addressing d.virtual_address)
     places
 
 -- the list of imports made from import data
@@ -178,10 +180,10 @@ imports_in magic libraries =
     part_map (flat_map (numbered_imports (entry_format magic).width)) libraries
 
 -- the imports alone, each with the index of its library's record
-unfoldable pub import_list : ParseOptions → (ℕ → Option ℕ) → TablePlaces
+unfoldable pub import_list : ParseOptions → Addressing → TablePlaces
     → Reading (Part (List NumberedImport))
-import_list opts offset_of places =
-    mapped (imports_in places.magic) (numbered_data_part opts offset_of places)
+import_list opts addressing places =
+    mapped (imports_in places.magic) (numbered_data_part opts addressing places)
 
 -- libraries and imports without the indexes of the records
 abbrev pub without_indexes : Part (List NumberedLibrary) → Part (List ImportedLibrary)
@@ -197,16 +199,16 @@ both_lists magic libraries =
     (without_indexes libraries, without_numbers (imports_in magic libraries))
 
 -- the export data, with the exports that it lists, each with its numbers
-unfoldable pub export_part : ParseOptions → (ℕ → Option ℕ) → TablePlaces
+unfoldable pub export_part : ParseOptions → Addressing → TablePlaces
     → Reading (Part (ExportTables × List NumberedExport))
-export_part opts offset_of places =
-    part_at (is_strict opts.parse_mode) (numbered_read offset_of) places.exports
+export_part opts addressing places =
+    part_at (is_strict opts.parse_mode) (numbered_read addressing) places.exports
 
 -- the bytes of the base relocations
-unfoldable pub relocation_part : ParseOptions → (ℕ → Option ℕ) → TablePlaces
+unfoldable pub relocation_part : ParseOptions → Addressing → TablePlaces
     → Reading (Part (List ℕ))
-relocation_part opts offset_of places =
-    part_at (is_strict opts.parse_mode) (relocation_data offset_of) places.relocations
+relocation_part opts addressing places =
+    part_at (is_strict opts.parse_mode) (relocation_data addressing.offset) places.relocations
 
 -- what is kept of the tables of a file: imports, exports and base relocations
 pub record TableParts (I E : Type 0) : Type 0 where
@@ -219,12 +221,12 @@ abbrev pub NumberedTables : Type 0
 NumberedTables =
     TableParts (Part (List NumberedLibrary)) (Part (ExportTables × List NumberedExport))
 
-unfoldable pub table_parts : ParseOptions → (ℕ → Option ℕ) → TablePlaces → Reading NumberedTables
-table_parts opts offset_of places =
+unfoldable pub table_parts : ParseOptions → Addressing → TablePlaces → Reading NumberedTables
+table_parts opts addressing places =
     mapped (λ all. record { imports = all.0.0; exports = all.0.1; relocations = all.1 })
-    (numbered_data_part opts offset_of places
-    beside export_part opts offset_of places
-    beside relocation_part opts offset_of places)
+    (numbered_data_part opts addressing places
+    beside export_part opts addressing places
+    beside relocation_part opts addressing places)
 
 -- what a caller makes of the imports and of the exports
 abbrev pub collected_tables : {I E : Type 0} → (Part (List NumberedLibrary) → I)
@@ -243,9 +245,9 @@ ListedParts = TableParts (Part (List ImportedLibrary) × Part (List ImportValue)
 abbrev pub lists_of : ℕ → NumberedTables → ListedParts
 lists_of magic tables = collected_tables (both_lists magic) (part_map read_rows) tables
 
-abbrev pub listed_tables : ParseOptions → (ℕ → Option ℕ) → TablePlaces → Reading ListedParts
-listed_tables opts offset_of places =
-    mapped (lists_of places.magic) (table_parts opts offset_of places)
+abbrev pub listed_tables : ParseOptions → Addressing → TablePlaces → Reading ListedParts
+listed_tables opts addressing places =
+    mapped (lists_of places.magic) (table_parts opts addressing places)
 
 -- ---- the whole file
 
@@ -291,8 +293,8 @@ layout opts =
 unfoldable pub whole_with : View → ParseOptions → PeHeader → List Section → Reading WholeFile
 whole_with view opts h sections =
     let places = places_in h.optional_header in
-    let offset_of = offset_by opts (mapped_in view h sections) places in
-    mapped (whole_of h sections) (listed_tables opts offset_of places)
+    let addressing = addressing_by opts (mapped_in view h sections) places in
+    mapped (whole_of h sections) (listed_tables opts addressing places)
 
 -- what is read of a file by its header and its sections, which both modes require
 abbrev pub by_layout : {A : Type 0} → ParseOptions → (PeHeader → List Section → Reading A)
@@ -305,7 +307,7 @@ by_layout opts read =
 abbrev pub tables_with : View → ParseOptions → PeHeader → List Section → Reading NumberedTables
 tables_with view opts h sections =
     let places = places_in h.optional_header in
-    table_parts opts (offset_by opts (mapped_in view h sections) places) places
+    table_parts opts (addressing_by opts (mapped_in view h sections) places) places
 
 -- the file that begins with this header
 abbrev pub whole_after : View → ParseOptions → PeHeader → Reading WholeFile

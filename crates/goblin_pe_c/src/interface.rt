@@ -7,15 +7,15 @@ ghost use Rattle.std.specs.Prelude.{◌≡◌};
 /// The sum of this interface. A caller that declares another one has another number.
 #[unsafe(no_mangle)]
 pub extern "C" fn goblin_pe_interface() -> u32
-    ensures { result ≡ 1426403128 }
+    ensures { result ≡ 3691341506 }
 {
-    1_426_403_128
+    3_691_341_506
 }
 
 /// The same, by a name that no other interface has, with which programs in C are linked.
 #[unsafe(no_mangle)]
-pub extern "C" fn goblin_pe_interface_55052f38() -> u32
-    ensures { result ≡ 1426403128 }
+pub extern "C" fn goblin_pe_interface_dc0566c2() -> u32
+    ensures { result ≡ 3691341506 }
 {
-    1_426_403_128
+    3_691_341_506
 }

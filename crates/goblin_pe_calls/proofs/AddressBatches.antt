@@ -16,7 +16,7 @@ use Rattle.goblin_pe_calls.specs.Batches.{GivesAddresses, addresses_in}
 use Rattle.goblin_pe_calls.specs.ExportDirectories.{address_said}
 
 module _ (m : MapOfAddresses) (places : TablePlaces) (bytes : List ℕ) (found : Part Exports)
-    (read : (address_part m.opts (offset_of m) places).value bytes ≡ Some (part_map walked_tables found))
+    (read : (address_part m.opts m.addressing places).value bytes ≡ Some (part_map walked_tables found))
     (x : ℕ) (old : List PeExportAddress) where
   given : (p : Part ExportTables) → part_map walked_tables found ≡ p
       → (y count : ℕ) (new : List PeExportAddress) → GivesOnward (addresses_in p) x old y new count

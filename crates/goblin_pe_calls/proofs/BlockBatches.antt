@@ -188,7 +188,7 @@ module _ (directory : List ℕ) (from : ℕ) (old : List PeBlock) where
 -- ---- in a file
 
 module _ (m : MapOfAddresses) (places : TablePlaces) (bytes : List ℕ) (found : Part RelocationData)
-    (read : (relocation_part m.opts (offset_of m) places).value bytes ≡ Some (part_map relocation_bytes found)) where
+    (read : (relocation_part m.opts m.addressing places).value bytes ≡ Some (part_map relocation_bytes found)) where
   module _ (x y : ℕ) (old new : List PeBlock) (count : ℕ) where
     -- where the directory was read
     pub blocks-given : (relocations : RelocationData) → found ≡ part.Read relocations
@@ -198,7 +198,7 @@ module _ (m : MapOfAddresses) (places : TablePlaces) (bytes : List ℕ) (found :
         rw (read ∙ ap (λ (p : Part RelocationData). Some (part_map relocation_bytes p)) is) fills
 
   module _ (x : ℕ) (old : List PeBlock) where
-    nothing : (p : Part (List ℕ)) → items_from x p ≡ [] → (relocation_part m.opts (offset_of m) places).value bytes ≡ Some p
+    nothing : (p : Part (List ℕ)) → items_from x p ≡ [] → (relocation_part m.opts m.addressing places).value bytes ≡ Some p
         → GivesBlocks m places bytes 0 (record { position = x; records = old }) (record { position = x; records = old }) 0
     nothing p none is =
         let values = values-end (items_from x p) none in
@@ -223,7 +223,7 @@ module _ (m : MapOfAddresses) (places : TablePlaces) (bytes : List ℕ) (found :
 
 -- what is answered where the directory was read
 pub blocks-answered : (m : MapOfAddresses) (places : TablePlaces) (bytes : List ℕ) (found : Part RelocationData)
-    → (relocation_part m.opts (offset_of m) places).value bytes ≡ Some (part_map relocation_bytes found)
+    → (relocation_part m.opts m.addressing places).value bytes ≡ Some (part_map relocation_bytes found)
     → (x y : ℕ) (old new : List PeBlock) (relocations : RelocationData) → found ≡ part.Read relocations
     → (result : Result ℕ ErrorOf)
     → MatchResult result (FillsBlocks (block_items (relocation_bytes relocations) x) (block_items (relocation_bytes relocations) y) (record { position = x; records = old }) (record { position = y; records = new }))

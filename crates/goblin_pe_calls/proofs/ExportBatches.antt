@@ -120,20 +120,20 @@ module _ (start : Exports) (old : List PeExport) (end : ℕ) where
 
 at-over : (s t : Exports) (x : ℕ) → KeepsOver s t → exports_at t x ≡ exports_at s x
 at-over s t x h =
-    ap (λ (m : MapOfAddresses). numbered_from (offset_of m) t.bytes.now (walked_tables t) x) h.0.1
-    ∙ ap (λ (b : List ℕ). numbered_from (offset_of (map_of s.finder)) b (walked_tables t) x) h.0.0
-    ∙ ap (λ (tables : ExportTables). numbered_from (offset_of (map_of s.finder)) s.bytes.now tables x) h.1
+    ap (λ (m : MapOfAddresses). numbered_from m.addressing t.bytes.now (walked_tables t) x) h.0.1
+    ∙ ap (λ (b : List ℕ). numbered_from (map_of s.finder).addressing b (walked_tables t) x) h.0.0
+    ∙ ap (λ (tables : ExportTables). numbered_from (map_of s.finder).addressing s.bytes.now tables x) h.1
 
 module _ (m : MapOfAddresses) (places : TablePlaces) (bytes : List ℕ) (found : Part Exports)
-    (read : (export_part m.opts (offset_of m) places).value bytes ≡ Some (part_map walked_exports found)) (x : ℕ) (old : List PeExport) where
+    (read : (export_part m.opts m.addressing places).value bytes ≡ Some (part_map walked_exports found)) (x : ℕ) (old : List PeExport) where
   module _ (walk : Exports) (is : found ≡ part.Read walk) (walks : IfRead (IsExportWalk m bytes) found) where
     over : IsExportWalk m bytes walk
     over = subst (λ (p : Part Exports). IfRead (IsExportWalk m bytes) p) is walks
 
-    from-there : (y : ℕ) → exports_at walk y ≡ numbered_from (offset_of m) bytes (walked_tables walk) y
+    from-there : (y : ℕ) → exports_at walk y ≡ numbered_from m.addressing bytes (walked_tables walk) y
     from-there y =
-        ap (λ (n : MapOfAddresses). numbered_from (offset_of n) walk.bytes.now (walked_tables walk) y) over.0.1
-        ∙ ap (λ (b : List ℕ). numbered_from (offset_of m) b (walked_tables walk) y) over.0.0
+        ap (λ (n : MapOfAddresses). numbered_from n.addressing walk.bytes.now (walked_tables walk) y) over.0.1
+        ∙ ap (λ (b : List ℕ). numbered_from m.addressing b (walked_tables walk) y) over.0.0
 
     pub exports-given : (steps : ℕ) (now next : Exports) (end count : ℕ) (new : List PeExport)
         → exports_left now ≡ exports_at walk x → KeepsOver walk now → exports_position now ≡ x
@@ -146,15 +146,15 @@ module _ (m : MapOfAddresses) (places : TablePlaces) (bytes : List ℕ) (found :
         → (length old ≡ 0 → next ≡ now)
         → GivesExports m places bytes steps (record { position = x; records = old }) (record { position = exports_position next; records = new }) count
     exports-given steps now next end count new begun over_now at limit inside limited batch later over_next further within whole stays =
-        let left : exports_left now ≡ numbered_from (offset_of m) bytes (walked_tables walk) x = begun ∙ from-there x in
-        let rest : numbered_from (offset_of m) bytes (walked_tables walk) (exports_position next) ≡ drop count (numbered_from (offset_of m) bytes (walked_tables walk) x) =
+        let left : exports_left now ≡ numbered_from m.addressing bytes (walked_tables walk) x = begun ∙ from-there x in
+        let rest : numbered_from m.addressing bytes (walked_tables walk) (exports_position next) ≡ drop count (numbered_from m.addressing bytes (walked_tables walk) x) =
         sym (at-over now next (exports_position next) over_next ∙ at-over walk now (exports_position next) over_now ∙ from-there (exports_position next))
         ∙ later ∙ ap (λ (items : List NumberedExport). drop count items) left in
-        let value : (export_part m.opts (offset_of m) places).value bytes ≡ Some (part.Read (walked_exports walk)) =
+        let value : (export_part m.opts m.addressing places).value bytes ≡ Some (part.Read (walked_exports walk)) =
         read ∙ ap (λ (p : Part Exports). Some (part_map walked_exports p)) is in
         let count_of = length-records_in 4 name_pointers.value_of walk.tables.name_pointers.now in
         let pointers = same-pointers walk now over_now in
-        let fills : FillsExports steps (length (walked_tables walk).export_name_pointer_table) (numbered_from (offset_of m) bytes (walked_tables walk) x) (numbered_from (offset_of m) bytes (walked_tables walk) (exports_position next)) (record { position = x; records = old }) (record { position = exports_position next; records = new }) count =
+        let fills : FillsExports steps (length (walked_tables walk).export_name_pointer_table) (numbered_from m.addressing bytes (walked_tables walk) x) (numbered_from m.addressing bytes (walked_tables walk) (exports_position next)) (record { position = x; records = old }) (record { position = exports_position next; records = new }) count =
         record {
           batch = subst (λ (items : List NumberedExport). IsBatch export_view export_said (take count items) old new count) left batch;
           rest = rest;
@@ -175,7 +175,7 @@ module _ (m : MapOfAddresses) (places : TablePlaces) (bytes : List ℕ) (found :
         (sym value) fills
 
   nothing : (steps : ℕ) (p : Part (ExportTables × List NumberedExport)) → ((y : ℕ) → exports_in m bytes y p ≡ [])
-      → (export_part m.opts (offset_of m) places).value bytes ≡ Some p
+      → (export_part m.opts m.addressing places).value bytes ≡ Some p
       → GivesExports m places bytes steps (record { position = x; records = old }) (record { position = x; records = old }) 0
   nothing steps p none is =
       let batch = batch-end export_view export_said old [] [] [] old 0 (batch-start export_view export_said old) refl (inr refl) in

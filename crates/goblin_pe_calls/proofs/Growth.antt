@@ -15,7 +15,7 @@ use Rattle.goblin_pe_sect.specs.SectionTable.{Section}
 use Rattle.goblin_pe_head.specs.HeaderReadings.{pe_header}
 use Rattle.goblin_pe_head.specs.PeHeader.{PeHeader, header_value}
 use Rattle.goblin_pe_head.specs.declared.header.pe_header.Header.{Header}
-use Rattle.goblin_pe_sect.specs.Addresses.{MapOfAddresses, map_in, offset_of}
+use Rattle.goblin_pe_sect.specs.Addresses.{MapOfAddresses, map_in}
 use Rattle.goblin_pe.specs.declared.whole.layout.Layout.{Layout}
 use Rattle.goblin_pe.specs.Layouts.{IsLayoutOf, file_imports_left, layout_map, layout_places}
 use Rattle.goblin_pe.specs.LayoutCursors.{IsImportWalkAt, file_cursor_left}
@@ -187,7 +187,7 @@ module _ (view : View) (opts : ParseOptions) (bytes : List ℕ) (h : PeHeader)
 
 -- the tables that are read so have an entry
 abbrev HasTablesIn : MapOfAddresses → TablePlaces → List ℕ → Type 0
-HasTablesIn m places bytes = IfSome ((table_parts m.opts (offset_of m) places).value bytes) (HasTables places.magic)
+HasTablesIn m places bytes = IfSome ((table_parts m.opts m.addressing places).value bytes) (HasTables places.magic)
 
 -- what is read by a layout is read of its file
 pub layout-kept : (view : View) (opts : ParseOptions) (bytes : List ℕ) (h : Header)

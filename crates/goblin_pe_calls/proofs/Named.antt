@@ -17,7 +17,7 @@ use Rattle.goblin_pe_head.specs.HeaderReadings.{pe_header}
 use Rattle.goblin_pe_head.specs.PeHeader.{PeHeader}
 use Rattle.goblin_pe_head.specs.CoffHeader.{symbols_end}
 use Rattle.goblin_pe_head.specs.CoffReadings.{sections_at}
-use Rattle.goblin_pe.specs.Whole.{TablePlaces, WholeFile, layout, mapped_in, offset_by, places_in, section_table_offset, sections_after, listed_tables, whole_in}
+use Rattle.goblin_pe.specs.Whole.{TablePlaces, WholeFile, layout, mapped_in, addressing_by, places_in, section_table_offset, sections_after, listed_tables, whole_in}
 use Rattle.goblin_pe.specs.Whole.{whole_of, whole_with}
 use Rattle.goblin_pe_records.specs.declared.directory.PeDirectory.{PeDirectory}
 use Rattle.goblin_pe_records.specs.Directories.{directories_of, entry_record}
@@ -35,7 +35,7 @@ read-from view opts bytes w h =
     let s1 = step ((pe_header strict).value bytes) _ w h in
     let s2 = step ((sections_after strict s1.value).value bytes) _ w s1.then in
     let places : TablePlaces = places_in s1.value.optional_header in
-    let s3 = mapped ((listed_tables opts (offset_by opts (mapped_in view s1.value s2.value) places) places).value bytes) (whole_of s1.value s2.value) w s2.then in
+    let s3 = mapped ((listed_tables opts (addressing_by opts (mapped_in view s1.value s2.value) places) places).value bytes) (whole_of s1.value s2.value) w s2.then in
     subst (λ (x : WholeFile). (sections_after strict x.header).value bytes ≡ Some x.sections) s3.made s2.is
 
 -- the sections after a header

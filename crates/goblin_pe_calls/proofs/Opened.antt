@@ -15,7 +15,7 @@ use Rattle.goblin_pe_head.specs.declared.header.pe_header.Header.{Header}
 use Rattle.goblin_pe_head.specs.HeaderReadings.{pe_header}
 use Rattle.goblin_pe_head.specs.PeHeader.{header_value}
 use Rattle.goblin_pe_export.specs.ExportRecords.{ExportTables, NumberedExport, read_rows}
-use Rattle.goblin_pe_sect.specs.Addresses.{MapOfAddresses, map_in, offset_of}
+use Rattle.goblin_pe_sect.specs.Addresses.{MapOfAddresses, map_in}
 use Rattle.goblin_pe.specs.declared.whole.Part.{Part}
 use Rattle.goblin_pe.specs.declared.whole.Part.TheVariants.{Absent, Refused}
 use Rattle.goblin_pe.specs.declared.whole.Part.TheVariants as part
@@ -124,7 +124,7 @@ module _ (view : View) (opts : ParseOptions) (bytes : List ℕ) (h : Header)
   abbrev MakesTables : Result FileRecords ErrorOf → MapOfAddresses → TablePlaces → List ℕ → Type 0
   MakesTables result m at file =
       ReadsOrMemory tables_view result
-      (mapped (collected_tables (imports_said at.magic) exports_said) (table_parts m.opts (offset_of m) at)) file
+      (mapped (collected_tables (imports_said at.magic) exports_said) (table_parts m.opts m.addressing at)) file
 
   makes : (result : Result FileRecords ErrorOf)
       → MakesTables result (layout_map l) (layout_places l) l.bytes.now

@@ -23,7 +23,8 @@ use Rattle.goblin_pe_head.specs.PeHeader.{PeHeader}
 use Rattle.goblin_pe_head.proofs.SectionRecords.{section_end, section_more, sections_from, sections_of_slice, unnamed_from}
 use Rattle.goblin_pe.specs.Whole.{TablePlaces, places_in, section_table_offset, sections_after, size_of_headers}
 use Rattle.goblin_pe_sect.specs.Options.{front_of}
-use Rattle.goblin_pe_records.specs.Options.{options_at, view_of}
+use Rattle.goblin_pe_records.specs.Options.{longest_of, options_at, view_of}
+use Rattle.goblin_pe_sect.specs.Addresses.{with_longest}
 use Rattle.goblin_pe_calls.specs.Places.{LeadsBack, directory_if, places_numbers, places_said}
 use Rattle.goblin_pe_calls.specs.Parts.{AreOfLayout, given_count, given_or, given_sections, sections_of, zero_coff_header}
 use Rattle.goblin_pe_head.specs.declared.header.coff.CoffHeader.{CoffHeader}
@@ -155,5 +156,5 @@ leads_back h = record {
       let n = h.coff_header.number_of_sections in
       let found = placed strict (symbols_end h.coff_header) bytes (section_table_offset h) n sections read n refl in
       let alignment = (places_in h.optional_header).file_alignment in
-      rw found (unnamed_map_in (options_at o alignment) (front_of (view_of o) (size_of_headers h.optional_header)) sections alignment);
+      rw found (ap (with_longest (longest_of o)) (unnamed_map_in (options_at o alignment) (front_of (view_of o) (size_of_headers h.optional_header)) sections alignment));
 }

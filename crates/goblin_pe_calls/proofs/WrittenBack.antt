@@ -15,7 +15,7 @@ use Rattle.goblin_pe_head.specs.HeaderLaws.{HeaderWritesBack}
 use Rattle.goblin_pe_head.specs.HeaderReadings.{fixed_fields, optional_at, optional_header, pe_header}
 use Rattle.goblin_pe_head.specs.PeHeader.{PeHeader, header_bytes, header_parts}
 use Rattle.goblin_pe_head.proofs.PeHeaderRoundTrip.{dos_of, header_back, parts_of}
-use Rattle.goblin_pe.specs.Whole.{TablePlaces, WholeFile, listed_tables, mapped_in, offset_by, places_in, sections_after, whole_in, whole_of, whole_with}
+use Rattle.goblin_pe.specs.Whole.{TablePlaces, WholeFile, listed_tables, mapped_in, addressing_by, places_in, sections_after, whole_in, whole_of, whole_with}
 use Rattle.goblin_pe_records.specs.declared.file.PeFile.{PeFile}
 use Rattle.goblin_pe_records.specs.Directories.{directories_of, entry_record}
 use Rattle.goblin_pe_calls.specs.Files.{file_of}
@@ -109,7 +109,7 @@ header-read view opts bytes w e =
     let header = step ((pe_header strict).value bytes) _ w e in
     let sections = step ((sections_after strict header.value).value bytes) _ w header.then in
     let places : TablePlaces = places_in header.value.optional_header in
-    let tables = mapped ((listed_tables opts (offset_by opts (mapped_in view header.value sections.value) places) places).value bytes) (whole_of header.value sections.value) w sections.then in
+    let tables = mapped ((listed_tables opts (addressing_by opts (mapped_in view header.value sections.value) places) places).value bytes) (whole_of header.value sections.value) w sections.then in
     subst (λ (x : WholeFile). (pe_header strict).value bytes ≡ Some x.header) tables.made header.is
 
 -- the records of a header that strict mode read say the same header

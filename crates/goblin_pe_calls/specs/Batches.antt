@@ -142,7 +142,7 @@ cursor_numbers c = record {
 -- the cursor at a position: the one that it says, or else where the imports begin
 abbrev pub import_cursor : MapOfAddresses → TablePlaces → PeImportCursor → Reading ImportCursor
 import_cursor m places p =
-    pick p.is_begun (given (cursor_said p)) (import_begin m.opts (offset_of m) places)
+    pick p.is_begun (given (cursor_said p)) (import_begin m.opts m.addressing places)
 
 -- the imports of a file from a position on
 abbrev pub imports_from_position : MapOfAddresses → TablePlaces → List ℕ → PeImportCursor
@@ -223,7 +223,7 @@ pub record GoesOn (m : MapOfAddresses) (places : TablePlaces) (bytes : List ℕ)
 abbrev pub exports_in : MapOfAddresses → List ℕ → ℕ → Part (ExportTables × List NumberedExport)
     → List NumberedExport
 exports_in m bytes x Absent = []
-exports_in m bytes x (part.Read read) = numbered_from (offset_of m) bytes read.0 x
+exports_in m bytes x (part.Read read) = numbered_from m.addressing bytes read.0 x
 exports_in m bytes x Refused = []
 
 -- how many name pointers tables have
@@ -252,14 +252,14 @@ pub record FillsExports (steps pointers : ℕ) (left later : List NumberedExport
 abbrev pub GivesExports : MapOfAddresses → TablePlaces → List ℕ → ℕ → ExportBatch → ExportBatch → ℕ
     → Type 0
 GivesExports m places bytes steps old new count =
-    IsSomeAnd ((export_part m.opts (offset_of m) places).value bytes) (λ p.
+    IsSomeAnd ((export_part m.opts m.addressing places).value bytes) (λ p.
     FillsExports steps (pointers_in p) (exports_in m bytes old.position p)
     (exports_in m bytes new.position p) old new count)
 
 -- the export directory is refused
 abbrev pub IsExportsFault : MapOfAddresses → TablePlaces → List ℕ → ErrorOf → Type 0
 IsExportsFault m places bytes e =
-    let read = export_part m.opts (offset_of m) places in
+    let read = export_part m.opts m.addressing places in
     IsRefused read bytes e
 
 -- why a batch of exports is refused, wherever it begins
@@ -277,11 +277,11 @@ directory_record_in Refused = no_export_directory
 
 abbrev pub SaysDirectory : MapOfAddresses → TablePlaces → List ℕ → DirectorySaid → Type 0
 SaysDirectory m places bytes said =
-    IsSomeAnd ((address_part m.opts (offset_of m) places).value bytes) (λ p. said ≡ directory_record_in p)
+    IsSomeAnd ((address_part m.opts m.addressing places).value bytes) (λ p. said ≡ directory_record_in p)
 
 -- it is refused, for another reason than the number of its name pointers
 abbrev pub IsAddressesFault : MapOfAddresses → TablePlaces → List ℕ → ErrorOf → Type 0
-IsAddressesFault m places bytes e = IsRefused (address_part m.opts (offset_of m) places) bytes e
+IsAddressesFault m places bytes e = IsRefused (address_part m.opts m.addressing places) bytes e
 
 -- why a batch of entries is refused, wherever it begins
 abbrev pub IsAddressBatchFault : {R : Type 0} → MapOfAddresses → TablePlaces → List ℕ → Batch ℕ R
@@ -303,7 +303,7 @@ AddressBatch = Batch ℕ PeExportAddress
 abbrev pub GivesAddresses : MapOfAddresses → TablePlaces → List ℕ → ℕ → AddressBatch → AddressBatch
     → ℕ → Type 0
 GivesAddresses m places bytes steps old new count =
-    IsSomeAnd ((address_part m.opts (offset_of m) places).value bytes) (λ p.
+    IsSomeAnd ((address_part m.opts m.addressing places).value bytes) (λ p.
     GivesOnward (addresses_in p) old.position old.records new.position new.records count)
 
 -- ---- blocks of base relocations
@@ -337,13 +337,13 @@ pub record FillsBlocks (left later : List (Result Block ErrorOf)) (old new : Blo
 abbrev pub GivesBlocks : MapOfAddresses → TablePlaces → List ℕ → ℕ → BlockBatch → BlockBatch → ℕ
     → Type 0
 GivesBlocks m places bytes steps old new count =
-    IsSomeAnd ((relocation_part m.opts (offset_of m) places).value bytes) (λ p.
+    IsSomeAnd ((relocation_part m.opts m.addressing places).value bytes) (λ p.
     FillsBlocks (items_from old.position p) (items_from new.position p) old new count)
 
 -- The directory is refused, or else the very next item, and there is room for it.
 abbrev pub IsBlocksFault : MapOfAddresses → TablePlaces → List ℕ → BlockBatch → ErrorOf → Type 0
 IsBlocksFault m places bytes old e =
-    let read = relocation_part m.opts (offset_of m) places in
+    let read = relocation_part m.opts m.addressing places in
     FirstFault (read.value bytes) (read.IsCause bytes)
     (λ p e. (0 < length old.records) × IsNextRefusal (items_from old.position p) e) e
 

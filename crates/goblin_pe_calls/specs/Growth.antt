@@ -49,15 +49,15 @@ HasRecords w =
 -- the imports begin with one
 abbrev pub ImportsBegin : MapOfAddresses → TablePlaces → List ℕ → Type 0
 ImportsBegin m places bytes =
-    IsSomeAnd ((import_begin m.opts (offset_of m) places).value bytes)
+    IsSomeAnd ((import_begin m.opts m.addressing places).value bytes)
     (λ c. IsBegun (file_cursor_left m places.magic bytes c))
 
 -- the imports begin with one; or they can be read, and there is an export or an export address
 abbrev pub TablesBegin : MapOfAddresses → TablePlaces → List ℕ → Type 0
 TablesBegin m places bytes =
     ImportsBegin m places bytes
-    ⊎ (IsSome ((numbered_data_part m.opts (offset_of m) places).value bytes)
-    × IsSomeAnd ((export_part m.opts (offset_of m) places).value bytes) HasExports)
+    ⊎ (IsSome ((numbered_data_part m.opts m.addressing places).value bytes)
+    × IsSomeAnd ((export_part m.opts m.addressing places).value bytes) HasExports)
 
 -- a file with this header has sections, or its tables begin without any
 abbrev pub FileBegins : View → ParseOptions → List ℕ → PeHeader → Type 0

@@ -3,7 +3,7 @@ use Rattle.std.specs.Prelude.{◌≡◌, ℕ, Bool, if◌then◌else◌, List, l
 use Rattle.std.specs.Prelude.{None, Some, IsSomeAnd, unwrap_or, is_some}
 use Rattle.goblin_base.specs.Reading.{Reading}
 use Rattle.goblin_pe_sect.specs.declared.data_directories.DataDirectory.{DataDirectory}
-use Rattle.goblin_pe_sect.specs.Addresses.{AreMany, MapOfAddresses, map_in}
+use Rattle.goblin_pe_sect.specs.Addresses.{AreMany, MapOfAddresses, map_in, with_longest}
 use Rattle.goblin_pe_sect.specs.DataDirectories.{no_directory}
 use Rattle.goblin_pe_sect.specs.Options.{front_of}
 use Rattle.goblin_pe_sect.specs.SectionTable.{Section}
@@ -14,7 +14,7 @@ use Rattle.goblin_pe.specs.Whole.{TablePlaces, mapped_in, places_in, section_tab
 use Rattle.goblin_pe.specs.Whole.{size_of_headers}
 use Rattle.goblin_pe_records.specs.declared.options.PeOptions.{PeOptions}
 use Rattle.goblin_pe_records.specs.declared.places.PePlaces.{PePlaces}
-use Rattle.goblin_pe_records.specs.Options.{options_at, view_of}
+use Rattle.goblin_pe_records.specs.Options.{longest_of, options_at, view_of}
 
 -- ---- the record of a header
 
@@ -60,11 +60,13 @@ places_said p = record {
 abbrev pub placed_sections : PePlaces → Reading (List Section)
 placed_sections p = sections_there p.number_of_sections p.section_table
 
--- how addresses are mapped by these sections, and in the loader's view by the file's front
+-- how addresses are mapped by these sections, and in the loader's view by the file's front; names
+-- are read up to the limit that the options say
 abbrev pub map_at : PeOptions → PePlaces → List Section → MapOfAddresses
 map_at o p sections =
-    map_in (options_at o p.file_alignment)
-    (record { sections = sections; front = front_of (view_of o) p.size_of_headers }) p.file_alignment
+    with_longest (longest_of o)
+    (map_in (options_at o p.file_alignment)
+    (record { sections = sections; front = front_of (view_of o) p.size_of_headers }) p.file_alignment)
 
 -- memory is taken for an index: there are more than 96 sections, by whose windows addresses are
 -- mapped
@@ -74,7 +76,7 @@ TakesIndexAt o p bytes =
     × IsSomeAnd ((placed_sections p).value bytes) (λ sections. AreMany (length sections))
 
 -- The places of a header lead back to its file: its tables lie there, and addresses are mapped by
--- the sections after it, and in the loader's view by its front.
+-- the sections after it, and in the loader's view by its front. Names are read up to the limit.
 pub record LeadsBack (h : PeHeader) : Type 0 where
   pub tables : places_said (places_record h) ≡ places_in h.optional_header
   pub sections : (strict : Bool) (bytes : List ℕ) (sections : List Section)
@@ -82,4 +84,5 @@ pub record LeadsBack (h : PeHeader) : Type 0 where
       → IsSomeAnd ((placed_sections (places_record h)).value bytes) (λ found.
       let alignment = (places_in h.optional_header).file_alignment in
       map_at o (places_record h) found
-      ≡ map_in (options_at o alignment) (mapped_in (view_of o) h sections) alignment)
+      ≡ with_longest (longest_of o)
+      (map_in (options_at o alignment) (mapped_in (view_of o) h sections) alignment))

@@ -6,7 +6,7 @@ ghost use Rattle.std.specs.Prelude.{vec_capacity, vec_len};
 ghost use Rattle.goblin_base.specs.Answers.{GivesOrMemory, IsMemory};
 ghost use Rattle.goblin_base.specs.Reading.{ReadsOrMemory};
 ghost use Rattle.goblin_pe.specs.Reads.{mapped};
-ghost use Rattle.goblin_pe_sect.specs.Addresses.{map_of, offset_of};
+ghost use Rattle.goblin_pe_sect.specs.Addresses.{map_of};
 ghost use Rattle.goblin_pe_export.specs.ExportWalks.{exports_left, walked_export, walked_tables};
 ghost use Rattle.goblin_pe_export.specs.Forwarders.{forwarder_value};
 ghost use Rattle.goblin_pe.specs.Callers.{layout_table};

@@ -3,7 +3,6 @@
 ghost use Rattle.std.specs.Prelude.{◌≡◌, Some};
 ghost use Rattle.goblin_pe_export.specs.Forwarders.{forwarder_value};
 ghost use Rattle.goblin_pe_records.specs.Calls.{ReadsWithout};
-ghost use Rattle.goblin_pe_records.specs.Images.{image_map};
 ghost use Rattle.goblin_pe_calls.specs.Exports.{forwarder_said};
 ghost use Rattle.goblin_pe_calls.specs.ForwardersAt.{forwarder_at_address, forwarder_view};
 
@@ -11,6 +10,7 @@ use crate::export::Forwards;
 use goblin_pe::export::Reexport;
 use goblin_pe::{Cause, Error, Result};
 use goblin_pe_records::image::PeImage;
+use goblin_pe_records::options::longest_of;
 
 /// What a forwarder stands for: an export of another library.
 #[repr(C)]
@@ -50,24 +50,24 @@ fn forwarder_record<'a>(bytes: &'a [u8], reexport: &Reexport<'a>) -> PeForwarder
     }
 }
 
-/// Reads the forwarder whose text is at an address.
+/// Reads the forwarder whose text is at an address, up to the limit that the image's options say.
 ///
 /// # Errors
 /// [`Error::Malformed`] with [`Cause::Unmapped`] if the address has no file offset, and as
-/// [`Reexport::parse`]; nothing is then changed.
+/// [`Reexport::parse_within`]; nothing is then changed.
 pub fn read_forwarder<'a>(
     image: &PeImage<'a>,
     rva: usize,
     forwarder: &mut PeForwarder<'a>,
 ) -> Result<()>
-    ensures { ReadsWithout (forwarder_at_address (image_map image.now) rva) image.now.bytes.now
+    ensures { ReadsWithout (forwarder_at_address image.now rva) image.now.bytes.now
         (λ f. forwarder_view forwarder.new ≡ (forwarder_said (Some f), 0))
         (forwarder.new ≡ forwarder.old) result }
 {
     let Some(offset) = image.offset_of(rva) else {
         return Err(Error::Malformed(Cause::Unmapped(rva)));
     };
-    let found = Reexport::parse(image.bytes, offset)?;
+    let found = Reexport::parse_within(image.bytes, offset, longest_of(&image.options))?;
     *forwarder = forwarder_record(image.bytes, &found);
     Ok(())
 }

@@ -7,7 +7,7 @@ ghost use Rattle.std.specs.Prelude.{option_map};
 ghost use Rattle.goblin_base.specs.Answers.{AnswersOrMemory, GivesOrMemory, IsMemory, all_of};
 ghost use Rattle.goblin_base.specs.Reading.{ReadsOrMemory};
 ghost use Rattle.goblin_pe.specs.Reads.{mapped};
-ghost use Rattle.goblin_pe_sect.specs.Addresses.{map_of, offset_of};
+ghost use Rattle.goblin_pe_sect.specs.Addresses.{map_of};
 ghost use Rattle.goblin_pe_import.specs.ImportWalks.{IsImportsCause, imports_left};
 ghost use Rattle.goblin_pe_import.specs.ImportWalks.{imports_map, walked_value};
 ghost use Rattle.goblin_pe.specs.Callers.{layout_table};

@@ -220,6 +220,7 @@ fn open_by<'a>(
 /// # Errors
 /// What these options refuse of the file, and memory; but for `part`, which becomes the part for
 /// which they refuse it, nothing is then changed, and no block is left.
+#[inline(always)]
 #[tactic(auto, unfolding(goblin_pe::specs::RefusedParts::refused_part))]
 pub fn open<'a>(
     alloc: Global,

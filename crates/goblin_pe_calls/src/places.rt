@@ -16,7 +16,7 @@ use goblin_pe::data_directories::DataDirectory;
 use goblin_pe::header::{Header, section_records_at};
 use goblin_pe::optional_header::OptionalHeader;
 use goblin_pe::{Layout, Places, ResultOf, section_table_offset, size_of_headers};
-use goblin_pe_records::options::{PeOptions, options_at, view_of};
+use goblin_pe_records::options::{PeOptions, longest_of, options_at, view_of};
 use goblin_pe_records::places::PePlaces;
 use std::alloc::Global;
 
@@ -82,8 +82,8 @@ fn places_said(places: &PePlaces) -> Places
 }
 
 /// What all tables of a file are read by, where these and the sections lie as a record says, and
-/// addresses are mapped as the options say, whatever the file's header says. Of the sections'
-/// records nothing is tested but that the file has them.
+/// addresses are mapped and names read as the options say, whatever the file's header says. Of the
+/// sections' records nothing is tested but that the file has them.
 ///
 /// # Errors
 /// [`Error::Read`](goblin_pe::Error::Read) where there are sections and the file is too short for
@@ -107,6 +107,7 @@ pub fn layout_at<'a, 'e>(
     let front = view_of(options).front(places.size_of_headers);
     let mapped = MappedRecords { records, front };
     let opts = options_at(options, places.file_alignment);
-    let layout = Layout::by(alloc, bytes, places_said(places), mapped, &opts)?;
+    let mut layout = Layout::by(alloc, bytes, places_said(places), mapped, &opts)?;
+    layout.set_longest_name(longest_of(options));
     Ok(layout)
 }

@@ -4,7 +4,6 @@ ghost use Rattle.std.specs.Prelude.{IfErr, IfOk, IfSome, OnErr};
 ghost use Rattle.goblin_base.specs.Answers.{IsMemory};
 ghost use Rattle.goblin_base.specs.Reading.{ReadsOrMemory};
 ghost use Rattle.goblin_pe.specs.Reads.{mapped};
-ghost use Rattle.goblin_pe_sect.specs.Addresses.{offset_of};
 ghost use Rattle.goblin_pe.specs.Callers.{layout_table};
 ghost use Rattle.goblin_pe.specs.Layouts.{layout_bytes, layout_map, layout_places};
 ghost use Rattle.goblin_pe.specs.Whole.{collected_tables, table_parts};
@@ -53,7 +52,7 @@ pub fn file_records<'a>(
         (λ e. IsMemory e → TablesBegin m (layout_places layout.now) (layout_bytes layout.now)) }
     ensures part { let m = layout_map layout.now in
         let places = layout_places layout.now in
-        IsRefusedFor (refused_table m.opts (offset_of m) places (layout_bytes layout.now)) part.new
+        IsRefusedFor (refused_table m.opts m.addressing places (layout_bytes layout.now)) part.new
         result }
 {
     // Exports often lie beside the imports; what the finder has of these takes no search.

@@ -13,12 +13,13 @@ use Rattle.goblin_pe_export.specs.Exports.{TakesRoomFor, export_row, is_own, lea
 use Rattle.goblin_pe_export.specs.Exports.{own_exports}
 use Rattle.goblin_pe_export.specs.declared.export.tables.ExportAddressTableEntry.{ExportAddressTableEntry}
 use Rattle.goblin_pe_export.specs.declared.export.tables.ExportAddressTableEntry.TheVariants.{ExportRVA, ForwarderRVA}
+use Rattle.goblin_pe_sect.specs.Addresses.{Addressing}
 
-module _ (offset_of : ℕ → Option ℕ) (bytes : List ℕ) (tables : ExportTables) where
+module _ (addressing : Addressing) (bytes : List ℕ) (tables : ExportTables) where
   -- the row of a name pointer and an entry of the ordinal table
   abbrev numbered : ℕ → ℕ → ℕ → Option ExportAddressTableEntry → Reading NumberedExport
   numbered x pointer ordinal address =
-      taken address >>= (λ address. mapped (numbered_by tables x pointer ordinal) (reading.row_of offset_of pointer address))
+      taken address >>= (λ address. mapped (numbered_by tables x pointer ordinal) (reading.row_of addressing pointer address))
 
   abbrev row : ℕ → Option ℕ → Option ℕ → Option ExportRow
   row x pointer ordinal =
@@ -46,7 +47,7 @@ module _ (offset_of : ℕ → Option ℕ) (bytes : List ℕ) (tables : ExportTab
 
   own-row : (x : ℕ) → x < length tables.export_name_pointer_table
       → (if leads_to_own tables x then 1 else 0)
-      ≤ length (option_to_list (export_row offset_of bytes tables x))
+      ≤ length (option_to_list (export_row addressing bytes tables x))
   unfolding reading.export_row reading.numbered_row
   own-row x below =
       elim (slice_get_cases tables.export_name_pointer_table x).1 [
@@ -57,7 +58,7 @@ module _ (offset_of : ℕ → Option ℕ) (bytes : List ℕ) (tables : ExportTab
   -- each that leads there is listed
   own_listed : (n : ℕ) → n ≤ length tables.export_name_pointer_table
       → own_exports tables n
-      ≤ length (concat_below (λ x. option_to_list (export_row offset_of bytes tables x)) n)
+      ≤ length (concat_below (λ x. option_to_list (export_row addressing bytes tables x)) n)
   unfolding own_exports
   own_listed zero within = omega arith
   own_listed (suc n) within =
@@ -65,8 +66,8 @@ module _ (offset_of : ℕ → Option ℕ) (bytes : List ℕ) (tables : ExportTab
         arith,
         own_listed n (omega arith),
         own-row n (omega arith),
-        length-append (concat_below (λ x. option_to_list (export_row offset_of bytes tables x)) n)
-            (option_to_list (export_row offset_of bytes tables n)),
+        length-append (concat_below (λ x. option_to_list (export_row addressing bytes tables x)) n)
+            (option_to_list (export_row addressing bytes tables n)),
       )
 
   -- room for as many as are expected is room for a few, or for those that are listed
@@ -75,7 +76,7 @@ module _ (offset_of : ℕ → Option ℕ) (bytes : List ℕ) (tables : ExportTab
       → expected ≡ length tables.export_name_pointer_table)
       → (32 < length tables.export_name_pointer_table
       → expected ≡ max 32 (own_exports tables (length tables.export_name_pointer_table)))
-      → v.items ≡ concat_below (λ x. option_to_list (export_row offset_of bytes tables x))
+      → v.items ≡ concat_below (λ x. option_to_list (export_row addressing bytes tables x))
       (length tables.export_name_pointer_table)
       → TakesRoomFor expected v → TakesRoomFor 32 v
   room_expected expected v few own listed room =

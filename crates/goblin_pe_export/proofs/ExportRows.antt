@@ -7,6 +7,7 @@ use Rattle.goblin_base.proofs.Below.{concat_below-next}
 use Rattle.goblin_pe_export.specs.ExportReadings as reading
 use Rattle.goblin_pe_export.specs.ExportRecords.{ExportRow, ExportTables}
 use Rattle.goblin_pe_export.specs.Exports.{export_row}
+use Rattle.goblin_pe_sect.specs.Addresses.{Addressing}
 
 module _ {A : Type 0} (row : ℕ → Option A) (n : ℕ) (rows : List A)
     (so_far : rows ≡ concat_below (λ x. option_to_list (row x)) n) where
@@ -38,11 +39,11 @@ map-below {A} {B} of f (suc n) =
     (elim (f n) as (λ o. map of (option_to_list o) ≡ option_to_list (option_map of o)) [ None ↦ refl | Some x ↦ refl ])
 
 -- a file with bytes lists these rows
-pub rows_listed : (offset_of : ℕ → Option ℕ) (bytes : List ℕ) (tables : ExportTables)
+pub rows_listed : (addressing : Addressing) (bytes : List ℕ) (tables : ExportTables)
     → (length bytes == 0) ≡ false
-    → (reading.exports offset_of tables).value bytes
-    ≡ Some (concat_below (λ x. option_to_list (export_row offset_of bytes tables x))
+    → (reading.exports addressing tables).value bytes
+    ≡ Some (concat_below (λ x. option_to_list (export_row addressing bytes tables x))
     (length tables.export_name_pointer_table))
 unfolding reading.exports reading.numbered_rows reading.export_row
-rows_listed offset_of bytes tables some =
-    rw some (ap (λ (rows : List ExportRow). Some rows) (map-below (λ x. x.row) (λ x. (reading.numbered_row offset_of tables x).value bytes) (length tables.export_name_pointer_table)))
+rows_listed addressing bytes tables some =
+    rw some (ap (λ (rows : List ExportRow). Some rows) (map-below (λ x. x.row) (λ x. (reading.numbered_row addressing tables x).value bytes) (length tables.export_name_pointer_table)))

@@ -11,6 +11,7 @@ use Rattle.goblin_base.proofs.Records.{record_at-some}
 use Rattle.goblin_base.proofs.Steps.{step}
 use Rattle.readings.proofs.WalkValues.{range-next}
 use Rattle.goblin_pe_sect.specs.declared.data_directories.DataDirectory.{DataDirectory}
+use Rattle.goblin_pe_sect.specs.Addresses.{Addressing}
 use Rattle.goblin_pe_export.specs.ExportReadings as reading
 use Rattle.goblin_pe_export.specs.ExportRecords.{ExportTables, export_directory_record}
 use Rattle.goblin_pe_export.specs.Exports.{export_data}
@@ -47,42 +48,42 @@ module _ {A : Type 0} (f : ℕ → Option A) where
 
 -- ---- the exports from a name pointer on
 
-module _ (offset_of : ℕ → Option ℕ) (bytes : List ℕ) (tables : ExportTables) where
+module _ (addressing : Addressing) (bytes : List ℕ) (tables : ExportTables) where
   abbrev numbered : ℕ → Option NumberedExport
-  numbered = numbered_export offset_of bytes tables
+  numbered = numbered_export addressing bytes tables
 
   abbrev count : ℕ
   count = length tables.export_name_pointer_table
 
   -- those from x on begin with that of x, if it has one
   from-first : (x : ℕ) → x < count
-      → numbered_from offset_of bytes tables x
-      ≡ cons_option (numbered x) (numbered_from offset_of bytes tables (x + 1))
+      → numbered_from addressing bytes tables x
+      ≡ cons_option (numbered x) (numbered_from addressing bytes tables (x + 1))
   unfolding numbered_from
   from-first x below =
       let more : count - x ≡ suc (count - (x + 1)) = omega arith in
       ap (λ (k : ℕ). filter_map numbered (range_with_len x k)) more
 
   pub from_export : (x : ℕ) (n : NumberedExport) → x < count → numbered x ≡ Some n
-      → numbered_from offset_of bytes tables x ≡ n ∷ numbered_from offset_of bytes tables (x + 1)
+      → numbered_from addressing bytes tables x ≡ n ∷ numbered_from addressing bytes tables (x + 1)
   from_export x n below is =
       from-first x below
-      ∙ ap (λ (o : Option NumberedExport). cons_option o (numbered_from offset_of bytes tables (x + 1))) is
+      ∙ ap (λ (o : Option NumberedExport). cons_option o (numbered_from addressing bytes tables (x + 1))) is
 
   pub from_none : (x : ℕ) → x < count → numbered x ≡ None
-      → numbered_from offset_of bytes tables x ≡ numbered_from offset_of bytes tables (x + 1)
+      → numbered_from addressing bytes tables x ≡ numbered_from addressing bytes tables (x + 1)
   from_none x below is =
       from-first x below
-      ∙ ap (λ (o : Option NumberedExport). cons_option o (numbered_from offset_of bytes tables (x + 1))) is
+      ∙ ap (λ (o : Option NumberedExport). cons_option o (numbered_from addressing bytes tables (x + 1))) is
 
-  pub from_end : (x : ℕ) → count ≤ x → numbered_from offset_of bytes tables x ≡ []
+  pub from_end : (x : ℕ) → count ≤ x → numbered_from addressing bytes tables x ≡ []
   unfolding numbered_from
   from_end x past =
       let none : count - x ≡ 0 = omega arith in
       ap (λ (k : ℕ). filter_map numbered (range_with_len x k)) none
 
   -- no more come than there are name pointers left
-  pub from_most : (x : ℕ) → length (numbered_from offset_of bytes tables x) ≤ count - x
+  pub from_most : (x : ℕ) → length (numbered_from addressing bytes tables x) ≤ count - x
   unfolding numbered_from
   from_most x =
       omega (arith, length-kept numbered (range_with_len x (count - x)), length-range_with_len x (count - x))
@@ -103,24 +104,24 @@ given-all end s t None given all =
 -- ---- a directory that was read
 
 -- the file has bytes, since it has the record
-data-there : (offset_of : ℕ → Option ℕ) (d : DataDirectory) (bytes : List ℕ)
-    (tables : ExportTables) → export_data offset_of d bytes ≡ Some tables
+data-there : (addressing : Addressing) (d : DataDirectory) (bytes : List ℕ)
+    (tables : ExportTables) → export_data addressing d bytes ≡ Some tables
     → (length bytes == 0) ≡ false
 unfolding reading.export_data
-data-there offset_of d bytes tables is =
-    let at = step (offset_of d.virtual_address) _ tables is in
+data-there addressing d bytes tables is =
+    let at = step (addressing.offset d.virtual_address) _ tables is in
     let here = step ((reading.export_record_at at.value).value bytes) _ tables at.then in
     let found = record_at-some 40 (export_directory_record Little) bytes at.value here.value here.is in
     ne_eqb (length bytes) 0 (λ none. omega (arith, found.start))
 
 -- the tables of a directory with all that comes are what is read
-pub read_walked : (offset_of : ℕ → Option ℕ) (d : DataDirectory) (bytes : List ℕ)
-    (tables : ExportTables) → export_data offset_of d bytes ≡ Some tables
-    → (reading.numbered_read offset_of d).value bytes
-    ≡ Some (tables, numbered_from offset_of bytes tables 0)
+pub read_walked : (addressing : Addressing) (d : DataDirectory) (bytes : List ℕ)
+    (tables : ExportTables) → export_data addressing d bytes ≡ Some tables
+    → (reading.numbered_read addressing d).value bytes
+    ≡ Some (tables, numbered_from addressing bytes tables 0)
 unfolding reading.numbered_read reading.numbered_rows numbered_from
-read_walked offset_of d bytes tables is =
+read_walked addressing d bytes tables is =
     let n = length tables.export_name_pointer_table in
     let all : n - 0 ≡ n = omega arith in
-    rw (is, data-there offset_of d bytes tables is, all)
-    (ap (λ (exports : List NumberedExport). Some (tables, exports)) (joined (numbered_export offset_of bytes tables) n))
+    rw (is, data-there addressing d bytes tables is, all)
+    (ap (λ (exports : List NumberedExport). Some (tables, exports)) (joined (numbered_export addressing bytes tables) n))

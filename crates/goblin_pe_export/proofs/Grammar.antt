@@ -1,5 +1,5 @@
 -- Forwarder texts: what the reader's calls say of them, and that the value is the grammar's.
-use Rattle.std.proofs.Common.{◌≡◌, ◌≢◌, ◌↔◌, ◌<◌, ◌+◌, ◌^◌, ◌&&◌, ℕ, Bool, true, false, ltb, eqb, Some, None, List, [], ◌∷◌, ◌++◌, length, get_or, take, drop, Result, Ok, Err, sym, ap, subst, ◌∙◌, refl, arith, inl, inr, option_map}
+use Rattle.std.proofs.Common.{◌≡◌, ◌≢◌, ◌↔◌, ◌<◌, ◌+◌, ◌^◌, ◌&&◌, ℕ, Bool, true, false, ltb, eqb, Some, None, List, [], ◌∷◌, ◌++◌, length, get_or, take, drop, Option, Result, Ok, Err, sym, ap, subst, ◌∙◌, refl, arith, inl, inr, option_map}
 use Rattle.std.proofs.lemmas.Bool.{cases_Bool, cases_lt, eqb-true, ltb-true, lt-ltb, eq-eqb, ne_eqb, and_parts, and_from, false_from_ne_true, true≢false}
 use Rattle.std.proofs.lemmas.List.{drop_all, length-append, length-take, get_or-take}
 use Rattle.std.proofs.lemmas.List.Sums.{split_at_first, fails_before_first, passes_at_first, position_or_len_is}
@@ -10,7 +10,7 @@ use Rattle.std.specs.Result.{result_ok}
 use Rattle.std.specs.List.{position_or_len, before_first, after_first}
 use Rattle.std.specs.Str.{all_ascii_digits}
 use Rattle.std.specs.Str.Parse.{IsNumeral, digits_value, without_leading_plus, ParsesUnsigned}
-use Rattle.goblin_pe_export.specs.Forwarders.{Forwarder, IsForwarder, is_dot, ordinal_of, export_of, forwarder_of}
+use Rattle.goblin_pe_export.specs.Forwarders.{Forwarder, IsForwarder, is_dot, ordinal_of, export_of, forwarder_in_text, forwarder_of}
 use Rattle.goblin_pe_export.specs.Forwarders.Forwarder.{ByName, ByOrdinal}
 use Rattle.goblin_pe_export.specs.Forwarders.IsForwarder.{Named, Numbered}
 
@@ -48,6 +48,11 @@ forwarder-parts text lib tail a b = rw (a, b) refl
 
 pub nothing-after : (text : List ℕ) → position_or_len is_dot text ≡ length text → after_first is_dot text ≡ []
 nothing-after text h = drop_all (position_or_len is_dot text + 1) text (omega (arith, h))
+
+-- a text that is whole names what it says
+pub not_longer : (is_longer : Bool) (text : List ℕ) (said : Option Forwarder) → is_longer ≡ false → forwarder_of text ≡ said → forwarder_in_text is_longer text ≡ said
+not_longer false text said none h = h
+not_longer true text said none h = absurd cc
 
 pub forwarder-missing : (text : List ℕ) → after_first is_dot text ≡ [] → forwarder_of text ≡ None
 unfolding forwarder_of export_of

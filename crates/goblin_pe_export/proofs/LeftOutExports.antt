@@ -8,6 +8,7 @@ use Rattle.goblin_pe_export.specs.ExportRecords.{ExportTables}
 use Rattle.goblin_pe_export.specs.ExportWalks.{numbered_export, numbered_from}
 use Rattle.goblin_pe_export.specs.ExportReadings as reading
 use Rattle.goblin_pe_export.specs.LeftOutExports.{gives_export, pointers_left_out}
+use Rattle.goblin_pe_sect.specs.Addresses.{Addressing}
 
 some-mapped : {A B : Type 0} (f : A → B) (o : Option A) → is_some o ≡ is_some (option_map f o)
 some-mapped f (Some x) = refl
@@ -37,16 +38,16 @@ module _ {X Y : Type 0} (f : X → Option Y) (p : X → Bool) (same : (x : X) �
       subst (λ (n : ℕ). length (filter_map f (x ∷ xs)) + n ≡ length (x ∷ xs)) (sym (sum_by-append (λ x. cond (not (p x)) 1 0) (x ∷ []) xs))
       (one-item (f x) (p x) (filter_map f xs) (count_by (λ x. not (p x)) xs) (length xs) (same x) (given-or-not xs))
 
-numbered-some : (offset_of : ℕ → Option ℕ) (bytes : List ℕ) (tables : ExportTables) (x : ℕ) → gives_export offset_of bytes tables x ≡ is_some (numbered_export offset_of bytes tables x)
+numbered-some : (addressing : Addressing) (bytes : List ℕ) (tables : ExportTables) (x : ℕ) → gives_export addressing bytes tables x ≡ is_some (numbered_export addressing bytes tables x)
 unfolding reading.export_row
-numbered-some offset_of bytes tables x = sym (some-mapped (λ n. n.row) (numbered_export offset_of bytes tables x))
+numbered-some addressing bytes tables x = sym (some-mapped (λ n. n.row) (numbered_export addressing bytes tables x))
 
 -- each name pointer is listed or left out
-pub listed_or_left_out : (offset_of : ℕ → Option ℕ) (bytes : List ℕ) (tables : ExportTables)
-    → length (numbered_from offset_of bytes tables 0) + pointers_left_out offset_of bytes tables ≡ length tables.export_name_pointer_table
+pub listed_or_left_out : (addressing : Addressing) (bytes : List ℕ) (tables : ExportTables)
+    → length (numbered_from addressing bytes tables 0) + pointers_left_out addressing bytes tables ≡ length tables.export_name_pointer_table
 unfolding numbered_from pointers_left_out
-listed_or_left_out offset_of bytes tables =
+listed_or_left_out addressing bytes tables =
     let n = length tables.export_name_pointer_table in
     let whole : n - 0 ≡ n = omega arith in
-    subst (λ (m : ℕ). length (filter_map (numbered_export offset_of bytes tables) (range_with_len 0 m)) + count_by (λ x. not (gives_export offset_of bytes tables x)) (range_with_len 0 n) ≡ n) (sym whole)
-    (given-or-not (numbered_export offset_of bytes tables) (gives_export offset_of bytes tables) (numbered-some offset_of bytes tables) (range_with_len 0 n) ∙ length-range_with_len 0 n)
+    subst (λ (m : ℕ). length (filter_map (numbered_export addressing bytes tables) (range_with_len 0 m)) + count_by (λ x. not (gives_export addressing bytes tables x)) (range_with_len 0 n) ≡ n) (sym whole)
+    (given-or-not (numbered_export addressing bytes tables) (gives_export addressing bytes tables) (numbered-some addressing bytes tables) (range_with_len 0 n) ∙ length-range_with_len 0 n)

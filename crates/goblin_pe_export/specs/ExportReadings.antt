@@ -14,8 +14,9 @@ use Rattle.goblin_pe_export.specs.ExportRecords.{IsCountFault, address_count-not
 use Rattle.goblin_pe_export.specs.ExportRecords.{NumberedExport, count-not_memory, counts_fit}
 use Rattle.goblin_pe_export.specs.ExportRecords.{name_pointers, numbered_by, read_rows}
 use Rattle.goblin_pe_export.specs.ExportRecords.{export_directory_record, ordinals, rva_of}
-use Rattle.goblin_pe_export.specs.Forwarders.{Forwarder, forwarder_at}
+use Rattle.goblin_pe_export.specs.Forwarders.{Forwarder, forwarder_within}
 use Rattle.goblin_pe_sect.specs.AddressReadings.{at_address, name_at}
+use Rattle.goblin_pe_sect.specs.Addresses.{Addressing}
 use Rattle.goblin_pe_export.specs.declared.export.tables.ExportAddressTableEntry.{ExportAddressTableEntry}
 use Rattle.goblin_pe_export.specs.declared.export.tables.ExportAddressTableEntry.TheVariants as variant
 use Rattle.goblin_pe_export.specs.declared.export.tables.ExportDirectoryTable.{ExportDirectoryTable}
@@ -36,9 +37,9 @@ fitting t =
 -- What a record leads to: the library's name, and the three tables, each empty where its address
 -- has no offset. There are as many ordinals as name pointers by the record's number, not by the
 -- pointers that are whole.
-unfoldable pub export_tables : (ℕ → Option ℕ) → DataDirectory → ExportDirectoryTable
+unfoldable pub export_tables : Addressing → DataDirectory → ExportDirectoryTable
     → Reading ExportTables
-export_tables offset_of d t =
+export_tables addressing d t =
     mapped (λ parts. record {
       name = parts.0.0.0;
       export_directory_table = t;
@@ -46,20 +47,20 @@ export_tables offset_of d t =
       export_ordinal_table = parts.0.1;
       export_address_table = parts.1;
     })
-    (or_none (name_at offset_of t.name_rva)
-    beside counted_if name_pointers t.number_of_name_pointers (offset_of t.name_pointer_rva)
-    beside counted_if ordinals t.number_of_name_pointers (offset_of t.ordinal_table_rva)
-    beside counted_if (addresses d) t.address_table_entries (offset_of t.export_address_table_rva))
+    (or_none (name_at addressing t.name_rva)
+    beside counted_if name_pointers t.number_of_name_pointers (addressing.offset t.name_pointer_rva)
+    beside counted_if ordinals t.number_of_name_pointers (addressing.offset t.ordinal_table_rva)
+    beside counted_if (addresses d) t.address_table_entries (addressing.offset t.export_address_table_rva))
 
 -- what a record leads to, where its counts fit the file
-abbrev pub tables_if : (ℕ → Option ℕ) → DataDirectory → ExportDirectoryTable
+abbrev pub tables_if : Addressing → DataDirectory → ExportDirectoryTable
     → Reading ExportTables
-tables_if offset_of d t = fitting t >>= export_tables offset_of d
+tables_if addressing d t = fitting t >>= export_tables addressing d
 
 -- the export data of a directory: what the record at its address leads to
-unfoldable pub export_data : (ℕ → Option ℕ) → DataDirectory → Reading ExportTables
-export_data offset_of d =
-    at_address offset_of d.virtual_address (λ p. export_record_at p >>= tables_if offset_of d)
+unfoldable pub export_data : Addressing → DataDirectory → Reading ExportTables
+export_data addressing d =
+    at_address addressing.offset d.virtual_address (λ p. export_record_at p >>= tables_if addressing d)
 
 -- ---- the address table alone
 
@@ -73,9 +74,9 @@ fitting_addresses t =
 
 -- what a record leads to besides the names of exports, whose tables are left out: the library's name
 -- and the address table
-unfoldable pub address_tables : (ℕ → Option ℕ) → DataDirectory → ExportDirectoryTable
+unfoldable pub address_tables : Addressing → DataDirectory → ExportDirectoryTable
     → Reading ExportTables
-address_tables offset_of d t =
+address_tables addressing d t =
     mapped (λ parts. record {
       name = parts.0;
       export_directory_table = t;
@@ -83,15 +84,15 @@ address_tables offset_of d t =
       export_ordinal_table = [];
       export_address_table = parts.1;
     })
-    (or_none (name_at offset_of t.name_rva)
-    beside counted_if (addresses d) t.address_table_entries (offset_of t.export_address_table_rva))
+    (or_none (name_at addressing t.name_rva)
+    beside counted_if (addresses d) t.address_table_entries (addressing.offset t.export_address_table_rva))
 
 -- what the record at a directory's address leads to besides the names, whatever it says of these: a
 -- loader finds an export by its ordinal without them
-unfoldable pub export_addresses : (ℕ → Option ℕ) → DataDirectory → Reading ExportTables
-export_addresses offset_of d =
-    at_address offset_of d.virtual_address
-    (λ p. export_record_at p >>= λ t. fitting_addresses t >>= address_tables offset_of d)
+unfoldable pub export_addresses : Addressing → DataDirectory → Reading ExportTables
+export_addresses addressing d =
+    at_address addressing.offset d.virtual_address
+    (λ p. export_record_at p >>= λ t. fitting_addresses t >>= address_tables addressing d)
 
 -- tables without those of the names
 abbrev pub without_names : ExportTables → ExportTables
@@ -99,31 +100,31 @@ without_names tables =
     record tables { export_name_pointer_table = []; export_ordinal_table = [] }
 
 -- Where the export data are read, these are their addresses.
-abbrev pub RepeatsAddresses : (ℕ → Option ℕ) → DataDirectory → List ℕ → Type 0
-RepeatsAddresses offset_of d bytes =
-    IfSome ((export_data offset_of d).value bytes)
-    (λ tables. (export_addresses offset_of d).value bytes ≡ Some (without_names tables))
+abbrev pub RepeatsAddresses : Addressing → DataDirectory → List ℕ → Type 0
+RepeatsAddresses addressing d bytes =
+    IfSome ((export_data addressing d).value bytes)
+    (λ tables. (export_addresses addressing d).value bytes ≡ Some (without_names tables))
 
 -- ---- the exports
 
 -- What an entry stands for in another library: nothing, or what its forwarder says, if there is
 -- one.
-abbrev pub reexport_of : (ℕ → Option ℕ) → ExportAddressTableEntry → Reading (Option Forwarder)
-reexport_of offset_of (variant.ExportRVA rva) = given None
-reexport_of offset_of (variant.ForwarderRVA rva) =
-    mapped (λ f. Some f) (at_address offset_of rva forwarder_at)
+abbrev pub reexport_of : Addressing → ExportAddressTableEntry → Reading (Option Forwarder)
+reexport_of addressing (variant.ExportRVA rva) = given None
+reexport_of addressing (variant.ForwarderRVA rva) =
+    mapped (λ f. Some f) (at_address addressing.offset rva (forwarder_within addressing.longest))
 
 -- the row of a name pointer and an address: it stays without a name that can't be read
-unfoldable pub row_of : (ℕ → Option ℕ) → ℕ → ExportAddressTableEntry → Reading ExportRow
-row_of offset_of pointer address =
+unfoldable pub row_of : Addressing → ℕ → ExportAddressTableEntry → Reading ExportRow
+row_of addressing pointer address =
     mapped (λ parts. record {
       name = parts.0;
-      offset = offset_of (rva_of address);
+      offset = addressing.offset (rva_of address);
       rva = rva_of address;
       size = 0;
       reexport = parts.1;
     })
-    (or_none (name_at offset_of pointer) beside reexport_of offset_of address)
+    (or_none (name_at addressing pointer) beside reexport_of addressing address)
 
 -- an entry of a table that was read; without it there is no row, so there is no cause
 abbrev pub entry_of : {A : Type 0} → List A → ℕ → Reading A
@@ -131,39 +132,39 @@ entry_of entries x = taken (slice_get entries x)
 
 -- The export of the name pointer at index x. Its entry of the ordinal table is at x too, and
 -- numbers its address; with the ordinal base added it is its ordinal.
-unfoldable pub numbered_row : (ℕ → Option ℕ) → ExportTables → ℕ → Reading NumberedExport
-numbered_row offset_of tables x =
+unfoldable pub numbered_row : Addressing → ExportTables → ℕ → Reading NumberedExport
+numbered_row addressing tables x =
     entry_of tables.export_name_pointer_table x
     >>= (λ pointer.
     entry_of tables.export_ordinal_table x
     >>= (λ ordinal.
     entry_of tables.export_address_table ordinal
     >>= (λ address.
-    mapped (numbered_by tables x pointer ordinal) (row_of offset_of pointer address))))
+    mapped (numbered_by tables x pointer ordinal) (row_of addressing pointer address))))
 
 -- its row alone
-unfoldable pub export_row : (ℕ → Option ℕ) → ExportTables → ℕ → Reading ExportRow
-export_row offset_of tables x = mapped (λ x. x.row) (numbered_row offset_of tables x)
+unfoldable pub export_row : Addressing → ExportTables → ℕ → Reading ExportRow
+export_row addressing tables x = mapped (λ x. x.row) (numbered_row addressing tables x)
 
 -- The exports that export data lists: those that exist, in the order of the name pointers. An empty
 -- file has none.
-unfoldable pub numbered_rows : (ℕ → Option ℕ) → ExportTables → Reading (List NumberedExport)
-numbered_rows offset_of tables =
+unfoldable pub numbered_rows : Addressing → ExportTables → Reading (List NumberedExport)
+numbered_rows addressing tables =
     mapped (λ read. if read.0 == 0 then [] else read.1)
     (file_length
-    beside each_kept (numbered_row offset_of tables) (length tables.export_name_pointer_table))
+    beside each_kept (numbered_row addressing tables) (length tables.export_name_pointer_table))
 
 -- their rows alone
-unfoldable pub exports : (ℕ → Option ℕ) → ExportTables → Reading (List ExportRow)
-exports offset_of tables = mapped (map (λ x. x.row)) (numbered_rows offset_of tables)
+unfoldable pub exports : Addressing → ExportTables → Reading (List ExportRow)
+exports addressing tables = mapped (map (λ x. x.row)) (numbered_rows addressing tables)
 
 -- the export data of a directory, and the exports that it lists
-unfoldable pub numbered_read : (ℕ → Option ℕ) → DataDirectory
+unfoldable pub numbered_read : Addressing → DataDirectory
     → Reading (ExportTables × List NumberedExport)
-numbered_read offset_of d =
-    export_data offset_of d >>= (λ tables. given tables beside numbered_rows offset_of tables)
+numbered_read addressing d =
+    export_data addressing d >>= (λ tables. given tables beside numbered_rows addressing tables)
 
 -- with the rows alone
-unfoldable pub export_read : (ℕ → Option ℕ) → DataDirectory
+unfoldable pub export_read : Addressing → DataDirectory
     → Reading (ExportTables × List ExportRow)
-export_read offset_of d = mapped read_rows (numbered_read offset_of d)
+export_read addressing d = mapped read_rows (numbered_read addressing d)

@@ -3,7 +3,8 @@ use Rattle.std.specs.Prelude.{◌≡◌, ℕ, ◌+◌, ◌-◌, ◌/◌, ◌<◌
 use Rattle.std.specs.Prelude.{Some, filter_map, length, max, min}
 use Rattle.std.specs.Iterator.{YieldsFirstBy}
 use Rattle.std.specs.List.{range_with_len}
-use Rattle.goblin_pe_sect.specs.Addresses.{MapOfAddresses, map_of, offset_of}
+use Rattle.goblin_pe_sect.specs.Addresses.{MapOfAddresses, map_of}
+use Rattle.goblin_pe_sect.specs.Addresses.{Addressing}
 use Rattle.goblin_pe_export.specs.ExportReadings.{numbered_row}
 use Rattle.goblin_pe_export.specs.ExportRecords.{ExportTables, tables_in}
 pub use Rattle.goblin_pe_export.specs.ExportRecords.{NumberedExport}
@@ -13,13 +14,13 @@ use Rattle.goblin_pe_export.specs.declared.export.exports.WalkedExport.{WalkedEx
 -- ---- the exports with their numbers
 
 -- the export of the name pointer at index x, where that has one
-abbrev pub numbered_export : (ℕ → Option ℕ) → List ℕ → ExportTables → ℕ → Option NumberedExport
-numbered_export offset_of bytes tables x = (numbered_row offset_of tables x).value bytes
+abbrev pub numbered_export : Addressing → List ℕ → ExportTables → ℕ → Option NumberedExport
+numbered_export addressing bytes tables x = (numbered_row addressing tables x).value bytes
 
 -- the exports of the name pointers from x on, in order
-unfoldable pub numbered_from : (ℕ → Option ℕ) → List ℕ → ExportTables → ℕ → List NumberedExport
-numbered_from offset_of bytes tables x =
-    filter_map (numbered_export offset_of bytes tables)
+unfoldable pub numbered_from : Addressing → List ℕ → ExportTables → ℕ → List NumberedExport
+numbered_from addressing bytes tables x =
+    filter_map (numbered_export addressing bytes tables)
     (range_with_len x (length tables.export_name_pointer_table - x))
 
 -- ---- the walk as callers see it
@@ -43,7 +44,7 @@ walked_tables walk = tables_in walk.tables
 -- what comes of a walk from a name pointer on
 abbrev pub exports_at : Exports → ℕ → List NumberedExport
 exports_at walk x =
-    numbered_from (offset_of (exports_map walk)) (exports_bytes walk) (walked_tables walk) x
+    numbered_from (exports_map walk).addressing (exports_bytes walk) (walked_tables walk) x
 
 -- where a walk is: the index of the name pointer that is read next
 abbrev pub exports_position : Exports → ℕ

@@ -7,6 +7,7 @@ use Rattle.std.specs.Global.{Global}
 use Rattle.goblin_pe_export.specs.declared.export.tables.ExportAddressTableEntry.{ExportAddressTableEntry}
 use Rattle.goblin_pe_export.specs.declared.export.tables.ExportAddressTableEntry.TheVariants as variant
 use Rattle.goblin_pe_sect.specs.declared.data_directories.DataDirectory.{DataDirectory}
+use Rattle.goblin_pe_sect.specs.Addresses.{Addressing}
 pub use Rattle.goblin_pe_export.specs.ExportRecords.{ExportRow, ExportTables, address_entry}
 pub use Rattle.goblin_pe_export.specs.ExportRecords.{addresses, export_directory_fields}
 pub use Rattle.goblin_pe_export.specs.ExportRecords.{export_directory_record, export_read_view}
@@ -15,8 +16,8 @@ pub use Rattle.goblin_pe_export.specs.ExportRecords.{rva_of}
 use Rattle.goblin_pe_export.specs.ExportReadings as reading
 
 -- the export data of a directory
-abbrev pub export_data : (ℕ → Option ℕ) → DataDirectory → List ℕ → Option ExportTables
-export_data offset_of d bytes = (reading.export_data offset_of d).value bytes
+abbrev pub export_data : Addressing → DataDirectory → List ℕ → Option ExportTables
+export_data addressing d bytes = (reading.export_data addressing d).value bytes
 
 -- a table has entries
 abbrev pub HasExportEntries : ExportTables → Type 0
@@ -25,18 +26,18 @@ HasExportEntries tables =
     ⊎ ((0 < length tables.export_ordinal_table) ⊎ (0 < length tables.export_address_table))
 
 -- the row of the name pointer at index x
-abbrev pub export_row : (ℕ → Option ℕ) → List ℕ → ExportTables → ℕ → Option ExportRow
-export_row offset_of bytes tables x = (reading.export_row offset_of tables x).value bytes
+abbrev pub export_row : Addressing → List ℕ → ExportTables → ℕ → Option ExportRow
+export_row addressing bytes tables x = (reading.export_row addressing tables x).value bytes
 
 -- there is an export: a name pointer has a row
-abbrev pub HasRow : (ℕ → Option ℕ) → List ℕ → ExportTables → Type 0
-HasRow offset_of bytes tables =
+abbrev pub HasRow : Addressing → List ℕ → ExportTables → Type 0
+HasRow addressing bytes tables =
     (x : ℕ) × (x < length tables.export_name_pointer_table)
-    × IsSome (export_row offset_of bytes tables x)
+    × IsSome (export_row addressing bytes tables x)
 
 -- the exports that export data lists; there always is a list
-abbrev pub exports : (ℕ → Option ℕ) → List ℕ → ExportTables → List ExportRow
-exports offset_of bytes tables = unwrap_or ((reading.exports offset_of tables).value bytes) []
+abbrev pub exports : Addressing → List ℕ → ExportTables → List ExportRow
+exports addressing bytes tables = unwrap_or ((reading.exports addressing tables).value bytes) []
 
 -- whether the name pointer at index x leads to an address that is not a forwarder's
 abbrev pub is_own : Option ExportAddressTableEntry → Bool

@@ -1,5 +1,5 @@
 -- Forwarders: texts that name an export of another library.
-use Rattle.std.specs.Prelude.{◌≡◌, ◌≢◌, ℕ, ◌+◌, ◌<◌, ◌^◌, ◌==◌, ◌&&◌, nat_lt, if◌then◌else◌, Bool}
+use Rattle.std.specs.Prelude.{◌≡◌, ◌≢◌, ℕ, ◌+◌, ◌<◌, ◌^◌, ◌==◌, ◌&&◌, nat_lt, if◌then◌else◌, Bool, true, false}
 use Rattle.std.specs.Prelude.{List, [], ◌∷◌, ◌++◌, length, slice_index, min, Option, Some, None}
 use Rattle.std.specs.Prelude.{option_map}
 use Rattle.std.specs.List.{before_first, after_first}
@@ -94,3 +94,21 @@ abbrev pub forwarder_at : ℕ → Reading Forwarder
 forwarder_at p =
     checked forwarder_of IsForwarderFault
     (λ text. by_cases-not_memory (IsForwarderFault text) (λ m h. h)) (reads.text_at p)
+
+-- What a text names, or the front of a longer one: then the library before its first dot, if there is
+-- one, and what follows as a name, whatever it is.
+abbrev pub forwarder_in_text : (is_longer : Bool) → List ℕ → Option Forwarder
+forwarder_in_text false text = forwarder_of text
+forwarder_in_text true text =
+    Some (ByName (after_first is_dot text) (before_first is_dot text))
+
+-- the text has more bytes than the limit
+abbrev pub is_longer : Option ℕ → List ℕ → Bool
+is_longer None text = false
+is_longer (Some n) text = nat_lt n (length text)
+
+-- the forwarder that the text at an offset names, up to a limit
+abbrev pub forwarder_within : Option ℕ → ℕ → Reading Forwarder
+forwarder_within longest p =
+    checked (λ text. forwarder_in_text (is_longer longest text) text) IsForwarderFault
+    (λ text. by_cases-not_memory (IsForwarderFault text) (λ m h. h)) (reads.text_within longest p)

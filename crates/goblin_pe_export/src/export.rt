@@ -9,7 +9,6 @@ ghost use Rattle.std.specs.Prelude.{IfSome, IsOk, IsSomeAnd, MatchOption, None, 
 ghost use Rattle.std.specs.Prelude.{Option, Some, length, max, option_and_then, option_map};
 ghost use Rattle.std.specs.Prelude.{slice_get, vec_capacity, vec_len};
 ghost use Rattle.goblin_base.specs.Answers.{GivesOrMemory, IsMemory};
-ghost use Rattle.goblin_base.specs.Bytes.{text_at};
 ghost use Rattle.goblin_base.specs.Reading.{ReadsOrMemory};
 ghost use Rattle.goblin_pe_sect.specs.Options.{default_options};
 ghost use Rattle.goblin_pe_sect.specs.Addresses.{TakesMap, map_by, map_of, offset_of};
@@ -18,9 +17,11 @@ ghost use Rattle.goblin_pe_export.specs.ExportRecords.{numbered_by};
 ghost use Rattle.goblin_pe_export.specs.ExportWalks.{numbered_export};
 ghost use Rattle.goblin_pe_export.specs.Exports.{HasExportEntries, HasRow, export_data, export_row};
 ghost use Rattle.goblin_pe_export.specs.Exports.{TakesRoomFor, exports, own_exports, rva_of};
-ghost use Rattle.goblin_pe_export.specs.Forwarders.{forwarder_at, forwarder_value};
+ghost use Rattle.goblin_pe_export.specs.Forwarders.{forwarder_value, forwarder_within};
+ghost use Rattle.readings.specs.Reads.{text_within};
+ghost use Rattle.goblin_pe_sect.specs.Addresses.{Addressing};
 
-use goblin_base::{Result, pread_plain_str, pread_str};
+use goblin_base::{Result, pread_plain_str, pread_str_within};
 use goblin_pe_sect::address_map::{AddressMap, Finder};
 use goblin_pe_sect::{DataDirectory, ParseOptions, SectionTable};
 use std::alloc::Global;
@@ -40,32 +41,37 @@ pub use tables::{
     ExportOrdinalTable, SIZEOF_EXPORT_ADDRESS_TABLE_ENTRY, SIZEOF_EXPORT_DIRECTORY_TABLE,
 };
 
-// The text at an offset, where there are both.
+// The text at an offset, up to a limit, where there are both.
 #[inline(always)]
-fn text_at(bytes: &[u8], offset: Option<usize>) -> Option<&str>
-    ensures { option_map (λ s. s.now) result ≡ option_and_then (text_at bytes.now) offset }
+fn text_at(bytes: &[u8], offset: Option<usize>, longest: Option<u32>) -> Option<&str>
+    ensures { option_map (λ s. s.now) result
+        ≡ option_and_then (λ p. (text_within longest p).value bytes.now) offset }
 {
-    pread_str(bytes, offset?).ok()
+    pread_str_within(bytes, offset?, longest).ok()
 }
 
-// The forwarder at an offset, where there are both.
+// The forwarder at an offset, up to a limit, where there are both.
 #[inline(always)]
-fn forwarder_at(bytes: &[u8], offset: Option<usize>) -> Option<Reexport<'_>>
+fn forwarder_at(bytes: &[u8], offset: Option<usize>, longest: Option<u32>) -> Option<Reexport<'_>>
     ensures { option_map forwarder_value result
-        ≡ option_and_then (λ p. (forwarder_at p).value bytes.now) offset }
+        ≡ option_and_then (λ p. (forwarder_within longest p).value bytes.now) offset }
 {
-    Reexport::parse(bytes, offset?).ok()
+    Reexport::parse_within(bytes, offset?, longest).ok()
 }
 
 // The same as `reexport_of` returns it. It is not inlined, so that a loop clears no room for a
 // forwarder, which few exports are.
 #[inline(never)]
-fn forwarded_at(bytes: &[u8], offset: Option<usize>) -> Option<Option<Reexport<'_>>>
+fn forwarded_at(
+    bytes: &[u8],
+    offset: Option<usize>,
+    longest: Option<u32>,
+) -> Option<Option<Reexport<'_>>>
     ensures { option_map (option_map forwarder_value) result
         ≡ option_map (λ f. Some f)
-        (option_and_then (λ p. (forwarder_at p).value bytes.now) offset) }
+        (option_and_then (λ p. (forwarder_within longest p).value bytes.now) offset) }
 {
-    let forwarder = forwarder_at(bytes, offset)?;
+    let forwarder = forwarder_at(bytes, offset, longest)?;
     Some(Some(forwarder))
 }
 
@@ -84,14 +90,15 @@ fn reexport_of<'a>(
     bytes: &'a [u8],
     address: ExportAddressTableEntry,
     offset: Option<usize>,
+    longest: Option<u32>,
 ) -> Option<Option<Reexport<'a>>>
-    ensures { (offset_of : ℕ → Option ℕ) → offset_of (rva_of address) ≡ offset
+    ensures { (m : Addressing) → m.offset (rva_of address) ≡ offset → m.longest ≡ longest
         → option_map (option_map forwarder_value) result
-        ≡ (reading.reexport_of offset_of address).value bytes.now }
+        ≡ (reading.reexport_of m address).value bytes.now }
 {
     match address {
         ExportAddressTableEntry::ExportRVA(_) => Some(None),
-        ExportAddressTableEntry::ForwarderRVA(_) => forwarded_at(bytes, offset),
+        ExportAddressTableEntry::ForwarderRVA(_) => forwarded_at(bytes, offset, longest),
     }
 }
 
@@ -144,10 +151,10 @@ impl<'a> ExportData<'a> {
         file_alignment: u32,
     ) -> Result<ExportData<'a>>
         ensures value { let m = map_by default_options sections.now file_alignment in
-            ReadsOrMemory (λ x. x) result (reading.export_data (offset_of m) directory) bytes.now }
+            ReadsOrMemory (λ x. x) result (reading.export_data m.addressing directory) bytes.now }
         ensures grown { let m = map_by default_options sections.now file_alignment in
             IfErr result (λ e. IsMemory e →
-            IsSomeAnd (export_data (offset_of m) directory bytes.now) HasExportEntries
+            IsSomeAnd (export_data m.addressing directory bytes.now) HasExportEntries
             ⊎ TakesMap default_options sections.now file_alignment) }
     {
         let opts = ParseOptions::default();
@@ -174,10 +181,10 @@ impl<'a> ExportData<'a> {
         opts: &ParseOptions,
     ) -> Result<ExportData<'a>>
         ensures value { let m = map_by opts.now sections.now file_alignment in
-            ReadsOrMemory (λ x. x) result (reading.export_data (offset_of m) directory) bytes.now }
+            ReadsOrMemory (λ x. x) result (reading.export_data m.addressing directory) bytes.now }
         ensures grown { let m = map_by opts.now sections.now file_alignment in
             IfErr result (λ e. IsMemory e →
-            IsSomeAnd (export_data (offset_of m) directory bytes.now) HasExportEntries
+            IsSomeAnd (export_data m.addressing directory bytes.now) HasExportEntries
             ⊎ TakesMap opts.now sections.now file_alignment) }
     {
         let address_map = AddressMap::prepare(alloc, sections, file_alignment, opts)?;
@@ -196,10 +203,10 @@ impl<'a> ExportData<'a> {
         address_map: &AddressMap,
     ) -> Result<ExportData<'a>>
         ensures value { let m = map_of address_map.now in
-            ReadsOrMemory (λ x. x) result (reading.export_data (offset_of m) directory) bytes.now }
+            ReadsOrMemory (λ x. x) result (reading.export_data m.addressing directory) bytes.now }
         ensures grown { let m = map_of address_map.now in
             IfErr result (λ e. IsMemory e →
-            IsSomeAnd (export_data (offset_of m) directory bytes.now) HasExportEntries) }
+            IsSomeAnd (export_data m.addressing directory bytes.now) HasExportEntries) }
     {
         let mut finder = Finder::of(address_map);
         let tables = TablesInFile::find(bytes, directory, &mut finder)?;
@@ -325,13 +332,14 @@ impl<'a> Export<'a> {
         finder: &mut Finder<'_>,
     ) -> Option<Export<'a>>
         ensures value { let m = map_of finder.old in
-            result ≡ (reading.row_of (offset_of m) pointer address).value bytes.now }
+            result ≡ (reading.row_of m.addressing pointer address).value bytes.now }
         ensures same { finder.new ≡ finder.old }
     {
         let rva = rva_of(address);
         let offset = finder.offset_of(rva);
-        let name = text_at(bytes, finder.offset_of_name(pointer));
-        let reexport = reexport_of(bytes, address, offset)?;
+        let longest = finder.longest_name();
+        let name = text_at(bytes, finder.offset_of_name(pointer), longest);
+        let reexport = reexport_of(bytes, address, offset, longest)?;
         Some(Export {
             name,
             offset,
@@ -353,7 +361,7 @@ impl<'a> Export<'a> {
     ) -> Option<Export<'a>>
         ensures value { let m = map_of finder.now in
             IfSome result
-            (λ x. (reading.row_of (offset_of m) pointer address).value bytes.now ≡ Some x) }
+            (λ x. (reading.row_of m.addressing pointer address).value bytes.now ≡ Some x) }
         ensures plain { IfSome result (λ x. x.reexport ≡ None) }
     {
         let ExportAddressTableEntry::ExportRVA(rva) = address else {
@@ -389,11 +397,11 @@ impl<'a> Export<'a> {
     ) -> Option<((u32, u16), Export<'a>)>
         ensures value { let m = map_of finder.old in
             let t = T.entries tables.now in
-            let export = numbered_export (offset_of m) bytes.now t index in
+            let export = numbered_export m.addressing bytes.now t index in
             MatchOption result (export ≡ None)
             (λ x. export ≡ Some (numbered_by t index x.0.0 x.0.1 x.1)) }
         ensures row { let m = map_of finder.old in
-            let row = export_row (offset_of m) bytes.now (T.entries tables.now) index in
+            let row = export_row m.addressing bytes.now (T.entries tables.now) index in
             MatchOption result (row ≡ None) (λ x. row ≡ Some x.1) }
         ensures same { finder.new ≡ finder.old }
     {
@@ -417,11 +425,11 @@ impl<'a> Export<'a> {
         file_alignment: u32,
     ) -> Result<Vec<Export<'a>>>
         ensures value { let m = map_by default_options sections.now file_alignment in
-            GivesOrMemory (λ v. v.items) result (exports (offset_of m) bytes.now export_data.now) }
+            GivesOrMemory (λ v. v.items) result (exports m.addressing bytes.now export_data.now) }
         ensures empty { length bytes.now ≡ 0 → IsOk result }
         ensures room { IfOk result (TakesRoomFor 32) }
         ensures grown { let m = map_by default_options sections.now file_alignment in
-            OnErr result (HasRow (offset_of m) bytes.now export_data.now
+            OnErr result (HasRow m.addressing bytes.now export_data.now
             ⊎ TakesMap default_options sections.now file_alignment) }
     {
         let opts = ParseOptions::default();
@@ -447,11 +455,11 @@ impl<'a> Export<'a> {
         opts: &ParseOptions,
     ) -> Result<Vec<Export<'a>>>
         ensures value { let m = map_by opts.now sections.now file_alignment in
-            GivesOrMemory (λ v. v.items) result (exports (offset_of m) bytes.now export_data.now) }
+            GivesOrMemory (λ v. v.items) result (exports m.addressing bytes.now export_data.now) }
         ensures empty { length bytes.now ≡ 0 → IsOk result }
         ensures room { IfOk result (TakesRoomFor 32) }
         ensures grown { let m = map_by opts.now sections.now file_alignment in
-            OnErr result (HasRow (offset_of m) bytes.now export_data.now
+            OnErr result (HasRow m.addressing bytes.now export_data.now
             ⊎ TakesMap opts.now sections.now file_alignment) }
     {
         if bytes.is_empty() {
@@ -473,11 +481,11 @@ impl<'a> Export<'a> {
         address_map: &AddressMap,
     ) -> Result<Vec<Export<'a>>>
         ensures value { let m = map_of address_map.now in
-            GivesOrMemory (λ v. v.items) result (exports (offset_of m) bytes.now export_data.now) }
+            GivesOrMemory (λ v. v.items) result (exports m.addressing bytes.now export_data.now) }
         ensures empty { length bytes.now ≡ 0 → IsOk result }
         ensures room { IfOk result (TakesRoomFor 32) }
         ensures grown { let m = map_of address_map.now in
-            OnErr result (HasRow (offset_of m) bytes.now export_data.now) }
+            OnErr result (HasRow m.addressing bytes.now export_data.now) }
     {
         let mut rows = Vec::new(alloc);
         if bytes.is_empty() {

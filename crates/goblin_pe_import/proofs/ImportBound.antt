@@ -12,6 +12,7 @@ use Rattle.goblin_base.proofs.Below.{join-parts, least-before}
 use Rattle.goblin_base.proofs.Records.{record_at-some}
 use Rattle.goblin_base.proofs.Steps.{mapped, same_value, step}
 use Rattle.goblin_pe_sect.specs.AddressReadings as address
+use Rattle.goblin_pe_sect.specs.Addresses.{Addressing}
 use Rattle.goblin_pe_import.specs.declared.import.directory_entry.ImportDirectoryEntry.{ImportDirectoryEntry}
 use Rattle.goblin_pe_import.specs.ImportBound.{AreFew}
 use Rattle.goblin_pe_import.specs.ImportReadings as directory
@@ -78,11 +79,11 @@ left_out-or strict (Some x) xs Holds none one e = subst Holds (same_value (x ∷
 left_out-or true None xs Holds none one e = absurd cc
 left_out-or false None xs Holds none one e = subst Holds (same_value [] xs e) none
 
-kept_name-few : (strict : Bool) (bytes : List ℕ) (rva : ℕ) (place : Option ℕ)
-    (xs : List LookupEntry) → (reading.kept_name strict rva place).value bytes ≡ Some xs
+kept_name-few : (strict : Bool) (longest : Option ℕ) (bytes : List ℕ) (rva : ℕ) (place : Option ℕ)
+    (xs : List LookupEntry) → (reading.kept_name strict longest rva place).value bytes ≡ Some xs
     → length xs ≤ 1
-kept_name-few strict bytes rva None xs e = omega (arith, ap length (same_value [] xs e))
-kept_name-few strict bytes rva (Some p) xs e =
+kept_name-few strict longest bytes rva None xs e = omega (arith, ap length (same_value [] xs e))
+kept_name-few strict longest bytes rva (Some p) xs e =
     left_out-or strict _ xs (λ xs. length xs ≤ 1) (omega arith) (λ x is. omega arith) e
 
 one_or : (test : Bool) (x : LookupEntry) (other : Reading (List LookupEntry)) (bytes : List ℕ)
@@ -91,14 +92,14 @@ one_or : (test : Bool) (x : LookupEntry) (other : Reading (List LookupEntry)) (b
 one_or true x other bytes xs few e = omega (arith, ap length (same_value (x ∷ []) xs e))
 one_or false x other bytes xs few e = few e
 
-pub kept_entry-few : (strict : Bool) (offset_of : ℕ → Option ℕ) (bytes : List ℕ)
+pub kept_entry-few : (strict : Bool) (addressing : Addressing) (bytes : List ℕ)
     (entry : EntryValue) (xs : List LookupEntry)
-    → (reading.kept_entry strict offset_of entry).value bytes ≡ Some xs → length xs ≤ 1
+    → (reading.kept_entry strict addressing entry).value bytes ≡ Some xs → length xs ≤ 1
 unfolding reading.kept_entry
-kept_entry-few strict offset_of bytes entry xs e =
+kept_entry-few strict addressing bytes entry xs e =
     one_or entry.is_ordinal (ByOrdinal entry.ordinal)
-    (reading.kept_name strict entry.rva (offset_of entry.rva)) bytes xs
-    (kept_name-few strict bytes entry.rva (offset_of entry.rva) xs) e
+    (reading.kept_name strict addressing.longest entry.rva (addressing.offset entry.rva)) bytes xs
+    (kept_name-few strict addressing.longest bytes entry.rva (addressing.offset entry.rva) xs) e
 
 pub with_slots-value : {A : Type 0} (kept : List ℕ) (made : Option A) (both : A × List ℕ)
     → with_slots kept made ≡ Some both → made ≡ Some both.0
@@ -127,20 +128,20 @@ pair_of-right {A} {B} (Some v) (Some w) both e =
     ap (λ (p : A × B). Some p.1) (same_value (v, w) both e)
 
 -- the libraries of import data: none, or those of the directory at the offset of its address
-module _ (strict : Bool) (format : Format EntryValue) (offset_of : ℕ → Option ℕ) (bytes : List ℕ)
+module _ (strict : Bool) (format : Format EntryValue) (addressing : Addressing) (bytes : List ℕ)
     (rva : ℕ) (xs : List ImportedLibrary) where
-  pub in_directory : (directory.import_data strict format offset_of rva).value bytes ≡ Some xs
+  pub in_directory : (directory.import_data strict format addressing rva).value bytes ≡ Some xs
       → (Holds : List ImportedLibrary → Type 0) → Holds []
-      → ((o : ℕ) → directory.first_record_offset strict (offset_of rva) ≡ Some o
-      → (directory.libraries_at strict format offset_of o).value bytes ≡ Some xs → Holds xs)
+      → ((o : ℕ) → directory.first_record_offset strict (addressing.offset rva) ≡ Some o
+      → (directory.libraries_at strict format addressing o).value bytes ≡ Some xs → Holds xs)
       → Holds xs
   unfolding directory.import_data
-  in_directory e Holds none at = by_place strict (offset_of rva) at e
+  in_directory e Holds none at = by_place strict (addressing.offset rva) at e
     where
       by_test : (mode test : Bool) (o : ℕ)
           → (cond test None (Some o) ≡ Some o
-          → (directory.libraries_at mode format offset_of o).value bytes ≡ Some xs → Holds xs)
-          → (directory.read_if (directory.libraries_at mode format offset_of) (cond test None (Some o))).value bytes
+          → (directory.libraries_at mode format addressing o).value bytes ≡ Some xs → Holds xs)
+          → (directory.read_if (directory.libraries_at mode format addressing) (cond test None (Some o))).value bytes
           ≡ Some xs
           → Holds xs
       by_test mode true o here e = subst Holds (same_value [] xs e) none
@@ -148,61 +149,61 @@ module _ (strict : Bool) (format : Format EntryValue) (offset_of : ℕ → Optio
 
       by_place : (mode : Bool) (place : Option ℕ)
           → ((o : ℕ) → directory.first_record_offset mode place ≡ Some o
-          → (directory.libraries_at mode format offset_of o).value bytes ≡ Some xs → Holds xs)
+          → (directory.libraries_at mode format addressing o).value bytes ≡ Some xs → Holds xs)
           → (in_its_place mode 0 place
-          >>= λ o. (directory.read_past_front mode (directory.libraries_at mode format offset_of) o).value bytes) ≡ Some xs
+          >>= λ o. (directory.read_past_front mode (directory.libraries_at mode format addressing) o).value bytes) ≡ Some xs
           → Holds xs
       by_place mode (Some o) at e = by_test mode (not mode && nat_eq o 0) o (at o) e
       by_place true None at e = absurd cc
       by_place false None at e = subst Holds (same_value [] xs e) none
 
-module _ (strict : Bool) (format : Format EntryValue) (offset_of : ℕ → Option ℕ) (bytes : List ℕ) (some : 0 < format.width) where
+module _ (strict : Bool) (format : Format EntryValue) (addressing : Addressing) (bytes : List ℕ) (some : 0 < format.width) where
   -- how many entries fit the file
   abbrev entries : ℕ
   entries = length bytes / format.width
 
-  lookup_table-few : (o : ℕ) (xs : List LookupEntry) → (reading.lookup_table strict format offset_of o).value bytes ≡ Some xs → length xs ≤ entries
+  lookup_table-few : (o : ℕ) (xs : List LookupEntry) → (reading.lookup_table strict format addressing o).value bytes ≡ Some xs → length xs ≤ entries
   lookup_table-few o xs e =
-      let few = slot_table-count length refl length-append (entry_slots format) strict (λ entry. (reading.kept_entry strict offset_of entry).value bytes) bytes o 1 some (kept_entry-few strict offset_of bytes) xs e in
+      let few = slot_table-count length refl length-append (entry_slots format) strict (λ entry. (reading.kept_entry strict addressing entry).value bytes) bytes o 1 some (kept_entry-few strict addressing bytes) xs e in
       omega (arith, few)
 
   lookup_if-few : (place : Option ℕ) (both : Option (List LookupEntry) × List ℕ)
-      → (directory.lookup_if strict format offset_of place).value bytes ≡ Some both
+      → (directory.lookup_if strict format addressing place).value bytes ≡ Some both
       → length (unwrap_or both.0 []) ≤ entries
   unfolding directory.lookup_if
   lookup_if-few None both e =
       subst (λ (t : Option (List LookupEntry) × List ℕ). length (unwrap_or t.0 []) ≤ entries)
       (same_value (None, []) both e) (omega arith)
   lookup_if-few (Some o) both e =
-      let m = mapped ((reading.lookup_with_slots strict format offset_of o).value bytes) _ both e in
-      let table = with_slots-value _ ((reading.lookup_table strict format offset_of o).value bytes) m.value m.is in
+      let m = mapped ((reading.lookup_with_slots strict format addressing o).value bytes) _ both e in
+      let table = with_slots-value _ ((reading.lookup_table strict format addressing o).value bytes) m.value m.is in
       subst (λ (t : Option (List LookupEntry) × List ℕ). length (unwrap_or t.0 []) ≤ entries)
       m.made (lookup_table-few o m.value.0 table)
 
   library_of-few : (r : ImportDirectoryEntry) (library : ImportedLibrary)
-      → (directory.library_of strict format offset_of r).value bytes ≡ Some library
+      → (directory.library_of strict format addressing r).value bytes ≡ Some library
       → length (kept_entries library) ≤ entries
   unfolding directory.library_of
   library_of-few r library e =
-      let place = lookup_offset offset_of r in
-      let name = in_its_place strict [] ((address.name_at offset_of r.name_rva).value bytes) in
-      let look = (directory.lookup_if strict format offset_of place).value bytes in
+      let place = lookup_offset addressing r in
+      let name = in_its_place strict [] ((address.name_at addressing r.name_rva).value bytes) in
+      let look = (directory.lookup_if strict format addressing place).value bytes in
       let m = mapped (pair_of (pair_of name look) _) _ library e in
       let there = pair_of-right name look m.value.0 (pair_of-left (pair_of name look) _ m.value m.is) in
       subst (λ (l : ImportedLibrary). length (kept_entries l) ≤ entries) m.made
       (lookup_if-few place m.value.0.1 there)
 
-  libraries_at-few : (o : ℕ) (xs : List ImportedLibrary) → (directory.libraries_at strict format offset_of o).value bytes ≡ Some xs → kept_count xs ≤ length bytes / 20 * entries
+  libraries_at-few : (o : ℕ) (xs : List ImportedLibrary) → (directory.libraries_at strict format addressing o).value bytes ≡ Some xs → kept_count xs ≤ length bytes / 20 * entries
   libraries_at-few o xs e =
-      slot_table-count kept_count refl (sum_by-append (λ library. length (kept_entries library))) import_slots strict (λ r. or_left_out strict ((directory.library_of strict format offset_of r).value bytes)) bytes o entries (omega arith)
-      (λ r ys is. left_out-or strict ((directory.library_of strict format offset_of r).value bytes) ys (λ ls. kept_count ls ≤ entries) (omega arith) (λ l here. omega (arith, library_of-few r l here)) is) xs e
+      slot_table-count kept_count refl (sum_by-append (λ library. length (kept_entries library))) import_slots strict (λ r. or_left_out strict ((directory.library_of strict format addressing r).value bytes)) bytes o entries (omega arith)
+      (λ r ys is. left_out-or strict ((directory.library_of strict format addressing r).value bytes) ys (λ ls. kept_count ls ≤ entries) (omega arith) (λ l here. omega (arith, library_of-few r l here)) is) xs e
 
   -- the entries that the lookup tables of import data keep
   pub import_data-few : (rva : ℕ) (libraries : List ImportedLibrary)
-      → (directory.import_data strict format offset_of rva).value bytes ≡ Some libraries
+      → (directory.import_data strict format addressing rva).value bytes ≡ Some libraries
       → kept_count libraries ≤ length bytes / 20 * entries
   import_data-few rva libraries e =
-      in_directory strict format offset_of bytes rva libraries e
+      in_directory strict format addressing bytes rva libraries e
       (λ ls. kept_count ls ≤ length bytes / 20 * entries) (omega arith)
       (λ o is here. libraries_at-few o libraries here)
 
@@ -241,8 +242,8 @@ imports_to size libraries (suc n) xs le e =
 
 pub are_few : (format : Format EntryValue) (libraries : List ImportedLibrary) (imports : List ImportValue) → 0 < format.width → imports_of format.width libraries ≡ Some imports → AreFew format libraries imports
 unfolding AreFew imports_of
-are_few format libraries imports some listed strict offset_of file rva read =
-    let few = import_data-few strict format offset_of file some rva libraries read in
+are_few format libraries imports some listed strict addressing file rva read =
+    let few = import_data-few strict format addressing file some rva libraries read in
     let all = imports_to format.width libraries (length libraries) imports (omega arith) listed in
     let whole : kept_count (take (length libraries) libraries) ≡ kept_count libraries = ap kept_count (take_all (length libraries) libraries (omega arith)) in
     omega (arith, few, all, whole)

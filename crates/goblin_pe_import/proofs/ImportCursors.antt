@@ -2,7 +2,7 @@
 use Rattle.std.proofs.Common.{◌≡◌, ℕ, List, ◌++◌, Option, None, Some, ap, refl, ◌∙◌}
 use Rattle.goblin_base.specs.Tables.{Format}
 use Rattle.readings.specs.Walks.{until_refused}
-use Rattle.goblin_pe_sect.specs.Addresses.{MapOfAddresses, map_of, offset_of, reads_strictly}
+use Rattle.goblin_pe_sect.specs.Addresses.{MapOfAddresses, map_of, reads_strictly}
 use Rattle.goblin_pe_import.specs.ImportEntries.{EntryValue}
 use Rattle.goblin_pe_import.specs.Imports.{NumberedImport}
 use Rattle.goblin_pe_import.specs.ImportWalks.{origin}
@@ -19,7 +19,7 @@ module _ (format : Format EntryValue) (w : Walk) where
   left_by place later dll =
       let m = map_of w.finder in
       until_refused
-      (imports_of_entries (reads_strictly m) format (offset_of m) w.bytes.now
+      (imports_of_entries (reads_strictly m) format m.addressing w.bytes.now
       (origin w.at.library dll) w.at.rva w.at.table_offset place ++ later)
 
   named-by : (place : Option ℕ) (later : List (Option NumberedImport)) (dll name : List ℕ)
@@ -30,7 +30,7 @@ module _ (format : Format EntryValue) (w : Walk) where
 
   pub named-left : IsNamed w → walk_left format w ≡ cursor_left (map_of w.finder) format w.bytes.now w.at
   named-left h =
-      named-by w.at.place _ w.dll.now (name_said (offset_of (map_of w.finder)) w.bytes.now w.at) h
+      named-by w.at.place _ w.dll.now (name_said (map_of w.finder).addressing w.bytes.now w.at) h
 
 -- the same of the walk at a cursor
 pub cursor_left_of : {T : Type 0} (m : MapOfAddresses) (format : Format EntryValue) (bytes : List ℕ)

@@ -8,7 +8,8 @@ use Rattle.goblin_base.proofs.Readings.{first_no_memory}
 use Rattle.goblin_pe_import.specs.declared.import.imports.Imports.{Imports}
 use Rattle.goblin_pe_import.specs.declared.import.imports.Walk.{Walk}
 use Rattle.goblin_pe_import.specs.declared.import.imports.WalkedImport.{WalkedImport}
-use Rattle.goblin_pe_sect.specs.Addresses.{map_of, offset_of, reads_strictly}
+use Rattle.goblin_pe_sect.specs.Addresses.{map_of, reads_strictly}
+use Rattle.goblin_pe_sect.specs.Addresses.{Addressing}
 use Rattle.goblin_pe_import.specs.ImportEntries.{EntryValue}
 use Rattle.goblin_pe_import.specs.ImportReadings.{libraries_at}
 use Rattle.goblin_pe_import.specs.LookupReadings.{lookup_table}
@@ -19,17 +20,17 @@ use Rattle.goblin_pe_import.specs.ImportWalks.{untested_table, walk_left, walked
 use Rattle.goblin_pe_import.specs.StepsAhead.{EndsWithin, GivesWithin}
 use Rattle.goblin_pe_import.proofs.ImportSteps.{ended-left}
 
-module _ (strict : Bool) (format : Format EntryValue) (offset_of : ℕ → Option ℕ)
+module _ (strict : Bool) (format : Format EntryValue) (addressing : Addressing)
     (bytes : List ℕ) (e : ErrorOf) where
-  entries-not_memory : (place : Option ℕ) → IsEntriesCause strict format offset_of bytes place e
+  entries-not_memory : (place : Option ℕ) → IsEntriesCause strict format addressing bytes place e
       → ¬ IsMemory e
   entries-not_memory None fault = absurd fault
   entries-not_memory (Some place) fault =
-      (lookup_table strict format offset_of place).not_memory bytes e fault
+      (lookup_table strict format addressing place).not_memory bytes e fault
 
-  next-not_memory : (next : Option ℕ) → IsNextCause strict format offset_of bytes next e → ¬ IsMemory e
+  next-not_memory : (next : Option ℕ) → IsNextCause strict format addressing bytes next e → ¬ IsMemory e
   next-not_memory None fault = absurd fault
-  next-not_memory (Some p) fault = (libraries_at strict format offset_of p).not_memory bytes e fault
+  next-not_memory (Some p) fault = (libraries_at strict format addressing p).not_memory bytes e fault
 
 walk-not_memory : (format : Format EntryValue) (w : Walk) (e : ErrorOf) → IsWalkCause format w e
     → ¬ IsMemory e
@@ -37,16 +38,16 @@ walk-not_memory format w e fault =
     let m = map_of w.finder in
     let strict = reads_strictly m in
     let bytes = w.bytes.now in
-    let table = untested_table strict format (offset_of m) w.at.untested in
+    let table = untested_table strict format m.addressing w.at.untested in
     first_no_memory
-    (all_of (entries_from strict format (offset_of m) bytes w.at.table_offset w.at.place))
-    (IsEntriesCause strict format (offset_of m) bytes w.at.place)
-    (λ _. IsLaterCause strict format (offset_of m) bytes w.at.untested w.at.next_record) e
-    (entries-not_memory strict format (offset_of m) bytes e w.at.place)
+    (all_of (entries_from strict format m.addressing bytes w.at.table_offset w.at.place))
+    (IsEntriesCause strict format m.addressing bytes w.at.place)
+    (λ _. IsLaterCause strict format m.addressing bytes w.at.untested w.at.next_record) e
+    (entries-not_memory strict format m.addressing bytes e w.at.place)
     (λ _. first_no_memory (table.value bytes) (table.IsCause bytes)
-    (λ _. IsNextCause strict format (offset_of m) bytes w.at.next_record) e
+    (λ _. IsNextCause strict format m.addressing bytes w.at.next_record) e
     (table.not_memory bytes e)
-    (λ _. next-not_memory strict format (offset_of m) bytes e w.at.next_record))
+    (λ _. next-not_memory strict format m.addressing bytes e w.at.next_record))
     fault.1
 
 walk-fault : (format : Format EntryValue) (s : Walk) (e : ErrorOf) → IsWalkCause format s e

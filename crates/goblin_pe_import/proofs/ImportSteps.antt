@@ -9,7 +9,7 @@ use Rattle.goblin_pe_import.specs.StepsAhead.{GivesWithin}
 use Rattle.goblin_pe_sect.specs.declared.address_map.AddressMap.{AddressMap}
 use Rattle.goblin_pe_import.specs.declared.import.imports.Walk.{Walk}
 use Rattle.goblin_pe_import.specs.declared.import.kept.KeptEntry.{KeptEntry}
-use Rattle.goblin_pe_sect.specs.Addresses.{map_of, offset_of, reads_strictly}
+use Rattle.goblin_pe_sect.specs.Addresses.{Addressing, map_of, reads_strictly}
 use Rattle.goblin_pe_import.specs.ImportEntries.{EntryValue}
 use Rattle.goblin_pe_import.specs.Imports.{NumberedImport}
 use Rattle.goblin_pe_import.specs.ImportWalks.{origin}
@@ -40,9 +40,9 @@ abbrev pub GivesBy : Format EntryValue → Walk → AddressMap → Option (Resul
 GivesBy format s map r =
     let m = map_of map in
     GivesLibrary (walk_left format) (IsWalkCause format)
-    (later_items (reads_strictly m) format (offset_of m) s.bytes.now s.at.untested s.at.first_record s.at.next_record)
+    (later_items (reads_strictly m) format m.addressing s.bytes.now s.at.untested s.at.first_record s.at.next_record)
     (λ e. (reads_strictly m ≡ true)
-    × IsLaterCause (reads_strictly m) format (offset_of m) s.bytes.now s.at.untested s.at.next_record e)
+    × IsLaterCause (reads_strictly m) format m.addressing s.bytes.now s.at.untested s.at.next_record e)
     r
 
 -- what holds of the walk that a call has led to
@@ -86,8 +86,8 @@ module _ (format : Format EntryValue) (start s : Walk) (h : AtImports format sta
   abbrev strict : Bool
   strict = reads_strictly (map_of s.finder)
 
-  abbrev places : ℕ → Option ℕ
-  places = offset_of (map_of s.finder)
+  abbrev places : Addressing
+  places = (map_of s.finder).addressing
 
   abbrev left : Option ℕ → List (Option KeptValue)
   left = entries_from strict format places s.bytes.now s.at.table_offset

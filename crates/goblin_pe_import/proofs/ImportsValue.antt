@@ -21,6 +21,7 @@ use Rattle.readings.specs.Walks.{IsWalkOf, end_items, items_at, refusal_of, tabl
 use Rattle.readings.proofs.WalkValues.{all_of-append, all_of-until, joined-end, walk-holds}
 use Rattle.goblin_pe_import.specs.declared.import.directory_entry.ImportDirectoryEntry.{ImportDirectoryEntry}
 use Rattle.goblin_pe_sect.specs.Addresses.{MapOfAddresses, offset_of, reads_strictly}
+use Rattle.goblin_pe_sect.specs.Addresses.{Addressing}
 use Rattle.goblin_pe_import.specs.ImportEntries.{EntryValue, LookupEntry, entry_slots}
 use Rattle.goblin_pe_import.specs.ImportCursors.{before_record}
 use Rattle.goblin_pe_import.specs.ImportReadings.{at_index, first_record_offset, kept_library}
@@ -89,7 +90,7 @@ imports_by-more size dll rva entries slots made entry slot offset counted at low
 
 -- ---- the imports of a lookup table
 
-module _ (strict : Bool) (format : Format EntryValue) (offset_of : ℕ → Option ℕ)
+module _ (strict : Bool) (format : Format EntryValue) (addressing : Addressing)
     (bytes : List ℕ) (o : ℕ) (wide : 1 ≤ format.width) (from : Origin) (rva : ℕ)
     (short : length bytes < 2 ^ 63) (low : rva < 2 ^ 32) where
   -- the imports of these kept entries
@@ -105,7 +106,7 @@ module _ (strict : Bool) (format : Format EntryValue) (offset_of : ℕ → Optio
 
   abbrev made : ℕ → Option (List LookupEntry)
   made i =
-      made_of (entry_slots format) (λ v. (kept_entry strict offset_of v).value bytes) bytes o i
+      made_of (entry_slots format) (λ v. (kept_entry strict addressing v).value bytes) bytes o i
 
   abbrev item : ℕ → LookupEntry → KeptValue
   item i = kept_at format.width o (slot_place (entry_slots format) o i)
@@ -115,7 +116,7 @@ module _ (strict : Bool) (format : Format EntryValue) (offset_of : ℕ → Optio
   one_more n kept [] is few so_far = rw (append-nil kept) so_far
   one_more n kept (x ∷ []) is few so_far =
       let s = step (slot_at (entry_slots format) bytes o n)
-      (λ v. (kept_entry strict offset_of v).value bytes) (x ∷ []) is in
+      (λ v. (kept_entry strict addressing v).value bytes) (x ∷ []) is in
       let there = record_at-some format.width format.value_of bytes (o + format.width * n) s.value s.is
       in
       let slot = in_slot format.width o n wide in
@@ -139,18 +140,18 @@ module _ (strict : Bool) (format : Format EntryValue) (offset_of : ℕ → Optio
 
   -- what a walk over a lookup table collects has these imports
   pub entries-imports : (kept : List KeptValue)
-      → all_of (entries_from strict format offset_of bytes o (Some o)) ≡ Some kept
+      → all_of (entries_from strict format addressing bytes o (Some o)) ≡ Some kept
       → AreImports kept
   unfolding imports_by
   entries-imports kept e =
       walk-holds item made AreImports (all_at-zero (import_at format.width from.dll rva [] []))
       (λ n items xs is so_far.
       let s = step (slot_at (entry_slots format) bytes o n)
-      (λ v. (kept_entry strict offset_of v).value bytes) xs is in
-      one_more n items xs is (kept_entry-few strict offset_of bytes s.value xs s.then) so_far)
+      (λ v. (kept_entry strict addressing v).value bytes) xs is in
+      one_more n items xs is (kept_entry-few strict addressing bytes s.value xs s.then) so_far)
       strict (slot_at (entry_slots format) bytes o (stop (entry_slots format) bytes o))
       (stop (entry_slots format) bytes o) kept
-      (ap all_of (sym (by_index strict format offset_of bytes o)) ∙ e)
+      (ap all_of (sym (by_index strict format addressing bytes o)) ∙ e)
 
 -- ---- permissive mode refuses no lookup table
 
@@ -164,23 +165,23 @@ still_there kept h true o is there = absurd cc
 still_there kept h false None is there = absurd cc
 still_there kept h false (Some x) is there = refl
 
-module _ (strict : Bool) (format : Format EntryValue) (offset_of : ℕ → Option ℕ)
+module _ (strict : Bool) (format : Format EntryValue) (addressing : Addressing)
     (bytes : List ℕ) (permissive : strict ≡ false) where
   slot_there : (slot : Option EntryValue)
       → ends_table (entry_slots format).is_last slot ≡ false
-      → IsSome (slot >>= λ v. (kept_entry strict offset_of v).value bytes)
+      → IsSome (slot >>= λ v. (kept_entry strict addressing v).value bytes)
   slot_there None e = absurd cc
   slot_there (Some v) e =
-      is_there ((kept_entry strict offset_of v).value bytes)
-      (λ none. entry-never strict offset_of v bytes none permissive)
+      is_there ((kept_entry strict addressing v).value bytes)
+      (λ none. entry-never strict addressing v bytes none permissive)
 
-  pub table-there : (at : Option ℕ) → IsSome ((lookup_if strict format offset_of at).value bytes)
+  pub table-there : (at : Option ℕ) → IsSome ((lookup_if strict format addressing at).value bytes)
   unfolding lookup_if slot_table stop
   table-there None = refl
   table-there (Some o) =
       let slots = entry_slots format in
       still_there _ _ _ _ (and_left strict _ permissive)
-      (each_below-there (made_of slots (λ v. (kept_entry strict offset_of v).value bytes) bytes o)
+      (each_below-there (made_of slots (λ v. (kept_entry strict addressing v).value bytes) bytes o)
       (stop slots bytes o)
       (λ j below.
       slot_there (slot_at slots bytes o j)
@@ -262,7 +263,7 @@ left-out make f false (Some y) a out = absurd cc
 left-out make f false None None out = refl
 left-out make f false None (Some x) out = refl
 
-module _ (strict : Bool) (format : Format EntryValue) (offset_of : ℕ → Option ℕ)
+module _ (strict : Bool) (format : Format EntryValue) (addressing : Addressing)
     (bytes : List ℕ) (wide : 1 ≤ format.width) (short : length bytes < 2 ^ 63) where
   -- the imports of a library
   abbrev imports_in : NumberedLibrary → List NumberedImport
@@ -274,10 +275,10 @@ module _ (strict : Bool) (format : Format EntryValue) (offset_of : ℕ → Optio
     imports_here library = imports_in (at_index index library)
 
     abbrev at : Option ℕ
-    at = lookup_offset offset_of r
+    at = lookup_offset addressing r
 
     abbrev entries : List (Option KeptValue)
-    entries = entries_from strict format offset_of bytes (unwrap_or at 0) at
+    entries = entries_from strict format addressing bytes (unwrap_or at 0) at
 
     abbrev import_in : List ℕ → KeptValue → NumberedImport
     import_in dll =
@@ -293,7 +294,7 @@ module _ (strict : Bool) (format : Format EntryValue) (offset_of : ℕ → Optio
     }
 
     abbrev table : Reading (List ℕ)
-    table = addresses_of format offset_of r
+    table = addresses_of format addressing r
 
     abbrev record_import : List ℕ → Option ℕ → KeptValue → ImportValue
     record_import dll place k =
@@ -307,7 +308,7 @@ module _ (strict : Bool) (format : Format EntryValue) (offset_of : ℕ → Optio
     by_count false made item ks is e = absurd cc
 
     library-imports : (dll : List ℕ) (place : Option ℕ) (ks : List KeptValue) (addresses : List ℕ)
-        → all_of (entries_from strict format offset_of bytes (unwrap_or place 0) place)
+        → all_of (entries_from strict format addressing bytes (unwrap_or place 0) place)
         ≡ Some ks
         → imports_here (library dll (in_two_if place ks) addresses)
         ≡ map
@@ -324,26 +325,26 @@ module _ (strict : Bool) (format : Format EntryValue) (offset_of : ℕ → Optio
         ∙ sym (length-map ks (λ (k : KeptValue). k.slot)) in
         by_count _ (imports_by format.width dll r.import_address_table_rva (in_two ks).0 (in_two ks).1) (record_import dll (Some o)) ks
         (eq-eqb (length (in_two ks).0) (length (in_two ks).1) counted)
-        (entries-imports strict format offset_of bytes o wide (origin index dll) r.import_address_table_rva short
+        (entries-imports strict format addressing bytes o wide (origin index dll) r.import_address_table_rva short
         low ks e)
 
     -- collecting what comes of a record gives the imports of its library
-    record-value : all_of (library_items strict format offset_of bytes index r)
-        ≡ option_map (flat_map imports_here) ((kept_library strict format offset_of r).value bytes)
+    record-value : all_of (library_items strict format addressing bytes index r)
+        ≡ option_map (flat_map imports_here) ((kept_library strict format addressing r).value bytes)
     unfolding library_items library_of
-    record-value = by_name ((library_name strict offset_of r).value bytes) refl
+    record-value = by_name ((library_name strict addressing r).value bytes) refl
       where
         by_name : (name : Option (List ℕ))
-            → (library_name strict offset_of r).value bytes ≡ name
-            → all_of (library_items strict format offset_of bytes index r)
+            → (library_name strict addressing r).value bytes ≡ name
+            → all_of (library_items strict format addressing bytes index r)
             ≡ option_map (flat_map imports_here)
-            ((kept_library strict format offset_of r).value bytes)
+            ((kept_library strict format addressing r).value bytes)
         by_name None is = rw is (unnamed imports_here strict _ (name_strict strict _ is))
         by_name (Some dll) is =
             elim (cases_Bool (not strict && is_none (table.value bytes))) [
               | inl out ↦ rw out (left-out _ imports_here strict (table.value bytes) _ out)
               | inr kept ↦
-                  let same = listed strict format offset_of bytes wide at in
+                  let same = listed strict format addressing bytes wide at in
                   rw (kept, is, same, same_refusal strict table bytes kept)
                   (all_of-append (map (option_map (import_in dll)) entries)
                   (refusal_of (table.value bytes))
@@ -354,7 +355,7 @@ module _ (strict : Bool) (format : Format EntryValue) (offset_of : ℕ → Optio
                   ∙ library-value strict _ (in_two_if at) (map (import_in dll)) imports_here dll
                   (all_of entries) (table.value bytes) kept
                   (λ permissive.
-                  subst IsSome same (table-there strict format offset_of bytes permissive at))
+                  subst IsSome same (table-there strict format addressing bytes permissive at))
                   (λ ks t here. library-imports dll at ks t here))
             ]
 
@@ -378,10 +379,10 @@ module _ (strict : Bool) (format : Format EntryValue) (offset_of : ℕ → Optio
     record_at i = slot_at import_slots bytes o i
 
     abbrev pieces : ℕ → Option (List NumberedLibrary)
-    pieces = numbered_at (indexes.kept_at strict format offset_of bytes o) (few strict format offset_of bytes o)
+    pieces = numbered_at (indexes.kept_at strict format addressing bytes o) (few strict format addressing bytes o)
 
     abbrev items : ℕ → ImportDirectoryEntry → List (Option NumberedImport)
-    items p r = library_items strict format offset_of bytes (record_index o p) r
+    items p r = library_items strict format addressing bytes (record_index o p) r
 
     abbrev comes_of : ℕ → List (Option NumberedImport)
     comes_of i = items_at items (slot_place import_slots o i) (record_at i)
@@ -393,18 +394,18 @@ module _ (strict : Bool) (format : Format EntryValue) (offset_of : ℕ → Optio
             → all_of (items_at items (slot_place import_slots o i) slot)
             ≡ option_map (flat_map imports_in)
             (option_map (map (at_index i))
-            (slot >>= λ r. (kept_library strict format offset_of r).value bytes))
+            (slot >>= λ r. (kept_library strict format addressing r).value bytes))
         by_slot None is = refl
         by_slot (Some r) is =
             let there =
             record_at-some 20 (import_record Little) bytes (slot_place import_slots o i) r is in
             let low : r.import_address_table_rva < 2 ^ 32 =
             subst (λ (r : ImportDirectoryEntry). r.import_address_table_rva < 2 ^ 32) (sym there.is)
-            (address-low strict format offset_of bytes octets (slot_place import_slots o i)) in
+            (address-low strict format addressing bytes octets (slot_place import_slots o i)) in
             ap
-            (λ (index : ℕ). all_of (library_items strict format offset_of bytes index r))
+            (λ (index : ℕ). all_of (library_items strict format addressing bytes index r))
             (in_slot 20 o i (lit≤ tt))
-            ∙ record-value i r low ∙ indexed-map i ((kept_library strict format offset_of r).value bytes)
+            ∙ record-value i r low ∙ indexed-map i ((kept_library strict format addressing r).value bytes)
 
     below-value : (n : ℕ) → all_of (concat_below comes_of n)
         ≡ option_map (flat_map imports_in) (each_below pieces n)
@@ -419,8 +420,8 @@ module _ (strict : Bool) (format : Format EntryValue) (offset_of : ℕ → Optio
         ∙ join-mapped imports_in (each_below pieces n) (pieces n)
 
     -- collecting a walk over all imports gives those of the directory's libraries
-    pub imports-value : all_of (imports_from_record strict format offset_of bytes o o)
-        ≡ (mapped (flat_map imports_in) (numbered_libraries_at strict format offset_of o)).value bytes
+    pub imports-value : all_of (imports_from_record strict format addressing bytes o o)
+        ≡ (mapped (flat_map imports_in) (numbered_libraries_at strict format addressing o)).value bytes
     unfolding imports_from_record table_walk
     imports-value =
         let n = stop import_slots bytes o in
@@ -432,7 +433,7 @@ module _ (strict : Bool) (format : Format EntryValue) (offset_of : ℕ → Optio
         (λ (o : Option (List NumberedImport)). cond (strict && not (is_some end)) None o)
         (below-value n)
         ∙ test-mapped (flat_map imports_in) (strict && not (is_some end)) (each_below pieces n)
-        ∙ ap (option_map (flat_map imports_in)) (sym (libraries-value strict format offset_of bytes o))
+        ∙ ap (option_map (flat_map imports_in)) (sym (libraries-value strict format addressing bytes o))
 
 same_option : {A : Type 0} (o : Option A) → option_map (λ x. x) o ≡ o
 same_option None = refl
@@ -444,19 +445,19 @@ module _ (m : MapOfAddresses) (format : Format EntryValue) (bytes : List ℕ) (o
   abbrev reading : Reading (List NumberedImport)
   reading =
       mapped (flat_map (numbered_imports format.width))
-      (numbered_libraries_at (reads_strictly m) format (offset_of m) o)
+      (numbered_libraries_at (reads_strictly m) format m.addressing o)
 
   walked-by : (k : MapOfAddresses) (file dll : List ℕ) (c : ImportCursor) → k ≡ m → file ≡ bytes
       → c ≡ before_record o
       → IsWalkOf (λ xs. xs) reading bytes
-      (items_left (reads_strictly k) format (offset_of k) file dll c) (IsCursorCause k format file c)
+      (items_left (reads_strictly k) format k.addressing file dll c) (IsCursorCause k format file c)
   unfolding entries_from imports_next numbered_libraries_at
   walked-by k file dll c by over at =
       rw (by, over, at)
       (record {
         value =
-            same_option _ ∙ ap all_of (imports-once (reads_strictly m) format (offset_of m) bytes o o)
-            ∙ imports-value (reads_strictly m) format (offset_of m) bytes wide short octets o;
+            same_option _ ∙ ap all_of (imports-once (reads_strictly m) format m.addressing bytes o o)
+            ∙ imports-value (reads_strictly m) format m.addressing bytes wide short octets o;
         cause = λ e fault. fault.1;
       })
 
@@ -470,13 +471,13 @@ module _ (m : MapOfAddresses) (format : Format EntryValue) (bytes : List ℕ) (r
   none-by : (strict : Bool) (place : Option ℕ) → strict ≡ false → first_record_offset strict place ≡ None
       → (in_its_place strict 0 place
       >>= λ o.
-      (read_past_front strict (numbered_libraries_at strict format (offset_of m)) o).value bytes)
+      (read_past_front strict (numbered_libraries_at strict format m.addressing) o).value bytes)
       ≡ Some []
   none-by true place permissive none = absurd cc
   none-by false None permissive none = refl
   none-by false (Some o) permissive none =
       ap
-      (λ (first : Option ℕ). (read_if (numbered_libraries_at false format (offset_of m)) first).value bytes)
+      (λ (first : Option ℕ). (read_if (numbered_libraries_at false format m.addressing) first).value bytes)
       none
 
   pub imports-none : reads_strictly m ≡ false
@@ -484,7 +485,7 @@ module _ (m : MapOfAddresses) (format : Format EntryValue) (bytes : List ℕ) (r
       → cursor_of it ≡ no_imports
       → IsWalkOf (λ xs. xs)
       (mapped (flat_map (numbered_imports format.width))
-      (numbered_data (reads_strictly m) format (offset_of m) rva))
+      (numbered_data (reads_strictly m) format m.addressing rva))
       bytes (imports_left format it) (IsImportsCause format it)
   unfolding entries_from imports_next numbered_data
   imports-none permissive none it ended =

@@ -30,6 +30,7 @@ use Rattle.goblin_pe_import.specs.ImportWalks.{imports_from_record, imports_of_e
 use Rattle.goblin_pe_import.specs.ImportWalks.{later_items, library_items, library_name, untested_table}
 use Rattle.goblin_pe_import.proofs.LookupWalk.{in_two, lookup_walked}
 use Rattle.goblin_pe_import.proofs.PermissiveReads.{name_strict}
+use Rattle.goblin_pe_sect.specs.Addresses.{Addressing}
 
 -- ---- values that may be missing
 
@@ -68,18 +69,18 @@ in_two_if (Some o) kept = (Some (in_two kept).0, (in_two kept).1)
 
 -- ---- what comes from a record on
 
-module _ (strict : Bool) (format : Format EntryValue) (offset_of : ℕ → Option ℕ)
+module _ (strict : Bool) (format : Format EntryValue) (addressing : Addressing)
     (bytes : List ℕ) where
   -- what is collected of a library's entries is its lookup table
   pub listed : 1 ≤ format.width → (at : Option ℕ)
-      → (lookup_if strict format offset_of at).value bytes
+      → (lookup_if strict format addressing at).value bytes
       ≡ option_map (in_two_if at)
-      (all_of (entries_from strict format offset_of bytes (unwrap_or at 0) at))
+      (all_of (entries_from strict format addressing bytes (unwrap_or at 0) at))
   unfolding lookup_if entries_from
   listed wide None = refl
   listed wide (Some o) =
       ap (option_map (λ both. (Some both.0, both.1)))
-      (sym (lookup_walked strict format offset_of bytes o wide).value)
+      (sym (lookup_walked strict format addressing bytes o wide).value)
       ∙ two_maps in_two (λ both. (Some both.0, both.1)) _
 
   module _ (first p : ℕ) where
@@ -90,127 +91,127 @@ module _ (strict : Bool) (format : Format EntryValue) (offset_of : ℕ → Optio
     abbrev pub from_record : Option ImportDirectoryEntry → List (Option NumberedImport)
     from_record entry =
         from_slot strict is_last_record
-        (library_items strict format offset_of bytes (record_index first p))
-        (imports_from_record strict format offset_of bytes first (p + 20)) entry
+        (library_items strict format addressing bytes (record_index first p))
+        (imports_from_record strict format addressing bytes first (p + 20)) entry
 
-    pub imports-slot : imports_from_record strict format offset_of bytes first p ≡ from_record slots
+    pub imports-slot : imports_from_record strict format addressing bytes first p ≡ from_record slots
     unfolding imports_from_record
     imports-slot =
         walk-slot import_slots
-        (λ p r. library_items strict format offset_of bytes (record_index first p) r) bytes strict
+        (λ p r. library_items strict format addressing bytes (record_index first p) r) bytes strict
         (lit≤ tt) p slots refl
 
-    pub imports-once : until_refused (imports_from_record strict format offset_of bytes first p)
-        ≡ imports_from_record strict format offset_of bytes first p
+    pub imports-once : until_refused (imports_from_record strict format addressing bytes first p)
+        ≡ imports_from_record strict format addressing bytes first p
     imports-once =
         rw imports-slot (slot-once strict is_last_record
-        (library_items strict format offset_of bytes (record_index first p))
-        (imports_from_record strict format offset_of bytes first (p + 20)) slots)
+        (library_items strict format addressing bytes (record_index first p))
+        (imports_from_record strict format addressing bytes first (p + 20)) slots)
 
     -- a cause that is true of the rest of a directory from its first entry on is true of it
     pub cause-record : 1 ≤ format.width → strict ≡ true → (e : ErrorOf)
-        → IsRecordCause strict format offset_of bytes p slots e
-        → IsRecordsCause strict format offset_of bytes p e
+        → IsRecordCause strict format addressing bytes p slots e
+        → IsRecordsCause strict format addressing bytes p e
     unfolding library_of lookup_if
     cause-record wide is e fault =
-        cause-slot import_slots (kept_library strict format offset_of) bytes strict import_record_at
+        cause-slot import_slots (kept_library strict format addressing) bytes strict import_record_at
         (lit≤ tt) p slots refl e (in_slot slots fault)
       where
         in_table : (at : Option ℕ) {A : Type 0} (o : Option A) (IsLater : ErrorOf → Type 0)
-            → FirstFault o (IsEntriesCause strict format offset_of bytes at)
+            → FirstFault o (IsEntriesCause strict format addressing bytes at)
             (λ _. IsLater) e
-            → FirstFault o ((lookup_if strict format offset_of at).IsCause bytes) (λ _. IsLater) e
+            → FirstFault o ((lookup_if strict format addressing at).IsCause bytes) (λ _. IsLater) e
         in_table None o IsLater fault = fault
         in_table (Some place) o IsLater fault = fault
 
         in_slot : (entry : Option ImportDirectoryEntry)
-            → IsRecordCause strict format offset_of bytes p entry e
-            → IsSlotCause strict is_last_record (λ r. (kept_library strict format offset_of r).value bytes)
+            → IsRecordCause strict format addressing bytes p entry e
+            → IsSlotCause strict is_last_record (λ r. (kept_library strict format addressing r).value bytes)
             ((import_record_at p).IsCause bytes)
-            (λ r. (kept_library strict format offset_of r).IsCause bytes)
-            (IsRecordsCause strict format offset_of bytes (p + 20)) entry e
+            (λ r. (kept_library strict format addressing r).IsCause bytes)
+            (IsRecordsCause strict format addressing bytes (p + 20)) entry e
         in_slot None fault = (is, fault)
         in_slot (Some r) fault =
-            let at = lookup_offset offset_of r in
-            let name = library_name strict offset_of r in
-            let table = lookup_if strict format offset_of at in
-            let addresses = addresses_of format offset_of r in
+            let at = lookup_offset addressing r in
+            let name = library_name strict addressing r in
+            let table = lookup_if strict format addressing at in
+            let addresses = addresses_of format addressing r in
             let walked =
-            all_of (entries_from strict format offset_of bytes (unwrap_or at 0) at) in (
+            all_of (entries_from strict format addressing bytes (unwrap_or at 0) at) in (
               fault.0,
               library-fault strict _ (in_two_if at) (name.value bytes) walked (table.value bytes)
                   (addresses.value bytes) (name.IsCause bytes) (table.IsCause bytes)
-                  (addresses.IsCause bytes) (IsRecordsCause strict format offset_of bytes (p + 20)) e is
+                  (addresses.IsCause bytes) (IsRecordsCause strict format addressing bytes (p + 20)) e is
                   (listed wide at) (after_name (name.value bytes) fault.1),
             )
           where
             after_name : (name : Option (List ℕ))
-                → FirstFault name ((library_name strict offset_of r).IsCause bytes)
-                (λ _. IsNamedCause strict format offset_of bytes r
-                (IsRecordsCause strict format offset_of bytes (p + 20))) e
-                → FirstFault name ((library_name strict offset_of r).IsCause bytes)
+                → FirstFault name ((library_name strict addressing r).IsCause bytes)
+                (λ _. IsNamedCause strict format addressing bytes r
+                (IsRecordsCause strict format addressing bytes (p + 20))) e
+                → FirstFault name ((library_name strict addressing r).IsCause bytes)
                 (λ _. FirstFault
                 (all_of
-                (entries_from strict format offset_of bytes (unwrap_or (lookup_offset offset_of r) 0)
-                (lookup_offset offset_of r)))
-                ((lookup_if strict format offset_of (lookup_offset offset_of r)).IsCause bytes)
-                (λ _. FirstFault ((addresses_of format offset_of r).value bytes)
-                ((addresses_of format offset_of r).IsCause bytes)
-                (λ _. IsRecordsCause strict format offset_of bytes (p + 20)))) e
+                (entries_from strict format addressing bytes (unwrap_or (lookup_offset addressing r) 0)
+                (lookup_offset addressing r)))
+                ((lookup_if strict format addressing (lookup_offset addressing r)).IsCause bytes)
+                (λ _. FirstFault ((addresses_of format addressing r).value bytes)
+                ((addresses_of format addressing r).IsCause bytes)
+                (λ _. IsRecordsCause strict format addressing bytes (p + 20)))) e
             after_name None fault = fault
             after_name (Some text) fault =
-                let at = lookup_offset offset_of r in
+                let at = lookup_offset addressing r in
                 let walked =
-                all_of (entries_from strict format offset_of bytes (unwrap_or at 0) at) in
-                let addresses = addresses_of format offset_of r in
-                let IsLater = IsRecordsCause strict format offset_of bytes (p + 20) in
+                all_of (entries_from strict format addressing bytes (unwrap_or at 0) at) in
+                let addresses = addresses_of format addressing r in
+                let IsLater = IsRecordsCause strict format addressing bytes (p + 20) in
                 in_table at walked
                 (FirstFault (addresses.value bytes) (addresses.IsCause bytes) (λ _. IsLater))
                 (subst
                 (λ (mode : Bool).
                 let table = pick mode addresses (given []) in
-                FirstFault walked (IsEntriesCause strict format offset_of bytes at)
+                FirstFault walked (IsEntriesCause strict format addressing bytes at)
                 (λ _. FirstFault (table.value bytes) (table.IsCause bytes) (λ _. IsLater)) e)
                 is fault)
 
 -- ---- the library of a record
 
-module _ (strict : Bool) (format : Format EntryValue) (offset_of : ℕ → Option ℕ)
+module _ (strict : Bool) (format : Format EntryValue) (addressing : Addressing)
     (bytes : List ℕ) (first index : ℕ) (r : ImportDirectoryEntry) (next : ℕ) where
   abbrev name : Reading (List ℕ)
-  name = library_name strict offset_of r
+  name = library_name strict addressing r
 
   abbrev addresses : Reading (List ℕ)
-  addresses = addresses_of format offset_of r
+  addresses = addresses_of format addressing r
 
   -- what comes of the library, and then of those whose records are in the directory from `next` on
   abbrev pub whole : List (Option NumberedImport)
   whole =
       until_refused
-      (library_items strict format offset_of bytes index r
-      ++ imports_from_record strict format offset_of bytes first next)
+      (library_items strict format addressing bytes index r
+      ++ imports_from_record strict format addressing bytes first next)
 
   abbrev pub IsWholeCause : ErrorOf → Type 0
   IsWholeCause e =
       FirstFault (name.value bytes) (name.IsCause bytes)
-      (λ _. IsNamedCause strict format offset_of bytes r
-      (IsRecordsCause strict format offset_of bytes next)) e
+      (λ _. IsNamedCause strict format addressing bytes r
+      (IsRecordsCause strict format addressing bytes next)) e
 
   -- what is left of a walk of these parts
   abbrev pub parts_left : Origin → ℕ → ℕ → Option ℕ → Option ℕ → List (Option NumberedImport)
   parts_left from rva o at untested =
       until_refused
-      (imports_of_entries strict format offset_of bytes from rva o at
-      ++ later_items strict format offset_of bytes untested first (Some next))
+      (imports_of_entries strict format addressing bytes from rva o at
+      ++ later_items strict format addressing bytes untested first (Some next))
 
   abbrev pub IsPartsCause : ℕ → Option ℕ → Option ℕ → ErrorOf → Type 0
   IsPartsCause o at untested e =
       (strict ≡ true)
-      × FirstFault (all_of (entries_from strict format offset_of bytes o at))
-      (IsEntriesCause strict format offset_of bytes at)
-      (λ _. IsLaterCause strict format offset_of bytes untested (Some next)) e
+      × FirstFault (all_of (entries_from strict format addressing bytes o at))
+      (IsEntriesCause strict format addressing bytes at)
+      (λ _. IsLaterCause strict format addressing bytes untested (Some next)) e
 
-  pub walk-left_out : is_left_out strict format offset_of bytes r ≡ true
+  pub walk-left_out : is_left_out strict format addressing bytes r ≡ true
       → (from : Origin) (rva o : ℕ)
       → (parts_left from rva o None None ≡ whole)
       × ((e : ErrorOf) → IsPartsCause o None None e → (strict ≡ true) × IsWholeCause e)
@@ -223,7 +224,7 @@ module _ (strict : Bool) (format : Format EntryValue) (offset_of : ℕ → Optio
   )
 
   pub walk-unnamed : (e : ErrorOf) → name.value bytes ≡ None → name.IsCause bytes e
-      → (library_items strict format offset_of bytes index r ≡ None ∷ []) × (strict ≡ true)
+      → (library_items strict format addressing bytes index r ≡ None ∷ []) × (strict ≡ true)
       × IsRefused name bytes e
   unfolding library_items
   walk-unnamed e none fault =
@@ -234,23 +235,23 @@ module _ (strict : Bool) (format : Format EntryValue) (offset_of : ℕ → Optio
       )
 
   abbrev at : Option ℕ
-  at = lookup_offset offset_of r
+  at = lookup_offset addressing r
 
   module _ (dll : List ℕ) (named : name.value bytes ≡ Some dll)
-      (kept : is_left_out strict format offset_of bytes r ≡ false) where
+      (kept : is_left_out strict format addressing bytes r ≡ false) where
     -- a library that is walked over
     pub walk-entered : parts_left (origin index dll) r.import_address_table_rva (unwrap_or at 0) at
         (Some (address_table_rva r)) ≡ whole
     unfolding library_items imports_next
     walk-entered =
         let imports =
-        imports_of_entries strict format offset_of bytes (origin index dll) r.import_address_table_rva (unwrap_or at 0)
+        imports_of_entries strict format addressing bytes (origin index dll) r.import_address_table_rva (unwrap_or at 0)
         at in
-        let table = untested_table strict format offset_of (Some (address_table_rva r)) in
+        let table = untested_table strict format addressing (Some (address_table_rva r)) in
         rw (kept, named)
         (ap until_refused
         (sym (append_assoc imports (refusal_of (table.value bytes))
-        (imports_from_record strict format offset_of bytes first next))))
+        (imports_from_record strict format addressing bytes first next))))
 
     -- a cause of the one is one of the other
     pub cause-entered : (e : ErrorOf)
@@ -267,16 +268,16 @@ module _ (strict : Bool) (format : Format EntryValue) (offset_of : ℕ → Optio
 
 -- ---- once the entries of a library have come
 
-module _ (strict : Bool) (format : Format EntryValue) (offset_of : ℕ → Option ℕ)
+module _ (strict : Bool) (format : Format EntryValue) (addressing : Addressing)
     (bytes : List ℕ) (untested : Option ℕ) where
   abbrev table : Reading (List ℕ)
-  table = untested_table strict format offset_of untested
+  table = untested_table strict format addressing untested
 
   abbrev later : ℕ → Option ℕ → List (Option NumberedImport)
-  later first next = until_refused (later_items strict format offset_of bytes untested first next)
+  later first next = until_refused (later_items strict format addressing bytes untested first next)
 
   abbrev IsCause : Option ℕ → ErrorOf → Type 0
-  IsCause next e = IsLaterCause strict format offset_of bytes untested next e
+  IsCause next e = IsLaterCause strict format addressing bytes untested next e
 
   -- its address table is missing
   pub later-refused : (first : ℕ) (next : Option ℕ) (e : ErrorOf)
@@ -295,17 +296,17 @@ module _ (strict : Bool) (format : Format EntryValue) (offset_of : ℕ → Optio
     is_there (Some x) e items IsTable IsLater = (refl, λ e fault. fault)
 
     later-from : (first : ℕ) (next : Option ℕ)
-        → later first next ≡ until_refused (imports_next strict format offset_of bytes first next)
+        → later first next ≡ until_refused (imports_next strict format addressing bytes first next)
     later-from first next =
         ap until_refused
-        (is_there (table.value bytes) tested (imports_next strict format offset_of bytes first next)
+        (is_there (table.value bytes) tested (imports_next strict format addressing bytes first next)
         (λ e. ⊥) (λ e. ⊥)).0
 
     later-cause : (next : Option ℕ) (e : ErrorOf)
-        → IsNextCause strict format offset_of bytes next e → IsCause next e
+        → IsNextCause strict format addressing bytes next e → IsCause next e
     later-cause next e fault =
         (is_there (table.value bytes) tested [] (table.IsCause bytes)
-        (IsNextCause strict format offset_of bytes next)).1 e fault
+        (IsNextCause strict format addressing bytes next)).1 e fault
 
     -- there are no more records
     pub later-none : (first : ℕ) → later first None ≡ []
@@ -317,29 +318,29 @@ module _ (strict : Bool) (format : Format EntryValue) (offset_of : ℕ → Optio
       index = record_index first p
 
       abbrev of_library : ImportDirectoryEntry → List (Option NumberedImport)
-      of_library = library_items strict format offset_of bytes index
+      of_library = library_items strict format addressing bytes index
 
       abbrev from_next : List (Option NumberedImport)
-      from_next = imports_from_record strict format offset_of bytes first (p + 20)
+      from_next = imports_from_record strict format addressing bytes first (p + 20)
 
       by_record : (entry : Option ImportDirectoryEntry) → reads import_slots bytes p ≡ entry
-          → later first (Some p) ≡ from_record strict format offset_of bytes first p entry
+          → later first (Some p) ≡ from_record strict format addressing bytes first p entry
       unfolding imports_next
       by_record entry r =
-          later-from first (Some p) ∙ imports-once strict format offset_of bytes first p
-          ∙ imports-slot strict format offset_of bytes first p
-          ∙ ap (from_record strict format offset_of bytes first p) r
+          later-from first (Some p) ∙ imports-once strict format addressing bytes first p
+          ∙ imports-slot strict format addressing bytes first p
+          ∙ ap (from_record strict format addressing bytes first p) r
 
       by_cause : (entry : Option ImportDirectoryEntry) → reads import_slots bytes p ≡ entry
           → strict ≡ true → (e : ErrorOf)
-          → IsRecordCause strict format offset_of bytes p entry e
+          → IsRecordCause strict format addressing bytes p entry e
           → IsCause (Some p) e
       by_cause entry r is e fault =
           later-cause (Some p) e
-          (cause-record strict format offset_of bytes first p wide is e
+          (cause-record strict format addressing bytes first p wide is e
           (subst
           (λ (entry : Option ImportDirectoryEntry).
-          IsRecordCause strict format offset_of bytes p entry e) (sym r) fault))
+          IsRecordCause strict format addressing bytes p entry e) (sym r) fault))
 
       pub later-end : (entry : Option ImportDirectoryEntry) → reads import_slots bytes p ≡ entry
           → ends_table is_last_record entry ≡ true → (strict && not (is_some entry)) ≡ false
@@ -361,14 +362,14 @@ module _ (strict : Bool) (format : Format EntryValue) (offset_of : ℕ → Optio
           → is_last_record v ≡ false → {S : Type 0} (left : S → List (Option NumberedImport))
           (IsLeft : S → ErrorOf → Type 0) (result : Result S ErrorOf)
           → MatchResult result
-          (λ t. (left t ≡ whole strict format offset_of bytes first index v (p + 20))
+          (λ t. (left t ≡ whole strict format addressing bytes first index v (p + 20))
           × ((e : ErrorOf) → IsLeft t e
-          → (strict ≡ true) × IsWholeCause strict format offset_of bytes first index v (p + 20) e))
-          (λ e. (library_items strict format offset_of bytes index v ≡ None ∷ [])
+          → (strict ≡ true) × IsWholeCause strict format addressing bytes first index v (p + 20) e))
+          (λ e. (library_items strict format addressing bytes index v ≡ None ∷ [])
           × (strict ≡ true)
-          × IsRefused (library_name strict offset_of v) bytes e)
+          × IsRefused (library_name strict addressing v) bytes e)
           → GivesLibrary left IsLeft
-          (later_items strict format offset_of bytes untested first (Some p))
+          (later_items strict format addressing bytes untested first (Some p))
           (λ e. (strict ≡ true) × IsCause (Some p) e) (Some result)
       later-given v r going left IsLeft (Ok t) h = (
         h.0 ∙ sym (by_record (Some v) r ∙ slot-going strict is_last_record of_library from_next v going),
@@ -380,7 +381,7 @@ module _ (strict : Bool) (format : Format EntryValue) (offset_of : ℕ → Optio
         by_record (Some v) r ∙ slot-going strict is_last_record of_library from_next v going
             ∙ ap
             (λ (xs : List (Option NumberedImport)). until_refused
-            (xs ++ imports_from_record strict format offset_of bytes first (p + 20)))
+            (xs ++ imports_from_record strict format addressing bytes first (p + 20)))
             h.0,
         (h.1, by_cause (Some v) r h.1 e (going, rw (h.2.0) (h.2.1))),
       )

@@ -6,6 +6,7 @@ use Rattle.std.specs.Int.{from_bool}
 use Rattle.goblin_base.specs.Tables.{Format, each_below, made_of, slot_at, slot_table, stop}
 use Rattle.readings.specs.Reads.{in_its_place, pair_of}
 use Rattle.goblin_pe_sect.specs.AddressReadings.{name_at}
+use Rattle.goblin_pe_sect.specs.Addresses.{Addressing}
 use Rattle.goblin_pe_import.specs.ImportEntries.{EntryValue}
 use Rattle.goblin_pe_import.specs.ImportReadings.{library_of}
 use Rattle.goblin_pe_import.specs.ImportRecords.{import_slots, lookup_offset}
@@ -27,14 +28,14 @@ name_there : (name : Option (List ℕ)) → IsSome (in_its_place false [] name)
 name_there None = refl
 name_there (Some x) = refl
 
-pub library_left_out : (format : Format EntryValue) (offset_of : ℕ → Option ℕ) (bytes : List ℕ)
+pub library_left_out : (format : Format EntryValue) (addressing : Addressing) (bytes : List ℕ)
     (r : ImportDirectoryEntry)
-    → is_none ((library_of false format offset_of r).value bytes)
-    ≡ is_none ((addresses_of format offset_of r).value bytes)
+    → is_none ((library_of false format addressing r).value bytes)
+    ≡ is_none ((addresses_of format addressing r).value bytes)
 unfolding library_of
-library_left_out format offset_of bytes r =
-    last_part _ _ _ _ (name_there ((name_at offset_of r.name_rva).value bytes))
-    (table-there false format offset_of bytes refl (lookup_offset offset_of r))
+library_left_out format addressing bytes r =
+    last_part _ _ _ _ (name_there ((name_at addressing r.name_rva).value bytes))
+    (table-there false format addressing bytes refl (lookup_offset addressing r))
 
 -- ---- a directory at the front of the file
 
@@ -42,20 +43,20 @@ front_counts : (none : Bool) → 1 ≤ from_bool (none || true)
 front_counts true = omega arith
 front_counts false = omega arith
 
-module _ (format : Format EntryValue) (offset_of : ℕ → Option ℕ) (bytes : List ℕ) (o : ℕ)
+module _ (format : Format EntryValue) (addressing : Addressing) (bytes : List ℕ) (o : ℕ)
     (front : (o == 0) ≡ true) where
   counts : (r : ImportDirectoryEntry)
-      → 1 ≤ from_bool (is_library_left_out (o == 0) format offset_of bytes r)
+      → 1 ≤ from_bool (is_library_left_out (o == 0) format addressing bytes r)
   counts r =
-      subst (λ (is_front : Bool). 1 ≤ from_bool (is_library_left_out is_front format offset_of bytes r))
-      (sym front) (front_counts (leads_to_none format offset_of bytes r))
+      subst (λ (is_front : Bool). 1 ≤ from_bool (is_library_left_out is_front format addressing bytes r))
+      (sym front) (front_counts (leads_to_none format addressing bytes r))
 
   -- it has no record where no library is left out of it
-  pub front_has_none : libraries_of_directory format offset_of bytes o ≡ 0
+  pub front_has_none : libraries_of_directory format addressing bytes o ≡ 0
       → stop import_slots bytes o ≡ 0
   front_has_none none =
       sum-none import_slots
-      (λ r. from_bool (is_library_left_out (o == 0) format offset_of bytes r)) bytes o counts none
+      (λ r. from_bool (is_library_left_out (o == 0) format addressing bytes r)) bytes o counts none
 
 -- nothing is made of a directory without records
 pub none_made : {A : Type 0} (piece : ImportDirectoryEntry → Option (List A)) (needs_end : Bool)

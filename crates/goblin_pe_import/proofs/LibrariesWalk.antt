@@ -6,7 +6,7 @@ use Rattle.goblin_base.proofs.SlotTables.{reads}
 use Rattle.readings.specs.Reads.{given}
 use Rattle.readings.specs.Walks.{GivesNext, from_slot, table_walk, until_refused}
 use Rattle.readings.proofs.Walks.{cause-slot, slot-end, slot-going, slot-missing, until_refused-later, walk-slot}
-use Rattle.goblin_pe_sect.specs.Addresses.{MapOfAddresses, offset_of, reads_strictly}
+use Rattle.goblin_pe_sect.specs.Addresses.{MapOfAddresses, reads_strictly}
 use Rattle.goblin_pe_import.specs.ImportEntries.{EntryValue}
 use Rattle.goblin_pe_import.specs.ImportReadings.{import_record_at}
 use Rattle.goblin_pe_import.specs.ImportRecords.{import_slots, is_last_record}
@@ -20,7 +20,7 @@ use Rattle.goblin_pe_import.specs.declared.import.library_walk.WalkedLibrary.{Wa
 module _ (m : MapOfAddresses) (format : Format EntryValue) (bytes : List ℕ) (first : ℕ) where
   -- those whose records come from a place on
   abbrev left : Option ℕ → List (Option LibraryValue)
-  left next = libraries_next (reads_strictly m) format (offset_of m) bytes first next
+  left next = libraries_next (reads_strictly m) format m.addressing bytes first next
 
   pub libraries-none : left None ≡ []
   unfolding libraries_next
@@ -28,7 +28,7 @@ module _ (m : MapOfAddresses) (format : Format EntryValue) (bytes : List ℕ) (f
 
   module _ (p : ℕ) where
     abbrev library : ImportDirectoryEntry → LibraryValue
-    library r = library_at (reads_strictly m) format (offset_of m) bytes first p r
+    library r = library_at (reads_strictly m) format m.addressing bytes first p r
 
     abbrev items : ImportDirectoryEntry → List (Option LibraryValue)
     items r = Some (library r) ∷ []
@@ -38,7 +38,7 @@ module _ (m : MapOfAddresses) (format : Format EntryValue) (bytes : List ℕ) (f
     unfolding libraries_next libraries_from_record
     by_record entry r =
         walk-slot import_slots
-        (λ p r. Some (library_at (reads_strictly m) format (offset_of m) bytes first p r) ∷ []) bytes
+        (λ p r. Some (library_at (reads_strictly m) format m.addressing bytes first p r) ∷ []) bytes
         (reads_strictly m) (lit≤ tt) p entry r
 
     -- at most the last of them is a refusal
@@ -120,7 +120,7 @@ module _ (s t : Libraries) (p : ℕ) (is : s.at.next_record ≡ Some p) where
   pub given-left : (v : ImportDirectoryEntry) (x : WalkedLibrary)
       → reads import_slots (libraries_bytes s) p ≡ Some v → is_last_record v ≡ false
       → library_value x
-      ≡ library_at (reads_strictly (libraries_map s)) (libraries_format s) (offset_of (libraries_map s))
+      ≡ library_at (reads_strictly (libraries_map s)) (libraries_format s) (libraries_map s).addressing
       (libraries_bytes s) s.at.first_record p v
       → t ≡ record s { at = at_record s.at.first_record (p + 20) }
       → GivesNext library_value libraries_left IsLibrariesCause s (Some (Ok x)) t

@@ -11,6 +11,7 @@ use Rattle.goblin_base.specs.Tables.{Format, each_below, is_kept, join, kept_slo
 use Rattle.goblin_base.specs.Tables.{slot_at, slot_table, stop}
 use Rattle.readings.specs.Reads.{in_its_place, with_slots}
 use Rattle.goblin_pe_sect.specs.AddressReadings.{offset_at}
+use Rattle.goblin_pe_sect.specs.Addresses.{Addressing}
 use Rattle.readings.proofs.WalkValues.{range-next}
 use Rattle.goblin_pe_import.specs.declared.import.directory_entry.ImportDirectoryEntry.{ImportDirectoryEntry}
 use Rattle.goblin_pe_import.specs.ImportEntries.{EntryValue}
@@ -83,10 +84,10 @@ module _ (made : ℕ → Option (List ImportedLibrary))
 
 -- ---- a directory
 
-module _ (strict : Bool) (format : Format EntryValue) (offset_of : ℕ → Option ℕ)
+module _ (strict : Bool) (format : Format EntryValue) (addressing : Addressing)
     (bytes : List ℕ) (o : ℕ) where
   abbrev piece : ImportDirectoryEntry → Option (List ImportedLibrary)
-  piece r = (kept_library strict format offset_of r).value bytes
+  piece r = (kept_library strict format addressing r).value bytes
 
   abbrev pub kept_at : ℕ → Option (List ImportedLibrary)
   kept_at = made_of import_slots piece bytes o
@@ -94,7 +95,7 @@ module _ (strict : Bool) (format : Format EntryValue) (offset_of : ℕ → Optio
   pub one_library : (r : ImportDirectoryEntry) (xs : List ImportedLibrary) → piece r ≡ Some xs
       → length xs ≤ 1
   one_library r xs is =
-      left_out-or strict ((library_of strict format offset_of r).value bytes) xs
+      left_out-or strict ((library_of strict format addressing r).value bytes) xs
       (λ ls. length ls ≤ 1) (omega arith) (λ l here. omega arith) is
 
   pub few : (i : ℕ) (xs : List ImportedLibrary) → kept_at i ≡ Some xs → length xs ≤ 1
@@ -105,7 +106,7 @@ module _ (strict : Bool) (format : Format EntryValue) (offset_of : ℕ → Optio
       by_slot (Some r) is = one_library r xs is
 
   -- the libraries, record by record
-  pub libraries-value : (numbered_libraries_at strict format offset_of o).value bytes
+  pub libraries-value : (numbered_libraries_at strict format addressing o).value bytes
       ≡ cond (strict && not (is_some (slot_at import_slots bytes o (stop import_slots bytes o)))) None
       (each_below (numbered_at kept_at few) (stop import_slots bytes o))
   unfolding numbered_libraries_at slot_table kept_slots
@@ -125,7 +126,7 @@ module _ (strict : Bool) (format : Format EntryValue) (offset_of : ℕ → Optio
 
   -- each library that is kept has an index
   counted-both : (both : List ImportedLibrary × List ℕ)
-      → (indexed_at strict format offset_of o).value bytes ≡ Some both
+      → (indexed_at strict format addressing o).value bytes ≡ Some both
       → length both.1 ≡ length both.0
   unfolding slot_table kept_slots
   counted-both both is =
@@ -136,9 +137,9 @@ module _ (strict : Bool) (format : Format EntryValue) (offset_of : ℕ → Optio
       ap (λ (indexes : List ℕ). length indexes) (sym (with_slots-kept _ _ both is))
       ∙ pieces-counted kept_at n few both.0 made
 
-  pub counted : IfSome ((indexed_at strict format offset_of o).value bytes)
+  pub counted : IfSome ((indexed_at strict format addressing o).value bytes)
       (λ both. length both.1 ≡ length both.0)
-  counted = each_of ((indexed_at strict format offset_of o).value bytes) counted-both
+  counted = each_of ((indexed_at strict format addressing o).value bytes) counted-both
     where
       each_of : (made : Option (List ImportedLibrary × List ℕ))
           → ((both : List ImportedLibrary × List ℕ) → made ≡ Some both
@@ -149,7 +150,7 @@ module _ (strict : Bool) (format : Format EntryValue) (offset_of : ℕ → Optio
 
 -- ---- the libraries without their indexes
 
-module _ (strict : Bool) (format : Format EntryValue) (offset_of : ℕ → Option ℕ)
+module _ (strict : Bool) (format : Format EntryValue) (addressing : Addressing)
     (bytes : List ℕ) where
   abbrev pub libraries_of : List NumberedLibrary → List ImportedLibrary
   libraries_of = map (λ x. x.library)
@@ -162,85 +163,85 @@ module _ (strict : Bool) (format : Format EntryValue) (offset_of : ℕ → Optio
   numbered-off (x ∷ xs) (i ∷ indexes) same =
       ap (λ (ls : List ImportedLibrary). x ∷ ls) (numbered-off xs indexes (omega (arith, same)))
 
-  libraries-off : (o : ℕ) → (libraries_at strict format offset_of o).value bytes
-      ≡ option_map libraries_of ((numbered_libraries_at strict format offset_of o).value bytes)
+  libraries-off : (o : ℕ) → (libraries_at strict format addressing o).value bytes
+      ≡ option_map libraries_of ((numbered_libraries_at strict format addressing o).value bytes)
   unfolding numbered_libraries_at
-  libraries-off o = by ((libraries_at strict format offset_of o).value bytes) refl
+  libraries-off o = by ((libraries_at strict format addressing o).value bytes) refl
     where
       by : (made : Option (List ImportedLibrary))
-          → (libraries_at strict format offset_of o).value bytes ≡ made
+          → (libraries_at strict format addressing o).value bytes ≡ made
           → made ≡ option_map libraries_of
           (option_map (λ both. numbered both.0 both.1)
           (with_slots (kept_slots import_slots
-          (λ r. (kept_library strict format offset_of r).value bytes) bytes o) made))
+          (λ r. (kept_library strict format addressing r).value bytes) bytes o) made))
       by None is = refl
       by (Some xs) is =
           let kept =
-          kept_slots import_slots (λ r. (kept_library strict format offset_of r).value bytes) bytes o in
+          kept_slots import_slots (λ r. (kept_library strict format addressing r).value bytes) bytes o in
           let both = ap (with_slots kept) is in
           ap (λ (ls : List ImportedLibrary). Some ls)
-          (numbered-off xs kept (counted-both strict format offset_of bytes o (xs, kept) both))
+          (numbered-off xs kept (counted-both strict format addressing bytes o (xs, kept) both))
 
-  if-off : (p : Option ℕ) → (read_if (libraries_at strict format offset_of) p).value bytes
+  if-off : (p : Option ℕ) → (read_if (libraries_at strict format addressing) p).value bytes
       ≡ option_map libraries_of
-      ((read_if (numbered_libraries_at strict format offset_of) p).value bytes)
+      ((read_if (numbered_libraries_at strict format addressing) p).value bytes)
   if-off None = refl
   if-off (Some o) = libraries-off o
 
   then-off : (o : Option ℕ)
-      → (o >>= λ p. (read_past_front strict (libraries_at strict format offset_of) p).value bytes)
+      → (o >>= λ p. (read_past_front strict (libraries_at strict format addressing) p).value bytes)
       ≡ option_map libraries_of
       (o >>= λ p.
-      (read_past_front strict (numbered_libraries_at strict format offset_of) p).value bytes)
+      (read_past_front strict (numbered_libraries_at strict format addressing) p).value bytes)
   then-off None = refl
   then-off (Some p) = if-off (first_record_offset strict (Some p))
 
   -- import data is what is numbered, without the numbers
-  pub unnumbered : (rva : ℕ) → (import_data strict format offset_of rva).value bytes
-      ≡ option_map libraries_of ((numbered_data strict format offset_of rva).value bytes)
+  pub unnumbered : (rva : ℕ) → (import_data strict format addressing rva).value bytes
+      ≡ option_map libraries_of ((numbered_data strict format addressing rva).value bytes)
   unfolding import_data numbered_data
-  unnumbered rva = then-off (in_its_place strict 0 (offset_of rva))
+  unnumbered rva = then-off (in_its_place strict 0 (addressing.offset rva))
 
   if-cause : (p : Option ℕ) (e : ErrorOf)
-      → (read_if (libraries_at strict format offset_of) p).IsCause bytes e
-      → (read_if (numbered_libraries_at strict format offset_of) p).IsCause bytes e
+      → (read_if (libraries_at strict format addressing) p).IsCause bytes e
+      → (read_if (numbered_libraries_at strict format addressing) p).IsCause bytes e
   unfolding numbered_libraries_at
   if-cause None e h = h
   if-cause (Some o) e h = h
 
   -- what is numbered is refused as import data is
   pub unnumbered-cause : (rva : ℕ) (e : ErrorOf)
-      → (import_data strict format offset_of rva).IsCause bytes e
-      → (numbered_data strict format offset_of rva).IsCause bytes e
+      → (import_data strict format addressing rva).IsCause bytes e
+      → (numbered_data strict format addressing rva).IsCause bytes e
   unfolding import_data numbered_data
-  unnumbered-cause rva e h = by (in_its_place strict 0 (offset_of rva)) h
+  unnumbered-cause rva e h = by (in_its_place strict 0 (addressing.offset rva)) h
     where
       by : (o : Option ℕ)
-          → FirstFault o ((offset_at offset_of rva).IsCause bytes)
-          (λ p. (read_past_front strict (libraries_at strict format offset_of) p).IsCause bytes) e
-          → FirstFault o ((offset_at offset_of rva).IsCause bytes)
-          (λ p. (read_past_front strict (numbered_libraries_at strict format offset_of) p).IsCause bytes) e
+          → FirstFault o ((offset_at addressing.offset rva).IsCause bytes)
+          (λ p. (read_past_front strict (libraries_at strict format addressing) p).IsCause bytes) e
+          → FirstFault o ((offset_at addressing.offset rva).IsCause bytes)
+          (λ p. (read_past_front strict (numbered_libraries_at strict format addressing) p).IsCause bytes) e
       by None h = h
       by (Some p) h = if-cause (first_record_offset strict (Some p)) e h
 
   if-reach : (p : Option ℕ)
-      → (read_if (libraries_at strict format offset_of) p).reaches bytes
-      ≡ (read_if (numbered_libraries_at strict format offset_of) p).reaches bytes
+      → (read_if (libraries_at strict format addressing) p).reaches bytes
+      ≡ (read_if (numbered_libraries_at strict format addressing) p).reaches bytes
   unfolding numbered_libraries_at
   if-reach None = refl
   if-reach (Some o) = refl
 
   -- what is numbered reaches what import data does
-  pub numbered-reach : (rva : ℕ) → (import_data strict format offset_of rva).reaches bytes
-      ≡ (numbered_data strict format offset_of rva).reaches bytes
+  pub numbered-reach : (rva : ℕ) → (import_data strict format addressing rva).reaches bytes
+      ≡ (numbered_data strict format addressing rva).reaches bytes
   unfolding import_data numbered_data
-  numbered-reach rva = by (in_its_place strict 0 (offset_of rva))
+  numbered-reach rva = by (in_its_place strict 0 (addressing.offset rva))
     where
       by : (o : Option ℕ)
           → [] ++ led_to o
-          (λ p. (read_past_front strict (libraries_at strict format offset_of) p).reaches bytes)
+          (λ p. (read_past_front strict (libraries_at strict format addressing) p).reaches bytes)
           ≡ [] ++ led_to o
           (λ p.
-          (read_past_front strict (numbered_libraries_at strict format offset_of) p).reaches bytes)
+          (read_past_front strict (numbered_libraries_at strict format addressing) p).reaches bytes)
       by None = refl
       by (Some p) = if-reach (first_record_offset strict (Some p))

@@ -15,6 +15,7 @@ use Rattle.goblin_base.proofs.Records.{record_at-some}
 use Rattle.goblin_base.proofs.SlotTables.{ends, kept-below}
 use Rattle.goblin_base.proofs.Steps.{mapped, same_value, step}
 use Rattle.goblin_pe_sect.specs.AddressReadings.{name_at}
+use Rattle.goblin_pe_sect.specs.Addresses.{Addressing}
 use Rattle.goblin_pe_import.specs.declared.import.directory_entry.ImportDirectoryEntry.{ImportDirectoryEntry}
 use Rattle.readings.specs.Reads.{in_its_place, pair_of}
 use Rattle.goblin_pe_import.specs.ImportEntries.{EntryValue, LookupEntry, entry_slots}
@@ -86,15 +87,15 @@ pieces-counted piece (suc n) few ys e =
     one-filtered : (test : ℕ → Bool) (n : ℕ) → length (filter test (n ∷ [])) ≡ length (cond (test n) (n ∷ []) [])
     one-filtered test n = refl
 
-module _ (strict : Bool) (format : Format EntryValue) (offset_of : ℕ → Option ℕ) (file : List ℕ) where
-  table-counted : (o : ℕ) (entries : List LookupEntry) → (reading.lookup_table strict format offset_of o).value file ≡ Some entries → length entries ≡ length (lookup_slots strict format offset_of file o)
+module _ (strict : Bool) (format : Format EntryValue) (addressing : Addressing) (file : List ℕ) where
+  table-counted : (o : ℕ) (entries : List LookupEntry) → (reading.lookup_table strict format addressing o).value file ≡ Some entries → length entries ≡ length (lookup_slots strict format addressing file o)
   unfolding slot_table kept_slots
   table-counted o entries e =
       let slots = entry_slots format in
-      let piece : ℕ → Option (List LookupEntry) = made_of slots (λ entry. (reading.kept_entry strict offset_of entry).value file) file o in
+      let piece : ℕ → Option (List LookupEntry) = made_of slots (λ entry. (reading.kept_entry strict addressing entry).value file) file o in
       let n = stop slots file o in
       let made = without_test (strict && not (is_some (slot_at slots file o n))) (each_below piece n) entries e in
-      sym (pieces-counted piece n (λ j xs is. let s = step (slot_at slots file o j) (λ entry. (reading.kept_entry strict offset_of entry).value file) xs is in kept_entry-few strict offset_of file s.value xs s.then) entries made)
+      sym (pieces-counted piece n (λ j xs is. let s = step (slot_at slots file o j) (λ entry. (reading.kept_entry strict addressing entry).value file) xs is in kept_entry-few strict addressing file s.value xs s.then) entries made)
 
   -- each slot lies in the file
   abbrev AreSlots : List ℕ → Type 0
@@ -105,20 +106,20 @@ module _ (strict : Bool) (format : Format EntryValue) (offset_of : ℕ → Optio
   in_file o slot below =
       omega (arith, slots_fit (entry_slots format) file o slot (λ j before. least-before (ends (entry_slots format) file o) (length file) j (omega (arith, before, below))))
 
-  table-slots : (o : ℕ) → AreSlots (lookup_slots strict format offset_of file o)
-  table-slots o k d within = in_file o _ (kept-below (entry_slots format) (λ entry. (reading.kept_entry strict offset_of entry).value file) file o k d within)
+  table-slots : (o : ℕ) → AreSlots (lookup_slots strict format addressing file o)
+  table-slots o k d within = in_file o _ (kept-below (entry_slots format) (λ entry. (reading.kept_entry strict addressing entry).value file) file o k d within)
 
   -- the entries of a table have as many slots, in the file
   abbrev HaveSlots : Option (List LookupEntry) → List ℕ → Type 0
   HaveSlots table slots = (length (unwrap_or table []) ≡ length slots) × AreSlots slots
 
-  table_if-slots : (place : Option ℕ) (both : Option (List LookupEntry) × List ℕ) → (directory.lookup_if strict format offset_of place).value file ≡ Some both → HaveSlots both.0 both.1
+  table_if-slots : (place : Option ℕ) (both : Option (List LookupEntry) × List ℕ) → (directory.lookup_if strict format addressing place).value file ≡ Some both → HaveSlots both.0 both.1
   unfolding directory.lookup_if
   table_if-slots None both e =
       subst (λ (t : Option (List LookupEntry) × List ℕ). HaveSlots t.0 t.1) (same_value (None, []) both e) (refl, λ k d within. absurd (omega (arith, within)))
   table_if-slots (Some o) both e =
-      let made = (reading.lookup_table strict format offset_of o).value file in
-      let m = mapped ((reading.lookup_with_slots strict format offset_of o).value file) _ both e in
+      let made = (reading.lookup_table strict format addressing o).value file in
+      let m = mapped ((reading.lookup_with_slots strict format addressing o).value file) _ both e in
       let table = with_slots-value _ made m.value m.is in
       let kept = with_slots-kept _ made m.value m.is in
       let have : HaveSlots (Some m.value.0) m.value.1 = subst (λ (slots : List ℕ). HaveSlots (Some m.value.0) slots) kept (table-counted o m.value.0 table, table-slots o) in
@@ -128,12 +129,12 @@ module _ (strict : Bool) (format : Format EntryValue) (offset_of : ℕ → Optio
   abbrev IsListed : ImportedLibrary → Type 0
   IsListed library = HaveSlots library.import_lookup_table library.import_lookup_slots × (library.import_directory_entry.import_address_table_rva < 2 ^ 32)
 
-  library-listed : (r : ImportDirectoryEntry) (library : ImportedLibrary) → r.import_address_table_rva < 2 ^ 32 → (directory.library_of strict format offset_of r).value file ≡ Some library → IsListed library
+  library-listed : (r : ImportDirectoryEntry) (library : ImportedLibrary) → r.import_address_table_rva < 2 ^ 32 → (directory.library_of strict format addressing r).value file ≡ Some library → IsListed library
   unfolding directory.library_of
   library-listed r library low e =
-      let place = lookup_offset offset_of r in
-      let name = in_its_place strict [] ((name_at offset_of r.name_rva).value file) in
-      let look = (directory.lookup_if strict format offset_of place).value file in
+      let place = lookup_offset addressing r in
+      let name = in_its_place strict [] ((name_at addressing r.name_rva).value file) in
+      let look = (directory.lookup_if strict format addressing place).value file in
       let m = mapped (pair_of (pair_of name look) _) _ library e in
       let there = pair_of-right name look m.value.0 (pair_of-left (pair_of name look) _ m.value m.is) in
       subst IsListed m.made (table_if-slots place m.value.0.1 there, low)
@@ -142,10 +143,10 @@ module _ (strict : Bool) (format : Format EntryValue) (offset_of : ℕ → Optio
     pub address-low : (p : ℕ) → (import_record Little (slice_range file p (p + 20))).import_address_table_rva < 2 ^ 32
     address-low p = number-lt Little 4 (slice_range file p (p + 20)) 16 (IsBytes-slice file p 20 bytes)
 
-    libraries_at-listed : (o : ℕ) (xs : List ImportedLibrary) → (directory.libraries_at strict format offset_of o).value file ≡ Some xs → Each IsListed xs
+    libraries_at-listed : (o : ℕ) (xs : List ImportedLibrary) → (directory.libraries_at strict format addressing o).value file ≡ Some xs → Each IsListed xs
     unfolding slot_table
     libraries_at-listed o xs e =
-        let piece : ImportDirectoryEntry → Option (List ImportedLibrary) = λ r. or_left_out strict ((directory.library_of strict format offset_of r).value file) in
+        let piece : ImportDirectoryEntry → Option (List ImportedLibrary) = λ r. or_left_out strict ((directory.library_of strict format addressing r).value file) in
         let n = stop import_slots file o in
         let made = without_test (strict && not (is_some (slot_at import_slots file o n))) (each_below (λ i. slot_at import_slots file o i >>= piece) n) xs e in
         each_below-each IsListed (λ i. slot_at import_slots file o i >>= piece) n
@@ -153,11 +154,11 @@ module _ (strict : Bool) (format : Format EntryValue) (offset_of : ℕ → Optio
         let s = step (slot_at import_slots file o j) piece ys is in
         let record_there = record_at-some 20 (import_record Little) file (slot_place import_slots o j) s.value s.is in
         let low : s.value.import_address_table_rva < 2 ^ 32 = subst (λ (r : ImportDirectoryEntry). r.import_address_table_rva < 2 ^ 32) (sym record_there.is) (address-low (slot_place import_slots o j)) in
-        left_out-or strict ((directory.library_of strict format offset_of s.value).value file) ys (Each IsListed) tt (λ l here. (library-listed s.value l low here, tt)) s.then)
+        left_out-or strict ((directory.library_of strict format addressing s.value).value file) ys (Each IsListed) tt (λ l here. (library-listed s.value l low here, tt)) s.then)
         xs made
 
-    imported : (rva : ℕ) (xs : List ImportedLibrary) → (directory.import_data strict format offset_of rva).value file ≡ Some xs → Each IsListed xs
-    imported rva xs e = in_directory strict format offset_of file rva xs e (Each IsListed) tt (λ o is here. libraries_at-listed o xs here)
+    imported : (rva : ℕ) (xs : List ImportedLibrary) → (directory.import_data strict format addressing rva).value file ≡ Some xs → Each IsListed xs
+    imported rva xs e = in_directory strict format addressing file rva xs e (Each IsListed) tt (λ o is here. libraries_at-listed o xs here)
 
   -- ---- the imports of a library that has its slots
 
@@ -202,5 +203,5 @@ module _ (strict : Bool) (format : Format EntryValue) (offset_of : ℕ → Optio
         each_below-there (λ i. slice_get libraries i >>= library_imports format.width) (length libraries) (λ i below. step-there libraries i listed below)
 
     -- the imports of import data that was read
-    pub imports_of-there : IsBytes file → (rva : ℕ) (libraries : List ImportedLibrary) → (directory.import_data strict format offset_of rva).value file ≡ Some libraries → IsSome (imports_of format.width libraries)
+    pub imports_of-there : IsBytes file → (rva : ℕ) (libraries : List ImportedLibrary) → (directory.import_data strict format addressing rva).value file ≡ Some libraries → IsSome (imports_of format.width libraries)
     imports_of-there bytes rva libraries e = imports-there libraries (imported bytes rva libraries e)

@@ -25,6 +25,7 @@ use Rattle.goblin_pe_import.proofs.PermissiveReads.{entry-never}
 use Rattle.readings.proofs.WalkValues.{walk-value}
 use Rattle.readings.proofs.Walks.{IsSlotCause, cause-slot, concat_below-same, slot-end, slot-going}
 use Rattle.readings.proofs.Walks.{slot-missing, until_refused-later, until_refused-made, walk-slot}
+use Rattle.goblin_pe_sect.specs.Addresses.{Addressing}
 
 -- the kept entries, and the indexes of their slots
 abbrev pub in_two : List KeptValue → List LookupEntry × List ℕ
@@ -35,11 +36,11 @@ in_slot width o i wide =
     let distance : o + width * i - o ≡ width * i = omega arith in
     ap (λ (n : ℕ). n / width) distance ∙ mul-div_cancel_left i (omega (arith, wide))
 
-module _ (strict : Bool) (format : Format EntryValue) (offset_of : ℕ → Option ℕ)
+module _ (strict : Bool) (format : Format EntryValue) (addressing : Addressing)
     (bytes : List ℕ) (o : ℕ) where
   -- what comes from a place on, and none without a place
   abbrev comes : Option ℕ → List (Option KeptValue)
-  comes = entries_from strict format offset_of bytes o
+  comes = entries_from strict format addressing bytes o
 
   abbrev from : ℕ → List (Option KeptValue)
   from place = comes (Some place)
@@ -49,10 +50,10 @@ module _ (strict : Bool) (format : Format EntryValue) (offset_of : ℕ → Optio
   HasEnded = comes None ≡ []
 
   abbrev items : ℕ → EntryValue → List (Option KeptValue)
-  items = entry_items strict format offset_of bytes o
+  items = entry_items strict format addressing bytes o
 
   abbrev IsCause : Option ℕ → ErrorOf → Type 0
-  IsCause = IsEntriesCause strict format offset_of bytes
+  IsCause = IsEntriesCause strict format addressing bytes
 
   -- nothing is kept of the slots from the one at `start` up to the one at `place`
   pub record AtRest (start : Option ℕ) (place : ℕ) : Type 0 where
@@ -97,14 +98,14 @@ module _ (strict : Bool) (format : Format EntryValue) (offset_of : ℕ → Optio
 
     -- which cause is true from there on
     by_cause : (entry : Option EntryValue) → reads slots bytes place ≡ entry → (e : ErrorOf)
-        → IsSlotCause strict slots.is_last (λ v. (kept_entry strict offset_of v).value bytes)
+        → IsSlotCause strict slots.is_last (λ v. (kept_entry strict addressing v).value bytes)
         ((lookup_entry_at format place).IsCause bytes)
-        (λ v. (kept_entry strict offset_of v).IsCause bytes) (IsCause (Some (place + format.width)))
+        (λ v. (kept_entry strict addressing v).IsCause bytes) (IsCause (Some (place + format.width)))
         entry e
         → IsCause start e
     by_cause entry r e fault =
         h.cause e
-        (cause-slot slots (kept_entry strict offset_of) bytes strict (lookup_entry_at format) wide
+        (cause-slot slots (kept_entry strict addressing) bytes strict (lookup_entry_at format) wide
         place entry r e fault)
 
     pub rest-end : (entry : Option EntryValue) → reads slots bytes place ≡ entry
@@ -127,7 +128,7 @@ module _ (strict : Bool) (format : Format EntryValue) (offset_of : ℕ → Optio
     module _ (v : EntryValue) (r : reads slots bytes place ≡ Some v)
         (going : slots.is_last v ≡ false) where
       first : (made : Option (List LookupEntry))
-          → (kept_entry strict offset_of v).value bytes ≡ made
+          → (kept_entry strict addressing v).value bytes ≡ made
           → comes start
           ≡ until_refused
           (items_of (kept_at format.width o place) made ++ from (place + format.width))
@@ -139,14 +140,14 @@ module _ (strict : Bool) (format : Format EntryValue) (offset_of : ℕ → Optio
           is
 
       pub rest-refused : (e : ErrorOf)
-          → IsRefused (kept_entry strict offset_of v) bytes e
+          → IsRefused (kept_entry strict addressing v) bytes e
           → (comes start ≡ None ∷ []) × HasEnded × IsCause start e
       unfolding entries_from
       rest-refused e k =
           (first None k.0, refl, by_cause (Some v) r e (going, rw (k.0) (k.1)))
 
       pub rest-next : (xs : List LookupEntry)
-          → (kept_entry strict offset_of v).value bytes ≡ Some xs
+          → (kept_entry strict addressing v).value bytes ≡ Some xs
           → (comes start
           ≡ map (λ x. Some (kept_at format.width o place x)) xs ++ from (place + format.width))
           × ((e : ErrorOf) → IsCause (Some (place + format.width)) e → IsCause start e)
@@ -161,9 +162,9 @@ module _ (strict : Bool) (format : Format EntryValue) (offset_of : ℕ → Optio
       )
 
       module _ (kept : Option SyntheticImportLookupTableEntry)
-          (k : (kept_entry strict offset_of v).value bytes ≡ Some (kept_view kept)) where
+          (k : (kept_entry strict addressing v).value bytes ≡ Some (kept_view kept)) where
         read : (found : Option SyntheticImportLookupTableEntry) → kept ≡ found
-            → (kept_entry strict offset_of v).value bytes ≡ Some (kept_view found)
+            → (kept_entry strict addressing v).value bytes ≡ Some (kept_view found)
         read found is = k ∙ ap (λ (x : Option SyntheticImportLookupTableEntry). Some (kept_view x)) is
 
         -- nothing is kept of the slot at `place`
@@ -187,7 +188,7 @@ module _ (strict : Bool) (format : Format EntryValue) (offset_of : ℕ → Optio
   -- ---- the whole table, from its first slot on
 
   abbrev piece : EntryValue → Option (List LookupEntry)
-  piece v = (kept_entry strict offset_of v).value bytes
+  piece v = (kept_entry strict addressing v).value bytes
 
   abbrev made : ℕ → Option (List LookupEntry)
   made = made_of (entry_slots format) piece bytes o
@@ -199,13 +200,13 @@ module _ (strict : Bool) (format : Format EntryValue) (offset_of : ℕ → Optio
   n = stop (entry_slots format) bytes o
 
   in_file : (place : ℕ) (slot : Option EntryValue)
-      → items_at (entry_items strict format offset_of bytes o) place slot
+      → items_at (entry_items strict format addressing bytes o) place slot
       ≡ items_of (kept_at format.width o place) (slot >>= piece)
   in_file place None = refl
   in_file place (Some v) = refl
 
   -- the walk from the table's first slot on, by the index of each slot
-  pub by_index : entries_from strict format offset_of bytes o (Some o)
+  pub by_index : entries_from strict format addressing bytes o (Some o)
       ≡ until_refused
       (concat_below (λ i. items_of (item i) (made i)) n
       ++ end_items strict (slot_at (entry_slots format) bytes o n))
@@ -216,16 +217,16 @@ module _ (strict : Bool) (format : Format EntryValue) (offset_of : ℕ → Optio
       (λ (items : List (Option KeptValue)). until_refused
       (items ++ end_items strict (slot_at slots bytes o n)))
       (concat_below-same
-      (λ i. items_at (entry_items strict format offset_of bytes o) (slot_place slots o i)
+      (λ i. items_at (entry_items strict format addressing bytes o) (slot_place slots o i)
       (slot_at slots bytes o i))
       (λ i. items_of (item i) (made i)) n
       (λ i. in_file (slot_place slots o i) (slot_at slots bytes o i)))
 
   -- collecting it gives the table with its slots
   pub lookup_walked : 1 ≤ format.width
-      → IsWalkOf in_two (lookup_with_slots strict format offset_of o) bytes
-      (entries_from strict format offset_of bytes o (Some o))
-      (IsEntriesCause strict format offset_of bytes (Some o))
+      → IsWalkOf in_two (lookup_with_slots strict format addressing o) bytes
+      (entries_from strict format addressing bytes o (Some o))
+      (IsEntriesCause strict format addressing bytes (Some o))
   unfolding slot_table kept_slots
   lookup_walked wide = record {
     value =
@@ -233,7 +234,7 @@ module _ (strict : Bool) (format : Format EntryValue) (offset_of : ℕ → Optio
         ∙ walk-value item (λ k. k.entry) (λ k. k.slot) made
         (λ i xs is.
         let s = step (slot_at (entry_slots format) bytes o i) piece xs is in
-        kept_entry-few strict offset_of bytes s.value xs s.then)
+        kept_entry-few strict addressing bytes s.value xs s.then)
         (λ i x. refl) (λ i x. in_slot format.width o i wide) strict
         (slot_at (entry_slots format) bytes o n) n;
     cause = λ e fault. fault;
@@ -305,7 +306,7 @@ module _ (strict : Bool) (format : Format EntryValue) (offset_of : ℕ → Optio
 
     -- all have come
     pub entries-all : Steps None
-        → (lookup_with_slots strict format offset_of o).value bytes ≡ Some (entries, rows)
+        → (lookup_with_slots strict format addressing o).value bytes ≡ Some (entries, rows)
     entries-all given =
         sym (lookup_walked h.wide).value
         ∙ ap (option_map in_two) (walk-all comes IsCause (Some o) place h.kept h.at kept_value None given)
@@ -314,7 +315,7 @@ module _ (strict : Bool) (format : Format EntryValue) (offset_of : ℕ → Optio
     module _ (r : Result KeptEntry ErrorOf) (given : Steps (Some r)) where
       -- one is refused
       pub entries-fault : (e : ErrorOf) → r ≡ Err e
-          → IsRefused (lookup_with_slots strict format offset_of o) bytes e
+          → IsRefused (lookup_with_slots strict format addressing o) bytes e
       entries-fault e is =
           let fault =
           walk-fault comes IsCause (Some o) place h.kept h.at kept_value (place_after format.width (Some r)) r given e is in
@@ -336,7 +337,7 @@ module _ (strict : Bool) (format : Format EntryValue) (offset_of : ℕ → Optio
                   ∙ sym (map-append (λ k. k.slot) h.kept (kept_value one ∷ []));
             }
 
-        pub entries-kept : KeepsEntries strict format offset_of bytes o
+        pub entries-kept : KeepsEntries strict format addressing bytes o
         entries-kept =
             let begins =
             walk-begins comes IsCause (Some o) place h.kept h.at kept_value (place_after format.width (Some r)) r given one is in
@@ -350,8 +351,8 @@ module _ (strict : Bool) (format : Format EntryValue) (offset_of : ℕ → Optio
             no-end false end h = h
 
 -- only strict mode refuses an entry
-pub refused-strictly : (strict : Bool) (offset_of : ℕ → Option ℕ) (v : EntryValue)
-    (bytes : List ℕ) → (kept_entry strict offset_of v).value bytes ≡ None → strict ≡ true
-refused-strictly true offset_of v bytes none = refl
-refused-strictly false offset_of v bytes none =
-    absurd (entry-never false offset_of v bytes none refl)
+pub refused-strictly : (strict : Bool) (addressing : Addressing) (v : EntryValue)
+    (bytes : List ℕ) → (kept_entry strict addressing v).value bytes ≡ None → strict ≡ true
+refused-strictly true addressing v bytes none = refl
+refused-strictly false addressing v bytes none =
+    absurd (entry-never false addressing v bytes none refl)

@@ -1,5 +1,5 @@
 -- Entries of a lookup table that are plain.
-use Rattle.std.proofs.Common.{◌≡◌, ◌≤◌, ◌+◌, ◌∙◌, ℕ, Bool, true, false, List, length, Some, refl, sym, ap, arith, slice_range, le-leb}
+use Rattle.std.proofs.Common.{◌≡◌, ◌≤◌, ◌+◌, ◌∙◌, ℕ, Bool, true, false, List, length, Some, refl, sym, ap, arith, slice_range, le-leb, None}
 use Rattle.goblin_base.specs.Bytes.{number, number_at, text_at}
 use Rattle.goblin_base.specs.declared.endian.Endian.TheVariants.{Little}
 use Rattle.goblin_base.proofs.Numbers.{number_in_rest}
@@ -11,7 +11,7 @@ module _ (bytes : List ℕ) (p hint : ℕ) (name : List ℕ) where
   pub plain_hint : (strict : Bool) → p + 2 ≤ length bytes
       → hint ≡ number Little 2 (slice_range bytes p (length bytes)) 0
       → text_at (slice_range bytes p (length bytes)) 2 ≡ Some name
-      → (hint_name strict p).value bytes ≡ Some (record { hint = hint; name = name })
+      → (hint_name strict None p).value bytes ≡ Some (record { hint = hint; name = name })
   unfolding hint_name
   plain_hint strict room number text =
       let there : number_at Little 2 bytes p ≡ Some hint = rw (le-leb (p + 2) (length bytes) room) (ap (λ (n : ℕ). Some n) (sym (number ∙ number_in_rest Little 2 bytes p))) in
@@ -19,6 +19,6 @@ module _ (bytes : List ℕ) (p hint : ℕ) (name : List ℕ) where
       by strict there named
     where
       by : (strict : Bool) → number_at Little 2 bytes p ≡ Some hint → text_at bytes (p + 2) ≡ Some name
-          → (hint_name strict p).value bytes ≡ Some (record { hint = hint; name = name })
+          → (hint_name strict None p).value bytes ≡ Some (record { hint = hint; name = name })
       by true there named = rw (there, named) refl
       by false there named = rw (there, named) refl

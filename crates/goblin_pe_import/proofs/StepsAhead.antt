@@ -17,8 +17,9 @@ use Rattle.goblin_pe_import.specs.ImportRecords.{address_table_rva, import_slots
 use Rattle.goblin_pe_import.specs.ImportWalks.{is_left_out, no_imports}
 use Rattle.goblin_pe_import.specs.declared.import.directory_entry.ImportDirectoryEntry.{ImportDirectoryEntry}
 use Rattle.goblin_pe_import.specs.declared.import.imports.Walk.{Walk}
-use Rattle.goblin_pe_sect.specs.Addresses.{map_of, offset_of, reads_strictly}
+use Rattle.goblin_pe_sect.specs.Addresses.{map_of, reads_strictly}
 use Rattle.goblin_pe_sect.specs.declared.address_map.AddressMap.{AddressMap}
+use Rattle.goblin_pe_sect.specs.Addresses.{Addressing}
 
 -- ---- the slots before a stop
 
@@ -128,48 +129,48 @@ slots-few format bytes None = omega arith
 slots-few format bytes (Some place) = stop-few (entry_slots format) bytes place
 
 -- it is looked at before its library's entries or after them
-pub address-few : (strict : Bool) (format : Format EntryValue) (offset_of : ℕ → Option ℕ)
+pub address-few : (strict : Bool) (format : Format EntryValue) (addressing : Addressing)
     (bytes : List ℕ) (untested : Option ℕ) (rva : ℕ)
-    → untested_ahead strict format offset_of bytes untested
-    + tested_ahead strict format offset_of bytes rva ≤ length bytes
-address-few true format offset_of bytes None rva = omega arith
-address-few true format offset_of bytes (Some at) rva =
-    let few = slots-few format bytes (offset_of at) in
+    → untested_ahead strict format addressing bytes untested
+    + tested_ahead strict format addressing bytes rva ≤ length bytes
+address-few true format addressing bytes None rva = omega arith
+address-few true format addressing bytes (Some at) rva =
+    let few = slots-few format bytes (addressing.offset at) in
     omega (arith, few)
-address-few false format offset_of bytes untested rva =
-    let few = slots-few format bytes (offset_of rva) in
+address-few false format addressing bytes untested rva =
+    let few = slots-few format bytes (addressing.offset rva) in
     omega (arith, few)
 
-pub untested-few : (strict : Bool) (format : Format EntryValue) (offset_of : ℕ → Option ℕ)
+pub untested-few : (strict : Bool) (format : Format EntryValue) (addressing : Addressing)
     (bytes : List ℕ) (untested : Option ℕ)
-    → untested_ahead strict format offset_of bytes untested ≤ length bytes
-untested-few true format offset_of bytes None = omega arith
-untested-few true format offset_of bytes (Some at) = slots-few format bytes (offset_of at)
-untested-few false format offset_of bytes untested = omega arith
+    → untested_ahead strict format addressing bytes untested ≤ length bytes
+untested-few true format addressing bytes None = omega arith
+untested-few true format addressing bytes (Some at) = slots-few format bytes (addressing.offset at)
+untested-few false format addressing bytes untested = omega arith
 
 -- ---- a record
 
-untested-none : (strict : Bool) (format : Format EntryValue) (offset_of : ℕ → Option ℕ)
-    (bytes : List ℕ) → untested_ahead strict format offset_of bytes None ≡ 0
-untested-none true format offset_of bytes = refl
-untested-none false format offset_of bytes = refl
+untested-none : (strict : Bool) (format : Format EntryValue) (addressing : Addressing)
+    (bytes : List ℕ) → untested_ahead strict format addressing bytes None ≡ 0
+untested-none true format addressing bytes = refl
+untested-none false format addressing bytes = refl
 
-module _ (strict : Bool) (format : Format EntryValue) (offset_of : ℕ → Option ℕ)
+module _ (strict : Bool) (format : Format EntryValue) (addressing : Addressing)
     (bytes : List ℕ) (r : ImportDirectoryEntry) (tested : ℕ)
-    (is : tested ≡ tested_ahead strict format offset_of bytes (address_table_rva r)) where
+    (is : tested ≡ tested_ahead strict format addressing bytes (address_table_rva r)) where
   -- its library is left out
-  pub steps-left_out : is_left_out strict format offset_of bytes r ≡ true
+  pub steps-left_out : is_left_out strict format addressing bytes r ≡ true
       → tested + 1 + slots_ahead format bytes None
-      + untested_ahead strict format offset_of bytes None
-      ≡ record_steps strict format offset_of bytes r
+      + untested_ahead strict format addressing bytes None
+      ≡ record_steps strict format addressing bytes r
   unfolding record_steps
-  steps-left_out out = rw out (omega (arith, is, untested-none strict format offset_of bytes))
+  steps-left_out out = rw out (omega (arith, is, untested-none strict format addressing bytes))
 
   -- it is walked over
-  pub steps-entered : is_left_out strict format offset_of bytes r ≡ false
-      → tested + 1 + slots_ahead format bytes (lookup_offset offset_of r)
-      + untested_ahead strict format offset_of bytes (Some (address_table_rva r))
-      ≡ record_steps strict format offset_of bytes r
+  pub steps-entered : is_left_out strict format addressing bytes r ≡ false
+      → tested + 1 + slots_ahead format bytes (lookup_offset addressing r)
+      + untested_ahead strict format addressing bytes (Some (address_table_rva r))
+      ≡ record_steps strict format addressing bytes r
   unfolding record_steps
   steps-entered kept = rw kept (omega (arith, is))
 
@@ -179,15 +180,15 @@ module _ (strict : Bool) (format : Format EntryValue) (offset_of : ℕ → Optio
 pub ended-ahead : (format : Format EntryValue) (t : Walk) → t.at ≡ no_imports
     → walk_ahead format t ≡ 0
 ended-ahead format t ended =
-    let none = untested-none (reads_strictly (map_of t.finder)) format (offset_of (map_of t.finder)) t.bytes.now in
+    let none = untested-none (reads_strictly (map_of t.finder)) format (map_of t.finder).addressing t.bytes.now in
     rw ended (omega (arith, none))
 
 module _ (format : Format EntryValue) (s : Walk) where
   abbrev strict : Bool
   strict = reads_strictly (map_of s.finder)
 
-  abbrev places : ℕ → Option ℕ
-  places = offset_of (map_of s.finder)
+  abbrev places : Addressing
+  places = (map_of s.finder).addressing
 
   abbrev later : Option ℕ → ℕ
   later next = later_ahead strict format places s.bytes.now s.at.untested next
@@ -225,7 +226,7 @@ module _ (format : Format EntryValue) (s : Walk) where
       walked : AddressMap → List ℕ → Option ℕ → ℕ
       walked f b n =
           slots_ahead format b t.at.place
-          + later_ahead (reads_strictly (map_of f)) format (offset_of (map_of f)) b t.at.untested n
+          + later_ahead (reads_strictly (map_of f)) format (map_of f).addressing b t.at.untested n
 
 -- ---- what a limit has left
 

@@ -12,6 +12,7 @@ use Rattle.goblin_pe_import.specs.ImportEntries.{EntryValue}
 use Rattle.goblin_pe_import.specs.ImportReadings as directory
 use Rattle.goblin_pe_import.specs.ImportRecords.{ImportedLibrary, import_slots}
 use Rattle.goblin_pe_import.specs.declared.import.directory_entry.ImportDirectoryEntry.{ImportDirectoryEntry}
+use Rattle.goblin_pe_sect.specs.Addresses.{Addressing}
 
 abbrev HasSome : {A : Type 0} → Option (List A) → Type 0
 HasSome o = IsSomeAnd o (λ xs. 0 < length xs)
@@ -37,20 +38,20 @@ some-of : {A B : Type 0} (o : Option A) (f : A → Option (List B)) → HasSome 
 some-of None f h = absurd h
 some-of (Some a) f h = h
 
-module _ (format : Format EntryValue) (offset_of : ℕ → Option ℕ) (bytes : List ℕ) where
+module _ (format : Format EntryValue) (addressing : Addressing) (bytes : List ℕ) where
   in-record : (strict : Bool) (r : Option ImportDirectoryEntry)
-      → IsSomeAnd r (λ r. HasSome ((directory.kept_library strict format offset_of r).value bytes))
-      → IsSomeAnd r (TakesLibrary strict format offset_of bytes)
+      → IsSomeAnd r (λ r. HasSome ((directory.kept_library strict format addressing r).value bytes))
+      → IsSomeAnd r (TakesLibrary strict format addressing bytes)
   in-record strict None h = absurd h
   in-record strict (Some r) h = inr h
 
   directory-taken : (strict : Bool) (o : ℕ) (libraries : List ImportedLibrary)
-      → (directory.libraries_at strict format offset_of o).value bytes ≡ Some libraries
-      → 0 < length libraries → TakesLibraries strict format offset_of bytes o
+      → (directory.libraries_at strict format addressing o).value bytes ≡ Some libraries
+      → 0 < length libraries → TakesLibraries strict format addressing bytes o
   unfolding slot_table
   directory-taken strict o libraries e some =
       let n = stop import_slots bytes o in
-      let piece : ImportDirectoryEntry → Option (List ImportedLibrary) = λ r. (directory.kept_library strict format offset_of r).value bytes in
+      let piece : ImportDirectoryEntry → Option (List ImportedLibrary) = λ r. (directory.kept_library strict format addressing r).value bytes in
       let made = without_test (strict && not (is_some (slot_at import_slots bytes o n)))
       (each_below (λ i. slot_at import_slots bytes o i >>= piece) n) libraries e in
       let found = some-below (λ i. slot_at import_slots bytes o i >>= piece) n libraries made some in
@@ -58,13 +59,13 @@ module _ (format : Format EntryValue) (offset_of : ℕ → Option ℕ) (bytes : 
 
   -- import data that has a library takes memory
   pub libraries-taken : (strict : Bool) (rva : ℕ) (libraries : List ImportedLibrary)
-      → (directory.import_data strict format offset_of rva).value bytes ≡ Some libraries
+      → (directory.import_data strict format addressing rva).value bytes ≡ Some libraries
       → 0 < length libraries
-      → IsSomeAnd (directory.first_record_offset strict (offset_of rva)) (TakesLibraries strict format offset_of bytes)
+      → IsSomeAnd (directory.first_record_offset strict (addressing.offset rva)) (TakesLibraries strict format addressing bytes)
   libraries-taken strict rva libraries e =
-      in_directory strict format offset_of bytes rva libraries e
-      (λ ls. 0 < length ls → IsSomeAnd (directory.first_record_offset strict (offset_of rva)) (TakesLibraries strict format offset_of bytes))
+      in_directory strict format addressing bytes rva libraries e
+      (λ ls. 0 < length ls → IsSomeAnd (directory.first_record_offset strict (addressing.offset rva)) (TakesLibraries strict format addressing bytes))
       (λ some. absurd (omega (arith, some)))
       (λ o is here some.
-      subst (λ (place : Option ℕ). IsSomeAnd place (TakesLibraries strict format offset_of bytes)) (sym is)
+      subst (λ (place : Option ℕ). IsSomeAnd place (TakesLibraries strict format addressing bytes)) (sym is)
       (directory-taken strict o libraries here some))

@@ -1,16 +1,17 @@
 -- How many imports a file can have.
-use Rattle.std.specs.Prelude.{◌≡◌, ◌≤◌, ℕ, ◌*◌, ◌/◌, Bool, List, length, Option, Some}
+use Rattle.std.specs.Prelude.{◌≡◌, ◌≤◌, ℕ, ◌*◌, ◌/◌, Bool, List, length, Some}
 use Rattle.goblin_base.specs.Tables.{Format}
 use Rattle.goblin_pe_import.specs.ImportReadings.{import_data}
 use Rattle.goblin_pe_import.specs.ImportRecords.{ImportedLibrary}
 use Rattle.goblin_pe_import.specs.ImportLookup.{EntryValue}
 use Rattle.goblin_pe_import.specs.Imports.{ImportValue}
+use Rattle.goblin_pe_sect.specs.Addresses.{Addressing}
 
 -- If the libraries are the import data of some file, in either mode and by any map of addresses,
 -- the number of imports is at most that of the records that fit the file, times that of the
 -- entries that fit it.
 unfoldable pub AreFew : Format EntryValue → List ImportedLibrary → List ImportValue → Type 0
 AreFew format libraries imports =
-    (strict : Bool) (offset_of : ℕ → Option ℕ) (file : List ℕ) (rva : ℕ)
-    → (import_data strict format offset_of rva).value file ≡ Some libraries
+    (strict : Bool) (addressing : Addressing) (file : List ℕ) (rva : ℕ)
+    → (import_data strict format addressing rva).value file ≡ Some libraries
     → length imports ≤ length file / 20 * (length file / format.width)

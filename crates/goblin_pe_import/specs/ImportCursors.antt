@@ -5,6 +5,7 @@ use Rattle.goblin_base.specs.Reading.{IsRefused, Reading}
 use Rattle.readings.specs.Reads.{mapped, or_else}
 use Rattle.goblin_pe_sect.specs.AddressReadings.{offset_at}
 use Rattle.goblin_pe_sect.specs.Addresses.{MapOfAddresses}
+use Rattle.goblin_pe_sect.specs.Addresses.{Addressing}
 use Rattle.goblin_pe_import.specs.ImportReadings.{first_record_offset}
 use Rattle.goblin_pe_import.specs.ImportWalks.{IsWalkAt, no_imports}
 use Rattle.goblin_pe_import.specs.declared.import.imports.ImportCursor.{ImportCursor}
@@ -21,10 +22,10 @@ before_first (Some p) = before_record p
 
 -- The cursor before the first import of a directory at an address. Permissive mode treats an
 -- address without an offset as one that leads to the front of the file.
-abbrev pub first_import : Bool → (ℕ → Option ℕ) → ℕ → Reading ImportCursor
-first_import strict offset_of rva =
+abbrev pub first_import : Bool → Addressing → ℕ → Reading ImportCursor
+first_import strict addressing rva =
     mapped (λ o. before_first (first_record_offset strict (Some o)))
-    (or_else strict 0 (offset_at offset_of rva))
+    (or_else strict 0 (offset_at addressing.offset rva))
 
 -- A call gives the walk from where the imports begin, or is refused since that is.
 abbrev pub BeginsAt : {T : Type 0} → MapOfAddresses → List ℕ → Reading ImportCursor

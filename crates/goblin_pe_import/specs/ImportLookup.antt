@@ -13,20 +13,21 @@ use Rattle.goblin_pe_import.specs.LookupReadings.{kept_entry}
 use Rattle.goblin_pe_import.specs.declared.import.lookup_table.HintNameTableEntry.{HintNameTableEntry}
 use Rattle.goblin_pe_import.specs.declared.import.lookup_table.SyntheticImportLookupTableEntry.{SyntheticImportLookupTableEntry}
 use Rattle.goblin_pe_import.specs.declared.import.lookup_table.SyntheticImportLookupTableEntry.TheVariants as variant
+use Rattle.goblin_pe_sect.specs.Addresses.{Addressing}
 
 -- The indexes of the slots whose entries the lookup table at an offset keeps: one for each kept
 -- entry.
-abbrev pub lookup_slots : Bool → Format EntryValue → (ℕ → Option ℕ) → List ℕ → ℕ → List ℕ
-lookup_slots strict format offset_of bytes o =
+abbrev pub lookup_slots : Bool → Format EntryValue → Addressing → List ℕ → ℕ → List ℕ
+lookup_slots strict format addressing bytes o =
     kept_slots (entry_slots format)
-    (λ entry. (kept_entry strict offset_of entry).value bytes) bytes o
+    (λ entry. (kept_entry strict addressing entry).value bytes) bytes o
 
 -- something is kept of an entry of the lookup table at an offset
-abbrev pub KeepsEntries : Bool → Format EntryValue → (ℕ → Option ℕ) → List ℕ → ℕ → Type 0
-KeepsEntries strict format offset_of bytes o =
+abbrev pub KeepsEntries : Bool → Format EntryValue → Addressing → List ℕ → ℕ → Type 0
+KeepsEntries strict format addressing bytes o =
     (i : ℕ) × (i < stop (entry_slots format) bytes o)
     × (is_kept (slot_at (entry_slots format) bytes o i
-    >>= λ entry. (kept_entry strict offset_of entry).value bytes)
+    >>= λ entry. (kept_entry strict addressing entry).value bytes)
     ≡ true)
 
 -- the address table at an offset has an entry

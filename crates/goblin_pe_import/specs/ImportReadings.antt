@@ -8,6 +8,7 @@ use Rattle.goblin_base.specs.Tables.{Format}
 use Rattle.readings.specs.Reads.{◌>>=◌, ◌beside◌, because, given, mapped, or_else, or_left_out}
 use Rattle.readings.specs.Reads.{record_at, table, table_with_slots}
 use Rattle.goblin_pe_sect.specs.AddressReadings.{at_address, name_at, offset_at}
+use Rattle.goblin_pe_sect.specs.Addresses.{Addressing}
 use Rattle.goblin_pe_import.specs.ImportEntries.{EntryValue, LookupEntry}
 use Rattle.goblin_pe_import.specs.ImportRecords.{ImportedLibrary, NumberedLibrary, address_table_rva}
 use Rattle.goblin_pe_import.specs.ImportRecords.{import_record, import_slots, lookup_offset}
@@ -19,17 +20,17 @@ abbrev pub import_record_at : ℕ → Reading ImportDirectoryEntry
 import_record_at p = because (ImportRecordEnd p) (record_at 20 (import_record Little) p)
 
 -- the lookup table at an offset with its slots, and nothing where there is no offset
-unfoldable pub lookup_if : Bool → Format EntryValue → (ℕ → Option ℕ) → Option ℕ
+unfoldable pub lookup_if : Bool → Format EntryValue → Addressing → Option ℕ
     → Reading (Option (List LookupEntry) × List ℕ)
-lookup_if strict format offset_of None = given (None, [])
-lookup_if strict format offset_of (Some o) =
-    mapped (λ both. (Some both.0, both.1)) (lookup_with_slots strict format offset_of o)
+lookup_if strict format addressing None = given (None, [])
+lookup_if strict format addressing (Some o) =
+    mapped (λ both. (Some both.0, both.1)) (lookup_with_slots strict format addressing o)
 
 -- What a record leads to: its name, its lookup table and its address table. Permissive mode takes
 -- the empty name if there is none.
-unfoldable pub library_of : Bool → Format EntryValue → (ℕ → Option ℕ) → ImportDirectoryEntry
+unfoldable pub library_of : Bool → Format EntryValue → Addressing → ImportDirectoryEntry
     → Reading ImportedLibrary
-library_of strict format offset_of r =
+library_of strict format addressing r =
     mapped (λ parts. record {
       import_directory_entry = r;
       name = parts.0.0;
@@ -37,22 +38,22 @@ library_of strict format offset_of r =
       import_lookup_slots = parts.0.1.1;
       import_address_table = parts.1;
     })
-    (or_else strict [] (name_at offset_of r.name_rva)
-    beside lookup_if strict format offset_of (lookup_offset offset_of r)
-    beside at_address offset_of (address_table_rva r) (address_table format))
+    (or_else strict [] (name_at addressing r.name_rva)
+    beside lookup_if strict format addressing (lookup_offset addressing r)
+    beside at_address addressing.offset (address_table_rva r) (address_table format))
 
 -- the library of a record; permissive mode leaves out a record that leads to none
-abbrev pub kept_library : Bool → Format EntryValue → (ℕ → Option ℕ) → ImportDirectoryEntry
+abbrev pub kept_library : Bool → Format EntryValue → Addressing → ImportDirectoryEntry
     → Reading (List ImportedLibrary)
-kept_library strict format offset_of r = or_left_out strict (library_of strict format offset_of r)
+kept_library strict format addressing r = or_left_out strict (library_of strict format addressing r)
 
 -- The libraries of the directory at an offset: those of the records before the first that is not in
 -- the file or ends the directory. Strict mode needs that record, and a library for each. Permissive
 -- mode leaves out records that lead to none.
-abbrev pub libraries_at : Bool → Format EntryValue → (ℕ → Option ℕ) → ℕ
+abbrev pub libraries_at : Bool → Format EntryValue → Addressing → ℕ
     → Reading (List ImportedLibrary)
-libraries_at strict format offset_of o =
-    table import_slots strict import_record_at (kept_library strict format offset_of) o
+libraries_at strict format addressing o =
+    table import_slots strict import_record_at (kept_library strict format addressing) o
 
 -- libraries with the indexes of their records, of which there are as many
 abbrev pub at_index : ℕ → ImportedLibrary → NumberedLibrary
@@ -65,16 +66,16 @@ numbered (library ∷ libraries) (index ∷ indexes) =
     at_index index library ∷ numbered libraries indexes
 
 -- the libraries of the directory at an offset, and the indexes of the records that are kept
-abbrev pub indexed_at : Bool → Format EntryValue → (ℕ → Option ℕ) → ℕ
+abbrev pub indexed_at : Bool → Format EntryValue → Addressing → ℕ
     → Reading (List ImportedLibrary × List ℕ)
-indexed_at strict format offset_of o =
-    table_with_slots import_slots strict import_record_at (kept_library strict format offset_of) o
+indexed_at strict format addressing o =
+    table_with_slots import_slots strict import_record_at (kept_library strict format addressing) o
 
 -- the same libraries, each with the index of its record
-unfoldable pub numbered_libraries_at : Bool → Format EntryValue → (ℕ → Option ℕ) → ℕ
+unfoldable pub numbered_libraries_at : Bool → Format EntryValue → Addressing → ℕ
     → Reading (List NumberedLibrary)
-numbered_libraries_at strict format offset_of o =
-    mapped (λ both. numbered both.0 both.1) (indexed_at strict format offset_of o)
+numbered_libraries_at strict format addressing o =
+    mapped (λ both. numbered both.0 both.1) (indexed_at strict format addressing o)
 
 -- The offset of the first record of a directory that has this offset, where it has one. Permissive
 -- mode treats a directory at the front of the file as empty.
@@ -93,19 +94,19 @@ read_past_front strict read o = read_if read (first_record_offset strict (Some o
 
 -- What is read of the directory at an address. Permissive mode treats an address without an offset
 -- as one that leads to the front of the file.
-abbrev pub read_directory : {A : Type 0} → Bool → (ℕ → Option ℕ) → (ℕ → Reading (List A)) → ℕ
+abbrev pub read_directory : {A : Type 0} → Bool → Addressing → (ℕ → Reading (List A)) → ℕ
     → Reading (List A)
-read_directory strict offset_of read rva =
-    or_else strict 0 (offset_at offset_of rva) >>= read_past_front strict read
+read_directory strict addressing read rva =
+    or_else strict 0 (offset_at addressing.offset rva) >>= read_past_front strict read
 
 -- the libraries of the directory at an address
-unfoldable pub import_data : Bool → Format EntryValue → (ℕ → Option ℕ) → ℕ
+unfoldable pub import_data : Bool → Format EntryValue → Addressing → ℕ
     → Reading (List ImportedLibrary)
-import_data strict format offset_of rva =
-    read_directory strict offset_of (libraries_at strict format offset_of) rva
+import_data strict format addressing rva =
+    read_directory strict addressing (libraries_at strict format addressing) rva
 
 -- the same libraries, each with the index of its record
-unfoldable pub numbered_data : Bool → Format EntryValue → (ℕ → Option ℕ) → ℕ
+unfoldable pub numbered_data : Bool → Format EntryValue → Addressing → ℕ
     → Reading (List NumberedLibrary)
-numbered_data strict format offset_of rva =
-    read_directory strict offset_of (numbered_libraries_at strict format offset_of) rva
+numbered_data strict format addressing rva =
+    read_directory strict addressing (numbered_libraries_at strict format addressing) rva

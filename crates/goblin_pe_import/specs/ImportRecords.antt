@@ -8,6 +8,7 @@ use Rattle.goblin_base.specs.Record.{FieldValue, uint}
 use Rattle.goblin_base.specs.Tables.{SlotFormat}
 use Rattle.goblin_pe_import.specs.ImportEntries.{LookupEntry}
 use Rattle.goblin_pe_import.specs.declared.import.directory_entry.ImportDirectoryEntry.{ImportDirectoryEntry}
+use Rattle.goblin_pe_sect.specs.Addresses.{Addressing}
 
 -- Source: PE Format, "Import Directory Table".
 
@@ -54,9 +55,9 @@ pub record NumberedLibrary : Type 0 where
 
 -- the offset of a record's lookup table: that of its own address or, if it has none, of the address
 -- table's
-abbrev pub lookup_offset : (ℕ → Option ℕ) → ImportDirectoryEntry → Option ℕ
-lookup_offset offset_of r =
-    option_or (offset_of r.import_lookup_table_rva) (offset_of r.import_address_table_rva)
+abbrev pub lookup_offset : Addressing → ImportDirectoryEntry → Option ℕ
+lookup_offset addressing r =
+    option_or (addressing.offset r.import_lookup_table_rva) (addressing.offset r.import_address_table_rva)
 
 -- the address of a record's address table: that of its lookup table if it is 0
 abbrev pub address_table_rva : ImportDirectoryEntry → ℕ

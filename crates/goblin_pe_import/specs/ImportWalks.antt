@@ -12,7 +12,7 @@ use Rattle.readings.specs.Walks.{GivesNext, items_of, refusal_of, table_walk}
 use Rattle.readings.specs.Walks.{until_refused}
 use Rattle.goblin_pe_sect.specs.declared.address_map.finder.Finder.{Finder}
 use Rattle.goblin_pe_sect.specs.AddressReadings.{at_address, name_at}
-use Rattle.goblin_pe_sect.specs.Addresses.{MapOfAddresses, map_of, offset_of, reads_strictly}
+use Rattle.goblin_pe_sect.specs.Addresses.{Addressing, MapOfAddresses, map_of, reads_strictly}
 use Rattle.goblin_pe_import.specs.ImportEntries.{EntryValue, LookupEntry, entry_slots}
 use Rattle.goblin_pe_import.specs.ImportLookup.{entry_view}
 use Rattle.goblin_pe_import.specs.ImportReadings.{import_record_at, libraries_at}
@@ -49,24 +49,24 @@ kept_at width o place entry =
     record { slot = (place - o) / width; place = place; entry = entry }
 
 -- what is kept of the entry in the slot at a place of a table at o
-abbrev pub entry_items : Bool → Format EntryValue → (ℕ → Option ℕ) → List ℕ → ℕ → ℕ → EntryValue
+abbrev pub entry_items : Bool → Format EntryValue → Addressing → List ℕ → ℕ → ℕ → EntryValue
     → List (Option KeptValue)
-entry_items strict format offset_of bytes o place v =
-    items_of (kept_at format.width o place) ((kept_entry strict offset_of v).value bytes)
+entry_items strict format addressing bytes o place v =
+    items_of (kept_at format.width o place) ((kept_entry strict addressing v).value bytes)
 
 -- the kept entries of the lookup table at o, from the slot at a place on; none without a place
-unfoldable pub entries_from : Bool → Format EntryValue → (ℕ → Option ℕ) → List ℕ → ℕ → Option ℕ
+unfoldable pub entries_from : Bool → Format EntryValue → Addressing → List ℕ → ℕ → Option ℕ
     → List (Option KeptValue)
-entries_from strict format offset_of bytes o None = []
-entries_from strict format offset_of bytes o (Some place) =
-    table_walk (entry_slots format) strict (entry_items strict format offset_of bytes o) bytes place
+entries_from strict format addressing bytes o None = []
+entries_from strict format addressing bytes o (Some place) =
+    table_walk (entry_slots format) strict (entry_items strict format addressing bytes o) bytes place
 
 -- which cause is true if one of them is refused: that of a table from there on
-abbrev pub IsEntriesCause : Bool → Format EntryValue → (ℕ → Option ℕ) → List ℕ → Option ℕ
+abbrev pub IsEntriesCause : Bool → Format EntryValue → Addressing → List ℕ → Option ℕ
     → ErrorOf → Type 0
-IsEntriesCause strict format offset_of bytes None e = ⊥
-IsEntriesCause strict format offset_of bytes (Some place) e =
-    (lookup_table strict format offset_of place).IsCause bytes e
+IsEntriesCause strict format addressing bytes None e = ⊥
+IsEntriesCause strict format addressing bytes (Some place) e =
+    (lookup_table strict format addressing place).IsCause bytes e
 
 -- where a walk over slots of `width` bytes goes on after it has yielded this
 abbrev pub place_after : ℕ → Option (Result KeptEntry ErrorOf) → Option ℕ
@@ -97,54 +97,54 @@ kept_import width from rva o kept =
     (import_of from.dll kept.slot (rva + (kept.place - o)) width kept.entry)
 
 -- the imports of the entries from a place on
-abbrev pub imports_of_entries : Bool → Format EntryValue → (ℕ → Option ℕ) → List ℕ → Origin → ℕ → ℕ
+abbrev pub imports_of_entries : Bool → Format EntryValue → Addressing → List ℕ → Origin → ℕ → ℕ
     → Option ℕ → List (Option NumberedImport)
-imports_of_entries strict format offset_of bytes from rva o place =
+imports_of_entries strict format addressing bytes from rva o place =
     map (option_map (kept_import format.width from rva o))
-    (entries_from strict format offset_of bytes o place)
+    (entries_from strict format addressing bytes o place)
 
 -- the name of a record's library
-abbrev pub library_name : Bool → (ℕ → Option ℕ) → ImportDirectoryEntry → Reading (List ℕ)
-library_name strict offset_of r = or_else strict [] (name_at offset_of r.name_rva)
+abbrev pub library_name : Bool → Addressing → ImportDirectoryEntry → Reading (List ℕ)
+library_name strict addressing r = or_else strict [] (name_at addressing r.name_rva)
 
 -- its address table
-abbrev pub addresses_of : Format EntryValue → (ℕ → Option ℕ) → ImportDirectoryEntry
+abbrev pub addresses_of : Format EntryValue → Addressing → ImportDirectoryEntry
     → Reading (List ℕ)
-addresses_of format offset_of r =
-    at_address offset_of (address_table_rva r) (address_table format)
+addresses_of format addressing r =
+    at_address addressing.offset (address_table_rva r) (address_table format)
 
 -- an address table that is still to be tested, which only strict mode does
-abbrev pub untested_table : Bool → Format EntryValue → (ℕ → Option ℕ) → Option ℕ
+abbrev pub untested_table : Bool → Format EntryValue → Addressing → Option ℕ
     → Reading (List ℕ)
-untested_table strict format offset_of None = given []
-untested_table strict format offset_of (Some rva) =
-    pick strict (at_address offset_of rva (address_table format)) (given [])
+untested_table strict format addressing None = given []
+untested_table strict format addressing (Some rva) =
+    pick strict (at_address addressing.offset rva (address_table format)) (given [])
 
 -- the imports of a library of this name, and a refusal where it has no address table
-abbrev pub named_items : Bool → Format EntryValue → (ℕ → Option ℕ) → List ℕ → ℕ
+abbrev pub named_items : Bool → Format EntryValue → Addressing → List ℕ → ℕ
     → ImportDirectoryEntry → Option (List ℕ) → List (Option NumberedImport)
-named_items strict format offset_of bytes index r None = None ∷ []
-named_items strict format offset_of bytes index r (Some dll) =
-    let table = lookup_offset offset_of r in
-    let addresses = untested_table strict format offset_of (Some (address_table_rva r)) in
-    imports_of_entries strict format offset_of bytes (origin index dll) r.import_address_table_rva
+named_items strict format addressing bytes index r None = None ∷ []
+named_items strict format addressing bytes index r (Some dll) =
+    let table = lookup_offset addressing r in
+    let addresses = untested_table strict format addressing (Some (address_table_rva r)) in
+    imports_of_entries strict format addressing bytes (origin index dll) r.import_address_table_rva
     (unwrap_or table 0) table
     ++ refusal_of (addresses.value bytes)
 
 -- permissive mode leaves out a library without an address table
-abbrev pub is_left_out : Bool → Format EntryValue → (ℕ → Option ℕ) → List ℕ
+abbrev pub is_left_out : Bool → Format EntryValue → Addressing → List ℕ
     → ImportDirectoryEntry → Bool
-is_left_out strict format offset_of bytes r =
-    not strict && is_none ((addresses_of format offset_of r).value bytes)
+is_left_out strict format addressing bytes r =
+    not strict && is_none ((addresses_of format addressing r).value bytes)
 
 -- What comes of the library of the record with an index: its name is needed, then its imports come,
 -- then strict mode needs its address table.
-unfoldable pub library_items : Bool → Format EntryValue → (ℕ → Option ℕ) → List ℕ → ℕ
+unfoldable pub library_items : Bool → Format EntryValue → Addressing → List ℕ → ℕ
     → ImportDirectoryEntry → List (Option NumberedImport)
-library_items strict format offset_of bytes index r =
-    if is_left_out strict format offset_of bytes r then []
-    else named_items strict format offset_of bytes index r
-    ((library_name strict offset_of r).value bytes)
+library_items strict format addressing bytes index r =
+    if is_left_out strict format addressing bytes r then []
+    else named_items strict format addressing bytes index r
+    ((library_name strict addressing r).value bytes)
 
 -- ---- all imports
 
@@ -153,53 +153,53 @@ abbrev pub record_index : ℕ → ℕ → ℕ
 record_index first p = (p - first) / 20
 
 -- the imports of the libraries whose records are in this directory from a place on
-unfoldable pub imports_from_record : Bool → Format EntryValue → (ℕ → Option ℕ) → List ℕ → ℕ → ℕ
+unfoldable pub imports_from_record : Bool → Format EntryValue → Addressing → List ℕ → ℕ → ℕ
     → List (Option NumberedImport)
-imports_from_record strict format offset_of bytes first p =
+imports_from_record strict format addressing bytes first p =
     table_walk import_slots strict
-    (λ p r. library_items strict format offset_of bytes (record_index first p) r) bytes p
+    (λ p r. library_items strict format addressing bytes (record_index first p) r) bytes p
 
 -- those from the next record on, if there is one
-unfoldable pub imports_next : Bool → Format EntryValue → (ℕ → Option ℕ) → List ℕ → ℕ → Option ℕ
+unfoldable pub imports_next : Bool → Format EntryValue → Addressing → List ℕ → ℕ → Option ℕ
     → List (Option NumberedImport)
-imports_next strict format offset_of bytes first None = []
-imports_next strict format offset_of bytes first (Some p) =
-    imports_from_record strict format offset_of bytes first p
+imports_next strict format addressing bytes first None = []
+imports_next strict format addressing bytes first (Some p) =
+    imports_from_record strict format addressing bytes first p
 
 -- which cause is true if one of the libraries whose records are in the directory from a place on is
 -- refused
-abbrev pub IsRecordsCause : Bool → Format EntryValue → (ℕ → Option ℕ) → List ℕ → ℕ → ErrorOf
+abbrev pub IsRecordsCause : Bool → Format EntryValue → Addressing → List ℕ → ℕ → ErrorOf
     → Type 0
-IsRecordsCause strict format offset_of bytes p e =
-    (libraries_at strict format offset_of p).IsCause bytes e
+IsRecordsCause strict format addressing bytes p e =
+    (libraries_at strict format addressing p).IsCause bytes e
 
 -- Which cause is true if a library that has a name is refused, or else what comes later: that of its
 -- lookup table, of its address table, and then the later one.
-abbrev pub IsNamedCause : Bool → Format EntryValue → (ℕ → Option ℕ) → List ℕ
+abbrev pub IsNamedCause : Bool → Format EntryValue → Addressing → List ℕ
     → ImportDirectoryEntry → (IsLater : ErrorOf → Type 0) → ErrorOf → Type 0
-IsNamedCause strict format offset_of bytes r IsLater e =
-    let table = lookup_offset offset_of r in
-    let addresses = untested_table strict format offset_of (Some (address_table_rva r)) in
-    FirstFault (all_of (entries_from strict format offset_of bytes (unwrap_or table 0) table))
-    (IsEntriesCause strict format offset_of bytes table)
+IsNamedCause strict format addressing bytes r IsLater e =
+    let table = lookup_offset addressing r in
+    let addresses = untested_table strict format addressing (Some (address_table_rva r)) in
+    FirstFault (all_of (entries_from strict format addressing bytes (unwrap_or table 0) table))
+    (IsEntriesCause strict format addressing bytes table)
     (λ _. FirstFault (addresses.value bytes) (addresses.IsCause bytes) (λ _. IsLater)) e
 
 -- the same of the library of the record at p, where there is one
-abbrev pub IsRecordCause : Bool → Format EntryValue → (ℕ → Option ℕ) → List ℕ → ℕ
+abbrev pub IsRecordCause : Bool → Format EntryValue → Addressing → List ℕ → ℕ
     → Option ImportDirectoryEntry → ErrorOf → Type 0
-IsRecordCause strict format offset_of bytes p None e = (import_record_at p).IsCause bytes e
-IsRecordCause strict format offset_of bytes p (Some r) e =
-    let name = library_name strict offset_of r in
+IsRecordCause strict format addressing bytes p None e = (import_record_at p).IsCause bytes e
+IsRecordCause strict format addressing bytes p (Some r) e =
+    let name = library_name strict addressing r in
     (is_last_record r ≡ false)
     × FirstFault (name.value bytes) (name.IsCause bytes)
-    (λ _. IsNamedCause strict format offset_of bytes r
-    (IsRecordsCause strict format offset_of bytes (p + 20))) e
+    (λ _. IsNamedCause strict format addressing bytes r
+    (IsRecordsCause strict format addressing bytes (p + 20))) e
 
 -- which cause is true if what comes from the next record on is refused
-abbrev pub IsNextCause : Bool → Format EntryValue → (ℕ → Option ℕ) → List ℕ → Option ℕ → ErrorOf
+abbrev pub IsNextCause : Bool → Format EntryValue → Addressing → List ℕ → Option ℕ → ErrorOf
     → Type 0
-IsNextCause strict format offset_of bytes None e = ⊥
-IsNextCause strict format offset_of bytes (Some p) e = IsRecordsCause strict format offset_of bytes p e
+IsNextCause strict format addressing bytes None e = ⊥
+IsNextCause strict format addressing bytes (Some p) e = IsRecordsCause strict format addressing bytes p e
 
 -- ---- how many more may come
 
@@ -222,18 +222,18 @@ bound_next bytes (Some p) = records_bound bytes p
 
 -- what comes once the entries of a library have come: its address table is needed where it is still
 -- to be tested, and then the imports from the next record on come
-abbrev pub later_items : Bool → Format EntryValue → (ℕ → Option ℕ) → List ℕ → Option ℕ → ℕ
+abbrev pub later_items : Bool → Format EntryValue → Addressing → List ℕ → Option ℕ → ℕ
     → Option ℕ → List (Option NumberedImport)
-later_items strict format offset_of bytes untested first next =
-    refusal_of ((untested_table strict format offset_of untested).value bytes)
-    ++ imports_next strict format offset_of bytes first next
+later_items strict format addressing bytes untested first next =
+    refusal_of ((untested_table strict format addressing untested).value bytes)
+    ++ imports_next strict format addressing bytes first next
 
-abbrev pub IsLaterCause : Bool → Format EntryValue → (ℕ → Option ℕ) → List ℕ → Option ℕ
+abbrev pub IsLaterCause : Bool → Format EntryValue → Addressing → List ℕ → Option ℕ
     → Option ℕ → ErrorOf → Type 0
-IsLaterCause strict format offset_of bytes untested next e =
-    let table = untested_table strict format offset_of untested in
+IsLaterCause strict format addressing bytes untested next e =
+    let table = untested_table strict format addressing untested in
     FirstFault (table.value bytes) (table.IsCause bytes)
-    (λ _. IsNextCause strict format offset_of bytes next) e
+    (λ _. IsNextCause strict format addressing bytes next) e
 
 -- the cursor at the end
 abbrev pub no_imports : ImportCursor
@@ -249,23 +249,23 @@ no_imports = record {
 }
 
 -- what is still to come at a cursor, whose library has this name
-abbrev pub items_left : Bool → Format EntryValue → (ℕ → Option ℕ) → List ℕ → List ℕ → ImportCursor
+abbrev pub items_left : Bool → Format EntryValue → Addressing → List ℕ → List ℕ → ImportCursor
     → List (Option NumberedImport)
-items_left strict format offset_of bytes dll c =
+items_left strict format addressing bytes dll c =
     until_refused
-    (imports_of_entries strict format offset_of bytes (origin c.library dll) c.rva c.table_offset
+    (imports_of_entries strict format addressing bytes (origin c.library dll) c.rva c.table_offset
     c.place
-    ++ later_items strict format offset_of bytes c.untested c.first_record c.next_record)
+    ++ later_items strict format addressing bytes c.untested c.first_record c.next_record)
 
 -- the name of the library that a cursor is in; none where it can't be read
-abbrev pub name_said : (ℕ → Option ℕ) → List ℕ → ImportCursor → List ℕ
-name_said offset_of bytes c = unwrap_or ((name_at offset_of c.name_rva).value bytes) []
+abbrev pub name_said : Addressing → List ℕ → ImportCursor → List ℕ
+name_said addressing bytes c = unwrap_or ((name_at addressing c.name_rva).value bytes) []
 
 -- what is still to come at a cursor
 abbrev pub cursor_left : MapOfAddresses → Format EntryValue → List ℕ → ImportCursor
     → List (Option NumberedImport)
 cursor_left m format bytes c =
-    items_left (reads_strictly m) format (offset_of m) bytes (name_said (offset_of m) bytes c) c
+    items_left (reads_strictly m) format m.addressing bytes (name_said m.addressing bytes c) c
 
 -- which cause is true if there is a refusal among it, which only strict mode has
 abbrev pub IsCursorCause : MapOfAddresses → Format EntryValue → List ℕ → ImportCursor → ErrorOf
@@ -273,15 +273,15 @@ abbrev pub IsCursorCause : MapOfAddresses → Format EntryValue → List ℕ →
 IsCursorCause m format bytes c e =
     let strict = reads_strictly m in
     (strict ≡ true)
-    × FirstFault (all_of (entries_from strict format (offset_of m) bytes c.table_offset c.place))
-    (IsEntriesCause strict format (offset_of m) bytes c.place)
-    (λ _. IsLaterCause strict format (offset_of m) bytes c.untested c.next_record) e
+    × FirstFault (all_of (entries_from strict format m.addressing bytes c.table_offset c.place))
+    (IsEntriesCause strict format m.addressing bytes c.place)
+    (λ _. IsLaterCause strict format m.addressing bytes c.untested c.next_record) e
 
 -- what is still to come of a walk
 abbrev pub walk_left : Format EntryValue → Walk → List (Option NumberedImport)
 walk_left format w =
     let m = map_of w.finder in
-    items_left (reads_strictly m) format (offset_of m) w.bytes.now w.dll.now w.at
+    items_left (reads_strictly m) format m.addressing w.bytes.now w.dll.now w.at
 
 abbrev pub IsWalkCause : Format EntryValue → Walk → ErrorOf → Type 0
 IsWalkCause format w e = IsCursorCause (map_of w.finder) format w.bytes.now w.at e
@@ -293,7 +293,7 @@ IsNamedAt (Some place) dll name = dll ≡ name
 
 abbrev pub IsNamed : Walk → Type 0
 IsNamed w =
-    IsNamedAt w.at.place w.dll.now (name_said (offset_of (map_of w.finder)) w.bytes.now w.at)
+    IsNamedAt w.at.place w.dll.now (name_said (map_of w.finder).addressing w.bytes.now w.at)
 
 -- a refusal that may come where an address table is still to be tested
 abbrev pub one_if : Option ℕ → ℕ

@@ -9,6 +9,7 @@ use Rattle.goblin_pe_import.specs.ImportReadings.{library_of}
 use Rattle.goblin_pe_import.specs.ImportRecords.{import_slots, lookup_offset}
 use Rattle.goblin_pe_import.specs.LookupReadings.{kept_entry}
 use Rattle.goblin_pe_import.specs.declared.import.directory_entry.ImportDirectoryEntry.{ImportDirectoryEntry}
+use Rattle.goblin_pe_sect.specs.Addresses.{Addressing}
 
 -- ---- sums over tables
 
@@ -31,28 +32,28 @@ sum_of_slots slots amount bytes o =
 
 -- An entry leads nowhere, since no offset has the address of its hint and name: both modes leave it
 -- out.
-abbrev pub is_unmapped : (ℕ → Option ℕ) → EntryValue → Bool
-is_unmapped offset_of entry = not entry.is_ordinal && is_none (offset_of entry.rva)
+abbrev pub is_unmapped : Addressing → EntryValue → Bool
+is_unmapped addressing entry = not entry.is_ordinal && is_none (addressing.offset entry.rva)
 
 -- Of the others permissive mode leaves out an entry of which nothing is kept: its hint is not whole.
 -- Of an entry by ordinal the ordinal is kept. Of a directory at the front of the file it leaves out
 -- each.
-unfoldable pub is_entry_left_out : Bool → (ℕ → Option ℕ) → List ℕ → EntryValue → Bool
-is_entry_left_out is_front offset_of bytes entry =
-    not (is_unmapped offset_of entry)
-    && (is_front || not (is_kept ((kept_entry false offset_of entry).value bytes)))
+unfoldable pub is_entry_left_out : Bool → Addressing → List ℕ → EntryValue → Bool
+is_entry_left_out is_front addressing bytes entry =
+    not (is_unmapped addressing entry)
+    && (is_front || not (is_kept ((kept_entry false addressing entry).value bytes)))
 
 -- a record leads to no library, which permissive mode leaves out
-abbrev pub leads_to_none : Format EntryValue → (ℕ → Option ℕ) → List ℕ → ImportDirectoryEntry
+abbrev pub leads_to_none : Format EntryValue → Addressing → List ℕ → ImportDirectoryEntry
     → Bool
-leads_to_none format offset_of bytes r =
-    is_none ((library_of false format offset_of r).value bytes)
+leads_to_none format addressing bytes r =
+    is_none ((library_of false format addressing r).value bytes)
 
 -- so it does with each of a directory at the front of the file
-abbrev pub is_library_left_out : Bool → Format EntryValue → (ℕ → Option ℕ) → List ℕ
+abbrev pub is_library_left_out : Bool → Format EntryValue → Addressing → List ℕ
     → ImportDirectoryEntry → Bool
-is_library_left_out is_front format offset_of bytes r =
-    leads_to_none format offset_of bytes r || is_front
+is_library_left_out is_front format addressing bytes r =
+    leads_to_none format addressing bytes r || is_front
 
 -- how many entries of the lookup table at an offset pass a test
 abbrev pub entries_of_table : (EntryValue → Bool) → Format EntryValue → List ℕ → ℕ → ℕ
@@ -60,43 +61,43 @@ entries_of_table test format bytes o =
     sum_of_slots (entry_slots format) (λ entry. from_bool (test entry)) bytes o
 
 -- how many of the lookup table of a record's library do; none if the record leads to none
-unfoldable pub entries_of_record : (EntryValue → Bool) → Format EntryValue → (ℕ → Option ℕ)
+unfoldable pub entries_of_record : (EntryValue → Bool) → Format EntryValue → Addressing
     → List ℕ → ImportDirectoryEntry → ℕ
-entries_of_record test format offset_of bytes r =
-    if leads_to_none format offset_of bytes r
+entries_of_record test format addressing bytes r =
+    if leads_to_none format addressing bytes r
     then 0
-    else amount_of (entries_of_table test format bytes) (lookup_offset offset_of r)
+    else amount_of (entries_of_table test format bytes) (lookup_offset addressing r)
 
 -- how many of the lookup tables of the directory at an offset do
-abbrev pub entries_of_directory : (EntryValue → Bool) → Format EntryValue → (ℕ → Option ℕ)
+abbrev pub entries_of_directory : (EntryValue → Bool) → Format EntryValue → Addressing
     → List ℕ → ℕ → ℕ
-entries_of_directory test format offset_of bytes o =
-    sum_of_slots import_slots (entries_of_record test format offset_of bytes) bytes o
+entries_of_directory test format addressing bytes o =
+    sum_of_slots import_slots (entries_of_record test format addressing bytes) bytes o
 
 -- How much is left out of the directory at an offset: libraries and entries in permissive mode, and
 -- entries that lead nowhere in either mode.
-abbrev pub libraries_of_directory : Format EntryValue → (ℕ → Option ℕ) → List ℕ → ℕ → ℕ
-libraries_of_directory format offset_of bytes o =
+abbrev pub libraries_of_directory : Format EntryValue → Addressing → List ℕ → ℕ → ℕ
+libraries_of_directory format addressing bytes o =
     sum_of_slots import_slots
-    (λ r. from_bool (is_library_left_out (o == 0) format offset_of bytes r)) bytes o
+    (λ r. from_bool (is_library_left_out (o == 0) format addressing bytes r)) bytes o
 
-abbrev pub left_out_of_directory : Format EntryValue → (ℕ → Option ℕ) → List ℕ → ℕ → ℕ
-left_out_of_directory format offset_of bytes o =
-    entries_of_directory (is_entry_left_out (o == 0) offset_of bytes) format offset_of bytes o
+abbrev pub left_out_of_directory : Format EntryValue → Addressing → List ℕ → ℕ → ℕ
+left_out_of_directory format addressing bytes o =
+    entries_of_directory (is_entry_left_out (o == 0) addressing bytes) format addressing bytes o
 
-abbrev pub unmapped_of_directory : Format EntryValue → (ℕ → Option ℕ) → List ℕ → ℕ → ℕ
-unmapped_of_directory format offset_of bytes o =
-    entries_of_directory (is_unmapped offset_of) format offset_of bytes o
+abbrev pub unmapped_of_directory : Format EntryValue → Addressing → List ℕ → ℕ → ℕ
+unmapped_of_directory format addressing bytes o =
+    entries_of_directory (is_unmapped addressing) format addressing bytes o
 
 -- the same of the directory at an address: nothing if that has no offset
-abbrev pub libraries_left_out : Format EntryValue → (ℕ → Option ℕ) → List ℕ → ℕ → ℕ
-libraries_left_out format offset_of bytes rva =
-    amount_of (libraries_of_directory format offset_of bytes) (offset_of rva)
+abbrev pub libraries_left_out : Format EntryValue → Addressing → List ℕ → ℕ → ℕ
+libraries_left_out format addressing bytes rva =
+    amount_of (libraries_of_directory format addressing bytes) (addressing.offset rva)
 
-abbrev pub entries_left_out : Format EntryValue → (ℕ → Option ℕ) → List ℕ → ℕ → ℕ
-entries_left_out format offset_of bytes rva =
-    amount_of (left_out_of_directory format offset_of bytes) (offset_of rva)
+abbrev pub entries_left_out : Format EntryValue → Addressing → List ℕ → ℕ → ℕ
+entries_left_out format addressing bytes rva =
+    amount_of (left_out_of_directory format addressing bytes) (addressing.offset rva)
 
-abbrev pub unmapped_entries : Format EntryValue → (ℕ → Option ℕ) → List ℕ → ℕ → ℕ
-unmapped_entries format offset_of bytes rva =
-    amount_of (unmapped_of_directory format offset_of bytes) (offset_of rva)
+abbrev pub unmapped_entries : Format EntryValue → Addressing → List ℕ → ℕ → ℕ
+unmapped_entries format addressing bytes rva =
+    amount_of (unmapped_of_directory format addressing bytes) (addressing.offset rva)

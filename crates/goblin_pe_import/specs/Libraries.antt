@@ -9,9 +9,9 @@ use Rattle.goblin_base.specs.declared.error.CauseOf.TheVariants.{NameRead, Unmap
 use Rattle.goblin_base.specs.Answers.{IsMemory}
 use Rattle.goblin_base.specs.Reading.{Reading}
 use Rattle.goblin_base.specs.Tables.{Format}
-use Rattle.readings.specs.Reads.{given, table, text_at}
+use Rattle.readings.specs.Reads.{given, table, text_within}
 use Rattle.readings.specs.Walks.{GivesNext, table_walk}
-use Rattle.goblin_pe_sect.specs.Addresses.{MapOfAddresses, map_of, offset_of, reads_strictly}
+use Rattle.goblin_pe_sect.specs.Addresses.{Addressing, MapOfAddresses, map_of, reads_strictly}
 use Rattle.goblin_pe_import.specs.ImportEntries.{EntryValue, entries_32, entries_64}
 use Rattle.goblin_pe_import.specs.ImportReadings.{import_record_at}
 use Rattle.goblin_pe_import.specs.ImportRecords.{import_slots, lookup_offset}
@@ -24,14 +24,16 @@ use Rattle.goblin_pe_import.specs.declared.import.library_walk.WalkedLibrary.{Wa
 
 -- ---- a library
 
--- the text at an offset of this address, or why there is none
-abbrev pub text_or_cause : List ℕ → ℕ → Option ℕ → Result (List ℕ) ErrorOf
-text_or_cause bytes rva None = Err (Malformed (Unmapped rva))
-text_or_cause bytes rva (Some p) = ok_or ((text_at p).value bytes) (Malformed (NameRead p))
+-- the text at an offset of this address, up to a limit, or why there is none
+abbrev pub text_or_cause : Option ℕ → List ℕ → ℕ → Option ℕ → Result (List ℕ) ErrorOf
+text_or_cause longest bytes rva None = Err (Malformed (Unmapped rva))
+text_or_cause longest bytes rva (Some p) =
+    ok_or ((text_within longest p).value bytes) (Malformed (NameRead p))
 
 -- the name at an address, or why there is none, in either mode
-abbrev pub name_or_cause : (ℕ → Option ℕ) → List ℕ → ℕ → Result (List ℕ) ErrorOf
-name_or_cause offset_of bytes rva = text_or_cause bytes rva (offset_of rva)
+abbrev pub name_or_cause : Addressing → List ℕ → ℕ → Result (List ℕ) ErrorOf
+name_or_cause addressing bytes rva =
+    text_or_cause addressing.longest bytes rva (addressing.offset rva)
 
 -- an item comes first, and not a refusal
 abbrev pub has_first : {A : Type 0} → List (Option A) → Bool
@@ -40,11 +42,11 @@ has_first (None ∷ items) = false
 has_first (Some x ∷ items) = true
 
 -- an entry comes first of the lookup table of a record, and not its end or a refusal
-abbrev pub has_imports : Bool → Format EntryValue → (ℕ → Option ℕ) → List ℕ → ImportDirectoryEntry
+abbrev pub has_imports : Bool → Format EntryValue → Addressing → List ℕ → ImportDirectoryEntry
     → Bool
-has_imports strict format offset_of bytes r =
-    let table = lookup_offset offset_of r in
-    has_first (entries_from strict format offset_of bytes (unwrap_or table 0) table)
+has_imports strict format addressing bytes r =
+    let table = lookup_offset addressing r in
+    has_first (entries_from strict format addressing bytes (unwrap_or table 0) table)
 
 -- the cursor before the record at p, in a directory whose first record is at `first`
 abbrev pub at_record : ℕ → ℕ → ImportCursor
@@ -62,15 +64,15 @@ pub record LibraryValue : Type 0 where
   pub cursor : ImportCursor
 
 -- that of the record at p, in a directory whose first record is at `first`
-abbrev pub library_at : Bool → Format EntryValue → (ℕ → Option ℕ) → List ℕ → ℕ → ℕ
+abbrev pub library_at : Bool → Format EntryValue → Addressing → List ℕ → ℕ → ℕ
     → ImportDirectoryEntry → LibraryValue
-library_at strict format offset_of bytes first p r = record {
+library_at strict format addressing bytes first p r = record {
   index = record_index first p;
   offset = p;
   entry = r;
-  name = name_or_cause offset_of bytes r.name_rva;
-  is_left_out = leads_to_none format offset_of bytes r;
-  has_imports = has_imports strict format offset_of bytes r;
+  name = name_or_cause addressing bytes r.name_rva;
+  is_left_out = leads_to_none format addressing bytes r;
+  has_imports = has_imports strict format addressing bytes r;
   cursor = at_record first p;
 }
 
@@ -90,24 +92,24 @@ library_value x = record {
 
 -- One for each record of a directory from a place on, up to the first that is not in the file or
 -- ends the directory. Strict mode needs that record.
-unfoldable pub libraries_from_record : Bool → Format EntryValue → (ℕ → Option ℕ) → List ℕ → ℕ → ℕ
+unfoldable pub libraries_from_record : Bool → Format EntryValue → Addressing → List ℕ → ℕ → ℕ
     → List (Option LibraryValue)
-libraries_from_record strict format offset_of bytes first p =
+libraries_from_record strict format addressing bytes first p =
     table_walk import_slots strict
-    (λ p r. Some (library_at strict format offset_of bytes first p r) ∷ []) bytes p
+    (λ p r. Some (library_at strict format addressing bytes first p r) ∷ []) bytes p
 
 -- those from the next record on, if there is one
-unfoldable pub libraries_next : Bool → Format EntryValue → (ℕ → Option ℕ) → List ℕ → ℕ → Option ℕ
+unfoldable pub libraries_next : Bool → Format EntryValue → Addressing → List ℕ → ℕ → Option ℕ
     → List (Option LibraryValue)
-libraries_next strict format offset_of bytes first None = []
-libraries_next strict format offset_of bytes first (Some p) =
-    libraries_from_record strict format offset_of bytes first p
+libraries_next strict format addressing bytes first None = []
+libraries_next strict format addressing bytes first (Some p) =
+    libraries_from_record strict format addressing bytes first p
 
 -- those whose records come at a cursor: a library that it is in has come
 abbrev pub cursor_libraries : MapOfAddresses → Format EntryValue → List ℕ → ImportCursor
     → List (Option LibraryValue)
 cursor_libraries m format bytes c =
-    libraries_next (reads_strictly m) format (offset_of m) bytes c.first_record c.next_record
+    libraries_next (reads_strictly m) format m.addressing bytes c.first_record c.next_record
 
 -- The records of a directory from a place on: those before the first that is not in the file or ends
 -- the directory. Strict mode needs that record.

@@ -5,32 +5,35 @@ use Rattle.goblin_base.specs.declared.error.CauseOf.TheVariants.{HintEntry, Look
 use Rattle.goblin_base.specs.Reading.{Reading}
 use Rattle.goblin_base.specs.Tables.{Format}
 use Rattle.readings.specs.Reads.{◌beside◌, because, given, mapped, number_at, or_else}
-use Rattle.readings.specs.Reads.{or_left_out, record_at, table, table_with_slots, text_at}
+use Rattle.readings.specs.Reads.{or_left_out, record_at, table, table_with_slots, text_within}
 use Rattle.goblin_pe_import.specs.ImportEntries.{EntryValue, HintName, LookupEntry, entry_slots}
 use Rattle.goblin_pe_import.specs.ImportEntries.LookupEntry.{ByName, ByOrdinal}
+use Rattle.goblin_pe_sect.specs.Addresses.{Addressing}
 
 -- the entry at an offset
 abbrev pub entry_value_at : Format EntryValue → ℕ → Reading EntryValue
 entry_value_at format p = record_at format.width format.value_of p
 
--- The hint at an offset, and the name after it. Permissive mode takes the empty name if no text
--- follows the hint.
-unfoldable pub hint_name : Bool → ℕ → Reading HintName
-hint_name strict p =
+-- The hint at an offset, and the name after it, up to a limit. Permissive mode takes the empty name
+-- if no text follows the hint.
+unfoldable pub hint_name : Bool → Option ℕ → ℕ → Reading HintName
+hint_name strict longest p =
     mapped (λ both. record { hint = both.0; name = both.1 })
-    (because (HintEntry p) (number_at Little 2 p) beside or_else strict [] (text_at (p + 2)))
+    (because (HintEntry p) (number_at Little 2 p)
+    beside or_else strict [] (text_within longest (p + 2)))
 
--- What is kept of an entry whose address has this offset: the hint and the name there. Nothing is
--- kept if the address has none.
-abbrev pub kept_name : Bool → ℕ → Option ℕ → Reading (List LookupEntry)
-kept_name strict rva None = given []
-kept_name strict rva (Some p) = or_left_out strict (mapped (ByName rva) (hint_name strict p))
+-- What is kept of an entry whose address has this offset: the hint and the name there, up to a
+-- limit. Nothing is kept if the address has none.
+abbrev pub kept_name : Bool → Option ℕ → ℕ → Option ℕ → Reading (List LookupEntry)
+kept_name strict longest rva None = given []
+kept_name strict longest rva (Some p) =
+    or_left_out strict (mapped (ByName rva) (hint_name strict longest p))
 
 -- what is kept of an entry: one entry, or nothing
-unfoldable pub kept_entry : Bool → (ℕ → Option ℕ) → EntryValue → Reading (List LookupEntry)
-kept_entry strict offset_of entry =
+unfoldable pub kept_entry : Bool → Addressing → EntryValue → Reading (List LookupEntry)
+kept_entry strict addressing entry =
     cond entry.is_ordinal (given (ByOrdinal entry.ordinal ∷ []))
-    (kept_name strict entry.rva (offset_of entry.rva))
+    (kept_name strict addressing.longest entry.rva (addressing.offset entry.rva))
 
 -- the entry of a lookup table at an offset
 abbrev pub lookup_entry_at : Format EntryValue → ℕ → Reading EntryValue
@@ -39,17 +42,17 @@ lookup_entry_at format p = because (LookupEnd p) (entry_value_at format p)
 -- The lookup table at an offset: what is kept of the entries before the first slot that is not in
 -- the file or has number 0. Strict mode needs that slot. With it come the indexes of the slots
 -- whose entries are kept.
-abbrev pub lookup_with_slots : Bool → Format EntryValue → (ℕ → Option ℕ) → ℕ
+abbrev pub lookup_with_slots : Bool → Format EntryValue → Addressing → ℕ
     → Reading (List LookupEntry × List ℕ)
-lookup_with_slots strict format offset_of o =
+lookup_with_slots strict format addressing o =
     table_with_slots (entry_slots format) strict (lookup_entry_at format)
-    (kept_entry strict offset_of) o
+    (kept_entry strict addressing) o
 
 -- only the lookup table at an offset, without the indexes of the slots
-abbrev pub lookup_table : Bool → Format EntryValue → (ℕ → Option ℕ) → ℕ
+abbrev pub lookup_table : Bool → Format EntryValue → Addressing → ℕ
     → Reading (List LookupEntry)
-lookup_table strict format offset_of o =
-    table (entry_slots format) strict (lookup_entry_at format) (kept_entry strict offset_of) o
+lookup_table strict format addressing o =
+    table (entry_slots format) strict (lookup_entry_at format) (kept_entry strict addressing) o
 
 -- an entry's number, which an address table always keeps
 abbrev pub entry_number : EntryValue → Reading (List ℕ)

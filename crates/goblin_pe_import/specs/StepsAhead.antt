@@ -4,7 +4,8 @@ use Rattle.std.specs.Prelude.{Option, Some, None, option_map, Result, Ok, Err, I
 use Rattle.goblin_base.specs.declared.error.ErrorOf.{ErrorOf}
 use Rattle.goblin_base.specs.Tables.{Format, stop}
 use Rattle.readings.specs.Walks.{GivesNext}
-use Rattle.goblin_pe_sect.specs.Addresses.{MapOfAddresses, map_of, offset_of, reads_strictly}
+use Rattle.goblin_pe_sect.specs.Addresses.{MapOfAddresses, map_of, reads_strictly}
+use Rattle.goblin_pe_sect.specs.Addresses.{Addressing}
 use Rattle.goblin_pe_import.specs.ImportEntries.{EntryValue, entry_slots}
 use Rattle.goblin_pe_import.specs.ImportRecords.{address_table_rva, import_slots, lookup_offset}
 use Rattle.goblin_pe_import.specs.ImportWalks.{is_left_out, no_imports, walked_value}
@@ -25,46 +26,46 @@ abbrev pub slots_ahead : Format EntryValue → List ℕ → Option ℕ → ℕ
 slots_ahead format bytes place = amount_of (stop (entry_slots format) bytes) place
 
 -- those of the table at an address
-abbrev pub slots_at_address : Format EntryValue → (ℕ → Option ℕ) → List ℕ → ℕ → ℕ
-slots_at_address format offset_of bytes rva = slots_ahead format bytes (offset_of rva)
+abbrev pub slots_at_address : Format EntryValue → Addressing → List ℕ → ℕ → ℕ
+slots_at_address format addressing bytes rva = slots_ahead format bytes (addressing.offset rva)
 
 -- those of an address table that is tested after its library's entries, as strict mode does
-abbrev pub untested_ahead : Bool → Format EntryValue → (ℕ → Option ℕ) → List ℕ → Option ℕ → ℕ
-untested_ahead strict format offset_of bytes untested =
-    if strict then amount_of (slots_at_address format offset_of bytes) untested else 0
+abbrev pub untested_ahead : Bool → Format EntryValue → Addressing → List ℕ → Option ℕ → ℕ
+untested_ahead strict format addressing bytes untested =
+    if strict then amount_of (slots_at_address format addressing bytes) untested else 0
 
 -- those of an address table that is tested before them, as permissive mode does
-abbrev pub tested_ahead : Bool → Format EntryValue → (ℕ → Option ℕ) → List ℕ → ℕ → ℕ
-tested_ahead strict format offset_of bytes rva =
-    if strict then 0 else slots_at_address format offset_of bytes rva
+abbrev pub tested_ahead : Bool → Format EntryValue → Addressing → List ℕ → ℕ → ℕ
+tested_ahead strict format addressing bytes rva =
+    if strict then 0 else slots_at_address format addressing bytes rva
 
 -- A record is one step; then come the slots of its library's address table, and, where that is not
 -- left out, those of its lookup table.
-unfoldable pub record_steps : Bool → Format EntryValue → (ℕ → Option ℕ) → List ℕ
+unfoldable pub record_steps : Bool → Format EntryValue → Addressing → List ℕ
     → ImportDirectoryEntry → ℕ
-record_steps strict format offset_of bytes r =
-    1 + tested_ahead strict format offset_of bytes (address_table_rva r)
-    + (if is_left_out strict format offset_of bytes r then 0
-    else slots_ahead format bytes (lookup_offset offset_of r)
-    + untested_ahead strict format offset_of bytes (Some (address_table_rva r)))
+record_steps strict format addressing bytes r =
+    1 + tested_ahead strict format addressing bytes (address_table_rva r)
+    + (if is_left_out strict format addressing bytes r then 0
+    else slots_ahead format bytes (lookup_offset addressing r)
+    + untested_ahead strict format addressing bytes (Some (address_table_rva r)))
 
 -- those of the records of a directory, from the next one on
-abbrev pub records_ahead : Bool → Format EntryValue → (ℕ → Option ℕ) → List ℕ → Option ℕ → ℕ
-records_ahead strict format offset_of bytes next =
-    amount_of (sum_of_slots import_slots (record_steps strict format offset_of bytes) bytes) next
+abbrev pub records_ahead : Bool → Format EntryValue → Addressing → List ℕ → Option ℕ → ℕ
+records_ahead strict format addressing bytes next =
+    amount_of (sum_of_slots import_slots (record_steps strict format addressing bytes) bytes) next
 
 -- once the entries of a library have come
-abbrev pub later_ahead : Bool → Format EntryValue → (ℕ → Option ℕ) → List ℕ → Option ℕ → Option ℕ
+abbrev pub later_ahead : Bool → Format EntryValue → Addressing → List ℕ → Option ℕ → Option ℕ
     → ℕ
-later_ahead strict format offset_of bytes untested next =
-    untested_ahead strict format offset_of bytes untested
-    + records_ahead strict format offset_of bytes next
+later_ahead strict format addressing bytes untested next =
+    untested_ahead strict format addressing bytes untested
+    + records_ahead strict format addressing bytes next
 
 -- How many steps a walk takes from a cursor to its end.
 abbrev pub cursor_ahead : MapOfAddresses → Format EntryValue → List ℕ → ImportCursor → ℕ
 cursor_ahead m format bytes c =
     slots_ahead format bytes c.place
-    + later_ahead (reads_strictly m) format (offset_of m) bytes c.untested c.next_record
+    + later_ahead (reads_strictly m) format m.addressing bytes c.untested c.next_record
 
 abbrev pub walk_ahead : Format EntryValue → Walk → ℕ
 walk_ahead format w = cursor_ahead (map_of w.finder) format w.bytes.now w.at

@@ -80,10 +80,10 @@ fn add_library<'a, 'e, T: Bitfield<'a>>(
     ensures value { let m = map_of address_map.now in
         ReadsOrMemory (λ _. libraries.new.items) result
         (mapped (λ more. libraries.old.items ++ more)
-        (reading.kept_library (reads_strictly m) T.format (offset_of m) entry)) bytes.now }
+        (reading.kept_library (reads_strictly m) T.format m.addressing entry)) bytes.now }
     ensures grown { let m = map_of address_map.now in
         IfErr result (λ e. IsMemory e
-        → TakesLibrary (reads_strictly m) T.format (offset_of m) bytes.now entry) }
+        → TakesLibrary (reads_strictly m) T.format m.addressing bytes.now entry) }
     ensures permissive { reads_strictly (map_of address_map.now) ≡ false → IfErr result IsMemory }
 {
     let alloc = *libraries.allocator();
@@ -104,10 +104,10 @@ fn libraries<'a, 'e, T: Bitfield<'a>>(
 ) -> ResultOf<'e, Vec<SyntheticImportDirectoryEntry<'a>>>
     ensures value { let m = map_of address_map.now in
         ReadsOrMemory (λ v. v.items) result
-        (reading.libraries_at (reads_strictly m) T.format (offset_of m) offset) bytes.now }
+        (reading.libraries_at (reads_strictly m) T.format m.addressing offset) bytes.now }
     ensures grown { let m = map_of address_map.now in
         IfErr result (λ e. IsMemory e
-        → TakesLibraries (reads_strictly m) T.format (offset_of m) bytes.now offset) }
+        → TakesLibraries (reads_strictly m) T.format m.addressing bytes.now offset) }
     ensures permissive { reads_strictly (map_of address_map.now) ≡ false → IfErr result IsMemory }
 {
     let size = SIZEOF_IMPORT_DIRECTORY_ENTRY;
@@ -139,13 +139,13 @@ impl<'a> ImportData<'a> {
         ensures value { let m = map_by default_options sections.now file_alignment in
             let rva = directory.virtual_address in
             ReadsOrMemory (λ x. x) result
-            (reading.import_data true T.format (offset_of m) rva) bytes.now }
+            (reading.import_data true T.format m.addressing rva) bytes.now }
         ensures grown { let m = map_by default_options sections.now file_alignment in
             IfErr result
             (λ e.
             IsMemory e
             → IsSomeAnd (reading.first_record_offset true (offset_of m directory.virtual_address))
-            (TakesLibraries true T.format (offset_of m) bytes.now)
+            (TakesLibraries true T.format m.addressing bytes.now)
             ⊎ TakesMap default_options sections.now file_alignment) }
     {
         let opts = ParseOptions::default();
@@ -177,14 +177,14 @@ impl<'a> ImportData<'a> {
         ensures value { let m = map_by opts.now sections.now file_alignment in
             let rva = directory.virtual_address in
             ReadsOrMemory (λ x. x) result
-            (reading.import_data (reads_strictly m) T.format (offset_of m) rva) bytes.now }
+            (reading.import_data (reads_strictly m) T.format m.addressing rva) bytes.now }
         ensures permissive { is_strict opts.now.parse_mode ≡ false → IfErr result IsMemory }
         ensures grown { let m = map_by opts.now sections.now file_alignment in
             IfErr result
             (λ e.
             IsMemory e
             → IsSomeAnd (reading.first_record_offset (reads_strictly m) (offset_of m directory.virtual_address))
-            (TakesLibraries (reads_strictly m) T.format (offset_of m) bytes.now)
+            (TakesLibraries (reads_strictly m) T.format m.addressing bytes.now)
             ⊎ TakesMap opts.now sections.now file_alignment) }
     {
         let address_map = AddressMap::prepare(alloc, sections, file_alignment, opts)?;
@@ -206,14 +206,14 @@ impl<'a> ImportData<'a> {
         ensures value { let m = map_of address_map.now in
             let rva = directory.virtual_address in
             ReadsOrMemory (λ x. x) result
-            (reading.import_data (reads_strictly m) T.format (offset_of m) rva) bytes.now }
+            (reading.import_data (reads_strictly m) T.format m.addressing rva) bytes.now }
         ensures permissive { reads_strictly (map_of address_map.now) ≡ false → IfErr result IsMemory }
         ensures grown { let m = map_of address_map.now in
             IfErr result
             (λ e.
             IsMemory e
             → IsSomeAnd (reading.first_record_offset (reads_strictly m) (offset_of m directory.virtual_address))
-            (TakesLibraries (reads_strictly m) T.format (offset_of m) bytes.now)) }
+            (TakesLibraries (reads_strictly m) T.format m.addressing bytes.now)) }
     {
         let rva = directory.virtual_address;
         let strictly = address_map.reads_strictly();

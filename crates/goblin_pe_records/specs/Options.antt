@@ -38,6 +38,10 @@ options_at o alignment = record (header_options o) {
   raw_pointer_rule = rule_at o.raw_pointer_rule alignment;
 }
 
+-- how many bytes of a name are read, if there is a limit
+abbrev pub longest_of : PeOptions → Option ℕ
+longest_of o = if o.longest_name == 0 then None else Some o.longest_name
+
 -- the file alignment that an optional header says; 0 without one
 abbrev pub alignment_by : Option OptionalHeader → ℕ
 alignment_by None = 0

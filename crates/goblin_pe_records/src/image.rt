@@ -31,7 +31,8 @@ pub struct PeImage<'a> {
     /// How many bytes its headers have, as its optional header says; 0 without one. They are looked
     /// at where the options map as the Windows loader does, and where an address lies.
     pub size_of_headers: u32,
-    /// Whether addresses are mapped, and by which rule; all else is not looked at.
+    /// Whether addresses are mapped, by which rule, and how long a forwarder's text may be; all else
+    /// is not looked at.
     pub options: PeOptions,
 }
 

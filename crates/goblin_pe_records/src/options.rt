@@ -1,8 +1,8 @@
 //! How a file is read, as a caller says it.
 
-ghost use Rattle.std.specs.Prelude.{◌≡◌, ℕ};
+ghost use Rattle.std.specs.Prelude.{◌≡◌, ℕ, None};
 ghost use Rattle.goblin_pe_records.specs.Options.{alignment_in, header_options, options_at};
-ghost use Rattle.goblin_pe_records.specs.Options.{options_in, rule_at, view_of};
+ghost use Rattle.goblin_pe_records.specs.Options.{longest_of, options_in, rule_at, view_of};
 ghost use Rattle.goblin_pe_sect.specs.Options.{default_options};
 
 use goblin_pe_head::header::Header;
@@ -62,12 +62,23 @@ pub struct PeOptions {
     /// Else a name that begins with a slash is looked up there, in either mode. Only a read of a
     /// layout looks at it: an open, the damage and a footprint test each name.
     pub raw_section_names: bool,
+    /// How many bytes a name of an import, a library or an export may have before it is cut; 0 is no
+    /// limit. Of a longer one the front is given, up to where the first character ends that reaches
+    /// past so many: so a name that is longer than this is cut. What follows is not tested: it may
+    /// be no UTF-8. The text of a forwarder is such a name, too: of a longer one the library is what
+    /// stands before its first dot, or all without a dot, and the name what follows, which may be
+    /// empty or begin with `#`; it is cut where library, dot and name are longer than this. Only
+    /// calls that read a table from its places, and forwarders of an image, look at it; those that
+    /// list a whole file, its damage or a footprint read each name to its end, so they may refuse or
+    /// leave out what a walk gives.
+    pub longest_name: u32,
 }
 
 /// The options where a caller says none: strictly, with addresses mapped by the sections from their
 /// raw pointers as stored, and imports. Callers of all languages take them from here.
 pub fn default_options() -> PeOptions
-    ensures { (alignment : ℕ) → options_at result alignment ≡ default_options }
+    ensures options { (alignment : ℕ) → options_at result alignment ≡ default_options }
+    ensures whole { longest_of result ≡ None }
 {
     PeOptions {
         is_permissive: false,
@@ -75,6 +86,18 @@ pub fn default_options() -> PeOptions
         raw_pointer_rule: 0,
         parse_imports: true,
         raw_section_names: false,
+        longest_name: 0,
+    }
+}
+
+/// How many bytes of a name are read, if there is a limit.
+#[inline(always)]
+pub fn longest_of(options: &PeOptions) -> Option<u32>
+    ensures { result ≡ longest_of options.now }
+{
+    match options.longest_name {
+        0 => None,
+        longest => Some(longest),
     }
 }
 

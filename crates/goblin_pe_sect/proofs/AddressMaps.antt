@@ -11,7 +11,7 @@ use Rattle.goblin_pe_sect.specs.declared.options.ParseOptions.{ParseOptions}
 use Rattle.goblin_base.specs.declared.permissive.ParseMode.TheVariants.{Strict}
 use Rattle.goblin_pe_sect.specs.declared.address_map.Windows.{Windows}
 use Rattle.goblin_pe_sect.specs.declared.address_map.Windows.TheVariants.{Indexed, IndexedWithFront, Walked}
-use Rattle.goblin_pe_sect.specs.Addresses.{map_by, map_in, offset_by_windows, without_null}
+use Rattle.goblin_pe_sect.specs.Addresses.{map_by, map_in, map_to, offset_by_windows, without_null}
 use Rattle.goblin_pe_sect.specs.declared.address_map.records.MappedRecords.{MappedRecords}
 
 same_by : (resolves even : Bool) (rva : ℕ) → cond resolves None (Some rva) ≡ cond resolves (cond even None None) (Some rva)
@@ -26,17 +26,17 @@ located_nowhere opts [] alignment rva none = same_by opts.resolve_rva (is_power_
 located_nowhere opts (s ∷ sections) alignment rva none = absurd (omega arith)
 
 -- an index that maps each address as the sections do makes the map of addresses by them
-pub same_map : (opts : ParseOptions) (sections : List Section) (alignment : ℕ) (index : Pieces) → ((rva : ℕ) → located index rva ≡ file_offset opts sections alignment rva) → record { opts = opts; offset = located index } ≡ map_by opts sections alignment
-same_map opts sections alignment index mapped = ap (λ (f : ℕ → Option ℕ). record { opts = opts; offset = f }) (fun_ext mapped)
+pub same_map : (opts : ParseOptions) (sections : List Section) (alignment : ℕ) (index : Pieces) → ((rva : ℕ) → located index rva ≡ file_offset opts sections alignment rva) → map_to opts (located index) ≡ map_by opts sections alignment
+same_map opts sections alignment index mapped = ap (map_to opts) (fun_ext mapped)
 
 -- also by records without the file's front, or with it
 pub same_map_alone : (opts : ParseOptions) (records : MappedRecords) (alignment : ℕ) (index : Pieces) → records.front ≡ None → ((rva : ℕ) → located index rva ≡ file_offset opts (mapped_sections records) alignment rva)
-    → record { opts = opts; offset = located index } ≡ map_in opts (mapped_of records) alignment
-same_map_alone opts records alignment index none mapped = ap (λ (f : ℕ → Option ℕ). record { opts = opts; offset = f }) (fun_ext mapped) ∙ rw none refl
+    → map_to opts (located index) ≡ map_in opts (mapped_of records) alignment
+same_map_alone opts records alignment index none mapped = ap (map_to opts) (fun_ext mapped) ∙ rw none refl
 
 pub same_map_with : (opts : ParseOptions) (records : MappedRecords) (alignment size : ℕ) (index : Pieces) → records.front ≡ Some size → ((rva : ℕ) → located index rva ≡ file_offset opts (mapped_sections records) alignment rva)
-    → record { opts = opts; offset = without_null true (located index) } ≡ map_in opts (mapped_of records) alignment
-same_map_with opts records alignment size index some mapped = ap (λ (f : ℕ → Option ℕ). record { opts = opts; offset = without_null true f }) (fun_ext mapped) ∙ rw some refl
+    → map_to opts (without_null true (located index)) ≡ map_in opts (mapped_of records) alignment
+same_map_with opts records alignment size index some mapped = ap (λ (f : ℕ → Option ℕ). map_to opts (without_null true f)) (fun_ext mapped) ∙ rw some refl
 
 -- the mode changes no offset
 pub same_windows : (opts : ParseOptions) (w : Windows) → offset_by_windows (record opts { parse_mode = Strict }) w ≡ offset_by_windows opts w
@@ -77,4 +77,4 @@ unnamed_with opts (Some size) sections alignment =
 -- so maps by sections that differ in their names alone are the same
 pub unnamed_map_in : (opts : ParseOptions) (front : Option ℕ) (sections : List Section) (alignment : ℕ)
     → map_in opts (record { sections = map unnamed sections; front = front }) alignment ≡ map_in opts (record { sections = sections; front = front }) alignment
-unnamed_map_in opts front sections alignment = ap (λ (f : ℕ → Option ℕ). record { opts = opts; offset = without_null (is_some front) f }) (unnamed_with opts front sections alignment)
+unnamed_map_in opts front sections alignment = ap (λ (f : ℕ → Option ℕ). map_to opts (without_null (is_some front) f)) (unnamed_with opts front sections alignment)

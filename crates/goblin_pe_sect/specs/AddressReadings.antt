@@ -6,7 +6,9 @@ use Rattle.goblin_base.specs.declared.error.CauseOf.TheVariants.{NameRead, Reloc
 use Rattle.goblin_base.specs.declared.error.ErrorOf.{ErrorOf}
 use Rattle.goblin_base.specs.Reading.{Reading}
 use Rattle.readings.specs.Reads.{◌>>=◌, because, mapped, needs, or_else, slice_at, text_at}
+use Rattle.readings.specs.Reads.{text_within}
 use Rattle.readings.specs.Reads.{value_at}
+use Rattle.goblin_pe_sect.specs.Addresses.{Addressing}
 use Rattle.goblin_pe_sect.specs.declared.data_directories.DataDirectory.{DataDirectory}
 
 -- the offset of an address
@@ -21,18 +23,18 @@ at_address offset_of rva read = offset_at offset_of rva >>= read
 unfoldable pub text_at_address : (ℕ → Option ℕ) → ℕ → Reading (List ℕ)
 text_at_address offset_of rva = at_address offset_of rva text_at
 
--- the text at an offset; where there is none, the cause is `NameRead`
-abbrev pub name_here : ℕ → Reading (List ℕ)
-name_here p = because (NameRead p) (text_at p)
+-- the text at an offset, up to a limit; where there is none, the cause is `NameRead`
+abbrev pub name_here : Option ℕ → ℕ → Reading (List ℕ)
+name_here longest p = because (NameRead p) (text_within longest p)
 
 -- the name at an address
-unfoldable pub name_at : (ℕ → Option ℕ) → ℕ → Reading (List ℕ)
-name_at offset_of rva = at_address offset_of rva name_here
+unfoldable pub name_at : Addressing → ℕ → Reading (List ℕ)
+name_at addressing rva = at_address addressing.offset rva (name_here addressing.longest)
 
 -- the name at an address; permissive mode takes nothing where there is none
-abbrev pub name_or_none : Bool → (ℕ → Option ℕ) → ℕ → Reading (Option (List ℕ))
-name_or_none strict offset_of rva =
-    or_else strict None (mapped (λ name. Some name) (name_at offset_of rva))
+abbrev pub name_or_none : Bool → Addressing → ℕ → Reading (Option (List ℕ))
+name_or_none strict addressing rva =
+    or_else strict None (mapped (λ name. Some name) (name_at addressing rva))
 
 -- the value of a type at an address, little-endian; `refusal` says which causes are true where the
 -- type refuses the bytes

@@ -12,15 +12,28 @@ use Rattle.goblin_pe_sect.specs.declared.address_map.AddressMap.{AddressMap}
 use Rattle.goblin_pe_sect.specs.declared.address_map.Windows.{Windows}
 use Rattle.goblin_pe_sect.specs.declared.address_map.Windows.TheVariants.{Indexed, IndexedWithFront, Walked}
 
+-- Where the addresses of a file lead: to an offset, and a name there is read whole or, where there is
+-- a limit, cut there.
+pub record Addressing : Type 0 where
+  pub offset : ℕ → Option ℕ
+  pub longest : Option ℕ
+
+-- to these offsets, and names are read whole
+abbrev pub with_whole_names : (ℕ → Option ℕ) → Addressing
+with_whole_names offset_of = record { offset = offset_of; longest = None }
+
 -- how a file's addresses are mapped to its offsets, and how the bytes there are read
 pub record MapOfAddresses : Type 0 where
   pub opts : ParseOptions
-  pub offset : ℕ → Option ℕ
+  pub addressing : Addressing
+
+-- by these options, to these offsets, and names are read whole
+abbrev pub map_to : ParseOptions → (ℕ → Option ℕ) → MapOfAddresses
+map_to opts offset_of = record { opts = opts; addressing = with_whole_names offset_of }
 
 -- the map of addresses by these options, sections and file alignment
 abbrev pub map_by : ParseOptions → List Section → ℕ → MapOfAddresses
-map_by opts sections file_alignment =
-    record { opts = opts; offset = file_offset opts sections file_alignment }
+map_by opts sections file_alignment = map_to opts (file_offset opts sections file_alignment)
 
 -- The same offsets, but where the file's front is mapped none for address 0: by it tables say that
 -- there is nothing.
@@ -36,8 +49,7 @@ table_offset opts mapped file_alignment =
 
 -- the map of the addresses that tables say
 abbrev pub map_in : ParseOptions → MappedSections → ℕ → MapOfAddresses
-map_in opts mapped file_alignment =
-    record { opts = opts; offset = table_offset opts mapped file_alignment }
+map_in opts mapped file_alignment = map_to opts (table_offset opts mapped file_alignment)
 
 -- such a map takes memory: there are sections, and their windows cut the addresses into pieces
 abbrev pub TakesMap : ParseOptions → List Section → ℕ → Type 0
@@ -74,20 +86,26 @@ IsIndexed map = AreIndexed map.windows
 
 -- the map of addresses by these options and windows
 abbrev pub map_with : ParseOptions → Windows → MapOfAddresses
-map_with opts windows = record { opts = opts; offset = offset_by_windows opts windows }
+map_with opts windows = map_to opts (offset_by_windows opts windows)
+
+-- the same map, by which names are read up to this limit
+abbrev pub with_longest : Option ℕ → MapOfAddresses → MapOfAddresses
+with_longest longest m =
+    record m { addressing = record m.addressing { longest = longest } }
 
 -- the map that a reader was given
 abbrev pub map_of : AddressMap → MapOfAddresses
-map_of map = map_with map.opts map.windows
+map_of map = with_longest map.longest (map_with map.opts map.windows)
 
--- such a map keeps nothing but its options and what finds the windows: maps that have the same are
--- the same
+-- such a map keeps nothing but its options, what finds the windows, and how long names are: maps
+-- that have the same are the same
 abbrev pub KeepsWindowsAlone : Type 0
-KeepsWindowsAlone = (m n : AddressMap) → m.opts ≡ n.opts → m.windows ≡ n.windows → m ≡ n
+KeepsWindowsAlone =
+    (m n : AddressMap) → m.opts ≡ n.opts → m.windows ≡ n.windows → m.longest ≡ n.longest → m ≡ n
 
 -- the file offset of an address
 abbrev pub offset_of : MapOfAddresses → ℕ → Option ℕ
-offset_of m = m.offset
+offset_of m = m.addressing.offset
 
 -- the mode is strict: what can't be read is refused, and not passed over
 abbrev pub reads_strictly : MapOfAddresses → Bool
@@ -95,4 +113,4 @@ reads_strictly m = is_strict m.opts.parse_mode
 
 -- the same map, by which damaged parts are refused
 abbrev pub strict_map : MapOfAddresses → MapOfAddresses
-strict_map m = record { opts = record m.opts { parse_mode = Strict }; offset = m.offset }
+strict_map m = record m { opts = record m.opts { parse_mode = Strict } }

@@ -1,5 +1,5 @@
 -- Runs of addresses, whose offsets are answered without another walk.
-use Rattle.std.specs.Prelude.{ℕ, ◌+◌, ◌-◌, ◌≡◌, ◌<◌, ◌≤◌, ◌^◌, ◌&&◌, nat_le, nat_lt}
+use Rattle.std.specs.Prelude.{⊤, ℕ, ◌+◌, ◌-◌, ◌≡◌, ◌<◌, ◌≤◌, ◌^◌, ◌&&◌, nat_le, nat_lt}
 use Rattle.std.specs.Prelude.{if◌then◌else◌, Option, Some, None}
 use Rattle.goblin_pe_sect.specs.declared.address_map.run.Run.{Run}
 
@@ -22,3 +22,8 @@ pub record IsRun (offset_of : ℕ → Option ℕ) (r : Run) : Type 0 where
   pub addresses_fit : r.first + r.size < 2 ^ 64
   pub answers : (rva : ℕ) → r.first ≤ rva → rva - r.first < r.size
       → offset_of rva ≡ Some (r.offset + (rva - r.first))
+
+-- where names have a limit, the run about names is empty
+abbrev pub KeepsNoNames : Option ℕ → Run → Type 0
+KeepsNoNames None r = ⊤
+KeepsNoNames (Some longest) r = r.size ≡ 0

@@ -7,7 +7,7 @@ ghost use Rattle.goblin_pe_sect.specs.Mapping.{file_offset};
 ghost use Rattle.goblin_pe_sect.specs.Addresses.{AreMany, IsIndexed, KeepsWindowsAlone, TakesMap};
 ghost use Rattle.goblin_pe_sect.specs.Addresses.{WalksFew, reads_strictly};
 ghost use Rattle.goblin_pe_sect.specs.Addresses.{map_by, map_in, map_of, map_with, offset_of};
-ghost use Rattle.goblin_pe_sect.specs.Addresses.{strict_map};
+ghost use Rattle.goblin_pe_sect.specs.Addresses.{strict_map, with_longest};
 ghost use Rattle.std.specs.Prelude.{◌⊎◌, IfSome, Some};
 ghost use Rattle.goblin_pe_sect.specs.Runs.{IsRun, offset_in_run};
 ghost use Rattle.goblin_pe_sect.specs.SectionTable.{mapped_of, mapped_sections, recorded_sections};
@@ -52,11 +52,13 @@ pub(crate) enum Windows<'s> {
 /// How addresses are mapped to file offsets, and how the bytes there are read: the options, and
 /// what the windows of the sections are found by. That is an index, beside which the sections may
 /// be dropped; or, of records in a file, these themselves where they are few, or where no window is
-/// looked for: by options that addresses are offsets, or an alignment that is no power of two.
+/// looked for: by options that addresses are offsets, or an alignment that is no power of two. It may
+/// have a limit for the length of names.
 #[derive(Drop)]
 pub struct AddressMap<'s> {
     opts: ParseOptions,
     windows: Windows<'s>,
+    longest: Option<u32>,
 }
 
 // The index of the sections' windows; where there are no sections, one without pieces, which takes
@@ -145,6 +147,7 @@ impl<'s> AddressMap<'s> {
         Ok(AddressMap {
             opts: *opts,
             windows: Windows::Indexed(index),
+            longest: None,
         })
     }
 
@@ -179,6 +182,7 @@ impl<'s> AddressMap<'s> {
         Ok(AddressMap {
             opts: *opts,
             windows,
+            longest: None,
         })
     }
 
@@ -189,7 +193,25 @@ impl<'s> AddressMap<'s> {
         AddressMap {
             opts: self.opts.with_parse_mode(ParseMode::Strict),
             windows: self.windows,
+            longest: self.longest,
         }
+    }
+
+    /// Sets how many bytes a name may have, by this map, before it is cut, as
+    /// [`pread_str_within`](goblin_base::pread_str_within) cuts it. `None` is no limit.
+    #[inline(always)]
+    pub fn set_longest_name(&mut self, longest: Option<u32>)
+        ensures { map_of self.new ≡ with_longest longest (map_of self.old) }
+    {
+        self.longest = longest;
+    }
+
+    /// How many bytes a name may have before it is cut, if there is a limit.
+    #[inline(always)]
+    pub fn longest_name(&self) -> Option<u32>
+        ensures { result ≡ (map_of self.now).addressing.longest }
+    {
+        self.longest
     }
 
     /// The options for mapping addresses and for reading there.

@@ -1,7 +1,9 @@
 //! Marks which positions of a file data directories and sections depend on.
 
 ghost use Rattle.std.specs.Prelude.{◌≡◌};
+ghost use Rattle.goblin_base.specs.Footprints.{led_to};
 ghost use Rattle.goblin_base.specs.Marks.{marked};
+ghost use Rattle.readings.specs.Reads.{text_within};
 ghost use Rattle.goblin_pe_sect.specs.DirectoryReadings.{directories_at};
 ghost use Rattle.goblin_pe_sect.specs.Options.{is_strict};
 ghost use Rattle.goblin_pe_sect.specs.SectionReadings.{named_section_at, real_name};
@@ -9,7 +11,7 @@ ghost use Rattle.goblin_pe_sect.specs.SectionReadings.{named_section_at, real_na
 use crate::data_directories::{NUM_DATA_DIRECTORIES, SIZEOF_DATA_DIRECTORY};
 use crate::options::ParseOptions;
 use crate::section_table::{SIZEOF_SECTION_TABLE, name_in_record};
-use goblin_base::footprint::{Marks, add_slice, add_stretch};
+use goblin_base::footprint::{Marks, add_slice, add_stretch, add_text};
 use goblin_base::pread_slice;
 
 /// Marks the records of `count` data directories, which follow one another from `offset` on; those
@@ -25,6 +27,19 @@ pub fn add_directories(marks: &mut Marks, bytes: &[u8], count: usize, offset: us
     'entries: for i in 0..count {
         let place = offset.saturating_add(SIZEOF_DATA_DIRECTORY * i);
         add_slice(marks, bytes, place, SIZEOF_DATA_DIRECTORY);
+    }
+}
+
+/// Marks the text at a place, where there is one, as far as
+/// [`pread_str_within`](goblin_base::pread_str_within) reads it.
+#[tactic(auto, using(goblin_base::proofs::Marks::marking))]
+pub fn add_text_at(marks: &mut Marks, bytes: &[u8], place: Option<usize>, longest: Option<u32>)
+    ensures { let reached = led_to place (λ p. (text_within longest p).reaches bytes.now) in
+        marks.new ≡ marked marks.old reached }
+{
+    match place {
+        Some(offset) => add_text(marks, bytes, offset, longest),
+        None => (),
     }
 }
 

@@ -7,6 +7,8 @@ ghost use Rattle.std.specs.Int.{is_power_of_two};
 ghost use Rattle.std.specs.Option.{option_copied, option_map};
 ghost use Rattle.goblin_base.specs.Answers.{Answers};
 ghost use Rattle.goblin_base.specs.Reading.{Reads};
+ghost use Rattle.readings.specs.Reads.{text_within};
+ghost use Rattle.goblin_pe_sect.specs.Addresses.{Addressing, with_whole_names};
 ghost use Rattle.goblin_pe_sect.specs.AddressReadings.{data_at, name_or_none, text_at_address};
 ghost use Rattle.goblin_pe_sect.specs.Mapping.{read_size, window_end, window_of, raw_begin};
 ghost use Rattle.goblin_pe_sect.specs.Mapping.{file_offset, MapsTo, section_at};
@@ -19,7 +21,8 @@ use crate::mapping::{self, file_offset};
 use crate::options::{ParseOptions, RawPointerRule};
 use crate::section_table::SectionTable;
 use goblin_base::{
-    Cause, CauseOf, Endian, Error, ErrorOf, Result, ResultOf, TryFromCtx, pread_str, pread_with,
+    Cause, CauseOf, Endian, Error, ErrorOf, Result, ResultOf, TryFromCtx, pread_str,
+    pread_str_within, pread_with,
 };
 
 mod rva;
@@ -224,7 +227,7 @@ pub fn safe_try_name<'a>(
     file_alignment: u32,
     opts: &ParseOptions,
 ) -> Result<Option<&'a str>>
-    ensures { let m = file_offset opts.now sections.now file_alignment in
+    ensures { let m = with_whole_names (file_offset opts.now sections.now file_alignment) in
         Reads (option_map (λ s. s.now)) result
         (name_or_none (is_strict opts.now.parse_mode) m rva) bytes.now }
 {
@@ -239,18 +242,35 @@ pub fn safe_try_name<'a>(
 /// # Errors
 /// As [`safe_try_name`].
 #[inline(always)]
-#[tactic(auto, unfolding(crate::specs::AddressReadings::name_at))]
 pub fn safe_name_at<'a, 'e>(
     bytes: &'a [u8],
     rva: usize,
     offset: Option<usize>,
     opts: &ParseOptions,
 ) -> ResultOf<'e, Option<&'a str>>
-    ensures { Reads (option_map (λ s. s.now)) result
-        (name_or_none (is_strict opts.now.parse_mode) (λ _. offset) rva) bytes.now }
+    ensures { let m = with_whole_names (λ _. offset) in
+        Reads (option_map (λ s. s.now)) result
+        (name_or_none (is_strict opts.now.parse_mode) m rva) bytes.now }
+{
+    name_within(bytes, rva, offset, None, opts)
+}
+
+// The text at an offset, as `safe_name_at` returns it, up to a limit.
+#[inline(always)]
+#[tactic(auto, unfolding(crate::specs::AddressReadings::name_at))]
+pub(crate) fn name_within<'a, 'e>(
+    bytes: &'a [u8],
+    rva: usize,
+    offset: Option<usize>,
+    longest: Option<u32>,
+    opts: &ParseOptions,
+) -> ResultOf<'e, Option<&'a str>>
+    ensures { let m : Addressing = record { offset = λ _. offset; longest = longest } in
+        Reads (option_map (λ s. s.now)) result
+        (name_or_none (is_strict opts.now.parse_mode) m rva) bytes.now }
 {
     let cause = match offset {
-        Some(offset) => match pread_str(bytes, offset) {
+        Some(offset) => match pread_str_within(bytes, offset, longest) {
             Ok(name) => return Ok(Some(name)),
             Err(_) => CauseOf::NameRead(offset),
         },

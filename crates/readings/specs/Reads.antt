@@ -9,12 +9,12 @@ use Rattle.goblin_base.specs.declared.error.ErrorOf.{ErrorOf}
 use Rattle.goblin_base.specs.declared.error.ErrorOf.TheVariants.{Malformed}
 use Rattle.goblin_base.specs.Answers as answers
 use Rattle.goblin_base.specs.Answers.{FirstFault, IsFirstMissing, IsMemory}
-use Rattle.goblin_base.specs.Answers.{IsSliceFault, IsTextFault, all_at}
+use Rattle.goblin_base.specs.Answers.{IsSliceFault, IsTextFault, IsTextFaultWithin, all_at}
 use Rattle.goblin_base.specs.Bytes as bytes_of
 use Rattle.goblin_base.specs.Footprints.{counted_footprint, led_to, rest_footprint}
 use Rattle.goblin_base.specs.Footprints.{slice_footprint, slot_footprint, stretch_footprint}
 use Rattle.goblin_base.specs.Parts as parts
-use Rattle.goblin_base.specs.Parts.{between_footprint, moved_by, search_footprint}
+use Rattle.goblin_base.specs.Parts.{between_footprint, moved_by, search_footprint, text_footprint}
 use Rattle.goblin_base.specs.Reading.{Reading}
 use Rattle.goblin_base.specs.Record as records
 use Rattle.goblin_base.specs.Strtab as strings
@@ -25,6 +25,8 @@ use Rattle.goblin_base.specs.Tables.{slot_table}
 use Rattle.goblin_base.specs.Values as values
 use Rattle.goblin_base.specs.Values.{IsValueFault}
 use Rattle.goblin_base.proofs.Below.{concat_below-agree}
+use Rattle.goblin_base.proofs.CutTexts.{same-text_within, text_within-in}
+use Rattle.goblin_base.proofs.CutTexts.{text_within-not_memory}
 use Rattle.goblin_base.proofs.Footprints.{same-counted_table_if, same-number_at, same-record_at}
 use Rattle.goblin_base.proofs.Footprints.{same-slice_at, same-text_at, agree-below, same-all_at}
 use Rattle.goblin_base.proofs.Inside.{below-in, counted-in, led-in, none-in, rest-in, slice-in}
@@ -119,6 +121,18 @@ text_at p = record {
   is_local = λ a b agree. same-text_at a b p agree;
   is_inside = λ bytes. stretch-in bytes p;
   not_memory = λ bytes. text-not_memory bytes p;
+}
+
+-- The text at p, whole or, where there is a limit, cut there. A character has at most four bytes, so
+-- of a text that is cut no more is reached than the limit and four bytes.
+abbrev pub text_within : Option ℕ → ℕ → Reading (List ℕ)
+text_within longest p = record {
+  value = λ bytes. bytes_of.text_within longest bytes p;
+  IsCause = λ bytes. IsTextFaultWithin longest bytes p;
+  reaches = λ bytes. text_footprint longest bytes p;
+  is_local = same-text_within longest p;
+  is_inside = text_within-in longest p;
+  not_memory = text_within-not_memory longest p;
 }
 
 -- the string table of n bytes at p

@@ -7,7 +7,7 @@ ghost use Rattle.goblin_base.specs.Reading.{InModes, Reads, ReadsOrMemory};
 ghost use Rattle.goblin_pe_sect.specs.Options.{is_strict};
 ghost use Rattle.goblin_pe_head.specs.HeaderReadings.{pe_header};
 ghost use Rattle.goblin_pe_head.specs.PeHeader.{header_value};
-ghost use Rattle.goblin_pe_sect.specs.Addresses.{map_by, offset_of};
+ghost use Rattle.goblin_pe_sect.specs.Addresses.{map_by};
 ghost use Rattle.goblin_pe.specs.Modes.{ReadsInModes, in_mode, in_permissive_mode};
 ghost use Rattle.goblin_pe.specs.TableRuns.{AreGrown, AreInModes};
 ghost use Rattle.goblin_pe.specs.TakenMemory.{TakesLists};
@@ -105,13 +105,13 @@ pub fn mode_tables<'a, 'e, T: Bitfield<'a>, D: TryFromCtx<'a>>(
     opts: &ParseOptions,
 ) -> (TablesOf<'a, 'e, D>, TablesOf<'a, 'e, D>)
     ensures modes { let m = map_by opts.now sections.now file_alignment in
-        AreInModes T.format D.plain D.value_of D.refusal (offset_of m) request.now bytes.now
+        AreInModes T.format D.plain D.value_of D.refusal m.addressing request.now bytes.now
         result }
     ensures strict_grown { let m = map_by opts.now sections.now file_alignment in
-        AreGrown T.format true opts.now sections.now file_alignment (offset_of m) bytes.now
+        AreGrown T.format true opts.now sections.now file_alignment m.addressing bytes.now
         request.now result.0 }
     ensures permissive_grown { let m = map_by opts.now sections.now file_alignment in
-        AreGrown T.format false opts.now sections.now file_alignment (offset_of m) bytes.now
+        AreGrown T.format false opts.now sections.now file_alignment m.addressing bytes.now
         request.now result.1 }
 {
     let strictly = opts.with_parse_mode(ParseMode::Strict);

@@ -1,7 +1,7 @@
 //! The readers that map addresses, under two tables of sections.
 
 ghost use Rattle.goblin_pe_sect.specs.WindowOrder.{IsReordering};
-ghost use Rattle.goblin_pe_sect.specs.Addresses.{map_by, offset_of, reads_strictly};
+ghost use Rattle.goblin_pe_sect.specs.Addresses.{map_by, reads_strictly};
 ghost use Rattle.goblin_pe.specs.TableRuns.{AreAlike, AreGrown, AreTables};
 
 use crate::data_directories::DataDirectory;
@@ -63,10 +63,10 @@ pub(super) fn read_tables<'a, 'e, T: Bitfield<'a>, D: TryFromCtx<'a>>(
     opts: &ParseOptions,
 ) -> TablesOf<'a, 'e, D>
     ensures read { let m = map_by opts.now sections.now file_alignment in
-        AreTables T.format D.plain D.value_of D.refusal (reads_strictly m) (offset_of m) bytes.now
+        AreTables T.format D.plain D.value_of D.refusal (reads_strictly m) m.addressing bytes.now
         request.now result }
     ensures grown { let m = map_by opts.now sections.now file_alignment in
-        AreGrown T.format (reads_strictly m) opts.now sections.now file_alignment (offset_of m)
+        AreGrown T.format (reads_strictly m) opts.now sections.now file_alignment m.addressing
         bytes.now request.now result }
 {
     let lookup = SyntheticImportLookupTableEntry::parse_with_opts::<T>(
@@ -124,16 +124,16 @@ pub fn reorder_whole_tables<'a, 'e, T: Bitfield<'a>, D: TryFromCtx<'a>>(
     opts: &ParseOptions,
 ) -> (TablesOf<'a, 'e, D>, TablesOf<'a, 'e, D>)
     ensures first { let m = map_by opts.now first.now file_alignment in
-        AreTables T.format D.plain D.value_of D.refusal (reads_strictly m) (offset_of m) bytes.now
+        AreTables T.format D.plain D.value_of D.refusal (reads_strictly m) m.addressing bytes.now
         request.now result.0 }
     ensures second { let m = map_by opts.now second.now file_alignment in
-        AreTables T.format D.plain D.value_of D.refusal (reads_strictly m) (offset_of m) bytes.now
+        AreTables T.format D.plain D.value_of D.refusal (reads_strictly m) m.addressing bytes.now
         request.now result.1 }
     ensures first_grown { let m = map_by opts.now first.now file_alignment in
-        AreGrown T.format (reads_strictly m) opts.now first.now file_alignment (offset_of m)
+        AreGrown T.format (reads_strictly m) opts.now first.now file_alignment m.addressing
         bytes.now request.now result.0 }
     ensures second_grown { let m = map_by opts.now second.now file_alignment in
-        AreGrown T.format (reads_strictly m) opts.now second.now file_alignment (offset_of m)
+        AreGrown T.format (reads_strictly m) opts.now second.now file_alignment m.addressing
         bytes.now request.now result.1 }
     ensures alike { IsReordering file_alignment first.now second.now
         → AreAlike D.plain result.0 result.1 }

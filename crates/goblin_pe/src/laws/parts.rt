@@ -4,7 +4,7 @@ ghost use Rattle.std.specs.Prelude.{ℕ, IfErr, IsSomeAnd, List};
 ghost use Rattle.goblin_base.specs.Answers.{IsMemory};
 ghost use Rattle.goblin_base.specs.Reading.{ReadsOrMemory};
 ghost use Rattle.goblin_pe_head.specs.TeReadings.{te_header, te_image};
-ghost use Rattle.goblin_pe_sect.specs.Addresses.{map_by, offset_of, reads_strictly};
+ghost use Rattle.goblin_pe_sect.specs.Addresses.{map_by, reads_strictly};
 ghost use Rattle.goblin_pe_head.specs.SectionRoom.{TakesSections};
 ghost use Rattle.goblin_pe.specs.TwinParts.{AreParts, ArePartsGrown, AreTwinParts, asked_by};
 ghost use Rattle.goblin_pe.specs.TwinParts.{te_view};
@@ -72,7 +72,7 @@ fn read_parts<'a, 'e, D: TryFromCtx<'a>>(
 ) -> PartsOf<'a, 'e, D>
     ensures read { let m = map_by opts.now sections.now file_alignment in
         let asked = asked_by coff_header offset relocations value in
-        AreParts D.plain D.value_of D.refusal (reads_strictly m) (offset_of m) asked
+        AreParts D.plain D.value_of D.refusal (reads_strictly m) m.addressing asked
         bytes.now result }
     ensures grown { let asked = asked_by coff_header offset relocations value in
         ArePartsGrown asked bytes.now result }
@@ -131,7 +131,7 @@ impl<'a, 'e, 's, D: TryFromCtx<'a>> Reader<'a, PartsOf<'a, 'e, D>> for Asked<'s>
     ghost is_answer = { λ reader bytes parts.
         let m = map_by reader.opts.now reader.sections.now reader.file_alignment in
         let asked = asked_by reader.coff_header reader.offset reader.relocations reader.value in
-        AreParts D.plain D.value_of D.refusal (reads_strictly m) (offset_of m) asked bytes parts
+        AreParts D.plain D.value_of D.refusal (reads_strictly m) m.addressing asked bytes parts
         × ArePartsGrown asked bytes parts };
 
     fn read(&self, bytes: &'a [u8]) -> PartsOf<'a, 'e, D> {
@@ -178,7 +178,7 @@ pub fn twin_parts<'a, 'e, D: TryFromCtx<'a>>(
 ) -> (PartsOf<'a, 'e, D>, PartsOf<'a, 'e, D>)
     ensures twins { let m = map_by opts.now sections.now file_alignment in
         let asked = asked_by coff_header offset relocations value in
-        AreTwinParts D.plain D.value_of D.refusal (reads_strictly m) (offset_of m) asked
+        AreTwinParts D.plain D.value_of D.refusal (reads_strictly m) m.addressing asked
         a.now b.now result }
     ensures first_grown { let asked = asked_by coff_header offset relocations value in
         ArePartsGrown asked a.now result.0 }

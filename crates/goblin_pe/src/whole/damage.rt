@@ -6,7 +6,6 @@ ghost use Rattle.goblin_pe_sect.specs.Options.{is_strict};
 ghost use Rattle.goblin_pe_head.specs.HeaderReadings.{pe_header};
 ghost use Rattle.goblin_pe_head.specs.PeHeader.{header_value};
 ghost use Rattle.goblin_pe_sect.specs.declared.options.View.TheVariants.{Sections};
-ghost use Rattle.goblin_pe_sect.specs.Addresses.{offset_of};
 ghost use Rattle.goblin_pe_import.specs.ImportWalks.{IsImportsCause, imports_left};
 ghost use Rattle.goblin_pe.specs.Callers.{layout_table};
 ghost use Rattle.goblin_pe.specs.Damages.{AreDamaged, IsDamage, IsDamageOf, IsReadByBoth, IsSound};
@@ -97,7 +96,7 @@ fn name_damage(bytes: &[u8], header: &Header) -> Option<Error>
 // left out of the imports.
 fn table_damage(layout: Layout) -> (Option<Error>, Option<Error>, Option<Error>, LeftOut)
     ensures { let m = layout_map layout.entry in
-        AreDamaged m.opts (offset_of m) (layout_places layout.entry) (layout_bytes layout.entry)
+        AreDamaged m.opts m.addressing (layout_places layout.entry) (layout_bytes layout.entry)
         result.0 result.1 result.2 result.3 }
 {
     let left_out = layout.left_out();

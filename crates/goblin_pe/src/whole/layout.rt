@@ -10,8 +10,8 @@ ghost use Rattle.readings.specs.Reads.{mapped};
 ghost use Rattle.readings.specs.Walks.{Walks};
 ghost use Rattle.goblin_pe_sect.specs.declared.options.ParseOptions.{ParseOptions};
 ghost use Rattle.goblin_pe_sect.specs.declared.options.View.TheVariants.{Loader, Sections};
-ghost use Rattle.goblin_pe_sect.specs.Addresses.{AreMany, map_in, map_of, offset_of};
-ghost use Rattle.goblin_pe_sect.specs.Addresses.{reads_strictly, strict_map};
+ghost use Rattle.goblin_pe_sect.specs.Addresses.{AreMany, map_in, map_of};
+ghost use Rattle.goblin_pe_sect.specs.Addresses.{reads_strictly, strict_map, with_longest};
 ghost use Rattle.goblin_pe_sect.specs.BaseRelocations.{relocation_bytes};
 ghost use Rattle.goblin_pe_sect.specs.Options.{is_strict, rule_by_alignment};
 ghost use Rattle.goblin_pe_sect.specs.SectionTable.{mapped_of, recorded_sections, unnamed};
@@ -278,6 +278,21 @@ impl<'a> Layout<'a> {
         }
     }
 
+    /// Sets how many bytes the names of imports, libraries and exports may have before they are cut,
+    /// as [`pread_str_within`](goblin_base::pread_str_within) and, of forwarders,
+    /// [`Reexport::parse_within`](crate::export::Reexport::parse_within) cut them. `None` is no
+    /// limit. With one, the tables are no longer those of the whole file: what follows a cut is not
+    /// tested.
+    #[inline(always)]
+    pub fn set_longest_name(&mut self, longest: Option<u32>)
+        ensures over { layout_bytes self.new ≡ layout_bytes self.old }
+        ensures placed { layout_places self.new ≡ layout_places self.old }
+        ensures recorded { layout_sections self.new ≡ layout_sections self.old }
+        ensures mapped { layout_map self.new ≡ with_longest longest (layout_map self.old) }
+    {
+        self.address_map.set_longest_name(longest);
+    }
+
     /// The bytes of the file.
     pub fn bytes(&self) -> &'a [u8]
         ensures { result.now ≡ layout_bytes self.now }
@@ -306,7 +321,7 @@ impl<'a> Layout<'a> {
         ensures starts { let m = layout_map self.now in
             let places = layout_places self.now in
             StartsAt m places.magic (layout_bytes self.now)
-            (import_begin m.opts (offset_of m) places) result }
+            (import_begin m.opts m.addressing places) result }
         ensures over { IfOk result (IfRead (λ walk. file_map walk ≡ layout_map self.now)) }
     {
         let opts = self.address_map.opts();
@@ -327,7 +342,7 @@ impl<'a> Layout<'a> {
     #[tactic(auto, unfolding(crate::specs::LayoutCursors::import_begin))]
     pub fn imports_begin<'e>(&self) -> ResultOf<'e, ImportCursor>
         ensures { let m = layout_map self.now in
-            Reads (λ c. c) result (import_begin m.opts (offset_of m) (layout_places self.now))
+            Reads (λ c. c) result (import_begin m.opts m.addressing (layout_places self.now))
             (layout_bytes self.now) }
     {
         match self.places.imports {
@@ -437,7 +452,7 @@ impl<'a> Layout<'a> {
     #[tactic(auto, unfolding(crate::specs::Damages::left_out_of))]
     pub fn left_out(&self) -> LeftOut
         ensures { let m = layout_map self.now in
-            result ≡ left_out_of m.opts (offset_of m) (layout_places self.now)
+            result ≡ left_out_of m.opts m.addressing (layout_places self.now)
             (layout_bytes self.now) }
     {
         let opts = self.address_map.opts();
@@ -453,7 +468,7 @@ impl<'a> Layout<'a> {
     #[tactic(auto, unfolding(crate::specs::Damages::exports_left_out))]
     pub fn left_out_exports(&self) -> usize
         ensures { let m = layout_map self.now in
-            result ≡ exports_left_out (offset_of m) (layout_places self.now)
+            result ≡ exports_left_out m.addressing (layout_places self.now)
             (layout_bytes self.now) }
     {
         let Some(directory) = self.places.exports else {
@@ -477,12 +492,12 @@ impl<'a> Layout<'a> {
             let rva = directory.virtual_address in
             Walks file_imports_left IsFileImportsCause (λ xs. xs) result
             (mapped (flat_map (numbered_imports format.width))
-            (numbered_data (reads_strictly m) format (offset_of m) rva))
+            (numbered_data (reads_strictly m) format m.addressing rva))
             (layout_bytes self.now) }
         ensures first { let m = layout_map self.now in
             let rva = directory.virtual_address in
             GivesFirst m (layout_places self.now).magic (layout_bytes self.now)
-            (first_import (reads_strictly m) (offset_of m) rva) result }
+            (first_import (reads_strictly m) m.addressing rva) result }
         ensures over { IfOk result (λ walk. file_map walk ≡ layout_map self.now) }
     {
         if self.places.has_narrow_entries() {
@@ -499,7 +514,7 @@ impl<'a> Layout<'a> {
     fn imports_left_out_at(&self, directory: DataDirectory) -> LeftOut
         ensures { let format = entry_format (layout_places self.now).magic in
             result
-            ≡ imports_left_out_at format (offset_of (layout_map self.now)) (layout_bytes self.now)
+            ≡ imports_left_out_at format (layout_map self.now).addressing (layout_bytes self.now)
             (Some directory) }
     {
         if self.places.has_narrow_entries() {

@@ -2,7 +2,6 @@
 
 ghost use Rattle.std.specs.Prelude.{IfOk};
 ghost use Rattle.goblin_base.specs.Reading.{Reads};
-ghost use Rattle.goblin_pe_sect.specs.Addresses.{offset_of};
 ghost use Rattle.goblin_pe_import.specs.Libraries.{AreLibrariesAt, libraries_cursor};
 ghost use Rattle.goblin_pe.specs.LayoutCursors.{import_begin};
 ghost use Rattle.goblin_pe.specs.Layouts.{layout_bytes, layout_map, layout_places};
@@ -22,7 +21,7 @@ impl<'a> Layout<'a> {
     pub fn libraries<'m, 'e>(&'m self) -> ResultOf<'e, Libraries<'a, 'm>>
         ensures begins { let m = layout_map self.now in
             Reads libraries_cursor result
-            (import_begin m.opts (offset_of m) (layout_places self.now)) (layout_bytes self.now) }
+            (import_begin m.opts m.addressing (layout_places self.now)) (layout_bytes self.now) }
         ensures over { IfOk result (λ it.
             AreLibrariesAt (layout_map self.now) (entry_format (layout_places self.now).magic)
             (layout_bytes self.now) (libraries_cursor it) it) }

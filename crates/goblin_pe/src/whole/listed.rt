@@ -41,13 +41,13 @@ impl Places {
             let format = entry_format self.now.magic in
             let rva = directory.virtual_address in
             ReadsOrMemory (λ x. x) result
-            (import_data (reads_strictly m) format (offset_of m) rva) bytes.now }
+            (import_data (reads_strictly m) format m.addressing rva) bytes.now }
         ensures grown { let m = map_of address_map.now in
             let format = entry_format self.now.magic in
             let place = offset_of m directory.virtual_address in
             IfErr result
             (λ e. IsMemory e → IsSomeAnd (first_record_offset (reads_strictly m) place)
-            (TakesLibraries (reads_strictly m) format (offset_of m) bytes.now)) }
+            (TakesLibraries (reads_strictly m) format m.addressing bytes.now)) }
     {
         if self.has_narrow_entries() {
             ImportData::parse_by::<u32>(alloc, bytes, directory, address_map)
@@ -66,7 +66,7 @@ impl Places {
     ) -> Result<Part<ImportData<'a>>>
         ensures made { let m = map_of address_map.now in
             let places = table_places self.now in
-            ReadsOrMemory (λ x. x) result (import_data_part m.opts (offset_of m) places) bytes.now }
+            ReadsOrMemory (λ x. x) result (import_data_part m.opts m.addressing places) bytes.now }
         ensures grown { let m = map_of address_map.now in
             IfErr result
             (λ e. IsMemory e → TakesImports m (table_places self.now) bytes.now) }
@@ -136,7 +136,7 @@ impl Places {
         ensures made { let m = map_of address_map.now in
             let places = table_places self.now in
             ReadsOrMemory import_read_view result
-            (mapped (both_lists places.magic) (numbered_data_part m.opts (offset_of m) places))
+            (mapped (both_lists places.magic) (numbered_data_part m.opts m.addressing places))
             bytes.now }
         ensures listed { let m = map_of address_map.now in
             IfOk result (λ read.
@@ -161,7 +161,7 @@ impl Places {
         ensures made { let m = map_of address_map.now in
             let places = table_places self.now in
             ReadsOrMemory (part_map export_read_view) result
-            (mapped (part_map read_rows) (export_part m.opts (offset_of m) places)) bytes.now }
+            (mapped (part_map read_rows) (export_part m.opts m.addressing places)) bytes.now }
         ensures grown { let m = map_of address_map.now in
             IfErr result
             (λ e. IsMemory e → TakesExports m (table_places self.now) bytes.now) }
@@ -186,7 +186,7 @@ impl Places {
         requires { IsIndexed address_map.now }
         ensures made { let m = map_of address_map.now in
             let places = table_places self.now in
-            ReadsOrMemory listed_view result (listed_tables m.opts (offset_of m) places) bytes.now }
+            ReadsOrMemory listed_view result (listed_tables m.opts m.addressing places) bytes.now }
         ensures listed { let m = map_of address_map.now in
             IfOk result (λ t. listed_imports_part m.opts (table_places self.now) t.imports.0
             ≡ Some (items_part t.imports.1)) }
@@ -227,10 +227,10 @@ fn exports_of<'a>(
     address_map: &AddressMap,
 ) -> Result<ExportRead<'a>>
     ensures made { let m = map_of address_map.now in
-        ReadsOrMemory export_read_view result (export_read (offset_of m) directory) bytes.now }
+        ReadsOrMemory export_read_view result (export_read m.addressing directory) bytes.now }
     ensures grown { let m = map_of address_map.now in
         IfErr result (λ e. IsMemory e
-        → IsSomeAnd (export_data (offset_of m) directory bytes.now) HasExportEntries) }
+        → IsSomeAnd (export_data m.addressing directory bytes.now) HasExportEntries) }
     ensures room { IfOk result (λ read. TakesRoomFor 32 read.1) }
 {
     let data = ExportData::parse_by(alloc, bytes, directory, address_map)?;

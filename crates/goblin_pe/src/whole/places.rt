@@ -2,7 +2,7 @@
 
 ghost use Rattle.std.specs.Prelude.{◌==◌, ◌≡◌};
 ghost use Rattle.goblin_base.specs.Reading.{Reads};
-ghost use Rattle.goblin_pe_sect.specs.Addresses.{map_of, offset_of};
+ghost use Rattle.goblin_pe_sect.specs.Addresses.{map_of};
 ghost use Rattle.goblin_pe_sect.specs.BaseRelocations.{relocation_bytes};
 ghost use Rattle.goblin_pe_sect.specs.Options.{is_strict};
 ghost use Rattle.goblin_pe.specs.Whole.{BecomesPart, part_map, places_in, relocation_part};
@@ -101,7 +101,7 @@ impl Places {
         ensures { let m = map_of address_map.now in
             let places = table_places self.now in
             Reads (part_map relocation_bytes) result
-            (relocation_part m.opts (offset_of m) places) bytes.now }
+            (relocation_part m.opts m.addressing places) bytes.now }
     {
         let Some(directory) = self.relocations else {
             return Ok(Part::Absent);

@@ -2,7 +2,7 @@
 
 ghost use Rattle.std.specs.Prelude.{◌≡◌};
 ghost use Rattle.goblin_base.specs.Marks.{marked};
-ghost use Rattle.goblin_pe_sect.specs.Addresses.{offset_of, reads_strictly};
+ghost use Rattle.goblin_pe_sect.specs.Addresses.{reads_strictly};
 ghost use Rattle.goblin_pe_import.specs.ImportReadings.{numbered_data};
 ghost use Rattle.goblin_pe.specs.Callers.{layout_table};
 ghost use Rattle.goblin_pe.specs.Layouts.{layout_bytes, layout_map, layout_places};
@@ -20,7 +20,7 @@ impl Layout<'_> {
     fn mark_import_data(&self, marks: &mut Marks, rva: u32)
         ensures { let m = layout_map self.now in
             let format = entry_format (layout_places self.now).magic in
-            let read = numbered_data (reads_strictly m) format (offset_of m) rva in
+            let read = numbered_data (reads_strictly m) format m.addressing rva in
             marks.new ≡ marked marks.old (read.reaches (layout_bytes self.now)) }
     {
         if self.places.has_narrow_entries() {

@@ -3,7 +3,6 @@
 ghost use Rattle.std.specs.Prelude.{◌≡◌, IfErr, IsSomeAnd};
 ghost use Rattle.goblin_base.specs.Answers.{GivesOrMemory};
 ghost use Rattle.goblin_pe_sect.specs.declared.options.View.TheVariants.{Sections};
-ghost use Rattle.goblin_pe_sect.specs.Addresses.{offset_of};
 ghost use Rattle.goblin_pe_sect.specs.Options.{is_strict};
 ghost use Rattle.goblin_pe_head.specs.HeaderReadings.{pe_header};
 ghost use Rattle.goblin_pe_head.specs.PeHeader.{header_value};
@@ -49,7 +48,7 @@ const _: () = prove!(
 // The first of the tables that is refused.
 fn refused_table(layout: &Layout) -> RefusedPart
     ensures { let m = layout_map layout.now in
-        result ≡ refused_table m.opts (offset_of m) (layout_places layout.now)
+        result ≡ refused_table m.opts m.addressing (layout_places layout.now)
         (layout_bytes layout.now) }
 {
     if import_damage(layout).is_some() {

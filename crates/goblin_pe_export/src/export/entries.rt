@@ -5,7 +5,7 @@ ghost use Rattle.std.specs.Prelude.{option_map, slice_get, vec_capacity};
 ghost use Rattle.goblin_base.specs.Answers.{GivesOrMemory};
 ghost use Rattle.goblin_base.specs.Bytes.{slice_at};
 ghost use Rattle.goblin_base.specs.Reading.{Reads};
-ghost use Rattle.goblin_pe_sect.specs.Addresses.{map_of, offset_of};
+ghost use Rattle.goblin_pe_sect.specs.Addresses.{map_of};
 ghost use Rattle.goblin_pe_export.specs.ExportReadings as reading;
 ghost use Rattle.goblin_pe_export.specs.ExportRecords.{ExportTables, tables_in};
 
@@ -87,7 +87,7 @@ impl<'a> TablesInFile<'a> {
         finder: &mut Finder<'_>,
     ) -> TablesInFile<'a>
         ensures value { let m = map_of finder.old in
-            let tables = reading.export_tables (offset_of m) directory table in
+            let tables = reading.export_tables m.addressing directory table in
             tables.value bytes.now ≡ Some (tables_in result) }
         ensures same { finder.new ≡ finder.old }
     {
@@ -96,7 +96,11 @@ impl<'a> TablesInFile<'a> {
         let ordinals = finder.offset_of(table.ordinal_table_rva);
         let addresses = finder.offset_of(table.export_address_table_rva);
         TablesInFile {
-            name: text_at(bytes, finder.offset_of_name(table.name_rva)),
+            name: text_at(
+                bytes,
+                finder.offset_of_name(table.name_rva),
+                finder.longest_name(),
+            ),
             export_directory_table: table,
             directory,
             name_pointers: whole_entries(bytes, pointers, SIZEOF_NAME_POINTER, names),
@@ -119,7 +123,7 @@ impl<'a> TablesInFile<'a> {
         finder: &mut Finder<'_>,
     ) -> Result<TablesInFile<'a>>
         ensures value { let m = map_of finder.old in
-            Reads tables_in result (reading.export_data (offset_of m) directory) bytes.now }
+            Reads tables_in result (reading.export_data m.addressing directory) bytes.now }
         ensures same { finder.new ≡ finder.old }
     {
         let Some(offset) = finder.offset_of(directory.virtual_address) else {
@@ -140,13 +144,17 @@ impl<'a> TablesInFile<'a> {
         finder: &mut Finder<'_>,
     ) -> TablesInFile<'a>
         ensures value { let m = map_of finder.old in
-            let tables = reading.address_tables (offset_of m) directory table in
+            let tables = reading.address_tables m.addressing directory table in
             tables.value bytes.now ≡ Some (tables_in result) }
         ensures same { finder.new ≡ finder.old }
     {
         let addresses = finder.offset_of(table.export_address_table_rva);
         TablesInFile {
-            name: text_at(bytes, finder.offset_of_name(table.name_rva)),
+            name: text_at(
+                bytes,
+                finder.offset_of_name(table.name_rva),
+                finder.longest_name(),
+            ),
             export_directory_table: table,
             directory,
             name_pointers: &[],
@@ -169,7 +177,7 @@ impl<'a> TablesInFile<'a> {
         finder: &mut Finder<'_>,
     ) -> Result<TablesInFile<'a>>
         ensures value { let m = map_of finder.old in
-            Reads tables_in result (reading.export_addresses (offset_of m) directory) bytes.now }
+            Reads tables_in result (reading.export_addresses m.addressing directory) bytes.now }
         ensures same { finder.new ≡ finder.old }
     {
         let Some(offset) = finder.offset_of(directory.virtual_address) else {

@@ -5,7 +5,7 @@ ghost use Rattle.std.specs.Prelude.{option_map, slice_get};
 ghost use Rattle.std.specs.Iterator.{UpTo, at_most};
 ghost use Rattle.std.specs.Iterator.SizeHint.{IsWithinCount};
 ghost use Rattle.goblin_base.specs.Reading.{Reads};
-ghost use Rattle.goblin_pe_sect.specs.Addresses.{map_of, offset_of};
+ghost use Rattle.goblin_pe_sect.specs.Addresses.{map_of};
 ghost use Rattle.goblin_pe_export.specs.ExportReadings.{RepeatsAddresses, export_addresses};
 ghost use Rattle.goblin_pe_export.specs.ExportReadings.{numbered_read};
 ghost use Rattle.goblin_pe_export.specs.ExportRecords.{numbered_by, tables_in};
@@ -70,10 +70,10 @@ impl<'a, 'm> Exports<'a, 'm> {
     ) -> Result<Exports<'a, 'm>>
         ensures value { let m = map_of address_map.now in
             Reads (λ walk. (walked_tables walk, exports_left walk)) result
-            (numbered_read (offset_of m) directory) bytes.now }
+            (numbered_read m.addressing directory) bytes.now }
         ensures left { let m = map_of address_map.now in
             IfOk result (λ walk. exports_left walk
-            ≡ numbered_from (offset_of m) bytes.now (walked_tables walk) 0) }
+            ≡ numbered_from m.addressing bytes.now (walked_tables walk) 0) }
         ensures at { IfOk result (λ walk. exports_position walk ≡ 0) }
         ensures over { IfOk result (AreExportsOver bytes.now (map_of address_map.now)) }
     {
@@ -94,10 +94,10 @@ impl<'a, 'm> Exports<'a, 'm> {
     ) -> Result<Exports<'a, 'm>>
         ensures value { let m = map_of finder.entry in
             Reads (λ walk. (walked_tables walk, exports_left walk)) result
-            (numbered_read (offset_of m) directory) bytes.now }
+            (numbered_read m.addressing directory) bytes.now }
         ensures left { let m = map_of finder.entry in
             IfOk result (λ walk. exports_left walk
-            ≡ numbered_from (offset_of m) bytes.now (walked_tables walk) 0) }
+            ≡ numbered_from m.addressing bytes.now (walked_tables walk) 0) }
         ensures at { IfOk result (λ walk. exports_position walk ≡ 0) }
         ensures over { IfOk result (AreExportsOver bytes.now (map_of finder.entry)) }
     {
@@ -125,10 +125,10 @@ impl<'a, 'm> Exports<'a, 'm> {
         address_map: &'m AddressMap,
     ) -> Result<Exports<'a, 'm>>
         ensures value { let m = map_of address_map.now in
-            Reads walked_tables result (export_addresses (offset_of m) directory) bytes.now }
+            Reads walked_tables result (export_addresses m.addressing directory) bytes.now }
         ensures over { IfOk result (AreExportsOver bytes.now (map_of address_map.now)) }
         ensures repeats { let m = map_of address_map.now in
-            RepeatsAddresses (offset_of m) directory bytes.now }
+            RepeatsAddresses m.addressing directory bytes.now }
     {
         let mut finder = Finder::of(address_map);
         let tables = TablesInFile::find_addresses(bytes, directory, &mut finder)?;
@@ -249,7 +249,7 @@ impl<'a, 'm> Exports<'a, 'm> {
     ) -> Option<WalkedExport<'a>>
         ensures value { let m = map_of finder.old in
             option_map walked_export result
-            ≡ numbered_export (offset_of m) bytes.now (tables_in tables.now) index }
+            ≡ numbered_export m.addressing bytes.now (tables_in tables.now) index }
         ensures hint { IfSome result (λ x. x.hint ≡ index) }
         ensures same { finder.new ≡ finder.old }
     {
@@ -268,7 +268,7 @@ impl<'a, 'm> Exports<'a, 'm> {
         finder: &Finder<'_>,
     ) -> Option<WalkedExport<'a>>
         ensures value { let m = map_of finder.now in
-            let export = numbered_export (offset_of m) bytes.now (tables_in tables.now) index in
+            let export = numbered_export m.addressing bytes.now (tables_in tables.now) index in
             IfSome result (λ x. export ≡ Some (walked_export x)) }
         ensures hint { IfSome result (λ x. x.hint ≡ index) }
         ensures plain { IfSome result (λ x. (walked_export x).row.reexport ≡ None) }

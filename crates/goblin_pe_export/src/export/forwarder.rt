@@ -4,11 +4,12 @@ ghost use Rattle.std.specs.Prelude.{◌≡◌, ◌↔◌, List, ℕ, Some};
 ghost use Rattle.goblin_base.specs.Answers.{Answers};
 ghost use Rattle.goblin_base.specs.Reading.{Reads};
 ghost use Rattle.goblin_pe_export.specs.ForwarderLaws.{forwarder_in-within};
-ghost use Rattle.goblin_pe_export.specs.Forwarders.{Forwarder, IsForwarder};
+ghost use Rattle.goblin_pe_export.specs.Forwarders.{Forwarder, IsForwarder, forwarder_in_text};
+ghost use Rattle.goblin_pe_export.specs.Forwarders.{forwarder_within, is_longer};
 ghost use Rattle.goblin_pe_export.specs.Forwarders.{IsForwarderFault, forwarder_at, forwarder_in};
 ghost use Rattle.goblin_pe_export.specs.Forwarders.{forwarder_of, forwarder_value, ordinal_of};
 
-use goblin_base::{Cause, Endian, Error, Result, TryFromCtx, pread_str};
+use goblin_base::{Cause, Endian, Error, Result, TryFromCtx, no_text, pread_str, pread_str_within};
 
 /// What an export that is a forwarder stands for: an export of another library.
 ///
@@ -40,15 +41,33 @@ fn ordinal_of(text: &str) -> Option<u32>
     text.parse::<u32>().ok()
 }
 
+// Whether a text has more bytes than the limit, where there is one.
+#[inline(always)]
+fn is_longer(text: &str, longest: Option<u32>) -> bool
+    ensures { result ≡ is_longer longest text.now }
+{
+    match longest {
+        None => false,
+        Some(longest) => (longest as usize) < text.len(),
+    }
+}
+
 impl<'a> Reexport<'a> {
-    // What a forwarder's text says.
-    fn of_text(text: &'a str) -> Result<Reexport<'a>>
-        ensures { Answers forwarder_value result (forwarder_of text.now)
+    // What a forwarder's text says; or, of a longer one, this front of it.
+    fn of_text(text: &'a str, is_longer: bool) -> Result<Reexport<'a>>
+        ensures { Answers forwarder_value result (forwarder_in_text is_longer text.now)
             (IsForwarderFault text.now) }
     {
         let Some((lib, tail)) = text.split_once('.') else {
+            if is_longer {
+                let export = no_text(text.as_bytes());
+                return Ok(Reexport::DLLName { export, lib: text });
+            }
             return Err(Error::Malformed(Cause::Forwarder));
         };
+        if is_longer {
+            return Ok(Reexport::DLLName { export: tail, lib });
+        }
         if let Some(digits) = tail.strip_prefix('#') {
             return match ordinal_of(digits) {
                 Some(ordinal) => Ok(Reexport::DLLOrdinal {
@@ -62,6 +81,25 @@ impl<'a> Reexport<'a> {
             return Err(Error::Malformed(Cause::Forwarder));
         }
         Ok(Reexport::DLLName { export: tail, lib })
+    }
+
+    /// Reads the forwarder whose text is at the file offset `offset`, as [`Reexport::parse`]; where
+    /// there is a limit, of a text with more than `longest` bytes the front, as
+    /// [`pread_str_within`] gives it. Of such a text the library is what stands before its first
+    /// dot, or all where there is none, and what follows is a name, whatever it is: it may be
+    /// empty, or begin with `#`. Library, dot and name are then longer than `longest` bytes.
+    ///
+    /// # Errors
+    /// As [`Reexport::parse`], of a text that is not longer.
+    pub fn parse_within(
+        bytes: &'a [u8],
+        offset: usize,
+        longest: Option<u32>,
+    ) -> Result<Reexport<'a>>
+        ensures { Reads forwarder_value result (forwarder_within longest offset) bytes.now }
+    {
+        let text = pread_str_within(bytes, offset, longest)?;
+        Reexport::of_text(text, is_longer(text, longest))
     }
 
     /// Reads the forwarder whose text is at the file offset `offset`. The library ends at the first
@@ -78,8 +116,7 @@ impl<'a> Reexport<'a> {
         ensures grammar { (text : List ℕ) (f : Forwarder) → (forwarder_of text ≡ Some f)
             ↔ IsForwarder text f }
     {
-        let text = pread_str(bytes, offset)?;
-        Reexport::of_text(text)
+        Reexport::parse_within(bytes, offset, None)
     }
 }
 
@@ -101,7 +138,7 @@ impl<'a> TryFromCtx<'a> for Reexport<'a> {
     /// As [`Reexport::parse`].
     fn try_from_ctx(bytes: &'a [u8], _endian: Endian) -> Result<(Reexport<'a>, usize)> {
         let text = pread_str(bytes, 0)?;
-        let reexport = Reexport::of_text(text)?;
+        let reexport = Reexport::of_text(text, false)?;
         Ok((reexport, (text.len() + 1).min(bytes.len())))
     }
 }

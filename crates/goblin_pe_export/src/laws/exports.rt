@@ -3,7 +3,7 @@
 ghost use Rattle.std.specs.Prelude.{◌⊎◌, IfErr, IsSomeAnd};
 ghost use Rattle.goblin_base.specs.Answers.{IsMemory};
 ghost use Rattle.goblin_base.specs.Reading.{ReadsOrMemory, TwinsOrMemory};
-ghost use Rattle.goblin_pe_sect.specs.Addresses.{TakesMap, map_by, offset_of};
+ghost use Rattle.goblin_pe_sect.specs.Addresses.{TakesMap, map_by};
 ghost use Rattle.goblin_pe_export.specs.ExportReadings.{export_read};
 ghost use Rattle.goblin_pe_export.specs.Exports.{HasExportEntries, export_data, export_read_view};
 
@@ -31,10 +31,10 @@ pub fn read_exports<'a>(
     opts: &ParseOptions,
 ) -> Result<ExportRead<'a>>
     ensures value { let m = map_by opts.now sections.now file_alignment in
-        ReadsOrMemory export_read_view result (export_read (offset_of m) directory) bytes.now }
+        ReadsOrMemory export_read_view result (export_read m.addressing directory) bytes.now }
     ensures grown { let m = map_by opts.now sections.now file_alignment in
         IfErr result (λ e. IsMemory e →
-        IsSomeAnd (export_data (offset_of m) directory bytes.now) HasExportEntries
+        IsSomeAnd (export_data m.addressing directory bytes.now) HasExportEntries
         ⊎ TakesMap opts.now sections.now file_alignment) }
 {
     let tables = ExportData::parse_with_opts(
@@ -69,14 +69,14 @@ pub fn twin_exports<'a>(
     opts: &ParseOptions,
 ) -> (Result<ExportRead<'a>>, Result<ExportRead<'a>>)
     ensures twins { let m = map_by opts.now sections.now file_alignment in
-        TwinsOrMemory export_read_view (export_read (offset_of m) directory) a.now b.now result }
+        TwinsOrMemory export_read_view (export_read m.addressing directory) a.now b.now result }
     ensures first_grown { let m = map_by opts.now sections.now file_alignment in
         IfErr result.0 (λ e. IsMemory e →
-        IsSomeAnd (export_data (offset_of m) directory a.now) HasExportEntries
+        IsSomeAnd (export_data m.addressing directory a.now) HasExportEntries
         ⊎ TakesMap opts.now sections.now file_alignment) }
     ensures second_grown { let m = map_by opts.now sections.now file_alignment in
         IfErr result.1 (λ e. IsMemory e →
-        IsSomeAnd (export_data (offset_of m) directory b.now) HasExportEntries
+        IsSomeAnd (export_data m.addressing directory b.now) HasExportEntries
         ⊎ TakesMap opts.now sections.now file_alignment) }
 {
     let first = read_exports(alloc, a, directory, sections, file_alignment, opts);

@@ -4,8 +4,8 @@ ghost use Rattle.std.specs.Prelude.{◌≡◌, ◌+◌, ◌-◌, ◌*◌, ◌/�
 ghost use Rattle.std.specs.Prelude.{OnErr, length, min};
 ghost use Rattle.goblin_base.specs.Answers.{IsMemory};
 ghost use Rattle.goblin_base.specs.Marks.{IsFootprint, marked};
-ghost use Rattle.goblin_base.specs.Footprints.{led_to, positions, stretch_footprint};
-ghost use Rattle.goblin_pe_sect.specs.Addresses.{TakesMap, map_by, map_of, offset_of};
+ghost use Rattle.goblin_base.specs.Footprints.{led_to, positions};
+ghost use Rattle.goblin_pe_sect.specs.Addresses.{TakesMap, map_by, map_of};
 ghost use Rattle.goblin_pe_export.specs.ExportReadings as reading;
 
 use crate::export::{
@@ -14,24 +14,13 @@ use crate::export::{
     test_counts,
 };
 use goblin_base::ResultOf;
-use goblin_base::footprint::{Marks, add_slice, add_stretch};
+use goblin_base::footprint::{Marks, add_slice};
 use goblin_pe_sect::address_map::{AddressMap, Finder};
 use goblin_pe_sect::data_directories::DataDirectory;
+use goblin_pe_sect::footprint::add_text_at;
 use goblin_pe_sect::options::ParseOptions;
 use goblin_pe_sect::section_table::SectionTable;
 use std::alloc::Global;
-
-// Marks the text at a place, where there is one.
-#[tactic(auto, using(goblin_base::proofs::Marks::marking))]
-fn add_text(marks: &mut Marks, bytes: &[u8], place: Option<usize>)
-    ensures { let reached = led_to place (stretch_footprint bytes.now) in
-        marks.new ≡ marked marks.old reached }
-{
-    match place {
-        Some(offset) => add_stretch(marks, bytes, offset),
-        None => (),
-    }
-}
 
 // Marks a table of `count` entries of `width` bytes at a place, up to the first that is not whole;
 // without a place there is none.
@@ -63,14 +52,15 @@ fn add_tables(
 )
     ensures { let m = map_of address_map.now in
         let reached =
-        (reading.export_tables (offset_of m) directory table).reaches bytes.now in
+        (reading.export_tables m.addressing directory table).reaches bytes.now in
         marks.new ≡ marked marks.old reached }
 {
     let names = table.number_of_name_pointers;
     let pointers = address_map.offset_of(table.name_pointer_rva);
     let ordinals = address_map.offset_of(table.ordinal_table_rva);
     let addresses = address_map.offset_of(table.export_address_table_rva);
-    add_text(marks, bytes, address_map.offset_of(table.name_rva));
+    let name = address_map.offset_of(table.name_rva);
+    add_text_at(marks, bytes, name, address_map.longest_name());
     add_table(marks, bytes, pointers, SIZEOF_NAME_POINTER, names);
     add_table(marks, bytes, ordinals, SIZEOF_ORDINAL, names);
     let count = table.address_table_entries;
@@ -92,7 +82,7 @@ fn add_export_data(
     address_map: &AddressMap,
 )
     ensures { let m = map_of address_map.now in
-        let reached = (reading.export_data (offset_of m) directory).reaches bytes.now in
+        let reached = (reading.export_data m.addressing directory).reaches bytes.now in
         marks.new ≡ marked marks.old reached }
 {
     let Some(offset) = address_map.offset_of(directory.virtual_address) else {
@@ -109,7 +99,7 @@ fn add_export_data(
 }
 
 // Marks the texts of a name pointer and of an address, where that is a forwarder's.
-#[tactic(auto, unfolding(crate::specs::ExportReadings::row_of, goblin_pe_sect::specs::AddressReadings::name_at), using(goblin_base::proofs::Marks::marking))]
+#[tactic(auto, unfolding(crate::specs::ExportReadings::row_of, goblin_pe_sect::specs::AddressReadings::name_at), using(goblin_base::proofs::Marks::marking, crate::proofs::ExportRanges::forwarder_reach))]
 fn add_names(
     marks: &mut Marks,
     bytes: &[u8],
@@ -118,14 +108,15 @@ fn add_names(
     address_map: &AddressMap,
 )
     ensures { let m = map_of address_map.now in
-        let reached = (reading.row_of (offset_of m) pointer address).reaches bytes.now in
+        let reached = (reading.row_of m.addressing pointer address).reaches bytes.now in
         marks.new ≡ marked marks.old reached }
 {
-    add_text(marks, bytes, address_map.offset_of(pointer));
+    let longest = address_map.longest_name();
+    add_text_at(marks, bytes, address_map.offset_of(pointer), longest);
     match address {
         ExportAddressTableEntry::ExportRVA(_) => (),
         ExportAddressTableEntry::ForwarderRVA(rva) => {
-            add_text(marks, bytes, address_map.offset_of(rva))
+            add_text_at(marks, bytes, address_map.offset_of(rva), longest)
         }
     }
 }
@@ -141,7 +132,7 @@ fn add_pointer<T: Entries>(
 )
     ensures { let m = map_of address_map.now in
         let tables = T.entries tables.now in
-        let reached = (reading.numbered_row (offset_of m) tables index).reaches bytes.now in
+        let reached = (reading.numbered_row m.addressing tables index).reaches bytes.now in
         marks.new ≡ marked marks.old reached }
 {
     let Some(pointer) = tables.pointer(index) else {
@@ -161,7 +152,7 @@ fn add_pointer<T: Entries>(
 fn add_pointers<T: Entries>(marks: &mut Marks, bytes: &[u8], tables: &T, address_map: &AddressMap)
     ensures { let m = map_of address_map.now in
         let tables = T.entries tables.now in
-        let reached = (reading.numbered_rows (offset_of m) tables).reaches bytes.now in
+        let reached = (reading.numbered_rows m.addressing tables).reaches bytes.now in
         marks.new ≡ marked marks.old reached }
 {
     'pointers: for index in 0..tables.pointers() {
@@ -178,7 +169,7 @@ pub fn add_exports(
     address_map: &AddressMap,
 )
     ensures { let m = map_of address_map.now in
-        let reached = (reading.numbered_read (offset_of m) directory).reaches bytes.now in
+        let reached = (reading.numbered_read m.addressing directory).reaches bytes.now in
         marks.new ≡ marked marks.old reached }
 {
     add_export_data(marks, bytes, directory, address_map);
@@ -207,7 +198,7 @@ pub fn footprint_exports<'e>(
     opts: &ParseOptions,
 ) -> ResultOf<'e, Vec<(usize, usize)>>
     ensures ranges { let m = map_by opts.now sections.now file_alignment in
-        let footprint = (reading.export_read (offset_of m) directory).reaches bytes.now in
+        let footprint = (reading.export_read m.addressing directory).reaches bytes.now in
         IfOk result (λ v. IsFootprint (length bytes.now) footprint v.items) }
     ensures refused { IfErr result IsMemory }
     ensures grown { OnErr result

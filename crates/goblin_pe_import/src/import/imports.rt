@@ -13,7 +13,7 @@ ghost use Rattle.goblin_base.specs.Answers.{FirstFault};
 ghost use Rattle.goblin_base.specs.Reading.{IsRefused, Reads};
 ghost use Rattle.readings.specs.Reads.{mapped};
 ghost use Rattle.readings.specs.Walks.{GivesNext, IsWalkOf, Walks, until_refused};
-ghost use Rattle.goblin_pe_sect.specs.Addresses.{map_of, offset_of, reads_strictly};
+ghost use Rattle.goblin_pe_sect.specs.Addresses.{map_of, reads_strictly};
 ghost use Rattle.goblin_pe_import.specs.ImportCursors.{BeginsAt, before_record, first_import};
 ghost use Rattle.goblin_pe_import.specs.ImportReadings.{indexed_at, numbered_data, numbered_libraries_at};
 ghost use Rattle.goblin_pe_import.specs.Imports.{numbered_imports};
@@ -134,7 +134,7 @@ impl ImportCursor {
     ) -> ResultOf<'e, ImportCursor>
         ensures first { (bytes : List ℕ) → let m = map_of finder.old in
             let rva = directory.virtual_address in
-            Reads (λ c. c) result (first_import (reads_strictly m) (offset_of m) rva) bytes }
+            Reads (λ c. c) result (first_import (reads_strictly m) m.addressing rva) bytes }
         ensures same { finder.new ≡ finder.old }
     {
         let rva = directory.virtual_address;
@@ -168,11 +168,11 @@ fn test_untested<'a, 'e, T: Bitfield<'a>>(
 ) -> ResultOf<'e, usize>
     ensures value { let m = map_of finder.old in
         Reads (λ _. tt {0}) result
-        (mapped (λ _. tt {0}) (untested_table (reads_strictly m) T.format (offset_of m) untested))
+        (mapped (λ _. tt {0}) (untested_table (reads_strictly m) T.format m.addressing untested))
         bytes.now }
     ensures counted { let m = map_of finder.old in
         IfOk result (λ n.
-        n ≡ untested_ahead (reads_strictly m) T.format (offset_of m) bytes.now untested) }
+        n ≡ untested_ahead (reads_strictly m) T.format m.addressing bytes.now untested) }
     ensures few { IfOk result (λ n. n ≤ length bytes.now) }
     ensures strictly { IfErr result (λ e. reads_strictly (map_of finder.old) ≡ true) }
     ensures there { IfErr result (λ e. 1 ≤ one_if untested) }
@@ -202,9 +202,9 @@ fn is_left_out<'a, T: Bitfield<'a>>(
     address_map: &AddressMap,
 ) -> (bool, usize)
     ensures out { let m = map_of address_map.now in
-        result.0 ≡ is_left_out (reads_strictly m) T.format (offset_of m) bytes.now entry.now }
+        result.0 ≡ is_left_out (reads_strictly m) T.format m.addressing bytes.now entry.now }
     ensures counted { let m = map_of address_map.now in
-        result.1 ≡ tested_ahead (reads_strictly m) T.format (offset_of m) bytes.now
+        result.1 ≡ tested_ahead (reads_strictly m) T.format m.addressing bytes.now
         (address_table_rva entry.now) }
     ensures few { result.1 ≤ length bytes.now }
 {
@@ -303,19 +303,19 @@ impl<'a, 'm> Walk<'a, 'm> {
             let strict = reads_strictly m in
             let bytes = self.old.bytes.now in
             let first = self.old.at.first_record in
-            let name = library_name strict (offset_of m) entry.now in
+            let name = library_name strict m.addressing entry.now in
             let index = record_index first offset in
-            let items = library_items strict T.format (offset_of m) bytes index entry.now in
+            let items = library_items strict T.format m.addressing bytes index entry.now in
             MatchResult (walk_answer self.new result)
             (λ t.
             (walk_left T.format t
             ≡ until_refused
-            (items ++ imports_from_record strict T.format (offset_of m) bytes first next))
+            (items ++ imports_from_record strict T.format m.addressing bytes first next))
             × ((e : ErrorOf) → IsWalkCause T.format t e
             → (strict ≡ true)
             × FirstFault (name.value bytes) (name.IsCause bytes)
-            (λ _. IsNamedCause strict T.format (offset_of m) bytes entry.now
-            (IsRecordsCause strict T.format (offset_of m) bytes next)) e))
+            (λ _. IsNamedCause strict T.format m.addressing bytes entry.now
+            (IsRecordsCause strict T.format m.addressing bytes next)) e))
             (λ e. (items ≡ None ∷ [])
             × (strict ≡ true) × IsRefused name bytes e) }
         ensures named { IfOk (walk_answer self.new result) IsNamed }
@@ -327,10 +327,10 @@ impl<'a, 'm> Walk<'a, 'm> {
             let bytes = self.old.bytes.now in
             IfOk result (λ n.
             n + slots_ahead T.format bytes self.new.at.place
-            + untested_ahead strict T.format (offset_of m) bytes self.new.at.untested
-            ≡ record_steps strict T.format (offset_of m) bytes entry.now) }
+            + untested_ahead strict T.format m.addressing bytes self.new.at.untested
+            ≡ record_steps strict T.format m.addressing bytes entry.now) }
         ensures looked { let m = map_of self.old.finder in
-            IfOk result (λ n. n ≡ 1 + tested_ahead (reads_strictly m) T.format (offset_of m)
+            IfOk result (λ n. n ≡ 1 + tested_ahead (reads_strictly m) T.format m.addressing
             self.old.bytes.now (address_table_rva entry.now)) }
         ensures few { IfOk result (λ n. n ≤ length self.old.bytes.now + 1) }
     {
@@ -365,10 +365,10 @@ impl<'a, 'm> Walk<'a, 'm> {
             let bytes = self.old.bytes.now in
             let c = self.old.at in
             GivesLibrary (walk_left T.format) (IsWalkCause T.format)
-            (later_items (reads_strictly m) T.format (offset_of m) bytes c.untested c.first_record
+            (later_items (reads_strictly m) T.format m.addressing bytes c.untested c.first_record
             c.next_record)
             (λ e. (reads_strictly m ≡ true)
-            × IsLaterCause (reads_strictly m) T.format (offset_of m) bytes
+            × IsLaterCause (reads_strictly m) T.format m.addressing bytes
             c.untested c.next_record e) (option_map (walk_answer self.new) result) }
         ensures named { IfSome (option_map (walk_answer self.new) result) (λ r. IfOk r IsNamed) }
         ensures bytes { self.new.bytes.now ≡ self.old.bytes.now }
@@ -385,7 +385,7 @@ impl<'a, 'm> Walk<'a, 'm> {
             let bytes = self.old.bytes.now in
             let c = self.old.at in
             let before =
-            later_ahead (reads_strictly m) T.format (offset_of m) bytes c.untested c.next_record in
+            later_ahead (reads_strictly m) T.format m.addressing bytes c.untested c.next_record in
             MatchOption result (before ≤ length bytes) (λ r. IfOk r (λ n.
             (n + walk_ahead T.format self.new ≡ before) × (n ≤ length bytes + 1))) }
     {
@@ -547,11 +547,11 @@ impl<'a, 'm, 'e, T: Bitfield<'a>> Imports<'a, 'm, 'e, T> {
             let rva = directory.virtual_address in
             Walks (imports_left T.format) (IsImportsCause T.format) (λ xs. xs) result
             (mapped (flat_map (numbered_imports T.format.width))
-            (numbered_data (reads_strictly m) T.format (offset_of m) rva))
+            (numbered_data (reads_strictly m) T.format m.addressing rva))
             bytes.now }
         ensures begins { let m = map_of address_map.now in
             let rva = directory.virtual_address in
-            BeginsAt m bytes.now (first_import (reads_strictly m) (offset_of m) rva) result }
+            BeginsAt m bytes.now (first_import (reads_strictly m) m.addressing rva) result }
         ensures permissive { reads_strictly (map_of address_map.now) ≡ false → IsOk result }
     {
         let rva = directory.virtual_address;
@@ -570,13 +570,13 @@ impl<'a, 'm, 'e, T: Bitfield<'a>> Imports<'a, 'm, 'e, T> {
     pub fn at(bytes: &'a [u8], offset: usize, finder: Finder<'m>) -> Imports<'a, 'm, 'e, T>
         ensures walks { let m = map_of finder.entry in
             let libraries =
-            numbered_libraries_at (reads_strictly m) T.format (offset_of m) offset in
+            numbered_libraries_at (reads_strictly m) T.format m.addressing offset in
             IsWalkOf (λ xs. xs)
             (mapped (flat_map (numbered_imports T.format.width)) libraries) bytes.now
             (imports_left T.format result) (IsImportsCause T.format result) }
         ensures begins { IsWalkAt (map_of finder.entry) bytes.now (before_record offset) result }
         ensures counted { let m = map_of finder.entry in
-            let both = indexed_at (reads_strictly m) T.format (offset_of m) offset in
+            let both = indexed_at (reads_strictly m) T.format m.addressing offset in
             IfSome (both.value bytes.now) (λ x. length x.1 ≡ length x.0) }
     {
         Imports::between(bytes, ImportCursor::before_record(offset), finder)

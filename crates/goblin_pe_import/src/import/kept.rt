@@ -2,7 +2,7 @@
 
 ghost use Rattle.std.specs.Prelude.{◌≡◌, ◌⊎◌, ◌+◌, ◌<◌, ◌≤◌, ◌^◌, IfErr, IfOk, IfSome, IsSome, None};
 ghost use Rattle.std.specs.Prelude.{Ok, Some, length, suc, true};
-ghost use Rattle.goblin_pe_sect.specs.Addresses.{map_of, offset_of, reads_strictly};
+ghost use Rattle.goblin_pe_sect.specs.Addresses.{map_of, reads_strictly};
 ghost use Rattle.goblin_pe_import.specs.ImportWalks.{IsEntriesCause, entries_from, kept_value};
 ghost use Rattle.goblin_pe_import.specs.ImportWalks.{place_after, slots_bound};
 ghost use Rattle.goblin_pe_import.specs.StepsAhead.{AreCounted, GivesWithin, HasSteps, IsOut};
@@ -39,8 +39,8 @@ pub(super) fn next_kept<'a, 'e, T: Bitfield<'a>>(
 ) -> Option<ResultOf<'e, KeptEntry<'a>>>
     ensures steps { let m = map_of finder.old in
         GivesNext kept_value
-        (entries_from (reads_strictly m) T.format (offset_of m) bytes.now offset)
-        (IsEntriesCause (reads_strictly m) T.format (offset_of m) bytes.now)
+        (entries_from (reads_strictly m) T.format m.addressing bytes.now offset)
+        (IsEntriesCause (reads_strictly m) T.format m.addressing bytes.now)
         place result (place_after T.format.width result) }
     ensures further { IfSome result (λ r. IfOk r (λ kept. IfSome place (λ place.
         (place ≤ kept.place) × (kept.place + T.format.width ≤ length bytes.now)))) }
@@ -65,8 +65,8 @@ pub(super) fn next_kept_within<'a, 'e, T: Bitfield<'a>>(
 ) -> Option<ResultOf<'e, KeptEntry<'a>>>
     ensures steps { let m = map_of finder.old in
         GivesWithin kept_value
-        (entries_from (reads_strictly m) T.format (offset_of m) bytes.now offset)
-        (IsEntriesCause (reads_strictly m) T.format (offset_of m) bytes.now)
+        (entries_from (reads_strictly m) T.format m.addressing bytes.now offset)
+        (IsEntriesCause (reads_strictly m) T.format m.addressing bytes.now)
         place.old result place.new }
     ensures counted { let format = T.format in
         let before = slots_ahead format bytes.now place.old in
@@ -135,8 +135,8 @@ pub(super) fn plain_kept<'a, T: Bitfield<'a>>(
 ) -> Option<KeptEntry<'a>>
     ensures steps { let m = map_of finder.now in
         IfSome result (λ kept. GivesNext kept_value
-        (entries_from (reads_strictly m) T.format (offset_of m) bytes.now offset)
-        (IsEntriesCause (reads_strictly m) T.format (offset_of m) bytes.now)
+        (entries_from (reads_strictly m) T.format m.addressing bytes.now offset)
+        (IsEntriesCause (reads_strictly m) T.format m.addressing bytes.now)
         (Some place) (Some (Ok kept)) (Some (kept.place + T.format.width))) }
     ensures here { IfSome result (λ kept. kept.place ≡ place) }
     ensures inside { IfSome result (λ kept. place + T.format.width ≤ length bytes.now) }

@@ -2,7 +2,7 @@
 
 ghost use Rattle.std.specs.Prelude.{◌≡◌, ◌==◌, min};
 ghost use Rattle.std.specs.Int.{from_bool};
-ghost use Rattle.goblin_pe_sect.specs.Addresses.{map_of, offset_of};
+ghost use Rattle.goblin_pe_sect.specs.Addresses.{map_of};
 ghost use Rattle.goblin_pe_import.specs.LeftOut as left_out;
 
 use crate::import::address_table::test_address_table;
@@ -41,9 +41,9 @@ fn is_entry_left_out<'a, T: Bitfield<'a>>(
     address_map: &AddressMap,
 ) -> (bool, bool)
     ensures left_out { let m = map_of address_map.now in
-        result.0 ≡ left_out.is_entry_left_out is_front (offset_of m) bytes.now (T.value entry.now) }
+        result.0 ≡ left_out.is_entry_left_out is_front m.addressing bytes.now (T.value entry.now) }
     ensures unmapped { let m = map_of address_map.now in
-        result.1 ≡ left_out.is_unmapped (offset_of m) (T.value entry.now) }
+        result.1 ≡ left_out.is_unmapped m.addressing (T.value entry.now) }
 {
     if entry.is_ordinal() {
         return (is_front, false);
@@ -64,11 +64,11 @@ fn entries_of_table<'a, T: Bitfield<'a>>(
 ) -> (usize, usize)
     ensures left_out { let m = map_of address_map.now in
         result.0
-        ≡ left_out.entries_of_table (left_out.is_entry_left_out is_front (offset_of m) bytes.now)
+        ≡ left_out.entries_of_table (left_out.is_entry_left_out is_front m.addressing bytes.now)
         T.format bytes.now offset }
     ensures unmapped { let m = map_of address_map.now in
         result.1
-        ≡ left_out.entries_of_table (left_out.is_unmapped (offset_of m)) T.format bytes.now offset }
+        ≡ left_out.entries_of_table (left_out.is_unmapped m.addressing) T.format bytes.now offset }
 {
     let size = T::size_of();
     let mut entries = 0;
@@ -84,14 +84,13 @@ fn entries_of_table<'a, T: Bitfield<'a>>(
 }
 
 // Whether a record leads to no library: it has no address table.
-#[tactic(auto, using(crate::proofs::LeftOutLibraries::library_left_out))]
 pub(super) fn leads_to_none<'a, T: Bitfield<'a>>(
     bytes: &'a [u8],
     entry: &ImportDirectoryEntry,
     address_map: &AddressMap,
 ) -> bool
     ensures { let m = map_of address_map.now in
-        result ≡ left_out.leads_to_none T.format (offset_of m) bytes.now entry.now }
+        result ≡ left_out.leads_to_none T.format m.addressing bytes.now entry.now }
 {
     test_address_table::<T>(bytes, entry, address_map)
         .0
@@ -109,14 +108,14 @@ fn of_record<'a, T: Bitfield<'a>>(
     ensures libraries { let m = map_of address_map.now in
         result.libraries
         ≡ from_bool
-        (left_out.is_library_left_out is_front T.format (offset_of m) bytes.now entry.now) }
+        (left_out.is_library_left_out is_front T.format m.addressing bytes.now entry.now) }
     ensures entries { let m = map_of address_map.now in
         result.entries
-        ≡ left_out.entries_of_record (left_out.is_entry_left_out is_front (offset_of m) bytes.now)
-        T.format (offset_of m) bytes.now entry.now }
+        ≡ left_out.entries_of_record (left_out.is_entry_left_out is_front m.addressing bytes.now)
+        T.format m.addressing bytes.now entry.now }
     ensures unmapped { let m = map_of address_map.now in
         result.unmapped_entries
-        ≡ left_out.entries_of_record (left_out.is_unmapped (offset_of m)) T.format (offset_of m)
+        ≡ left_out.entries_of_record (left_out.is_unmapped m.addressing) T.format m.addressing
         bytes.now entry.now }
 {
     if leads_to_none::<T>(bytes, entry, address_map) {
@@ -143,13 +142,13 @@ fn of_directory<'a, T: Bitfield<'a>>(
     address_map: &AddressMap,
 ) -> LeftOut
     ensures libraries { let m = map_of address_map.now in
-        result.libraries ≡ left_out.libraries_of_directory T.format (offset_of m) bytes.now offset }
+        result.libraries ≡ left_out.libraries_of_directory T.format m.addressing bytes.now offset }
     ensures entries { let m = map_of address_map.now in
         result.entries
-        ≡ min (left_out.left_out_of_directory T.format (offset_of m) bytes.now offset) usize.MAX }
+        ≡ min (left_out.left_out_of_directory T.format m.addressing bytes.now offset) usize.MAX }
     ensures unmapped { let m = map_of address_map.now in
         result.unmapped_entries
-        ≡ min (left_out.unmapped_of_directory T.format (offset_of m) bytes.now offset) usize.MAX }
+        ≡ min (left_out.unmapped_of_directory T.format m.addressing bytes.now offset) usize.MAX }
 {
     let is_front = offset == 0;
     let mut libraries = 0;
@@ -181,15 +180,15 @@ impl LeftOut {
     ) -> LeftOut
         ensures libraries { let m = map_of address_map.now in
             let rva = directory.virtual_address in
-            result.libraries ≡ left_out.libraries_left_out T.format (offset_of m) bytes.now rva }
+            result.libraries ≡ left_out.libraries_left_out T.format m.addressing bytes.now rva }
         ensures entries { let m = map_of address_map.now in
             let rva = directory.virtual_address in
             result.entries
-            ≡ min (left_out.entries_left_out T.format (offset_of m) bytes.now rva) usize.MAX }
+            ≡ min (left_out.entries_left_out T.format m.addressing bytes.now rva) usize.MAX }
         ensures unmapped { let m = map_of address_map.now in
             let rva = directory.virtual_address in
             result.unmapped_entries
-            ≡ min (left_out.unmapped_entries T.format (offset_of m) bytes.now rva) usize.MAX }
+            ≡ min (left_out.unmapped_entries T.format m.addressing bytes.now rva) usize.MAX }
     {
         match address_map.offset_of(directory.virtual_address) {
             Some(offset) => of_directory::<T>(bytes, offset, address_map),

@@ -6,7 +6,7 @@ ghost use Rattle.goblin_base.specs.Answers.{IsMemory};
 ghost use Rattle.goblin_base.specs.Reading.{Reads, ReadsOrMemory};
 ghost use Rattle.readings.specs.Reads.{or_else};
 ghost use Rattle.goblin_pe_sect.specs.Options.{default_options};
-ghost use Rattle.goblin_pe_sect.specs.Addresses.{TakesMap, map_by, map_of, offset_of};
+ghost use Rattle.goblin_pe_sect.specs.Addresses.{TakesMap, map_by, map_of};
 ghost use Rattle.goblin_pe_sect.specs.Addresses.{reads_strictly};
 ghost use Rattle.goblin_pe_import.specs.ImportDirectory.{KeepsImports, address_table_rva};
 ghost use Rattle.goblin_pe_import.specs.ImportDirectory.{lookup_offset};
@@ -18,8 +18,8 @@ ghost use Rattle.goblin_pe_import.specs.ImportReadings.{first_record_offset, loo
 use crate::import::address_table::{ImportAddressTable, address_table};
 use crate::import::bitfield::Bitfield;
 use crate::import::directory_entry::ImportDirectoryEntry;
-use crate::import::lookup_table::{ImportLookupTable, SyntheticImportLookupTableEntry, no_text};
-use goblin_base::{Cause, Error, ResultOf};
+use crate::import::lookup_table::{ImportLookupTable, SyntheticImportLookupTableEntry};
+use goblin_base::{Cause, Error, ResultOf, no_text};
 use goblin_pe_sect::address_map::{AddressMap, Finder};
 use goblin_pe_sect::options::ParseOptions;
 use goblin_pe_sect::section_table::SectionTable;
@@ -73,13 +73,13 @@ fn lookup_table_if<'a, 'e, T: Bitfield<'a>>(
 ) -> ResultOf<'e, (Option<ImportLookupTable<'a>>, Vec<usize>)>
     ensures value { let m = map_of address_map.now in
         ReadsOrMemory (λ both. (option_map (map entry_view) both.0, both.1.items)) result
-        (lookup_if (reads_strictly m) T.format (offset_of m) offset) bytes.now }
+        (lookup_if (reads_strictly m) T.format m.addressing offset) bytes.now }
     ensures grown { let m = map_of address_map.now in
         IfErr result
         (λ e.
         IsMemory e
         → IsSomeAnd offset
-        (KeepsEntries (reads_strictly m) T.format (offset_of m) bytes.now)) }
+        (KeepsEntries (reads_strictly m) T.format m.addressing bytes.now)) }
 {
     let Some(offset) = offset else {
         return Ok((None, Vec::new(alloc)));
@@ -103,7 +103,7 @@ pub(super) fn library_name<'a, 'e>(
 ) -> ResultOf<'e, &'a str>
     ensures value { let m = map_of finder.old in
         Reads (λ s. s.now) result
-        (or_else (reads_strictly m) [] (name_at (offset_of m) rva)) bytes.now }
+        (or_else (reads_strictly m) [] (name_at m.addressing rva)) bytes.now }
     ensures same { finder.new ≡ finder.old }
 {
     let name = finder.name(bytes, rva)?;
@@ -114,7 +114,7 @@ pub(super) fn library_name<'a, 'e>(
 #[inline(always)]
 #[tactic(auto, using(crate::proofs::LibraryNames::said))]
 pub(super) fn said_name<'a>(bytes: &'a [u8], rva: u32, finder: &mut Finder<'_>) -> &'a str
-    ensures value { let name = name_at (offset_of (map_of finder.old)) rva in
+    ensures value { let name = name_at (map_of finder.old).addressing rva in
         result.now ≡ unwrap_or (name.value bytes.now) [] }
     ensures same { finder.new ≡ finder.old }
 {
@@ -139,7 +139,7 @@ pub(crate) fn first_record_offset(offset: Option<usize>, strictly: bool) -> Opti
 // The offset of a record's lookup table: at its own address, or at that of the address table.
 #[inline(always)]
 pub(crate) fn lookup_offset(entry: &ImportDirectoryEntry, finder: &mut Finder<'_>) -> Option<usize>
-    ensures value { result ≡ lookup_offset (offset_of (map_of finder.old)) entry.now }
+    ensures value { result ≡ lookup_offset (map_of finder.old).addressing entry.now }
     ensures same { finder.new ≡ finder.old }
 {
     let lookup_rva = entry.import_lookup_table_rva;
@@ -175,12 +175,12 @@ impl<'a> SyntheticImportDirectoryEntry<'a> {
     ) -> ResultOf<'e, SyntheticImportDirectoryEntry<'a>>
         ensures value { let m = map_by default_options sections.now file_alignment in
             ReadsOrMemory (λ x. x) result
-            (reading.library_of true T.format (offset_of m) import_directory_entry) bytes.now }
+            (reading.library_of true T.format m.addressing import_directory_entry) bytes.now }
         ensures grown { let m = map_by default_options sections.now file_alignment in
             IfErr result
             (λ e.
             IsMemory e
-            → KeepsImports true T.format (offset_of m) bytes.now import_directory_entry
+            → KeepsImports true T.format m.addressing bytes.now import_directory_entry
             ⊎ TakesMap default_options sections.now file_alignment) }
     {
         let opts = ParseOptions::default();
@@ -221,13 +221,13 @@ impl<'a> SyntheticImportDirectoryEntry<'a> {
     ) -> ResultOf<'e, SyntheticImportDirectoryEntry<'a>>
         ensures value { let m = map_by opts.now sections.now file_alignment in
             ReadsOrMemory (λ x. x) result
-            (reading.library_of (reads_strictly m) T.format (offset_of m) import_directory_entry)
+            (reading.library_of (reads_strictly m) T.format m.addressing import_directory_entry)
             bytes.now }
         ensures grown { let m = map_by opts.now sections.now file_alignment in
             IfErr result
             (λ e.
             IsMemory e
-            → KeepsImports (reads_strictly m) T.format (offset_of m) bytes.now
+            → KeepsImports (reads_strictly m) T.format m.addressing bytes.now
             import_directory_entry
             ⊎ TakesMap opts.now sections.now file_alignment) }
     {
@@ -250,14 +250,14 @@ impl<'a> SyntheticImportDirectoryEntry<'a> {
     ) -> ResultOf<'e, SyntheticImportDirectoryEntry<'a>>
         ensures value { let m = map_of address_map.now in
             ReadsOrMemory (λ x. x) result
-            (reading.library_of (reads_strictly m) T.format (offset_of m) import_directory_entry)
+            (reading.library_of (reads_strictly m) T.format m.addressing import_directory_entry)
             bytes.now }
         ensures low { import_directory_entry.import_address_table_rva < 2 ^ 32 }
         ensures grown { let m = map_of address_map.now in
             IfErr result
             (λ e.
             IsMemory e
-            → KeepsImports (reads_strictly m) T.format (offset_of m) bytes.now
+            → KeepsImports (reads_strictly m) T.format m.addressing bytes.now
             import_directory_entry) }
     {
         let record = &import_directory_entry;

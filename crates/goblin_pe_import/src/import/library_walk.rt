@@ -7,7 +7,7 @@ ghost use Rattle.std.specs.Result.{result_map_both};
 ghost use Rattle.goblin_base.specs.Answers.{IsMemory};
 ghost use Rattle.goblin_base.specs.Tables.{Format};
 ghost use Rattle.readings.specs.Walks.{GivesNext};
-ghost use Rattle.goblin_pe_sect.specs.Addresses.{MapOfAddresses, map_of, offset_of};
+ghost use Rattle.goblin_pe_sect.specs.Addresses.{MapOfAddresses, map_of};
 ghost use Rattle.goblin_pe_sect.specs.Addresses.{reads_strictly};
 ghost use Rattle.goblin_pe_import.specs.ImportEntries.{EntryValue};
 ghost use Rattle.goblin_pe_import.specs.ImportWalks.{cursor_left, imports_from_record};
@@ -27,7 +27,7 @@ use crate::import::kept::next_kept;
 use crate::import::left_out::leads_to_none;
 use crate::import::library::lookup_offset;
 use crate::import::slots::{may_end, next_record};
-use goblin_base::{Cause, Error, Result, pread_str};
+use goblin_base::{Cause, Error, Result, pread_str_within};
 use goblin_pe_sect::address_map::Finder;
 use std::fmt;
 use std::iter::FusedIterator;
@@ -60,13 +60,13 @@ pub struct WalkedLibrary<'a> {
 // The name at an address.
 fn name_or_cause<'a>(bytes: &'a [u8], rva: u32, finder: &mut Finder<'_>) -> Result<&'a str>
     ensures value { result_map_both (λ s. s.now) (λ e. e) result
-        ≡ name_or_cause (offset_of (map_of finder.old)) bytes.now rva }
+        ≡ name_or_cause (map_of finder.old).addressing bytes.now rva }
     ensures same { finder.new ≡ finder.old }
 {
     let Some(offset) = finder.offset_of_name(rva) else {
         return Err(Error::Malformed(Cause::Unmapped(rva as usize)));
     };
-    match pread_str(bytes, offset) {
+    match pread_str_within(bytes, offset, finder.longest_name()) {
         Ok(name) => Ok(name),
         Err(_) => Err(Error::Malformed(Cause::NameRead(offset))),
     }
@@ -79,7 +79,7 @@ fn has_imports<'a, T: Bitfield<'a>>(
     finder: &mut Finder<'_>,
 ) -> bool
     ensures value { let m = map_of finder.old in
-        result ≡ has_imports (reads_strictly m) T.format (offset_of m) bytes.now entry.now }
+        result ≡ has_imports (reads_strictly m) T.format m.addressing bytes.now entry.now }
     ensures same { finder.new ≡ finder.old }
 {
     let place = lookup_offset(entry, finder);
@@ -98,7 +98,7 @@ impl ImportCursor {
         ensures is { result ≡ at_record first offset }
         ensures left { (m : MapOfAddresses) (format : Format EntryValue) (bytes : List ℕ)
             → cursor_left m format bytes result
-            ≡ imports_from_record (reads_strictly m) format (offset_of m) bytes first offset }
+            ≡ imports_from_record (reads_strictly m) format m.addressing bytes first offset }
     {
         ImportCursor {
             first_record: first,
@@ -115,9 +115,9 @@ fn flags_of<'a, T: Bitfield<'a>>(
     finder: &mut Finder<'_>,
 ) -> (bool, bool)
     ensures left_out { let m = map_of finder.old in
-        result.0 ≡ leads_to_none T.format (offset_of m) bytes.now entry.now }
+        result.0 ≡ leads_to_none T.format m.addressing bytes.now entry.now }
     ensures imports { let m = map_of finder.old in
-        result.1 ≡ has_imports (reads_strictly m) T.format (offset_of m) bytes.now entry.now }
+        result.1 ≡ has_imports (reads_strictly m) T.format m.addressing bytes.now entry.now }
     ensures same { finder.new ≡ finder.old }
 {
     let is_left_out = leads_to_none::<T>(bytes, entry, finder.address_map());
@@ -173,7 +173,7 @@ impl<'a, 'm> Libraries<'a, 'm> {
     fn library_at(&mut self, offset: usize, entry: ImportDirectoryEntry) -> WalkedLibrary<'a>
         ensures value { let m = libraries_map self.old in
             library_value result
-            ≡ library_at (reads_strictly m) (libraries_format self.old) (offset_of m)
+            ≡ library_at (reads_strictly m) (libraries_format self.old) m.addressing
             (libraries_bytes self.old) (libraries_cursor self.old).first_record offset entry }
         ensures same { self.new ≡ self.old }
     {

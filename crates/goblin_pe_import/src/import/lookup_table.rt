@@ -1,13 +1,13 @@
 //! Import lookup tables: what is imported from a library, by name or by ordinal.
 
-ghost use Rattle.std.specs.Prelude.{◌≡◌, ◌<◌, [], ◌⊎◌, Bool, IfErr, IfOk, IfSome, Some, length};
+ghost use Rattle.std.specs.Prelude.{◌≡◌, ◌<◌, [], ◌⊎◌, Bool, IfErr, IfOk, IfSome, None, Some, length};
 ghost use Rattle.std.specs.Prelude.{map, true, All};
 ghost use Rattle.std.specs.List.Sorted.{IsStrictlyIncreasing};
 ghost use Rattle.goblin_base.specs.Answers.{IsMemory};
 ghost use Rattle.goblin_base.specs.Reading.{Reads, ReadsOrMemory};
 ghost use Rattle.goblin_base.specs.Tables.{stop};
 ghost use Rattle.goblin_pe_sect.specs.Options.{default_options, is_strict};
-ghost use Rattle.goblin_pe_sect.specs.Addresses.{TakesMap, map_by, map_of, offset_of};
+ghost use Rattle.goblin_pe_sect.specs.Addresses.{TakesMap, map_by, map_of};
 ghost use Rattle.goblin_pe_sect.specs.Addresses.{reads_strictly};
 ghost use Rattle.goblin_pe_import.specs.ImportLookup.{KeepsEntries, entry_slots, lookup_slots};
 ghost use Rattle.goblin_pe_import.specs.ImportLookup.{entry_view, hint_name_view, kept_view};
@@ -16,23 +16,13 @@ ghost use Rattle.goblin_pe_import.specs.LookupReadings as reading;
 use crate::import::bitfield::Bitfield;
 use crate::import::kept::next_kept;
 use goblin_base::{
-    Cause, Endian, Error, Result, ResultOf, field_u16, pread_plain_str, pread_str, pread_u16,
+    Cause, Endian, Error, Result, ResultOf, field_u16, no_text, pread_plain_str, pread_str_within, pread_u16,
 };
 use goblin_pe_sect::address_map::{AddressMap, Finder};
 use goblin_pe_sect::options::ParseOptions;
 use goblin_pe_sect::section_table::SectionTable;
 use goblin_pe_sect::table::Table;
 use std::alloc::Global;
-
-// The empty text, at the front of the bytes, so that it lies in the file as all others do.
-pub(super) fn no_text(bytes: &[u8]) -> &str
-    ensures { result.now ≡ [] }
-{
-    match str::from_utf8(&bytes[..0]) {
-        Ok(text) if text.is_empty() => text,
-        _ => "",
-    }
-}
 
 // How many bytes there must be from a plain entry on: the hint, and a lane of 16 bytes for the
 // name.
@@ -57,7 +47,7 @@ impl<'a> HintNameTableEntry<'a> {
     /// # Errors
     /// As [`HintNameTableEntry::parse_with_opts`] in strict mode.
     pub fn parse(bytes: &'a [u8], offset: usize) -> Result<HintNameTableEntry<'a>>
-        ensures { Reads hint_name_view result (reading.hint_name true offset) bytes.now }
+        ensures { Reads hint_name_view result (reading.hint_name true None offset) bytes.now }
     {
         HintNameTableEntry::parse_with_opts(bytes, offset, &ParseOptions::default())
     }
@@ -69,20 +59,33 @@ impl<'a> HintNameTableEntry<'a> {
     /// [`Error::Malformed`] with [`Cause::HintEntry`] if the hint runs past the end of the file.
     /// [`Error::Read`] if no text follows it, in strict mode; in permissive mode the name is then
     /// empty.
-    #[inline(always)]
-    #[tactic(auto, unfolding(crate::specs::LookupReadings::hint_name))]
     pub fn parse_with_opts<'e>(
         bytes: &'a [u8],
         offset: usize,
         opts: &ParseOptions,
     ) -> ResultOf<'e, HintNameTableEntry<'a>>
         ensures { Reads hint_name_view result
-            (reading.hint_name (is_strict opts.now.parse_mode) offset) bytes.now }
+            (reading.hint_name (is_strict opts.now.parse_mode) None offset) bytes.now }
+    {
+        HintNameTableEntry::parse_within(bytes, offset, None, opts)
+    }
+
+    // The hint and the name at an offset, up to a limit.
+    #[inline(always)]
+    #[tactic(auto, unfolding(crate::specs::LookupReadings::hint_name))]
+    fn parse_within<'e>(
+        bytes: &'a [u8],
+        offset: usize,
+        longest: Option<u32>,
+        opts: &ParseOptions,
+    ) -> ResultOf<'e, HintNameTableEntry<'a>>
+        ensures { Reads hint_name_view result
+            (reading.hint_name (is_strict opts.now.parse_mode) longest offset) bytes.now }
     {
         let Ok(hint) = pread_u16(bytes, offset, Endian::Little) else {
             return Err(Error::Malformed(Cause::HintEntry(offset)));
         };
-        let name = match pread_str(bytes, offset + 2) {
+        let name = match pread_str_within(bytes, offset + 2, longest) {
             Ok(name) => name,
             Err(_) if opts.parse_mode.is_permissive() => no_text(bytes),
             Err(error) => return Err(error),
@@ -95,7 +98,7 @@ impl<'a> HintNameTableEntry<'a> {
     #[inline(always)]
     fn plain(bytes: &'a [u8], offset: usize) -> Option<HintNameTableEntry<'a>>
         ensures { IfSome result (λ named. (strict : Bool)
-            → (reading.hint_name strict offset).value bytes.now ≡ Some (hint_name_view named)) }
+            → (reading.hint_name strict None offset).value bytes.now ≡ Some (hint_name_view named)) }
     {
         if bytes.len() < offset || bytes.len() - offset < PLAIN_ROOM {
             return None;
@@ -131,7 +134,7 @@ impl<'a> SyntheticImportLookupTableEntry<'a> {
     ) -> ResultOf<'e, Option<SyntheticImportLookupTableEntry<'a>>>
         ensures value { let m = map_of finder.old in
             Reads kept_view result
-            (reading.kept_entry (reads_strictly m) (offset_of m) (T.value entry.now)) bytes.now }
+            (reading.kept_entry (reads_strictly m) m.addressing (T.value entry.now)) bytes.now }
         ensures same { finder.new ≡ finder.old }
     {
         if entry.is_ordinal() {
@@ -142,7 +145,8 @@ impl<'a> SyntheticImportLookupTableEntry<'a> {
         let Some(offset) = finder.offset_of_name(rva) else {
             return Ok(None);
         };
-        match HintNameTableEntry::parse_with_opts(bytes, offset, finder.opts()) {
+        let longest = finder.longest_name();
+        match HintNameTableEntry::parse_within(bytes, offset, longest, finder.opts()) {
             Ok(named) => Ok(Some(SyntheticImportLookupTableEntry::HintNameTableRVA((rva, named)))),
             Err(error) if finder.reads_strictly() => Err(error),
             Err(_) => Ok(None),
@@ -160,7 +164,7 @@ impl<'a> SyntheticImportLookupTableEntry<'a> {
         finder: &Finder<'_>,
     ) -> Option<SyntheticImportLookupTableEntry<'a>>
         ensures { let m = map_of finder.now in
-            let read = reading.kept_entry (reads_strictly m) (offset_of m) (T.value entry.now) in
+            let read = reading.kept_entry (reads_strictly m) m.addressing (T.value entry.now) in
             IfSome result (λ kept. read.value bytes.now ≡ Some (kept_view (Some kept))) }
     {
         if entry.is_ordinal() {
@@ -198,12 +202,12 @@ impl<'a> SyntheticImportLookupTableEntry<'a> {
     ) -> ResultOf<'e, ImportLookupTable<'a>>
         ensures value { let m = map_by default_options sections.now file_alignment in
             ReadsOrMemory (map entry_view) result
-            (reading.lookup_table true T.format (offset_of m) offset) bytes.now }
+            (reading.lookup_table true T.format m.addressing offset) bytes.now }
         ensures grown { let m = map_by default_options sections.now file_alignment in
             IfErr result
             (λ e.
             IsMemory e
-            → KeepsEntries true T.format (offset_of m) bytes.now offset
+            → KeepsEntries true T.format m.addressing bytes.now offset
             ⊎ TakesMap default_options sections.now file_alignment) }
     {
         let opts = ParseOptions::default();
@@ -238,12 +242,12 @@ impl<'a> SyntheticImportLookupTableEntry<'a> {
     ) -> ResultOf<'e, ImportLookupTable<'a>>
         ensures value { let m = map_by opts.now sections.now file_alignment in
             ReadsOrMemory (map entry_view) result
-            (reading.lookup_table (reads_strictly m) T.format (offset_of m) offset) bytes.now }
+            (reading.lookup_table (reads_strictly m) T.format m.addressing offset) bytes.now }
         ensures grown { let m = map_by opts.now sections.now file_alignment in
             IfErr result
             (λ e.
             IsMemory e
-            → KeepsEntries (reads_strictly m) T.format (offset_of m) bytes.now offset
+            → KeepsEntries (reads_strictly m) T.format m.addressing bytes.now offset
             ⊎ TakesMap opts.now sections.now file_alignment) }
     {
         let (table, _) = SyntheticImportLookupTableEntry::parse_with_slots::<T>(
@@ -276,18 +280,18 @@ impl<'a> SyntheticImportLookupTableEntry<'a> {
     ) -> ResultOf<'e, (ImportLookupTable<'a>, Vec<usize>)>
         ensures value { let m = map_by opts.now sections.now file_alignment in
             ReadsOrMemory (λ both. map entry_view both.0) result
-            (reading.lookup_table (reads_strictly m) T.format (offset_of m) offset) bytes.now }
+            (reading.lookup_table (reads_strictly m) T.format m.addressing offset) bytes.now }
         ensures grown { let m = map_by opts.now sections.now file_alignment in
             IfErr result
             (λ e.
             IsMemory e
-            → KeepsEntries (reads_strictly m) T.format (offset_of m) bytes.now offset
+            → KeepsEntries (reads_strictly m) T.format m.addressing bytes.now offset
             ⊎ TakesMap opts.now sections.now file_alignment) }
         ensures slots { let m = map_by opts.now sections.now file_alignment in
             IfOk result
             (λ both.
             both.1.items
-            ≡ lookup_slots (reads_strictly m) T.format (offset_of m) bytes.now offset) }
+            ≡ lookup_slots (reads_strictly m) T.format m.addressing bytes.now offset) }
         ensures counted { IfOk result (λ both. length both.0 ≡ length both.1.items) }
         ensures rising { IfOk result (λ both. IsStrictlyIncreasing both.1.items) }
         ensures below { IfOk result
@@ -308,12 +312,12 @@ impl<'a> SyntheticImportLookupTableEntry<'a> {
     ) -> ResultOf<'e, (ImportLookupTable<'a>, Vec<usize>)>
         ensures value { let m = map_of address_map.now in
             ReadsOrMemory (λ both. (map entry_view both.0, both.1.items)) result
-            (reading.lookup_with_slots (reads_strictly m) T.format (offset_of m) offset) bytes.now }
+            (reading.lookup_with_slots (reads_strictly m) T.format m.addressing offset) bytes.now }
         ensures grown { let m = map_of address_map.now in
             IfErr result
             (λ e.
             IsMemory e
-            → KeepsEntries (reads_strictly m) T.format (offset_of m) bytes.now offset) }
+            → KeepsEntries (reads_strictly m) T.format m.addressing bytes.now offset) }
         ensures counted { IfOk result (λ both. length both.0 ≡ length both.1.items) }
     {
         let size = T::size_of();

@@ -6,8 +6,8 @@ ghost use Rattle.goblin_base.specs.Answers.{IsMemory};
 ghost use Rattle.goblin_base.specs.Marks.{IsFootprint, marked};
 ghost use Rattle.goblin_base.specs.Bytes.{slice_at};
 ghost use Rattle.goblin_base.specs.Footprints.{led_to, positions, slice_footprint};
-ghost use Rattle.goblin_base.specs.Footprints.{stretch_footprint};
-ghost use Rattle.goblin_pe_sect.specs.Addresses.{TakesMap, map_by, map_of, offset_of};
+ghost use Rattle.readings.specs.Reads.{text_within};
+ghost use Rattle.goblin_pe_sect.specs.Addresses.{TakesMap, map_by, map_of};
 ghost use Rattle.goblin_pe_sect.specs.Addresses.{reads_strictly};
 ghost use Rattle.goblin_pe_import.specs.ImportReadings.{import_data, libraries_at, library_of};
 ghost use Rattle.goblin_pe_import.specs.ImportReadings.{lookup_if};
@@ -17,18 +17,19 @@ use crate::import::{
     Bitfield, ImportDirectoryEntry, SIZEOF_IMPORT_DIRECTORY_ENTRY, address_table_rva,
     first_record_offset, lookup_offset, next_entry, next_record,
 };
-use goblin_base::footprint::{Marks, add_stretch};
+use goblin_base::footprint::{Marks, add_text};
 use goblin_base::{ResultOf, pread_slice};
 use goblin_pe_sect::address_map::{AddressMap, Finder};
 use goblin_pe_sect::data_directories::DataDirectory;
+use goblin_pe_sect::footprint::add_text_at;
 use goblin_pe_sect::options::ParseOptions;
 use goblin_pe_sect::section_table::SectionTable;
 use std::alloc::Global;
 
-// Marks the hint at an offset, and the text after it.
+// Marks the hint at an offset, and the text after it, up to a limit.
 #[tactic(auto, using(goblin_base::proofs::Marks::marking))]
-fn add_hint(marks: &mut Marks, bytes: &[u8], offset: usize)
-    ensures { let text = stretch_footprint bytes.now (offset + 2) in
+fn add_hint(marks: &mut Marks, bytes: &[u8], offset: usize, longest: Option<u32>)
+    ensures { let text = (text_within longest (offset + 2)).reaches bytes.now in
         let hint_name = slice_footprint bytes.now offset 2 ++ text in
         marks.new ≡ marked marks.old hint_name }
 {
@@ -37,7 +38,7 @@ fn add_hint(marks: &mut Marks, bytes: &[u8], offset: usize)
     };
     let end = offset + hint.len();
     marks.add(offset, end);
-    add_stretch(marks, bytes, end)
+    add_text(marks, bytes, end, longest)
 }
 
 // Marks what an entry of a lookup table leads to.
@@ -50,14 +51,14 @@ fn add_entry<'a, T: Bitfield<'a>>(
 )
     ensures { let m = map_of address_map.now in
         let reached =
-        (kept_entry (reads_strictly m) (offset_of m) (T.value entry.now)).reaches bytes.now in
+        (kept_entry (reads_strictly m) m.addressing (T.value entry.now)).reaches bytes.now in
         marks.new ≡ marked marks.old reached }
 {
     if entry.is_ordinal() {
         return;
     }
     match address_map.offset_of(entry.to_rva()) {
-        Some(offset) => add_hint(marks, bytes, offset),
+        Some(offset) => add_hint(marks, bytes, offset, address_map.longest_name()),
         None => (),
     }
 }
@@ -85,7 +86,7 @@ fn add_lookup_table<'a, T: Bitfield<'a>>(
 )
     ensures { let m = map_of address_map.now in
         let reached =
-        (lookup_if (reads_strictly m) T.format (offset_of m) table).reaches bytes.now in
+        (lookup_if (reads_strictly m) T.format m.addressing table).reaches bytes.now in
         marks.new ≡ marked marks.old reached }
 {
     let Some(offset) = table else {
@@ -118,18 +119,6 @@ fn add_address_table<'a, T: Bitfield<'a>>(marks: &mut Marks, bytes: &'a [u8], ta
     add_slots(marks, bytes, offset, place, size)
 }
 
-// Marks the text at a place, where there is one.
-#[tactic(auto, using(goblin_base::proofs::Marks::marking))]
-fn add_text(marks: &mut Marks, bytes: &[u8], place: Option<usize>)
-    ensures { let reached = led_to place (stretch_footprint bytes.now) in
-        marks.new ≡ marked marks.old reached }
-{
-    match place {
-        Some(offset) => add_stretch(marks, bytes, offset),
-        None => (),
-    }
-}
-
 // Marks what a record of an import directory leads to.
 #[tactic(auto, unfolding(crate::specs::ImportReadings::library_of, goblin_pe_sect::specs::AddressReadings::name_at), using(goblin_base::proofs::Marks::marking))]
 fn add_library<'a, T: Bitfield<'a>>(
@@ -140,10 +129,11 @@ fn add_library<'a, T: Bitfield<'a>>(
 )
     ensures { let m = map_of address_map.now in
         let reached =
-        (library_of (reads_strictly m) T.format (offset_of m) entry.now).reaches bytes.now in
+        (library_of (reads_strictly m) T.format m.addressing entry.now).reaches bytes.now in
         marks.new ≡ marked marks.old reached }
 {
-    add_text(marks, bytes, address_map.offset_of(entry.name_rva));
+    let name = address_map.offset_of(entry.name_rva);
+    add_text_at(marks, bytes, name, address_map.longest_name());
     let lookup = lookup_offset(entry, &mut Finder::of(address_map));
     add_lookup_table::<T>(marks, bytes, lookup, address_map);
     let addresses = address_map.offset_of(address_table_rva(entry));
@@ -160,7 +150,7 @@ fn add_libraries<'a, T: Bitfield<'a>>(
 )
     ensures { let m = map_of address_map.now in
         let reached =
-        (libraries_at (reads_strictly m) T.format (offset_of m) offset).reaches bytes.now in
+        (libraries_at (reads_strictly m) T.format m.addressing offset).reaches bytes.now in
         marks.new ≡ marked marks.old reached }
 {
     let size = SIZEOF_IMPORT_DIRECTORY_ENTRY;
@@ -182,7 +172,7 @@ pub fn add_imports<'a, T: Bitfield<'a>>(
 )
     ensures { let m = map_of address_map.now in
         let reached =
-        (import_data (reads_strictly m) T.format (offset_of m) rva).reaches bytes.now in
+        (import_data (reads_strictly m) T.format m.addressing rva).reaches bytes.now in
         marks.new ≡ marked marks.old reached }
 {
     match first_record_offset(address_map.offset_of(rva), address_map.reads_strictly()) {
@@ -210,7 +200,7 @@ pub fn footprint_imports<'a, 'e, T: Bitfield<'a>>(
     ensures ranges { let m = map_by opts.now sections.now file_alignment in
         let rva = directory.virtual_address in
         let footprint =
-        (import_data (reads_strictly m) T.format (offset_of m) rva).reaches bytes.now in
+        (import_data (reads_strictly m) T.format m.addressing rva).reaches bytes.now in
         IfOk result (λ v. IsFootprint (length bytes.now) footprint v.items) }
     ensures refused { IfErr result IsMemory }
     ensures grown { OnErr result

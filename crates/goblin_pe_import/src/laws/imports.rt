@@ -38,18 +38,18 @@ pub fn twin_lookup<'a, 'e, T: Bitfield<'a>>(
 )
     ensures twins { let m = map_by opts.now sections.now file_alignment in
         TwinsOrMemory (map entry_view)
-        (lookup_table (reads_strictly m) T.format (offset_of m) offset) a.now b.now result }
+        (lookup_table (reads_strictly m) T.format m.addressing offset) a.now b.now result }
     ensures first_grown { let m = map_by opts.now sections.now file_alignment in
         IfErr result.0
         (λ e.
         IsMemory e
-        → KeepsEntries (reads_strictly m) T.format (offset_of m) a.now offset
+        → KeepsEntries (reads_strictly m) T.format m.addressing a.now offset
         ⊎ TakesMap opts.now sections.now file_alignment) }
     ensures second_grown { let m = map_by opts.now sections.now file_alignment in
         IfErr result.1
         (λ e.
         IsMemory e
-        → KeepsEntries (reads_strictly m) T.format (offset_of m) b.now offset
+        → KeepsEntries (reads_strictly m) T.format m.addressing b.now offset
         ⊎ TakesMap opts.now sections.now file_alignment) }
 {
     let first = SyntheticImportLookupTableEntry::parse_with_opts::<T>(
@@ -94,20 +94,20 @@ pub fn twin_imports<'a, 'e, T: Bitfield<'a>>(
     ensures twins { let m = map_by opts.now sections.now file_alignment in
         let rva = directory.virtual_address in
         TwinsOrMemory (λ x. x)
-        (import_data (reads_strictly m) T.format (offset_of m) rva) a.now b.now result }
+        (import_data (reads_strictly m) T.format m.addressing rva) a.now b.now result }
     ensures first_grown { let m = map_by opts.now sections.now file_alignment in
         IfErr result.0
         (λ e.
         IsMemory e
         → IsSomeAnd (first_record_offset (reads_strictly m) (offset_of m directory.virtual_address))
-        (TakesLibraries (reads_strictly m) T.format (offset_of m) a.now)
+        (TakesLibraries (reads_strictly m) T.format m.addressing a.now)
         ⊎ TakesMap opts.now sections.now file_alignment) }
     ensures second_grown { let m = map_by opts.now sections.now file_alignment in
         IfErr result.1
         (λ e.
         IsMemory e
         → IsSomeAnd (first_record_offset (reads_strictly m) (offset_of m directory.virtual_address))
-        (TakesLibraries (reads_strictly m) T.format (offset_of m) b.now)
+        (TakesLibraries (reads_strictly m) T.format m.addressing b.now)
         ⊎ TakesMap opts.now sections.now file_alignment) }
 {
     let first = ImportData::parse_with_opts::<T>(

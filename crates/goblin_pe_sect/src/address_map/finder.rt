@@ -1,6 +1,6 @@
 //! Where addresses lie in the file, for callers that ask for many.
 
-ghost use Rattle.std.specs.Prelude.{◌≡◌, IfSome, Some, option_map};
+ghost use Rattle.std.specs.Prelude.{◌≡◌, IfSome, None, Some, option_map};
 ghost use Rattle.goblin_base.specs.Reading.{Reads};
 ghost use Rattle.goblin_pe_sect.specs.AddressReadings.{name_or_none};
 ghost use Rattle.goblin_pe_sect.specs.Addresses.{map_of, offset_of, reads_strictly};
@@ -8,7 +8,7 @@ ghost use Rattle.goblin_pe_sect.specs.Addresses.{map_of, offset_of, reads_strict
 use super::run::Run;
 use crate::address_map::AddressMap;
 use crate::options::ParseOptions;
-use crate::utils::safe_name_at;
+use crate::utils::name_within;
 use goblin_base::ResultOf;
 use std::marker::Model;
 
@@ -18,7 +18,8 @@ use std::marker::Model;
 #[derive(Drop)]
 pub struct Finder<'m> {
     address_map: &'m AddressMap<'m>,
-    // Addresses about the last one, and about the last name's.
+    // Addresses about the last one, and about the last name's: none where names have a limit, as by
+    // these plain names are read, which are whole.
     run: Run,
     names: Run,
 }
@@ -26,7 +27,7 @@ pub struct Finder<'m> {
 impl<'m> Model for Finder<'m> {
     ghost use Rattle.goblin_pe_sect.specs.declared.address_map.AddressMap.{AddressMap};
     ghost use Rattle.goblin_pe_sect.specs.Addresses.{map_of, offset_of};
-    ghost use Rattle.goblin_pe_sect.specs.Runs.{IsRun};
+    ghost use Rattle.goblin_pe_sect.specs.Runs.{IsRun, KeepsNoNames};
 
     ghost Value = { AddressMap };
 
@@ -34,7 +35,8 @@ impl<'m> Model for Finder<'m> {
 
     ghost invariant = { λ f.
         IsRun (offset_of (map_of f.address_map.now)) f.run
-        × IsRun (offset_of (map_of f.address_map.now)) f.names };
+        × IsRun (offset_of (map_of f.address_map.now)) f.names
+        × KeepsNoNames f.address_map.now.longest f.names };
 }
 
 impl<'m> Finder<'m> {
@@ -84,6 +86,14 @@ impl<'m> Finder<'m> {
         self.address_map.reads_strictly()
     }
 
+    /// How many bytes a name may have before it is cut, if there is a limit.
+    #[inline(always)]
+    pub fn longest_name(&self) -> Option<u32>
+        ensures { result ≡ (map_of self.now).addressing.longest }
+    {
+        self.address_map.longest_name()
+    }
+
     /// The file offset of an address, as [`AddressMap::offset_of`].
     #[inline(always)]
     pub fn offset_of(&mut self, rva: u32) -> Option<usize>
@@ -110,6 +120,9 @@ impl<'m> Finder<'m> {
         ensures value { result ≡ offset_of (map_of self.old) rva }
         ensures same { self.new ≡ self.old }
     {
+        if self.address_map.longest_name().is_some() {
+            return self.offset_of(rva);
+        }
         if let Some(offset) = self.names.offset_of(rva as usize) {
             return Some(offset);
         }
@@ -133,10 +146,12 @@ impl<'m> Finder<'m> {
     }
 
     /// The file offset of the address of a name, where it lies among those about names that the
-    /// finder keeps; else `None`, which says nothing of it. It takes no walk and no search.
+    /// finder keeps; else `None`, which says nothing of it. It takes no walk and no search. Where
+    /// names have a limit, none are kept.
     #[inline(always)]
     pub fn near_name_offset(&self, rva: u32) -> Option<usize>
-        ensures { IfSome result (λ offset. offset_of (map_of self.now) rva ≡ Some offset) }
+        ensures offset { IfSome result (λ offset. offset_of (map_of self.now) rva ≡ Some offset) }
+        ensures whole { IfSome result (λ _. (map_of self.now).addressing.longest ≡ None) }
     {
         self.names.offset_of(rva as usize)
     }
@@ -150,10 +165,17 @@ impl<'m> Finder<'m> {
     pub fn name<'a, 'e>(&mut self, bytes: &'a [u8], rva: u32) -> ResultOf<'e, Option<&'a str>>
         ensures value { let m = map_of self.old in
             Reads (option_map (λ s. s.now)) result
-            (name_or_none (reads_strictly m) (offset_of m) rva) bytes.now }
+            (name_or_none (reads_strictly m) m.addressing rva) bytes.now }
         ensures same { self.new ≡ self.old }
     {
         let offset = self.offset_of_name(rva);
-        safe_name_at(bytes, rva as usize, offset, self.address_map.opts())
+        let longest = self.address_map.longest_name();
+        name_within(
+            bytes,
+            rva as usize,
+            offset,
+            longest,
+            self.address_map.opts(),
+        )
     }
 }

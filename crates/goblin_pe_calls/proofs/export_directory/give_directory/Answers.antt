@@ -24,7 +24,7 @@ returns-in_err-directory c =
     let e = err_from_is_err_and c.from_residual-in_err-directory.result c.from_residual-in_err-directory.ensures.1 in
     rw (e.1, e.2) (
       λ other. fault-at c.args.options.now c.args.places.now c.args.bytes.now l at (λ m places b e. IsAddressesFault m places b e) _ c.in_err-directory.ensures,
-      λ memory. absurd ((address_part (layout_map l).opts (offset_of (layout_map l)) (layout_places l)).not_memory (layout_bytes l) _ c.in_err-directory.ensures.1 memory),
+      λ memory. absurd ((address_part (layout_map l).opts (layout_map l).addressing (layout_places l)).not_memory (layout_bytes l) _ c.in_err-directory.ensures.1 memory),
       refl,
     )
 

@@ -1,7 +1,6 @@
 use Rattle.std.proofs.Common.{arith, inl, inr, sym}
 use Rattle.goblin_base.proofs.Steps.{unmapped}
 use Rattle.std.proofs.lemmas.Result.{err_from_is_err_and}
-use Rattle.goblin_pe_sect.specs.Addresses.{offset_of}
 use Rattle.goblin_pe.specs.Layouts.{layout_map, layout_places}
 use Rattle.goblin_pe.specs.Whole.{export_part, imports_in, numbered_data_part, relocation_part, table_parts}
 use Rattle.goblin_pe.proofs.Collected.{all-read, first-refused, second-refused, third-refused}
@@ -19,7 +18,7 @@ returns-in_err-imports-clause-value c =
     let m = layout_map l in
     let error = err_from_is_err_and c.from_residual.result c.from_residual.ensures.1 in
     rw (error.1, error.2)
-    (λ other. first-refused (imports_said (layout_places l).magic) exports_said m.opts (offset_of m) (layout_places l) l.bytes.now _ (c.in_err-imports.ensures.value other))
+    (λ other. first-refused (imports_said (layout_places l).magic) exports_said m.opts m.addressing (layout_places l) l.bytes.now _ (c.in_err-imports.ensures.value other))
 
 pub returns-in_err-exports-clause-value : goal.returns-in_err-exports-clause-value
 returns-in_err-exports-clause-value c =
@@ -27,7 +26,7 @@ returns-in_err-exports-clause-value c =
     let m = layout_map l in
     let error = err_from_is_err_and c.from_residual-in_err-exports.result c.from_residual-in_err-exports.ensures.1 in
     rw (error.1, error.2)
-    (λ other. second-refused (imports_said (layout_places l).magic) exports_said m.opts (offset_of m) (layout_places l) l.bytes.now _ _ c.in_ok-imports.ensures.value (c.in_err-exports.ensures.value other))
+    (λ other. second-refused (imports_said (layout_places l).magic) exports_said m.opts m.addressing (layout_places l) l.bytes.now _ _ c.in_ok-imports.ensures.value (c.in_err-exports.ensures.value other))
 
 pub returns-in_err-relocations-clause-value : goal.returns-in_err-relocations-clause-value
 returns-in_err-relocations-clause-value c =
@@ -35,13 +34,13 @@ returns-in_err-relocations-clause-value c =
     let m = layout_map l in
     let error = err_from_is_err_and c.from_residual-in_err-relocations.result c.from_residual-in_err-relocations.ensures.1 in
     rw (error.1, error.2)
-    (λ other. third-refused (imports_said (layout_places l).magic) exports_said m.opts (offset_of m) (layout_places l) l.bytes.now _ _ _ c.in_ok-imports.ensures.value c.in_ok-exports.ensures.value c.in_err-relocations.ensures)
+    (λ other. third-refused (imports_said (layout_places l).magic) exports_said m.opts m.addressing (layout_places l) l.bytes.now _ _ _ c.in_ok-imports.ensures.value c.in_ok-exports.ensures.value c.in_err-relocations.ensures)
 
 pub returns-clause-value : goal.returns-clause-value
 returns-clause-value c =
     let l = c.args.layout.now in
     let m = layout_map l in
-    all-read (imports_said (layout_places l).magic) exports_said m.opts (offset_of m) (layout_places l) l.bytes.now _ _ _ c.in_ok-imports.ensures.value c.in_ok-exports.ensures.value c.in_ok-relocations.ensures
+    all-read (imports_said (layout_places l).magic) exports_said m.opts m.addressing (layout_places l) l.bytes.now _ _ _ c.in_ok-imports.ensures.value c.in_ok-exports.ensures.value c.in_ok-relocations.ensures
 
 pub returns-in_err-imports-clause-grown : goal.returns-in_err-imports-clause-grown
 unfolding table_parts
@@ -50,7 +49,7 @@ returns-in_err-imports-clause-grown c =
     let m = layout_map l in
     let places = layout_places l in
     let b = l.bytes.now in
-    whichever _ _ (first-told _ (HasTables places.magic) (λ p. HasEntries (imports_in places.magic p)) ((numbered_data_part m.opts (offset_of m) places).value b) ((export_part m.opts (offset_of m) places).value b) ((relocation_part m.opts (offset_of m) places).value b) (λ all some. omega (arith, some)) c.in_err-imports.ensures.grown)
+    whichever _ _ (first-told _ (HasTables places.magic) (λ p. HasEntries (imports_in places.magic p)) ((numbered_data_part m.opts m.addressing places).value b) ((export_part m.opts m.addressing places).value b) ((relocation_part m.opts m.addressing places).value b) (λ all some. omega (arith, some)) c.in_err-imports.ensures.grown)
 
 pub returns-in_err-exports-clause-grown : goal.returns-in_err-exports-clause-grown
 unfolding table_parts
@@ -59,7 +58,7 @@ returns-in_err-exports-clause-grown c =
     let m = layout_map l in
     let places = layout_places l in
     let b = l.bytes.now in
-    whichever _ _ (second-told _ (HasTables places.magic) HasExports ((numbered_data_part m.opts (offset_of m) places).value b) ((export_part m.opts (offset_of m) places).value b) ((relocation_part m.opts (offset_of m) places).value b) (λ all some. omega (arith, some)) c.in_err-exports.ensures.grown)
+    whichever _ _ (second-told _ (HasTables places.magic) HasExports ((numbered_data_part m.opts m.addressing places).value b) ((export_part m.opts m.addressing places).value b) ((relocation_part m.opts m.addressing places).value b) (λ all some. omega (arith, some)) c.in_err-exports.ensures.grown)
 
 pub returns-in_err-relocations-clause-grown : goal.returns-in_err-relocations-clause-grown
 unfolding table_parts
@@ -68,7 +67,7 @@ returns-in_err-relocations-clause-grown c =
     let m = layout_map l in
     let places = layout_places l in
     let b = l.bytes.now in
-    whichever _ _ (third-none _ (HasTables places.magic) ((numbered_data_part m.opts (offset_of m) places).value b) ((export_part m.opts (offset_of m) places).value b) ((relocation_part m.opts (offset_of m) places).value b) c.in_err-relocations.ensures.0)
+    whichever _ _ (third-none _ (HasTables places.magic) ((numbered_data_part m.opts m.addressing places).value b) ((export_part m.opts m.addressing places).value b) ((relocation_part m.opts m.addressing places).value b) c.in_err-relocations.ensures.0)
 
 pub returns-in_err-imports-clause-begun : goal.returns-in_err-imports-clause-begun
 returns-in_err-imports-clause-begun c =
@@ -81,7 +80,7 @@ returns-in_err-exports-clause-begun c =
     let m = layout_map l in
     let e = err_from_is_err_and c.from_residual-in_err-exports.result c.from_residual-in_err-exports.ensures.1 in
     rw (e.1, e.2)
-    (λ memory. inr (mapped-some (imports_said (layout_places l).magic) ((numbered_data_part m.opts (offset_of m) (layout_places l)).value l.bytes.now) _ c.in_ok-imports.ensures.value, c.in_err-exports.ensures.begun memory))
+    (λ memory. inr (mapped-some (imports_said (layout_places l).magic) ((numbered_data_part m.opts m.addressing (layout_places l)).value l.bytes.now) _ c.in_ok-imports.ensures.value, c.in_err-exports.ensures.begun memory))
 
 pub returns-in_err-relocations-clause-begun : goal.returns-in_err-relocations-clause-begun
 returns-in_err-relocations-clause-begun c =
@@ -89,7 +88,7 @@ returns-in_err-relocations-clause-begun c =
     let m = layout_map l in
     let e = err_from_is_err_and c.from_residual-in_err-relocations.result c.from_residual-in_err-relocations.ensures.1 in
     rw (e.1, e.2)
-    (λ memory. absurd ((relocation_part m.opts (offset_of m) (layout_places l)).not_memory l.bytes.now _ c.in_err-relocations.ensures.1 memory))
+    (λ memory. absurd ((relocation_part m.opts m.addressing (layout_places l)).not_memory l.bytes.now _ c.in_err-relocations.ensures.1 memory))
 
 pub returns-in_err-imports-clause-part : goal.returns-in_err-imports-clause-part
 returns-in_err-imports-clause-part c =
@@ -97,7 +96,7 @@ returns-in_err-imports-clause-part c =
     let m = layout_map l in
     let error = err_from_is_err_and c.from_residual.result c.from_residual.ensures.1 in
     rw (error.1, error.2)
-    (λ other. sym (imports-refused m.opts (offset_of m) (layout_places l) l.bytes.now (unmapped _ _ (c.in_err-imports.ensures.value other).0)))
+    (λ other. sym (imports-refused m.opts m.addressing (layout_places l) l.bytes.now (unmapped _ _ (c.in_err-imports.ensures.value other).0)))
 
 pub returns-in_err-exports-clause-part : goal.returns-in_err-exports-clause-part
 returns-in_err-exports-clause-part c =
@@ -105,7 +104,7 @@ returns-in_err-exports-clause-part c =
     let m = layout_map l in
     let error = err_from_is_err_and c.from_residual-in_err-exports.result c.from_residual-in_err-exports.ensures.1 in
     rw (error.1, error.2)
-    (λ other. sym (exports-refused m.opts (offset_of m) (layout_places l) l.bytes.now _ _ c.in_ok-imports.ensures.value (unmapped _ _ (c.in_err-exports.ensures.value other).0)))
+    (λ other. sym (exports-refused m.opts m.addressing (layout_places l) l.bytes.now _ _ c.in_ok-imports.ensures.value (unmapped _ _ (c.in_err-exports.ensures.value other).0)))
 
 pub returns-in_err-relocations-clause-part : goal.returns-in_err-relocations-clause-part
 returns-in_err-relocations-clause-part c =
@@ -113,4 +112,4 @@ returns-in_err-relocations-clause-part c =
     let m = layout_map l in
     let error = err_from_is_err_and c.from_residual-in_err-relocations.result c.from_residual-in_err-relocations.ensures.1 in
     rw (error.1, error.2)
-    (λ other. sym (relocations-refused m.opts (offset_of m) (layout_places l) l.bytes.now _ _ c.in_ok-imports.ensures.value _ _ c.in_ok-exports.ensures.value c.in_err-relocations.ensures.0))
+    (λ other. sym (relocations-refused m.opts m.addressing (layout_places l) l.bytes.now _ _ c.in_ok-imports.ensures.value _ _ c.in_ok-exports.ensures.value c.in_err-relocations.ensures.0))

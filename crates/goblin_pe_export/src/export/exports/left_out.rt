@@ -1,7 +1,7 @@
 //! How many name pointers give no export.
 
 ghost use Rattle.std.specs.Prelude.{◌≡◌, ◌+◌, ◌<◌, length};
-ghost use Rattle.goblin_pe_sect.specs.Addresses.{map_of, offset_of};
+ghost use Rattle.goblin_pe_sect.specs.Addresses.{map_of};
 ghost use Rattle.goblin_pe_export.specs.ExportRecords.{tables_in};
 ghost use Rattle.goblin_pe_export.specs.ExportWalks.{exports_at, exports_bytes, exports_map};
 ghost use Rattle.goblin_pe_export.specs.ExportWalks.{walked_tables};
@@ -17,13 +17,13 @@ use goblin_pe_sect::address_map::Finder;
 // Whether an entry of the address table is no forwarder, or one whose text can be read.
 fn reads_forwarder(bytes: &[u8], address: ExportAddressTableEntry, finder: &mut Finder<'_>) -> bool
     ensures value { let m = map_of finder.old in
-        result ≡ reads_forwarder (offset_of m) bytes.now address }
+        result ≡ reads_forwarder m.addressing bytes.now address }
     ensures same { finder.new ≡ finder.old }
 {
     match address {
         ExportAddressTableEntry::ExportRVA(_) => true,
         ExportAddressTableEntry::ForwarderRVA(rva) => {
-            forwarder_at(bytes, finder.offset_of(rva)).is_some()
+            forwarder_at(bytes, finder.offset_of(rva), finder.longest_name()).is_some()
         }
     }
 }
@@ -33,7 +33,7 @@ fn reads_forwarder(bytes: &[u8], address: ExportAddressTableEntry, finder: &mut 
 fn gives_export(bytes: &[u8], tables: &TablesInFile, index: usize, finder: &mut Finder<'_>) -> bool
     requires { index < length (tables_in tables.now).export_name_pointer_table }
     ensures value { let m = map_of finder.old in
-        result ≡ gives_export (offset_of m) bytes.now (tables_in tables.now) index }
+        result ≡ gives_export m.addressing bytes.now (tables_in tables.now) index }
     ensures same { finder.new ≡ finder.old }
 {
     let Some(ordinal) = tables.ordinal(index) else {
@@ -53,7 +53,7 @@ impl<'a, 'm> Exports<'a, 'm> {
     pub fn left_out(&self) -> usize
         ensures value { let m = exports_map self.now in
             result
-            ≡ pointers_left_out (offset_of m) (exports_bytes self.now) (walked_tables self.now) }
+            ≡ pointers_left_out m.addressing (exports_bytes self.now) (walked_tables self.now) }
         ensures others { length (exports_at self.now 0) + result
             ≡ length (walked_tables self.now).export_name_pointer_table }
     {

@@ -1,6 +1,6 @@
 use Rattle.std.proofs.Common.{length, ◌-◌}
 use Rattle.readings.proofs.Loops.{AtRead}
-use Rattle.goblin_pe_sect.specs.Addresses.{map_of, offset_of, reads_strictly}
+use Rattle.goblin_pe_sect.specs.Addresses.{map_of, reads_strictly}
 use Rattle.goblin_pe_import.specs.ImportReadings.{kept_library}
 use Rattle.goblin_pe_import.specs.ImportRecords.{import_slots}
 use Rattle.goblin_pe_import.proofs.import.libraries.Given as goal
@@ -9,7 +9,7 @@ abbrev pub invariant-records : goal.invariant-records
 invariant-records g l =
     AtRead import_slots
     (kept_library (reads_strictly (map_of l.fn.address_map)) g.T.Bitfield.format
-    (offset_of (map_of l.fn.address_map)))
+    (map_of l.fn.address_map).addressing)
     l.fn.bytes l.fn.offset l.place l.libraries.items
 
 abbrev pub decreases-records : goal.decreases-records

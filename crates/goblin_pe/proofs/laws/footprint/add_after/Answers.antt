@@ -1,7 +1,6 @@
 use Rattle.std.proofs.Common.{rules, Bool, List, ap, refl, ◌∙◌}
 use Rattle.goblin_base.specs.Answers.{IsMemory}
 use Rattle.goblin_base.specs.Marks.{marked}
-use Rattle.goblin_pe_sect.specs.Addresses.{offset_of}
 use Rattle.goblin_pe_sect.specs.Options.{is_strict}
 use Rattle.goblin_pe_sect.specs.SectionTable.{recorded_sections}
 use Rattle.goblin_pe_head.specs.PeHeader.{header_value}
@@ -17,7 +16,7 @@ returns-in-Ok-clause-added c =
     let opts = c.args.opts.now in
     let l = c.in-Ok.layout in
     let read = (sections_after (is_strict opts.parse_mode) (header_value c.args.header.now)).value bytes in
-    let tables = (table_parts (layout_map l).opts (offset_of (layout_map l)) (layout_places l)).reaches l.bytes.now in
+    let tables = (table_parts (layout_map l).opts (layout_map l).addressing (layout_places l)).reaches l.bytes.now in
     layout_reached c.args.view opts bytes c.args.header.now c.args.marks.now c.mark_tables.new.marks read (recorded_sections l.records) l refl c.in-Ok.ensures.value c.in-Ok.ensures.over
     (c.mark_tables.ensures ∙ ap (λ (m : List Bool). marked m tables) c.add_sections.ensures)
 

@@ -1,6 +1,5 @@
 use Rattle.std.proofs.Common.{◌≡◌, Option, refl, subst, sym}
 use Rattle.goblin_base.specs.declared.error.ErrorOf.{ErrorOf}
-use Rattle.goblin_pe_sect.specs.Addresses.{offset_of}
 use Rattle.goblin_pe_head.specs.HeaderReadings.{stub_at}
 use Rattle.goblin_pe_head.specs.PeHeader.{header_value}
 use Rattle.goblin_pe_sect.specs.SectionTable.{recorded_sections}
@@ -19,6 +18,6 @@ returns-clause-tells c =
     (λ sections read. record {
       dos_stub = subst (λ (e : Option ErrorOf). IsDamage (stub_at header.dos_header.pe_pointer) bytes e) (sym c.err.ensures.value) (damage_read _ c.parse.result (stub_at header.dos_header.pe_pointer) bytes c.parse.ensures);
       section_names = c.name_damage.ensures;
-      tables = of_file c.args.view opts bytes header l c.in_ok-layout.ensures.over sections read (λ m places b. AreDamaged m.opts (offset_of m) places b d.0 d.1 d.2 d.3) c.table_damage.ensures;
-      left_out_exports = of_file c.args.view opts bytes header l c.in_ok-layout.ensures.over sections read (λ m places b. c.left_out_exports-left_out_exports.result ≡ exports_left_out (offset_of m) places b) c.left_out_exports-left_out_exports.ensures;
+      tables = of_file c.args.view opts bytes header l c.in_ok-layout.ensures.over sections read (λ m places b. AreDamaged m.opts m.addressing places b d.0 d.1 d.2 d.3) c.table_damage.ensures;
+      left_out_exports = of_file c.args.view opts bytes header l c.in_ok-layout.ensures.over sections read (λ m places b. c.left_out_exports-left_out_exports.result ≡ exports_left_out m.addressing places b) c.left_out_exports-left_out_exports.ensures;
     })

@@ -1,5 +1,5 @@
 use Rattle.std.proofs.Common.{◌≡◌, ◌≤◌, length, ◌-◌, Some}
-use Rattle.goblin_pe_sect.specs.Addresses.{map_of, offset_of, reads_strictly}
+use Rattle.goblin_pe_sect.specs.Addresses.{map_of, reads_strictly}
 use Rattle.goblin_pe_import.specs.StepsAhead.{AreCounted, slots_ahead}
 use Rattle.goblin_pe_import.proofs.LookupWalk.{AtRest}
 use Rattle.goblin_pe_import.proofs.import.kept.next_kept_within.Given as goal
@@ -9,7 +9,7 @@ invariant-slots g l =
     let format = g.T.Bitfield.format in
     let before = slots_ahead format l.fn.bytes l.initial.place in
     let ahead = slots_ahead format l.fn.bytes (Some l.at) in
-    AtRest (reads_strictly (map_of l.initial.finder)) format (offset_of (map_of l.initial.finder))
+    AtRest (reads_strictly (map_of l.initial.finder)) format (map_of l.initial.finder).addressing
     l.fn.bytes l.fn.offset l.initial.place l.at
     × (l.finder ≡ l.initial.finder)
     × AreCounted l.initial.steps l.steps before ahead

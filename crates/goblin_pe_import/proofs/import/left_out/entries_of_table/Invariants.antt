@@ -1,6 +1,6 @@
 use Rattle.std.proofs.Common.{length, ◌-◌}
 use Rattle.std.specs.Int.{from_bool}
-use Rattle.goblin_pe_sect.specs.Addresses.{map_of, offset_of}
+use Rattle.goblin_pe_sect.specs.Addresses.{map_of}
 use Rattle.goblin_pe_import.specs.ImportEntries.{entry_slots}
 use Rattle.goblin_pe_import.specs.LeftOut.{is_entry_left_out, is_unmapped}
 use Rattle.goblin_pe_import.proofs.SlotSums.{AtSum}
@@ -8,7 +8,7 @@ use Rattle.goblin_pe_import.proofs.import.left_out.entries_of_table.Given as goa
 
 abbrev pub invariant-slots : goal.invariant-slots
 invariant-slots g l =
-    let map = offset_of (map_of l.fn.address_map) in
+    let map = (map_of l.fn.address_map).addressing in
     AtSum (entry_slots g.T.Bitfield.format)
     (λ entry. from_bool (is_entry_left_out l.fn.is_front map l.fn.bytes entry))
     l.fn.bytes l.fn.offset l.place l.entries

@@ -1,6 +1,6 @@
 use Rattle.std.proofs.Common.{◌^◌, ◌+◌, ◌-◌, ◌==◌, ℕ, ap, refl, ◌∙◌, arith, lit≤, min}
 use Rattle.goblin_base.proofs.Records.{record_at-some}
-use Rattle.goblin_pe_sect.specs.Addresses.{map_of, offset_of}
+use Rattle.goblin_pe_sect.specs.Addresses.{map_of}
 use Rattle.goblin_base.specs.declared.endian.Endian.TheVariants.{Little}
 use Rattle.goblin_pe_import.specs.ImportRecords.{import_record}
 use Rattle.goblin_pe_import.specs.LeftOut.{is_library_left_out}
@@ -23,7 +23,7 @@ overflow_add-libraries g c =
     let one =
     from_bool-few
     (is_library_left_out (c.args.offset == 0) g.T.Bitfield.format
-    (offset_of (map_of c.args.address_map.now)) c.args.bytes.now c.in-Some.«record») in
+    (map_of c.args.address_map.now).addressing c.args.bytes.now c.in-Some.«record») in
     omega (arith, few, there.start, c.of_record-more.ensures.libraries, one)
 
 pub records-preserved : goal.records-preserved

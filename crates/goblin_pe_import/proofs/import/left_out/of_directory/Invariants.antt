@@ -1,6 +1,6 @@
 use Rattle.std.proofs.Common.{◌≡◌, ◌-◌, ◌^◌, ◌==◌, ℕ, length, min}
 use Rattle.std.specs.Int.{from_bool}
-use Rattle.goblin_pe_sect.specs.Addresses.{map_of, offset_of}
+use Rattle.goblin_pe_sect.specs.Addresses.{map_of}
 use Rattle.goblin_pe_import.specs.ImportRecords.{import_slots}
 use Rattle.goblin_pe_import.specs.LeftOut.{entries_of_record, is_entry_left_out, is_library_left_out, is_unmapped}
 use Rattle.goblin_pe_import.proofs.SlotSums.{AtSum}
@@ -8,7 +8,7 @@ use Rattle.goblin_pe_import.proofs.import.left_out.of_directory.Given as goal
 
 abbrev pub invariant-records : goal.invariant-records
 invariant-records g l =
-    let map = offset_of (map_of l.fn.address_map) in
+    let map = (map_of l.fn.address_map).addressing in
     let format = g.T.Bitfield.format in
     let is_front = l.fn.offset == 0 in
     AtSum import_slots

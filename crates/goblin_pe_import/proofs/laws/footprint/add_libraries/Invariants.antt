@@ -1,7 +1,7 @@
 use Rattle.std.proofs.Common.{length, ◌-◌}
 use Rattle.goblin_base.proofs.SlotFootprints.{AtRanges}
 use Rattle.readings.proofs.Loops.{reach_of}
-use Rattle.goblin_pe_sect.specs.Addresses.{map_of, offset_of, reads_strictly}
+use Rattle.goblin_pe_sect.specs.Addresses.{map_of, reads_strictly}
 use Rattle.goblin_pe_import.specs.ImportReadings.{kept_library}
 use Rattle.goblin_pe_import.specs.ImportRecords.{import_slots}
 use Rattle.goblin_pe_import.proofs.laws.footprint.add_libraries.Given as goal
@@ -10,7 +10,7 @@ abbrev pub invariant-records : goal.invariant-records
 invariant-records g l =
     AtRanges import_slots
     (reach_of (kept_library (reads_strictly (map_of l.fn.address_map)) g.T.Bitfield.format
-    (offset_of (map_of l.fn.address_map))) l.fn.bytes) l.fn.bytes l.fn.offset l.place
+    (map_of l.fn.address_map).addressing) l.fn.bytes) l.fn.bytes l.fn.offset l.place
     l.initial.marks l.marks
 
 abbrev pub decreases-records : goal.decreases-records

@@ -1,7 +1,7 @@
 use Rattle.std.proofs.Common.{subst}
 use Rattle.goblin_pe_sect.specs.declared.options.ParseOptions.{ParseOptions}
 use Rattle.goblin_pe_sect.specs.Options.{is_strict}
-use Rattle.goblin_pe_sect.specs.Addresses.{offset_of, reads_strictly}
+use Rattle.goblin_pe_sect.specs.Addresses.{reads_strictly}
 use Rattle.goblin_pe_export.specs.ExportReadings.{export_addresses}
 use Rattle.goblin_pe_export.specs.ExportWalks.{walked_tables}
 use Rattle.goblin_pe.specs.Layouts.{address_part, layout_bytes, layout_map}
@@ -17,4 +17,4 @@ returns c =
     let made : BecomesPart (reads_strictly m) c.addresses_of.result c.part_of.result =
     subst (λ (o : ParseOptions). BecomesPart (is_strict o.parse_mode) c.addresses_of.result c.part_of.result) c.opts.ensures c.part_of.ensures in
     rw c.in-Some.is
-    (becomes_read walked_tables (export_addresses (offset_of m) c.in-Some.directory) bytes (reads_strictly m) c.addresses_of.result c.part_of.result c.addresses_of.ensures.value made)
+    (becomes_read walked_tables (export_addresses m.addressing c.in-Some.directory) bytes (reads_strictly m) c.addresses_of.result c.part_of.result c.addresses_of.ensures.value made)

@@ -1,7 +1,7 @@
 use Rattle.std.proofs.Common.{◌≡◌, ◌∙◌, ap, sym, true, false, inl, inr, None, ◌⊎◌, flat_map}
 use Rattle.std.proofs.lemmas.Result.{err_from_is_err_and}
 use Rattle.goblin_pe_sect.specs.declared.options.ParseOptions.{ParseOptions}
-use Rattle.goblin_pe_sect.specs.Addresses.{offset_of, reads_strictly}
+use Rattle.goblin_pe_sect.specs.Addresses.{reads_strictly}
 use Rattle.goblin_pe_import.specs.ImportReadings.{numbered_data}
 use Rattle.goblin_pe_import.specs.Imports.{numbered_imports}
 use Rattle.goblin_pe.specs.Layouts.{layout_bytes, layout_map, layout_places}
@@ -17,13 +17,13 @@ returns-in_err-imports-in-Some-clause-walks c =
     let m = layout_map c.args.self.now in
     let asked : m.opts.parse_imports ≡ true = sym (ap (λ (o : ParseOptions). o.parse_imports) c.opts-opts.ensures) ∙ c.if-opts.true in
     let e = err_from_is_err_and c.from_residual.result c.from_residual.ensures.1 in
-    rw (e.1, e.2) (list-refused m.opts (offset_of m) (layout_places c.args.self.now) c.in-Some.directory asked c.in-Some.is (layout_bytes c.args.self.now) _ _ c.imports_in.ensures.walks c.in_err-imports-in-Some.was)
+    rw (e.1, e.2) (list-refused m.opts m.addressing (layout_places c.args.self.now) c.in-Some.directory asked c.in-Some.is (layout_bytes c.args.self.now) _ _ c.imports_in.ensures.walks c.in_err-imports-in-Some.was)
 
 pub returns-in_ok-imports-in-Some-clause-walks : goal.returns-in_ok-imports-in-Some-clause-walks
 returns-in_ok-imports-in-Some-clause-walks c =
     let m = layout_map c.args.self.now in
     let asked : m.opts.parse_imports ≡ true = sym (ap (λ (o : ParseOptions). o.parse_imports) c.opts-opts.ensures) ∙ c.if-opts.true in
-    list-walked m.opts (offset_of m) (layout_places c.args.self.now) c.in-Some.directory asked c.in-Some.is (layout_bytes c.args.self.now) _ _ c.imports_in.ensures.walks c.in_ok-imports-in-Some.was
+    list-walked m.opts m.addressing (layout_places c.args.self.now) c.in-Some.directory asked c.in-Some.is (layout_bytes c.args.self.now) _ _ c.imports_in.ensures.walks c.in_ok-imports-in-Some.was
 
 pub returns-in_default-clause-walks : goal.returns-in_default-clause-walks
 unfolding import_list numbered_data_part
@@ -37,7 +37,7 @@ returns-in_default-clause-walks c =
       | in_default-via-in_default w ↦ inr w.in_default.is
     ] in
     unasked_mapped (λ x. x) (flat_map (numbered_imports format.width)) (reads_strictly m) m.opts.parse_imports
-    (λ d. numbered_data (reads_strictly m) format (offset_of m) d.virtual_address)
+    (λ d. numbered_data (reads_strictly m) format m.addressing d.virtual_address)
     (layout_places c.args.self.now).imports (layout_bytes c.args.self.now) none
 
 pub returns-in_err-imports-in-Some-clause-starts : goal.returns-in_err-imports-in-Some-clause-starts

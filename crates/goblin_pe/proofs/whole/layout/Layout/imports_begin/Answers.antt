@@ -1,7 +1,7 @@
 use Rattle.std.proofs.Common.{◌≡◌, ◌∙◌, ap, subst, sym, true}
 use Rattle.goblin_base.specs.Reading.{Reads}
 use Rattle.goblin_pe_sect.specs.declared.options.ParseOptions.{ParseOptions}
-use Rattle.goblin_pe_sect.specs.Addresses.{MapOfAddresses, offset_of, reads_strictly}
+use Rattle.goblin_pe_sect.specs.Addresses.{MapOfAddresses, reads_strictly}
 use Rattle.goblin_pe_import.specs.ImportCursors.{first_import}
 use Rattle.goblin_pe.specs.Layouts.{layout_bytes, layout_map, layout_places}
 use Rattle.goblin_pe.proofs.ImportStarts.{begin-reads}
@@ -14,6 +14,6 @@ returns-in-Some c =
     let asked : m.opts.parse_imports ≡ true = sym (ap (λ (o : ParseOptions). o.parse_imports) c.opts.ensures) ∙ c.if-opts.true in
     let first =
     subst
-    (λ (k : MapOfAddresses). Reads (λ c. c) c.first.result (first_import (reads_strictly k) (offset_of k) c.in-Some.directory.virtual_address) (layout_bytes l))
+    (λ (k : MapOfAddresses). Reads (λ c. c) c.first.result (first_import (reads_strictly k) k.addressing c.in-Some.directory.virtual_address) (layout_bytes l))
     c.finder.ensures (c.first.ensures.first (layout_bytes l)) in
     begin-reads m (layout_places l) (layout_bytes l) c.in-Some.directory asked c.in-Some.is c.first.result first

@@ -2,7 +2,7 @@ use Rattle.std.proofs.Common.{◌≡◌, ◌≤◌, ◌+◌, ℕ, Bool, true, fa
 use Rattle.std.specs.Int.{from_bool}
 use Rattle.std.specs.List.{range_with_len}
 use Rattle.goblin_pe_sect.specs.declared.address_map.AddressMap.{AddressMap}
-use Rattle.goblin_pe_sect.specs.Addresses.{map_of, offset_of}
+use Rattle.goblin_pe_sect.specs.Addresses.{map_of}
 use Rattle.goblin_pe_export.specs.ExportWalks.{exports_at, walked_tables}
 use Rattle.goblin_pe_export.specs.LeftOutExports.{gives_export, pointers_left_out}
 use Rattle.goblin_pe_export.proofs.LeftOutExports.{counted-more, listed_or_left_out}
@@ -16,8 +16,8 @@ pub pointers-preserved : goal.pointers-preserved
 pointers-preserved c =
     let walk = c.args.self.now in
     let i = c.pointers.index in
-    let gives = gives_export (offset_of (map_of walk.finder)) walk.bytes.now (walked_tables walk) in
-    let given = c.gives_export-gives.ensures.value ∙ ap (λ (m : AddressMap). gives_export (offset_of (map_of m)) walk.bytes.now (walked_tables walk) i) c.pointers.invariant.0 in
+    let gives = gives_export (map_of walk.finder).addressing walk.bytes.now (walked_tables walk) in
+    let given = c.gives_export-gives.ensures.value ∙ ap (λ (m : AddressMap). gives_export (map_of m).addressing walk.bytes.now (walked_tables walk) i) c.pointers.invariant.0 in
     let added = c.from-count.ensures ∙ ap (λ (b : Bool). from_bool (not b)) given in (
       c.gives_export-gives.ensures.same ∙ c.pointers.invariant.0,
       ap (λ (n : ℕ). n + c.from-count.result) c.pointers.invariant.1
@@ -30,6 +30,6 @@ pub returns-clause-others : goal.returns-clause-others
 unfolding pointers_left_out
 returns-clause-others c =
     let walk = c.args.self.now in
-    let offset = offset_of (map_of walk.finder) in
-    let left : c.pointers.count ≡ pointers_left_out offset walk.bytes.now (walked_tables walk) = search rules in
-    ap (λ (n : ℕ). length (exports_at walk 0) + n) left ∙ listed_or_left_out offset walk.bytes.now (walked_tables walk)
+    let m = (map_of walk.finder).addressing in
+    let left : c.pointers.count ≡ pointers_left_out m walk.bytes.now (walked_tables walk) = search rules in
+    ap (λ (n : ℕ). length (exports_at walk 0) + n) left ∙ listed_or_left_out m walk.bytes.now (walked_tables walk)

@@ -1,5 +1,5 @@
 use Rattle.std.proofs.Common.{ℕ, ◌∷◌, ◌+◌, ap, arith, length, sym, ◌∙◌, option_map}
-use Rattle.goblin_pe_sect.specs.Addresses.{map_of, offset_of}
+use Rattle.goblin_pe_sect.specs.Addresses.{map_of}
 use Rattle.goblin_pe_sect.specs.declared.address_map.AddressMap.{AddressMap}
 use Rattle.goblin_pe_export.specs.ExportRecords.{ExportTables, name_pointers, tables_in}
 use Rattle.goblin_pe_export.specs.ExportWalks.{exports_at, numbered_from, walked_export}
@@ -20,7 +20,7 @@ pointers-preserved c =
       left = before.left
           ∙ from_none _ _ _ c.pointers.index (omega (arith, c.pointers-test.true, c.min-end.ensures, c.pointers-2.ensures, count))
           (sym c.export_at.ensures.value ∙ ap (option_map walked_export) c.in_default.is)
-          ∙ ap (λ (m : AddressMap). numbered_from (offset_of (map_of m)) c.pointers.self.bytes.now (tables_in c.pointers.self.tables) (c.pointers.index + 1))
+          ∙ ap (λ (m : AddressMap). numbered_from (map_of m).addressing c.pointers.self.bytes.now (tables_in c.pointers.self.tables) (c.pointers.index + 1))
           (sym same);
     }
 
@@ -34,7 +34,7 @@ returns-in-Some c =
         before.left
             ∙ from_export _ _ _ c.pointers.index _ (omega (arith, c.pointers-test.true, c.min-end.ensures, c.pointers-2.ensures, count))
             (sym c.export_at.ensures.value ∙ ap (option_map walked_export) c.in-Some.is)
-            ∙ ap (λ (m : AddressMap). walked_export c.in-Some.export ∷ numbered_from (offset_of (map_of m)) c.pointers.self.bytes.now (tables_in c.pointers.self.tables) (c.pointers.index + 1))
+            ∙ ap (λ (m : AddressMap). walked_export c.in-Some.export ∷ numbered_from (map_of m).addressing c.pointers.self.bytes.now (tables_in c.pointers.self.tables) (c.pointers.index + 1))
             (sym same),
         ((before.over.0.0, ap map_of same ∙ before.over.0.1), before.over.1),
         omega (arith, c.in-Some.ensures.hint),

@@ -1,4 +1,4 @@
-use Rattle.goblin_pe_sect.specs.Addresses.{offset_of, reads_strictly}
+use Rattle.goblin_pe_sect.specs.Addresses.{reads_strictly}
 use Rattle.goblin_pe_import.specs.ImportWalks.{entries_from, imports_next}
 use Rattle.goblin_pe_import.proofs.ImportsWalk.{imports-once}
 use Rattle.goblin_pe_import.proofs.import.imports.ImportCursor.at_record.Goals as goal
@@ -7,4 +7,4 @@ pub returns-clause-left : goal.returns-clause-left
 unfolding entries_from imports_next
 returns-clause-left c m format bytes =
     rw c.end.ensures
-    (imports-once (reads_strictly m) format (offset_of m) bytes c.args.first c.args.offset)
+    (imports-once (reads_strictly m) format m.addressing bytes c.args.first c.args.offset)

@@ -2,7 +2,7 @@ use Rattle.std.proofs.Common.{sym, ◌∙◌}
 use Rattle.std.proofs.lemmas.Result.{err_from_is_err_and}
 use Rattle.goblin_pe_import.proofs.ImportsWalk.{entered, walk-left_out, walk-unnamed}
 use Rattle.goblin_pe_import.proofs.StepsAhead.{steps-entered, steps-left_out}
-use Rattle.goblin_pe_sect.specs.Addresses.{map_of, offset_of, reads_strictly}
+use Rattle.goblin_pe_sect.specs.Addresses.{map_of, reads_strictly}
 use Rattle.goblin_pe_import.proofs.import.imports.Walk.enter.Goals as goal
 
 pub returns-then-is_out-clause-counted : goal.returns-then-is_out-clause-counted
@@ -10,7 +10,7 @@ returns-then-is_out-clause-counted g c =
     let m = map_of c.args.self.now.finder in
     let left_out = rw c.address_map.ensures at c.is_left_out-is_out.ensures.out in
     let counted = rw c.address_map.ensures at c.is_left_out-is_out.ensures.counted in
-    steps-left_out (reads_strictly m) g.T.Bitfield.format (offset_of m) c.args.self.now.bytes.now c.args.entry.now _ counted
+    steps-left_out (reads_strictly m) g.T.Bitfield.format m.addressing c.args.self.now.bytes.now c.args.entry.now _ counted
     (sym left_out ∙ c.if-is_out.true)
 
 pub returns-then-is_out-clause-gives : goal.returns-then-is_out-clause-gives
@@ -35,5 +35,5 @@ returns-clause-counted g c =
     let left_out = rw c.address_map.ensures at c.is_left_out-is_out.ensures.out in
     let counted = rw c.address_map.ensures at c.is_left_out-is_out.ensures.counted in
     rw (c.lookup_offset-place.ensures.value, c.library_name.ensures.same, c.address_table_rva.ensures)
-    (steps-entered (reads_strictly m) g.T.Bitfield.format (offset_of m) c.args.self.now.bytes.now c.args.entry.now _ counted
+    (steps-entered (reads_strictly m) g.T.Bitfield.format m.addressing c.args.self.now.bytes.now c.args.entry.now _ counted
     (sym left_out ∙ c.if-is_out.false))

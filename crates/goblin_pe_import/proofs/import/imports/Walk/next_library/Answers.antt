@@ -3,7 +3,7 @@ use Rattle.goblin_base.specs.declared.endian.Endian.TheVariants.{Little}
 use Rattle.goblin_base.specs.declared.error.ErrorOf.TheVariants.{Malformed}
 use Rattle.goblin_base.specs.declared.error.CauseOf.TheVariants.{ImportRecordEnd}
 use Rattle.goblin_pe_import.specs.ImportRecords.{import_record}
-use Rattle.goblin_pe_sect.specs.Addresses.{map_of, offset_of, reads_strictly}
+use Rattle.goblin_pe_sect.specs.Addresses.{map_of, reads_strictly}
 use Rattle.goblin_pe_import.specs.ImportWalks.{GivesLibrary, IsLaterCause, IsWalkCause, later_items, walk_left}
 use Rattle.goblin_base.proofs.Records.{record_at-some}
 use Rattle.goblin_pe_import.proofs.ImportsWalk.{bound-given, later-end, later-given, later-missing, later-none, later-refused}
@@ -13,13 +13,14 @@ use Rattle.goblin_pe_import.proofs.import.imports.Walk.next_library.Goals as goa
 
 pub returns-in-Err-clause-gives : goal.returns-in-Err-clause-gives
 returns-in-Err-clause-gives g c =
-    let both = later-refused _ g.T.Bitfield.format _ _ c.args.self.now.at.untested c.args.self.now.at.first_record c.args.self.now.at.next_record c.in-Err.error c.in-Err.ensures.value in
+    let m = map_of c.args.self.now.finder in
+    let both = later-refused (reads_strictly m) g.T.Bitfield.format m.addressing c.args.self.now.bytes.now c.args.self.now.at.untested c.args.self.now.at.first_record c.args.self.now.at.next_record c.in-Err.error c.in-Err.ensures.value in
     (both.0, (c.in-Err.ensures.strictly, both.1))
 
 pub returns-in_default-clause-gives : goal.returns-in_default-clause-gives
 returns-in_default-clause-gives g c =
     let m = map_of c.args.self.now.finder in
-    rw c.in_default.is (later-none (reads_strictly m) g.T.Bitfield.format (offset_of m) c.args.self.now.bytes.now c.args.self.now.at.untested c.in-Ok.ensures.value c.args.self.now.at.first_record)
+    rw c.in_default.is (later-none (reads_strictly m) g.T.Bitfield.format m.addressing c.args.self.now.bytes.now c.args.self.now.at.untested c.in-Ok.ensures.value c.args.self.now.at.first_record)
 
 pub returns-then-may_end-clause-gives : goal.returns-then-may_end-clause-gives
 returns-then-may_end-clause-gives g c =
@@ -41,7 +42,7 @@ returns-in-Ok-enter-clause-gives g c =
     let m = map_of c.args.self.now.finder in
     let s = reads_strictly m in
     let f = g.T.Bitfield.format in
-    let o = offset_of m in
+    let o = m.addressing in
     let b = c.args.self.now.bytes.now in
     subst
     (λ (next : Option ℕ). GivesLibrary (walk_left f) (IsWalkCause f) (later_items s f o b c.args.self.now.at.untested c.args.self.now.at.first_record next)
@@ -54,7 +55,7 @@ returns-in-Err-enter-clause-gives g c =
     let m = map_of c.args.self.now.finder in
     let s = reads_strictly m in
     let f = g.T.Bitfield.format in
-    let o = offset_of m in
+    let o = m.addressing in
     let b = c.args.self.now.bytes.now in
     subst
     (λ (next : Option ℕ). GivesLibrary (walk_left f) (IsWalkCause f) (later_items s f o b c.args.self.now.at.untested c.args.self.now.at.first_record next)

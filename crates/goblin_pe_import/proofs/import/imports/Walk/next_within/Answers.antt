@@ -1,6 +1,6 @@
 use Rattle.std.proofs.Common.{◌≡◌, ◌∙◌, ◌+◌, ◌≤◌, ℕ, None, Some, ap, arith, inl, length, refl, subst, sym}
 use Rattle.goblin_pe_sect.specs.declared.address_map.AddressMap.{AddressMap}
-use Rattle.goblin_pe_sect.specs.Addresses.{map_of, offset_of, reads_strictly}
+use Rattle.goblin_pe_sect.specs.Addresses.{map_of, reads_strictly}
 use Rattle.goblin_pe_import.specs.ImportWalks.{walk_answer}
 use Rattle.goblin_pe_import.specs.StepsAhead.{later_ahead, slots_ahead, walk_ahead}
 use Rattle.goblin_pe_import.specs.declared.import.imports.Walk.{Walk}
@@ -36,12 +36,12 @@ libraries-preserved g c =
     let none = place-ended place c.next_kept_within.new.steps (kept.ended refl) has in
     let t1 = walk_on s place in
     let passed = at-passed f c.args.self.now s h place kept.steps kept.onward kept.stays in
-    let empty = none-left (reads_strictly m) f (offset_of m) s.bytes.now s.at.table_offset place none in
+    let empty = none-left (reads_strictly m) f m.addressing s.bytes.now s.at.table_offset place none in
     let t = c.next_library.new.self in
     let r = c.in-Some-Ok-next_library.field-0 in
     let library = c.in-Some-Ok-next_library.ensures in
     let gives = subst (λ (m : AddressMap). GivesBy f s m (Some (walk_answer t r))) kept.same library.gives in
-    let rest = later_ahead (reads_strictly m) f (offset_of m) s.bytes.now s.at.untested s.at.next_record in
+    let rest = later_ahead (reads_strictly m) f m.addressing s.bytes.now s.at.untested s.at.next_record in
     let counted = of_ok (λ (n : ℕ). (n + walk_ahead f t ≡ rest) × (n ≤ length s.bytes.now + 1)) r c.in-Some-Ok-next_library.count c.in-Some-Ok-next_library.field-0-is (rw kept.same at library.counted) in
     let ahead : slots_ahead f s.bytes.now place ≡ 0 = rw none refl in
     let long = ap length h.bytes in
@@ -67,7 +67,7 @@ returns-in-Some-Err-next_library-clause-steps g c =
     let place = c.next_kept_within.new.place in
     let none = place-ended place c.next_kept_within.new.steps (kept.ended refl) (c.are_out.ensures.no c.if-are_out.false) in
     let passed = at-passed f c.args.self.now s h place kept.steps kept.onward kept.stays in
-    let empty = none-left (reads_strictly m) f (offset_of m) s.bytes.now s.at.table_offset place none in
+    let empty = none-left (reads_strictly m) f m.addressing s.bytes.now s.at.table_offset place none in
     let t = c.next_library.new.self in
     let r = c.in-Some-Err-next_library.field-0 in
     let gives = subst (λ (m : AddressMap). GivesBy f s m (Some (walk_answer t r))) kept.same c.in-Some-Err-next_library.ensures.gives in
@@ -85,7 +85,7 @@ returns-in-None-next_library-clause-steps g c =
     let place = c.next_kept_within.new.place in
     let none = place-ended place c.next_kept_within.new.steps (kept.ended refl) (c.are_out.ensures.no c.if-are_out.false) in
     let passed = at-passed f c.args.self.now s h place kept.steps kept.onward kept.stays in
-    let empty = none-left (reads_strictly m) f (offset_of m) s.bytes.now s.at.table_offset place none in
+    let empty = none-left (reads_strictly m) f m.addressing s.bytes.now s.at.table_offset place none in
     let gives = subst (λ (m : AddressMap). GivesBy f s m None) kept.same c.in-None-next_library.ensures.gives in
     let t = c.end-in-None-next_library.new.self in
     let ended = c.end-in-None-next_library.ensures.at in

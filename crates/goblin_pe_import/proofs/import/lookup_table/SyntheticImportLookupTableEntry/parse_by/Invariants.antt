@@ -1,5 +1,5 @@
 use Rattle.std.proofs.Common.{◌≡◌, map}
-use Rattle.goblin_pe_sect.specs.Addresses.{map_of, offset_of, reads_strictly}
+use Rattle.goblin_pe_sect.specs.Addresses.{map_of, reads_strictly}
 use Rattle.goblin_pe_import.specs.ImportLookup.{entry_view}
 use Rattle.goblin_pe_import.specs.ImportWalks.{slots_bound}
 use Rattle.goblin_pe_import.proofs.LookupWalk.{AtEntries}
@@ -8,7 +8,7 @@ use Rattle.goblin_pe_import.proofs.import.lookup_table.SyntheticImportLookupTabl
 abbrev pub invariant-entries : goal.invariant-entries
 invariant-entries g l =
     let m = map_of l.finder in
-    AtEntries (reads_strictly m) g.T.Bitfield.format (offset_of m) l.fn.bytes l.fn.offset l.place
+    AtEntries (reads_strictly m) g.T.Bitfield.format m.addressing l.fn.bytes l.fn.offset l.place
     (map entry_view l.entries.items) l.slots.items
     × (l.finder ≡ l.fn.address_map)
 

@@ -1,0 +1,201 @@
+-- A text that is cut behind its first character that reaches past a limit.
+use Rattle.std.proofs.Common.{◌≡◌, ◌<◌, ◌≤◌, ℕ, ◌+◌, ◌-◌, min, List, [], ◌∷◌, length, drop, take, take_all, refl, inl, inr, add-zero, ap, sym, ◌∙◌, arith, slice_range, position, Some, None, nat_lt, length-drop, length-take}
+use Rattle.std.specs.List.{position_or_len}
+use Rattle.std.proofs.lemmas.Bool.{cases_lt, le-ltb, lt-ltb, ltb-false, ltb-true}
+use Rattle.std.proofs.lemmas.Option.{cond_some}
+use Rattle.goblin_base.specs.Bytes.{before_nul, begins_character, cut_text, cut_window}
+use Rattle.goblin_base.specs.Footprints.{positions, stretch_footprint}
+use Rattle.goblin_base.specs.Parts.{moved_by}
+use Rattle.goblin_base.proofs.Numbers.{rest_is_drop}
+use Rattle.goblin_base.proofs.Texts.{test_fails}
+use Rattle.std.proofs.Common.{Bool, true, false, cond, not, ◌==◌, Option, option_and_then, take-take, get_or-take, slice_index}
+use Rattle.std.specs.Str.{is_utf8}
+use Rattle.std.proofs.lemmas.List.Sums.{fails_before_first, passes_at_first, position_or_len_is, prefix_len-le-length}
+use Rattle.goblin_base.specs.declared.error.ErrorOf.{ErrorOf}
+use Rattle.goblin_base.specs.Answers.{FirstFault, IsMemory, IsNoText, IsOffsetFault, IsTextFaultWithin}
+use Rattle.goblin_base.specs.Bytes.{stretch, stretch_at, text_at, text_of, text_within}
+use Rattle.goblin_base.specs.Footprints.{Agree}
+use Rattle.goblin_base.specs.Parts.{text_footprint}
+use Rattle.goblin_base.proofs.Footprints.{same-stretch_at, same-text_at}
+use Rattle.goblin_base.proofs.Inside.{AreInside, stretch-in}
+use Rattle.goblin_base.proofs.Parts.{agree-moved_slice, slice-moved-in}
+use Rattle.goblin_base.proofs.Readings.{no_text-not_memory, offset-not_memory, text-not_memory}
+
+-- the place of the first character that begins after n bytes, or the end
+pub cut_at : (n : ℕ) (bytes : List ℕ) (i : ℕ)
+    → position begins_character (slice_range bytes (n + 1) (length bytes)) ≡ Some i
+    → cut_text n bytes ≡ take (n + 1 + i) bytes
+cut_at n bytes i is =
+    let rest = drop (n + 1) bytes in
+    let same : position begins_character rest ≡ Some i =
+    sym (ap (position begins_character) (rest_is_drop bytes (n + 1))) ∙ is in
+    let found = cond_some (nat_lt (position_or_len begins_character rest) (length rest)) (position_or_len begins_character rest) i same in
+    ap (λ (k : ℕ). take (n + 1 + k) bytes) found.1
+
+pub cut_nowhere : (n : ℕ) (bytes : List ℕ)
+    → position begins_character (slice_range bytes (n + 1) (length bytes)) ≡ None
+    → cut_text n bytes ≡ bytes
+cut_nowhere n bytes none =
+    let rest = drop (n + 1) bytes in
+    let p = position_or_len begins_character rest in
+    let same : position begins_character rest ≡ None =
+    sym (ap (position begins_character) (rest_is_drop bytes (n + 1))) ∙ none in
+    let past = ltb-false p (length rest) (test_fails (nat_lt p (length rest)) p 0 same) in
+    take_all (n + 1 + p) bytes (omega (arith, past, length-drop (n + 1) bytes))
+
+-- a text that has no more is whole
+pub uncut : (n : ℕ) (bytes : List ℕ) → length bytes ≤ n + 1 → cut_text n bytes ≡ bytes
+uncut n bytes few =
+    let p = position_or_len begins_character (drop (n + 1) bytes) in
+    take_all (n + 1 + p) bytes (omega (arith, few))
+
+pub ruleset cut = (cut_at, cut_nowhere, uncut)
+
+-- the bytes at a place that decide on a cut text
+pub window_all : (bytes : List ℕ) (p n : ℕ) → p < length bytes
+    → length (slice_range bytes p (length bytes)) ≤ n + 4
+    → cut_window bytes p n ≡ slice_range bytes p (length bytes)
+window_all bytes p n lt few =
+    let rest = drop p bytes in
+    let long = length-drop p bytes in
+    let all = take_all (length bytes - p) rest (omega (arith, long)) in
+    let short : length rest ≤ n + 4 = omega (arith, few, ap length all) in
+    let width : p + n + 4 - p ≡ n + 4 = omega arith in
+    ap (λ (k : ℕ). take k rest) width ∙ take_all (n + 4) rest short ∙ sym all
+
+pub window_part : (bytes : List ℕ) (p n : ℕ)
+    → cut_window bytes p n ≡ slice_range (slice_range bytes p (length bytes)) 0 (n + 4)
+window_part bytes p n =
+    let width : p + n + 4 - p ≡ n + 4 - 0 = omega arith in
+    ap (λ (k : ℕ). take k (drop p bytes)) width
+    ∙ sym (ap (λ (xs : List ℕ). take (n + 4 - 0) xs) (rest_is_drop bytes p))
+
+pub window_none : (bytes : List ℕ) (p n : ℕ) → length bytes ≤ p
+    → cut_window bytes p n ≡ slice_range bytes 0 0
+window_none bytes p n past =
+    let width : p + n + 4 - p ≡ n + 4 = omega arith in
+    empty (cut_window bytes p n)
+    (omega (arith, past, length-take (p + n + 4 - p) (drop p bytes), length-drop p bytes))
+  where
+    empty : (xs : List ℕ) → length xs ≡ 0 → xs ≡ []
+    empty [] none = refl
+    empty (x ∷ xs) none = absurd (omega (arith, none))
+
+pub ruleset window = (window_all, window_part, window_none)
+
+-- positions that are counted from a place
+pub moved_to : (p m : ℕ) → moved_by p (positions 0 m) ≡ positions p (p + m)
+unfolding positions
+moved_to p m =
+    elim (cases_lt 0 m) [
+      | inl lt ↦ rw (lt-ltb 0 m lt, lt-ltb p (p + m) (omega (arith, lt)), add-zero p) refl
+      | inr none ↦ rw (le-ltb 0 m none, le-ltb p (p + m) (omega (arith, none))) refl
+    ]
+
+-- what a text at the front reaches, counted from a place
+pub moved_stretch : (w : List ℕ) (p m : ℕ) → m ≡ min (length w) (length (before_nul w) + 1)
+    → positions p (p + m) ≡ moved_by p (stretch_footprint w 0)
+unfolding stretch_footprint
+moved_stretch w p m is =
+    let end : m ≡ min (length w) (0 + length (before_nul w) + 1) = omega (arith, is) in
+    sym (moved_to p m) ∙ ap (λ (k : ℕ). moved_by p (positions 0 k)) end
+
+-- ---- a text up to a limit
+
+pub same-text_within : (longest : Option ℕ) (p : ℕ) (a b : List ℕ)
+    → Agree (text_footprint longest a p) a b → text_within longest a p ≡ text_within longest b p
+same-text_within None p a b agree = same-text_at a b p agree
+same-text_within (Some n) p a b agree =
+    let first = cut_window a p n in
+    let again = cut_window b p n in
+    ap (option_and_then (λ s. text_of (cut_text n s)))
+    (same-stretch_at first again 0
+    (agree-moved_slice p (p + n + 4) (stretch_footprint first 0) a b agree))
+
+pub text_within-in : (longest : Option ℕ) (p : ℕ) (bytes : List ℕ)
+    → AreInside bytes (text_footprint longest bytes p)
+text_within-in None p bytes = stretch-in bytes p
+text_within-in (Some n) p bytes =
+    let window = cut_window bytes p n in
+    slice-moved-in p (p + n + 4) bytes (stretch_footprint window 0) (stretch-in window 0)
+
+front-not_memory : (n : ℕ) (found : Option (List ℕ)) (bytes : List ℕ) (e : ErrorOf)
+    → FirstFault found (IsOffsetFault bytes 0) (λ s. IsNoText (cut_text n s)) e → ¬ IsMemory e
+front-not_memory n None bytes e h = offset-not_memory bytes 0 e h
+front-not_memory n (Some s) bytes e h = no_text-not_memory (cut_text n s) e h
+
+pub text_within-not_memory : (longest : Option ℕ) (p : ℕ) (bytes : List ℕ) (e : ErrorOf)
+    → IsTextFaultWithin longest bytes p e → ¬ IsMemory e
+text_within-not_memory None p bytes e h = text-not_memory bytes p e h
+text_within-not_memory (Some n) p bytes e h =
+    let window = cut_window bytes p n in
+    front-not_memory n (stretch_at window 0) window e h
+
+-- ---- a text that is no longer than the limit is whole
+
+cut-short : (n : ℕ) (text : List ℕ) → length (cut_text n text) ≤ n → length text ≤ n
+cut-short n text few =
+    let k = n + 1 + position_or_len begins_character (drop (n + 1) text) in
+    omega (arith, few, length-take k text)
+
+-- the bytes before a NUL are the same in a longer list, where there is a NUL or no more bytes
+front-same : (m : ℕ) (bytes : List ℕ) → length (before_nul (take m bytes)) < m
+    → before_nul (take m bytes) ≡ before_nul bytes
+front-same m bytes few =
+    let front = take m bytes in
+    let i = position_or_len (λ b. b == 0) front in
+    let within : i ≤ length front = prefix_len-le-length (λ b. not (b == 0)) front in
+    let size : length (take i front) ≡ i = omega (arith, length-take i front, within) in
+    let at : (k : ℕ) → k < m → slice_index front k ≡ slice_index bytes k =
+    λ k lt. get_or-take m bytes k 0 lt in
+    elim (cases_lt i (length front)) [
+      | inl lt ↦
+          let below : i < m = omega (arith, few, size) in
+          let place : position_or_len (λ b. b == 0) bytes ≡ i =
+          position_or_len_is (λ b. b == 0) bytes i 0 (omega (arith, lt, length-take m bytes))
+          (λ k less.
+          ap (λ (b : ℕ). b == 0) (sym (at k (omega (arith, less, below))))
+          ∙ fails_before_first (λ b. b == 0) front k 0 less)
+          (λ _.
+          ap (λ (b : ℕ). b == 0) (sym (at i below)) ∙ passes_at_first (λ b. b == 0) front 0 lt) in
+          take-take i m bytes (omega (arith, below))
+          ∙ sym (ap (λ (j : ℕ). take j bytes) place)
+      | inr past ↦
+          let all : take m bytes ≡ bytes =
+          take_all m bytes (omega (arith, few, size, past, length-take m bytes)) in
+          ap before_nul all
+    ]
+
+pub short_is_whole : (n : ℕ) (bytes : List ℕ) (p : ℕ) (s : List ℕ)
+    → text_within (Some n) bytes p ≡ Some s → length s ≤ n → text_at bytes p ≡ Some s
+short_is_whole n bytes p s is few =
+    let window = cut_window bytes p n in
+    let width : p + n + 4 - p ≡ n + 4 = omega arith in
+    let front : window ≡ take (n + 4) (drop p bytes) = ap (λ (k : ℕ). take k (drop p bytes)) width in
+    let there = some_by (nat_lt 0 (length window)) (stretch window 0) (λ t. text_of (cut_text n t)) s is in
+    let utf8 = cond_some (is_utf8 (cut_text n (before_nul window))) (cut_text n (before_nul window)) s there.1 in
+    let short : length (before_nul window) ≤ n =
+    cut-short n (before_nul window) (omega (arith, few, ap length utf8.1)) in
+    let whole : s ≡ before_nul window =
+    sym utf8.1 ∙ uncut n (before_nul window) (omega (arith, short)) in
+    let same : before_nul window ≡ stretch bytes p =
+    ap before_nul front
+    ∙ front-same (n + 4) (drop p bytes)
+    (omega (arith, short, ap (λ (w : List ℕ). length (before_nul w)) front)) in
+    let lt : nat_lt p (length bytes) ≡ true =
+    lt-ltb p (length bytes)
+    (omega (
+      arith,
+      ltb-true 0 (length window) there.0,
+      ap length front,
+      length-take (n + 4) (drop p bytes),
+      length-drop p bytes,
+    )) in
+    let text : is_utf8 (stretch bytes p) ≡ true =
+    sym (ap is_utf8 (uncut n (before_nul window) (omega (arith, short)) ∙ same)) ∙ utf8.0 in
+    rw (lt, text) (ap Some (sym (whole ∙ same)))
+  where
+    some_by : (test : Bool) (x : List ℕ) (f : List ℕ → Option (List ℕ)) (y : List ℕ)
+        → option_and_then f (cond test (Some x) None) ≡ Some y → (test ≡ true) × (f x ≡ Some y)
+    some_by true x f y e = (refl, e)
+    some_by false x f y e = absurd cc
