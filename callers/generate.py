@@ -52,7 +52,7 @@ class Refused(Exception):
 
 
 class Type(NamedTuple):
-    """The type of a field or a parameter: a "number" or a "record" of this name; an "array" of `length` numbers; a "text",
+    """The type of a field or a parameter: a "number" or a "record" of this name; an "array" of `length` numbers or records; a "text",
     which is a slice of bytes; a "table", which is a slice of records; or a "pointer" to bytes."""
 
     form: str
@@ -149,7 +149,7 @@ def type_of(text: str) -> Type:
     form = "number" if name in NUMBERS else "record"
     if bracket:
         form = "array" if length else "text" if name == "u8" else "table"
-    is_known = name in NUMBERS if form in ("number", "array", "text") else name[0].isupper()
+    is_known = name in NUMBERS if form in ("number", "text") else name[0].isupper() or form == "array" and name in NUMBERS
     if not is_known or form in ("text", "table") and not star or bool(length) != (form == "array"):
         raise Refused("the type " + text)
     return Type(form, "Text" if form == "text" else named(name), int(length or 0), bool(star), "mut" in (star or ""), bool(lives))
@@ -256,7 +256,7 @@ class Interface:
 
     def _reach(self, it: Type) -> None:
         # takes a record up, after those that stand in it
-        if it.form in ("text", "record", "table") and it.name not in self.records:
+        if it.form in ("text", "record", "table", "array") and it.name not in {*self.records, *NUMBERS}:
             if it.name not in self._declared:
                 raise Refused("the record " + it.name)
             for item in self._declared[it.name].items:
@@ -265,7 +265,7 @@ class Interface:
 
     def holds(self, name: str, *forms: str) -> bool:
         """Whether a record has a field of one of these forms, or one that stands in it."""
-        return any(it.type.form in forms or it.type.form in ("record", "table") and self.holds(it.type.name, *forms)
+        return any(it.type.form in forms or it.type.name in self.records and self.holds(it.type.name, *forms)
                    for it in self.records[name].items)
 
     def is_header(self, name: str) -> bool:
@@ -278,11 +278,10 @@ class Interface:
         end, most, offsets = 0, 1, {}
         for it in self.records[name].items:
             size, alignment = (8, 8) if it.type.form == "pointer" else (16, 8)
-            if it.type.form == "record":
-                size, alignment, _ = self.layout(it.type.name)
-            elif it.type.form in ("number", "array"):
-                alignment = NUMBERS[it.type.name][0]
-                size = alignment * (it.type.length or 1)
+            if it.type.form in ("number", "record", "array"):
+                of = it.type.name
+                size, alignment = NUMBERS[of][:1] * 2 if of in NUMBERS else self.layout(of)[:2]
+                size *= it.type.length or 1
             offsets[it.name] = end + -end % alignment
             end, most = offsets[it.name] + size, max(most, alignment)
             if it.type.form == "table":
@@ -471,7 +470,7 @@ def rust_files(it: Interface) -> Dict[str, str]:
 
     def kind(of: Type) -> str:
         if of.form == "array":
-            return "[%s; %d]" % (of.name, of.length)
+            return "[%s; %d]" % (name_of(of.name), of.length)
         given = [] if of.name in NUMBERS else lifetimes(of.name)
         return name_of(of.name) + "<%s>" % ", ".join(given) * bool(given)
 
@@ -611,7 +610,8 @@ def python_files(it: Interface) -> Dict[str, str]:
 
     def kind(of: Type) -> str:
         if of.form == "array":
-            return "Annotated[Tuple[int, ...], %s * %d]" % (number(of.name), of.length)
+            what = ("int", number(of.name)) if of.name in NUMBERS else (of.name, of.name)
+            return "Annotated[Tuple[%s, ...], %s, %d]" % (*what, of.length)
         if of.form == "number":
             return "Annotated[%s, %s]" % ("bool" if of.name == "bool" else "int", number(of.name))
         return of.name or "Address"

@@ -143,8 +143,8 @@ def read_te(file):
 
 
 def read_layout(file):
-    layout, directories, room = records.Layout(), (records.Directory * 16)(), (records.Section * 65535)()
-    fault = LIB.goblin_pe_raw_read_layout(file, len(file), c.byref(STRICT), c.byref(layout), directories, 16, room, 65535)
+    layout, room = records.Layout(), (records.Section * 65535)()
+    fault = LIB.goblin_pe_raw_read_layout(file, len(file), c.byref(STRICT), c.byref(layout), room, 65535)
     return fault.status, layout.sections
 
 
@@ -174,15 +174,15 @@ def read_damage(file):
 
 
 def open_without_imports(file):
-    found, directories, tables = records.File(), (records.Directory * 16)(), records.Tables()
+    found, tables = records.File(), records.Tables()
     options = records.Options(False, True, 0, False)
-    fault = LIB.goblin_pe_raw_open(file, len(file), c.byref(options), c.byref(found), directories, 16, c.byref(tables))
+    fault = LIB.goblin_pe_raw_open(file, len(file), c.byref(options), c.byref(found), c.byref(tables))
     return fault.status, tables.count("exports")
 
 
 def next_imports(file, options=STRICT, batches=1, steps=0, rows=256):
-    layout, directories = records.Layout(), (records.Directory * 16)()
-    LIB.goblin_pe_raw_read_layout(file, len(file), c.byref(options), c.byref(layout), directories, 16, (records.Section * 1)(), 0)
+    layout = records.Layout()
+    LIB.goblin_pe_raw_read_layout(file, len(file), c.byref(options), c.byref(layout), (records.Section * 1)(), 0)
     position, room, count, found = records.ImportCursor(), (records.Import * rows)(), c.c_size_t(), 0
     for _ in range(batches):
         fault = LIB.goblin_pe_raw_next_imports(
@@ -192,8 +192,8 @@ def next_imports(file, options=STRICT, batches=1, steps=0, rows=256):
 
 
 def exports_within_steps(file, options=STRICT, rows=256):
-    layout, directories = records.Layout(), (records.Directory * 16)()
-    LIB.goblin_pe_raw_read_layout(file, len(file), c.byref(options), c.byref(layout), directories, 16, (records.Section * 1)(), 0)
+    layout = records.Layout()
+    LIB.goblin_pe_raw_read_layout(file, len(file), c.byref(options), c.byref(layout), (records.Section * 1)(), 0)
     position, room, count = c.c_size_t(), (records.Export * rows)(), c.c_size_t()
     fault = LIB.goblin_pe_raw_next_exports(
         file, len(file), c.byref(options), c.byref(layout.places), c.byref(position), room, rows, 100000, c.byref(count))

@@ -46,13 +46,13 @@ PROGRAM_WINDOWS = dict(section_alignment=4096, file_alignment=512, major_operati
                        size_of_heap_reserve=1_048_576, size_of_heap_commit=4096, number_of_rva_and_sizes=16)
 
 # Files, the modes, and the parts of their headers: the fields that are not zero, and of the data directories that are there, by
-# their indexes, where the record ends in the optional header, the address and the size.
+# their indexes, the address and the size.
 HEADERS = (
     ("a small image for 32 bits", SAMPLE, BOTH, dict(
         dos_header=dict(signature=0x5A4D, pe_pointer=0x40), stub=b"", rich_header=None,
         coff_header=dict(machine=0x14C, number_of_sections=1, size_of_optional_header=0xE0, characteristics=0x102),
         standard_fields=dict(magic=0x10B), windows_fields=dict(file_alignment=0x200, number_of_rva_and_sizes=16),
-        directories={0: (104, 0x10A0, 0x60), 1: (112, 0x1000, 0x28)})),
+        directories={0: (0x10A0, 0x60), 1: (0x1000, 0x28)})),
     ("a signature in the DOS header, before any stub", SIGNATURE_AT_4, PERMISSIVE, dict(
         dos_header=dict(signature=0x5A4D, pages_in_file=0x4550, pe_pointer=4), stub=DEFAULT_STUB, rich_header=None, coff_header={},
         standard_fields=None, windows_fields=None, directories={})),
@@ -61,13 +61,13 @@ HEADERS = (
         coff_header=dict(machine=0x14C, number_of_sections=4, size_of_optional_header=224, characteristics=0x102),
         standard_fields=PROGRAM_STANDARD | dict(magic=0x10B),
         windows_fields=PROGRAM_WINDOWS | dict(image_base=0x40_0000, dll_characteristics=0x8540),
-        directories={0: (104, 0x2004, 0x4D), 5: (144, 0x4000, 0x20)})),
+        directories={0: (0x2004, 0x4D), 5: (0x4000, 0x20)})),
     ("a program for 64 bits", (SAMPLES / "program_x64.exe").read_bytes(), STRICT, dict(
         dos_header=PROGRAM_DOS, stub=PROGRAM_STUB, rich_header=None,
         coff_header=dict(machine=0x8664, number_of_sections=4, size_of_optional_header=240, characteristics=0x22),
         standard_fields=PROGRAM_STANDARD | dict(magic=0x20B),
         windows_fields=PROGRAM_WINDOWS | dict(image_base=0x1_4000_0000, dll_characteristics=0x8160),
-        directories={0: (120, 0x2004, 0x4D), 5: (160, 0x4000, 0x10)})),
+        directories={0: (0x2004, 0x4D), 5: (0x4000, 0x10)})),
 )
 
 # Files that are refused, the modes, and why.
@@ -132,11 +132,11 @@ RESERVED = image(0x20B, bytes(112), bytes(127) + b"\x01")
 
 # Images, and the directories that are there, as in the table of headers.
 ENTRIES = (
-    ("for 32 bits", NARROW, {1: (112, 14584, 160), 2: (120, 24576, 18192), 3: (128, 20480, 264), 5: (144, 45056, 60),
-                             6: (152, 13160, 112), 10: (184, 12304, 320), 12: (200, 12624, 328)}),
-    ("for 64 bits", WIDE, {1: (128, 14584, 160), 2: (136, 24576, 18192), 3: (144, 20480, 264), 5: (160, 45056, 60),
-                           6: (168, 13160, 112), 10: (200, 12304, 320), 12: (216, 12624, 328)}),
-    ("the reserved one", RESERVED, {15: (240, 0, 0x0100_0000)}),
+    ("for 32 bits", NARROW, {1: (14584, 160), 2: (24576, 18192), 3: (20480, 264), 5: (45056, 60),
+                             6: (13160, 112), 10: (12304, 320), 12: (12624, 328)}),
+    ("for 64 bits", WIDE, {1: (14584, 160), 2: (24576, 18192), 3: (20480, 264), 5: (45056, 60),
+                           6: (13160, 112), 10: (12304, 320), 12: (12624, 328)}),
+    ("the reserved one", RESERVED, {15: (0, 0x0100_0000)}),
 )
 
 # The sample with two data directories, after which a byte stands that is not of them.
@@ -267,12 +267,12 @@ def raw(name, *arguments):
 
 
 def opened(file, mode="strict"):
-    """What the library fills of an image: its record, those of its data directories and of its sections, and the stub."""
+    """What the library fills of an image: its record, those of its sections, and the stub."""
     records = package().records
     how = records.Options(mode == "permissive", True, False, True)
-    found = types.SimpleNamespace(file=records.File(), directories=(records.Directory * 16)())
+    found = types.SimpleNamespace(file=records.File())
     tables = records.Tables()
-    raw("goblin_pe_raw_open", file, len(file), ctypes.byref(how), ctypes.byref(found.file), found.directories, 16, ctypes.byref(tables))
+    raw("goblin_pe_raw_open", file, len(file), ctypes.byref(how), ctypes.byref(found.file), ctypes.byref(tables))
     found.stub = ctypes.string_at(tables.dos_stub.bytes, tables.dos_stub.length)
     found.sections = [records.Section.from_buffer_copy(it) for it in tables.records("sections")]
     return found
@@ -280,7 +280,7 @@ def opened(file, mode="strict"):
 
 def entries(found):
     """The data directories that are there, as in the table of headers."""
-    return {index: (it.end, *it.directory) for index, it in enumerate(found.directories) if it.is_present}
+    return {index: it for index, it in enumerate(found.file.places.directories) if any(it)}
 
 
 def nonzero(record):
@@ -300,8 +300,8 @@ def written(found, room):
     """Writes the header of an image that was opened into so many bytes of 0xAA: why that is refused, how many bytes it says are
     written, and what stands there afterwards."""
     out, size = ctypes.create_string_buffer(b"\xAA" * room, room + 1), ctypes.c_size_t(7)
-    refused = refusal(raw, "goblin_pe_raw_write_header", ctypes.byref(found.file), found.directories, found.file.directories,
-                      found.stub, len(found.stub), out, room, ctypes.byref(size))
+    refused = refusal(raw, "goblin_pe_raw_write_header", ctypes.byref(found.file), found.stub, len(found.stub), out, room,
+                      ctypes.byref(size))
     return refused, size.value, out.raw[:room]
 
 # The identifier of big objects, and that of objects that are compiled when they are linked, as they stand in a file.
@@ -358,7 +358,7 @@ class Headers(unittest.TestCase):
                 file = image(standard["magic"], rising(standard_widths) + rising(windows_widths), bytes(128))
                 self.assertEqual([it._asdict() for it in read(file, "strict").optional_header], [standard, windows])
 
-    def test_data_directories_are_read_with_the_ends_of_their_records(self):
+    def test_data_directories_are_read(self):
         for name, file, wanted in ENTRIES:
             with self.subTest(name):
                 self.assertEqual(entries(opened(file, "permissive")), wanted)

@@ -26,9 +26,8 @@ static bool read_file(const char *name)
 static bool is_opened(size_t *imports, size_t *exports)
 {
     struct goblin_pe_file file;
-    struct goblin_pe_directory directories[16];
     struct goblin_pe_tables tables = { 0 };
-    if (goblin_pe_open(bytes, length, NULL, &file, directories, 16, &tables).status != GOBLIN_PE_STATUS_OK)
+    if (goblin_pe_open(bytes, length, NULL, &file, &tables).status != GOBLIN_PE_STATUS_OK)
         return false;
     *imports = tables.import_count;
     *exports = tables.export_count;
@@ -42,7 +41,7 @@ static bool are_imports_walked_over(size_t *imports, size_t room)
     struct goblin_pe_import records[BATCH];
     struct goblin_pe_layout layout;
     size_t count = 1;
-    if (goblin_pe_read_layout(bytes, length, NULL, &layout, NULL, 0, NULL, 0).status != GOBLIN_PE_STATUS_OK)
+    if (goblin_pe_read_layout(bytes, length, NULL, &layout, NULL, 0).status != GOBLIN_PE_STATUS_OK)
         return false;
     for (*imports = 0; count; *imports += count)
         if (goblin_pe_next_imports(bytes, length, NULL, &layout.places, &position, records, room, 0, &count).status !=
@@ -56,7 +55,7 @@ static bool are_exports_walked_over(size_t *exports, size_t room)
     struct goblin_pe_export records[BATCH];
     struct goblin_pe_layout layout;
     size_t position = 0, count = 1;
-    if (goblin_pe_read_layout(bytes, length, NULL, &layout, NULL, 0, NULL, 0).status != GOBLIN_PE_STATUS_OK)
+    if (goblin_pe_read_layout(bytes, length, NULL, &layout, NULL, 0).status != GOBLIN_PE_STATUS_OK)
         return false;
     for (*exports = 0; count; *exports += count)
         if (goblin_pe_next_exports(bytes, length, NULL, &layout.places, &position, records, room, 0, &count).status !=

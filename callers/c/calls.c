@@ -132,17 +132,16 @@ static bool is_sound(void)
 
 /* Whether a header takes as many bytes as is told without room, in no less room, and the section table follows those
    that it has. */
-static bool is_written(const struct goblin_pe_file *file, const struct goblin_pe_directory *directories,
-                       const struct goblin_pe_tables *tables)
+static bool is_written(const struct goblin_pe_file *file, const struct goblin_pe_tables *tables)
 {
     static uint8_t out[1 << 16];
     size_t size = 0, written = 7, table = goblin_pe_section_table(file);
-    return is_ok(goblin_pe_write_header(file, directories, file->directories, tables->dos_stub, NULL, 0, &size)) &&
+    return is_ok(goblin_pe_write_header(file, tables->dos_stub, NULL, 0, &size)) &&
            size <= sizeof out && table <= length - 40 * tables->section_count &&
-           !is_ok(goblin_pe_write_header(file, directories, file->directories, tables->dos_stub, out, size - 1,
+           !is_ok(goblin_pe_write_header(file, tables->dos_stub, out, size - 1,
                                          &written)) &&
            written == 7 &&
-           is_ok(goblin_pe_write_header(file, directories, file->directories, tables->dos_stub, out, size, &written)) &&
+           is_ok(goblin_pe_write_header(file, tables->dos_stub, out, size, &written)) &&
            written == size && !memcmp(out, bytes, size < table ? size : table) &&
            (!tables->section_count || !memcmp(tables->sections[0].name, bytes + table, 8));
 }
@@ -168,7 +167,7 @@ static bool is_told(void)
     struct goblin_pe_file file;
     struct goblin_pe_tables tables;
     char text[GOBLIN_PE_FAULT_ROOM];
-    struct goblin_pe_fault refused = goblin_pe_open(NULL, 0, NULL, &file, NULL, 0, &tables);
+    struct goblin_pe_fault refused = goblin_pe_open(NULL, 0, NULL, &file, &tables);
     struct goblin_pe_fault longest = { GOBLIN_PE_STATUS_MALFORMED, 0, UINT64_MAX, UINT64_MAX, 0, 0 };
     bool is_right = !strcmp(goblin_pe_fault_string(&refused, text), "the file is too short for the DOS signature");
     for (; longest.cause < 100; longest.cause++) {
@@ -184,10 +183,9 @@ static bool is_told(void)
 static bool is_laid_out(const struct goblin_pe_file *file, const struct goblin_pe_tables *tables)
 {
     static struct goblin_pe_section sections[100];
-    struct goblin_pe_directory directories[16];
     struct goblin_pe_layout layout;
-    if (!is_ok(goblin_pe_read_layout(bytes, length, NULL, &layout, NULL, 0, NULL, 0)) ||
-        !is_ok(goblin_pe_read_layout(bytes, length, NULL, &layout, directories, 16, sections, 100)))
+    if (!is_ok(goblin_pe_read_layout(bytes, length, NULL, &layout, NULL, 0)) ||
+        !is_ok(goblin_pe_read_layout(bytes, length, NULL, &layout, sections, 100)))
         return false;
     for (size_t i = 0; i < layout.sections && i < 100; i++)
         if (sections[i].virtual_address != tables->sections[i].virtual_address ||
@@ -205,10 +203,9 @@ static bool is_laid_out(const struct goblin_pe_file *file, const struct goblin_p
 static bool is_parted(const struct goblin_pe_file *file, const struct goblin_pe_tables *tables)
 {
     static struct goblin_pe_section sections[100];
-    struct goblin_pe_directory directories[16];
     struct goblin_pe_parts parts, none;
-    if (!goblin_pe_read_parts(bytes, length, NULL, &parts, directories, 16, sections, 100) ||
-        goblin_pe_read_parts(bytes, 1, NULL, &none, NULL, 0, NULL, 0))
+    if (!goblin_pe_read_parts(bytes, length, NULL, &parts, sections, 100) ||
+        goblin_pe_read_parts(bytes, 1, NULL, &none, NULL, 0))
         return false;
     for (size_t i = 0; i < parts.sections && i < 100; i++)
         if (sections[i].virtual_address != tables->sections[i].virtual_address || sections[i].has_real_name)
@@ -242,8 +239,7 @@ static bool goes_by_places(const struct goblin_pe_places *own)
         return false;
     places.number_of_sections = 0;
     places.section_table = SIZE_MAX;
-    places.has_imports = places.has_exports = true;
-    places.imports.virtual_address = places.exports.virtual_address = 0xFFFFFFFF;
+    memset(places.directories, 0xFF, sizeof places.directories);
     if (!is_fault(goblin_pe_next_imports(bytes, length, NULL, &places, &first, &import, 1, 0, &count),
                   GOBLIN_PE_STATUS_MALFORMED, GOBLIN_PE_CAUSE_UNMAPPED) ||
         !is_fault(goblin_pe_next_exports(bytes, length, NULL, &places, &index, &export, 1, 0, &count),
@@ -252,7 +248,7 @@ static bool goes_by_places(const struct goblin_pe_places *own)
                   GOBLIN_PE_STATUS_MALFORMED, GOBLIN_PE_CAUSE_UNMAPPED) ||
         count != 77)
         return false;
-    places.has_imports = places.has_exports = false;
+    memset(places.directories, 0, sizeof places.directories);
     return is_ok(goblin_pe_next_imports(bytes, length, NULL, &places, &first, &import, 1, 0, &count)) && !count &&
            is_ok(goblin_pe_next_exports(bytes, length, NULL, &places, &index, &export, 1, 0, &count)) && !count &&
            is_ok(goblin_pe_read_export_directory(bytes, length, NULL, &places, &directory)) && !directory.is_read;
@@ -266,7 +262,7 @@ static bool has_checksum(const struct goblin_pe_file *file)
                    GOBLIN_PE_SIZEOF_STANDARD_FIELDS_64 + GOBLIN_PE_OFFSET_WINDOWS_FIELDS_64_CHECKSUM;
     uint32_t sum = 7;
     struct goblin_pe_layout layout;
-    return goblin_pe_read_layout(bytes, 2, NULL, &layout, NULL, 0, NULL, 0).part == GOBLIN_PE_REFUSED_PART_HEADER &&
+    return goblin_pe_read_layout(bytes, 2, NULL, &layout, NULL, 0).part == GOBLIN_PE_REFUSED_PART_HEADER &&
            !goblin_pe_file_checksum(bytes, 2, NULL, &sum) && sum == 7 &&
            goblin_pe_file_checksum(bytes, length, NULL, &sum) && sum == goblin_pe_checksum(bytes, length, field);
 }
@@ -274,9 +270,8 @@ static bool has_checksum(const struct goblin_pe_file *file)
 static bool is_image(void)
 {
     struct goblin_pe_file file;
-    struct goblin_pe_directory directories[16];
     struct goblin_pe_tables tables;
-    if (!is_sound() || !is_ok(goblin_pe_open(bytes, length, NULL, &file, directories, 16, &tables)))
+    if (!is_sound() || !is_ok(goblin_pe_open(bytes, length, NULL, &file, &tables)))
         return false;
     struct goblin_pe_image image = goblin_pe_image_of(bytes, length, NULL, &file, &tables);
     bool is_right = is_laid_out(&file, &tables) && is_parted(&file, &tables) && has_symbols(&file.coff_header) && has_checksum(&file) &&
@@ -290,7 +285,7 @@ static bool is_image(void)
         is_right &= !x->is_by_name || (is_ok(goblin_pe_text_at(&image, x->rva + 2, &name)) &&
                                        name.bytes == x->name.bytes && name.length == x->name.length);
     }
-    is_right &= is_written(&file, directories, &tables) && is_sorted(&tables);
+    is_right &= is_written(&file, &tables) && is_sorted(&tables);
     goblin_pe_free(&tables);
     return is_right;
 }

@@ -198,7 +198,7 @@ int main(int argc, char **argv)
     struct goblin_pe_parts parts;
     struct goblin_pe_fault fault = goblin_pe_read_damage(bytes, length, &options, &damage);
     bool is_whole = is_sound("refused", fault) && tell_damage(&damage);
-    if (!goblin_pe_read_parts(bytes, length, &options, &parts, NULL, 0, NULL, 0))
+    if (!goblin_pe_read_parts(bytes, length, &options, &parts, NULL, 0))
         tell_parts(&parts);
     is_whole &= maps_alike(bytes, length, parts.places);
     free(bytes);

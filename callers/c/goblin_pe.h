@@ -167,21 +167,20 @@ static inline uint32_t goblin_pe_kind_of(const uint8_t *bytes, size_t length)
     return goblin_pe_raw_kind_of(GOBLIN_PE_BYTES(bytes, length), length);
 }
 
-/* Reads an image once: says in `file` what it is, fills the records of its data directories as far as
-   there is room (a file has sixteen or none), and puts all other tables into `tables`, each whole. The
-   tables that stood there before are not freed. After a refusal nothing is to be freed. Memory is taken
-   for the tables. What these lack of the imports and the exports goblin_pe_read_damage counts.
+/* Reads an image once: says in `file` what it is, with its data directories in file->places, zeros where there is none,
+   and puts all other tables into `tables`, each whole. The tables that stood there before are not freed. After a
+   refusal nothing is to be freed. Memory is taken for the tables. What these lack of the imports and the exports
+   goblin_pe_read_damage counts.
 
    Neither mode passes over more than sixteen data directories, a magic that is neither of the two, a header or a section
    table that the file's end cuts, a section's name that is a slash and a text which is no number, or the marker `Rich`
    of a Rich header without `DanS` before it. What is there of such a file goblin_pe_read_parts gives. */
 static inline struct goblin_pe_fault goblin_pe_open(
     const uint8_t *bytes, size_t length, const struct goblin_pe_options *options, struct goblin_pe_file *file,
-    struct goblin_pe_directory *directories, size_t directory_room, struct goblin_pe_tables *tables)
+    struct goblin_pe_tables *tables)
 {
     return goblin_pe_raw_open(
-        GOBLIN_PE_BYTES(bytes, length), length, goblin_pe_options_or_default(options), file,
-        GOBLIN_PE_SOME(struct goblin_pe_directory, directories, directory_room), directory_room, tables);
+        GOBLIN_PE_BYTES(bytes, length), length, goblin_pe_options_or_default(options), file, tables);
 }
 
 /* Frees a block of so many records. */
@@ -203,37 +202,32 @@ static inline void goblin_pe_free(struct goblin_pe_tables *tables)
     memset(tables, 0, sizeof *tables);
 }
 
-/* Reads an image without its tables: says in `layout` what it is, how many data directories and how many
-   sections it has, and fills their records as far as there is room. A first call without room tells how much is
+/* Reads an image without its tables: says in `layout` what it is, its data directories in layout->places, and how many
+   sections it has, and fills the records of these as far as there is room. A first call without room tells how much is
    needed. Refused are a header or sections that goblin_pe_open refuses, but no section for its name where the
    options have `raw_section_names`: no name is looked up then. No other call looks at that option but
    goblin_pe_read_parts, for its `refusal`. So of such a file goblin_pe_open and goblin_pe_read_damage may be refused,
    and goblin_pe_footprint tells of the refusal alone. No memory is taken, however much the tables of the file list. */
 static inline struct goblin_pe_fault goblin_pe_read_layout(
     const uint8_t *bytes, size_t length, const struct goblin_pe_options *options, struct goblin_pe_layout *layout,
-    struct goblin_pe_directory *directories, size_t directory_room, struct goblin_pe_section *sections,
-    size_t section_room)
+    struct goblin_pe_section *sections, size_t section_room)
 {
     return goblin_pe_raw_read_layout(
         GOBLIN_PE_BYTES(bytes, length), length, goblin_pe_options_or_default(options), layout,
-        GOBLIN_PE_SOME(struct goblin_pe_directory, directories, directory_room), directory_room,
         GOBLIN_PE_SOME(struct goblin_pe_section, sections, section_room), section_room);
 }
 
 /* Reads the parts of an image's header, each by itself, and answers whether the header and the sections can be read as
-   a whole: fills the records of data directories and of sections as goblin_pe_read_layout does, the sections with
-   their raw names. No file is refused: each part that is not there has its own fault in `parts`, and `refusal` is
-   what goblin_pe_read_layout answers. Of more than sixteen data directories the first sixteen are given; of a
+   a whole: fills the records of sections as goblin_pe_read_layout does, with their raw names. No file is refused: each
+   part that is not there has its own fault in `parts`, and `refusal` is what goblin_pe_read_layout answers. Of more than sixteen data directories the first sixteen are given; of a
    section table that the file's end cuts the records that are there. Walks go by `places`, and what is looked up
    by addresses by goblin_pe_image_of_parts. */
 static inline bool goblin_pe_read_parts(
     const uint8_t *bytes, size_t length, const struct goblin_pe_options *options, struct goblin_pe_parts *parts,
-    struct goblin_pe_directory *directories, size_t directory_room, struct goblin_pe_section *sections,
-    size_t section_room)
+    struct goblin_pe_section *sections, size_t section_room)
 {
     return goblin_pe_raw_read_parts(
         GOBLIN_PE_BYTES(bytes, length), length, goblin_pe_options_or_default(options), parts,
-        GOBLIN_PE_SOME(struct goblin_pe_directory, directories, directory_room), directory_room,
         GOBLIN_PE_SOME(struct goblin_pe_section, sections, section_room), section_room);
 }
 
@@ -745,9 +739,9 @@ static inline size_t goblin_pe_section_table(const struct goblin_pe_file *file)
 }
 
 /* Writes the header of an image to the front of `out`, and says in `written` how many bytes it has: the DOS
-   header, the stub, the PE signature, the COFF header, and an optional header with sixteen data directories
-   unless file->directories is 0. Where strict mode read them, these are the bytes of the file up to the last
-   of its directories, and zeros for those that it lacks of sixteen. In the file the section table may stand
+   header, the stub, the PE signature, the COFF header, and an optional header with the sixteen data directories
+   of file->places unless file->directories is 0. Where strict mode read them, these are the bytes of the file up to
+   the last of its directories, and zeros for those that it lacks of sixteen. In the file the section table may stand
    where these zeros are. So write elsewhere, and copy at most the bytes before goblin_pe_section_table into the
    file, as patch.c does. No file is looked at: who changes number_of_rva_and_sizes or number_of_sections has to test
    that the directories end before the section table, and the sections before all data. The signature follows the
@@ -756,12 +750,10 @@ static inline size_t goblin_pe_section_table(const struct goblin_pe_file *file)
    are a magic that is neither of the two, a field that does not fit an optional header for 32 bits, and too little
    room: a part of a header is none. Nothing is written then, `written` neither. */
 static inline struct goblin_pe_fault goblin_pe_write_header(
-    const struct goblin_pe_file *file, const struct goblin_pe_directory *directories, size_t directory_count,
-    struct goblin_pe_text stub, uint8_t *out, size_t room, size_t *written)
+    const struct goblin_pe_file *file, struct goblin_pe_text stub, uint8_t *out, size_t room, size_t *written)
 {
     return goblin_pe_raw_write_header(
-        file, GOBLIN_PE_SOME(const struct goblin_pe_directory, directories, directory_count), directory_count,
-        GOBLIN_PE_BYTES(stub.bytes, stub.length), stub.length,
+        file, GOBLIN_PE_BYTES(stub.bytes, stub.length), stub.length,
         GOBLIN_PE_SOME(uint8_t, out, room), room, written);
 }
 

@@ -16,15 +16,15 @@ extern "C" {
 #define GOBLIN_PE_INTERFACE_VERSION 4
 
 /* The sum of the interface that is declared here. goblin_pe_interface answers that of the library. */
-#define GOBLIN_PE_INTERFACE 0xdc0566c2u
+#define GOBLIN_PE_INTERFACE 0x97d49eb8u
 
 /* What follows .so. in the name by which programs ask for the shared library. */
-#define GOBLIN_PE_SONAME "4.dc0566c2"
+#define GOBLIN_PE_SONAME "4.97d49eb8"
 
 /* Only a library of this very interface has this call, so that a program is linked with no other. */
-uint32_t goblin_pe_interface_dc0566c2(void);
+uint32_t goblin_pe_interface_97d49eb8(void);
 #ifdef __GNUC__
-__attribute__((used)) static uint32_t (*const goblin_pe_needs_interface)(void) = goblin_pe_interface_dc0566c2;
+__attribute__((used)) static uint32_t (*const goblin_pe_needs_interface)(void) = goblin_pe_interface_97d49eb8;
 #endif
 
 /* What a file is, by its first bytes. This does not tell whether it can be read, and no call reads
@@ -503,12 +503,8 @@ struct goblin_pe_data_directory {
 struct goblin_pe_places {
     /* The file offset of the section table. */
     size_t section_table;
-    /* The export directory; zeros where there is none. */
-    struct goblin_pe_data_directory exports;
-    /* The import directory; zeros where there is none. */
-    struct goblin_pe_data_directory imports;
-    /* The directory of base relocations; zeros where there is none. */
-    struct goblin_pe_data_directory relocations;
+    /* The data directories by their indexes; zeros where there is none. */
+    struct goblin_pe_data_directory directories[16];
     /* The file alignment of the sections' raw data, in bytes; 0 where there is no optional header. */
     uint32_t file_alignment;
     /* How many bytes the headers have, as the optional header says: so much of the file's front the
@@ -519,12 +515,6 @@ struct goblin_pe_places {
     /* The magic of the optional header: by 0x10B the entries of import tables have four bytes, else
        eight; 0 where there is no optional header. */
     uint16_t magic;
-    /* Whether there is an export directory. */
-    bool has_exports;
-    /* Whether there is an import directory. */
-    bool has_imports;
-    /* Whether there is a directory of base relocations. */
-    bool has_relocations;
 };
 
 /* Where a walk over imports is, in numbers; zeros are the beginning. With the file's bytes and
@@ -1052,8 +1042,7 @@ struct goblin_pe_dos_header {
 struct goblin_pe_file {
     /* The optional header. */
     struct goblin_pe_optional_header optional_header;
-    /* How many data directories there are, whatever the room: sixteen, or none where there is no
-       optional header. Records past them are not filled. */
+    /* How many data directories there are: sixteen, or none where there is no optional header. */
     size_t directories;
     /* How many sections there are. */
     size_t sections;
@@ -1071,17 +1060,6 @@ struct goblin_pe_file {
     struct goblin_pe_dos_header dos_header;
     /* The COFF header. */
     struct goblin_pe_coff_header coff_header;
-};
-
-/* An entry of the table of data directories. */
-struct goblin_pe_directory {
-    /* Where the entry's record ends, in bytes from the front of the optional header; 0 where there
-       is no entry. */
-    size_t end;
-    /* Where what it leads to lies; zeros where there is no entry. */
-    struct goblin_pe_data_directory directory;
-    /* Whether there is such an entry, and not all of it is 0. */
-    bool is_present;
 };
 
 /* An entry of a Rich header: a tool, and how often it was used.
@@ -1131,8 +1109,7 @@ struct goblin_pe_tables {
 struct goblin_pe_layout {
     /* The optional header. */
     struct goblin_pe_optional_header optional_header;
-    /* How many data directories there are, whatever the room: sixteen, or none where there is no
-       optional header. Records past them are not filled. */
+    /* How many data directories there are: sixteen, or none where there is no optional header. */
     size_t directories;
     /* How many sections there are, whatever the room. */
     size_t sections;
@@ -1154,8 +1131,8 @@ struct goblin_pe_parts {
     /* The optional header: the standard fields and the Windows fields, zeros in place of those that
        are refused. */
     struct goblin_pe_optional_header optional_header;
-    /* How many data directories there are, whatever the room: sixteen, or none where there is no
-       optional header, or its standard fields are refused. Records past them are not filled. */
+    /* How many data directories there are: sixteen, or none where there is no optional header, or
+       its standard fields are refused. */
     size_t directories;
     /* How many sections there are, whatever the room: as many as the COFF header says, or as the
        file has whole records, if these are fewer. */
@@ -1327,16 +1304,13 @@ size_t goblin_pe_raw_next_words(
 uint32_t goblin_pe_raw_kind_of(const uint8_t *bytes, size_t byte_count);
 struct goblin_pe_fault goblin_pe_raw_open(
     const uint8_t *bytes, size_t byte_count, const struct goblin_pe_options *options,
-    struct goblin_pe_file *file, struct goblin_pe_directory *directories, size_t directory_room,
-    struct goblin_pe_tables *tables);
+    struct goblin_pe_file *file, struct goblin_pe_tables *tables);
 struct goblin_pe_fault goblin_pe_raw_read_layout(
     const uint8_t *bytes, size_t byte_count, const struct goblin_pe_options *options,
-    struct goblin_pe_layout *layout, struct goblin_pe_directory *directories, size_t directory_room,
-    struct goblin_pe_section *sections, size_t section_room);
+    struct goblin_pe_layout *layout, struct goblin_pe_section *sections, size_t section_room);
 bool goblin_pe_raw_read_parts(
     const uint8_t *bytes, size_t byte_count, const struct goblin_pe_options *options,
-    struct goblin_pe_parts *parts, struct goblin_pe_directory *directories, size_t directory_room,
-    struct goblin_pe_section *sections, size_t section_room);
+    struct goblin_pe_parts *parts, struct goblin_pe_section *sections, size_t section_room);
 struct goblin_pe_fault goblin_pe_raw_read_damage(
     const uint8_t *bytes, size_t byte_count, const struct goblin_pe_options *options,
     struct goblin_pe_damage *damage);
@@ -1344,9 +1318,8 @@ struct goblin_pe_fault goblin_pe_raw_footprint(
     const uint8_t *bytes, size_t byte_count, const struct goblin_pe_options *options,
     struct goblin_pe_ranges *ranges);
 struct goblin_pe_fault goblin_pe_raw_write_header(
-    const struct goblin_pe_file *file, const struct goblin_pe_directory *directories,
-    size_t directory_count, const uint8_t *stub, size_t stub_count, uint8_t *out, size_t out_room,
-    size_t *written);
+    const struct goblin_pe_file *file, const uint8_t *stub, size_t stub_count, uint8_t *out,
+    size_t out_room, size_t *written);
 struct goblin_pe_fault goblin_pe_raw_write_section(
     const struct goblin_pe_section *section, uint8_t *out, size_t out_room, size_t *written);
 struct goblin_pe_fault goblin_pe_raw_set_name_offset(
@@ -1454,18 +1427,13 @@ GOBLIN_PE_HAS_SIZE(data_directory, 8, 4);
 GOBLIN_PE_IS_AT(data_directory, virtual_address, 0);
 GOBLIN_PE_IS_AT(data_directory, size, 4);
 
-GOBLIN_PE_HAS_SIZE(places, 48, 8);
+GOBLIN_PE_HAS_SIZE(places, 152, 8);
 GOBLIN_PE_IS_AT(places, section_table, 0);
-GOBLIN_PE_IS_AT(places, exports, 8);
-GOBLIN_PE_IS_AT(places, imports, 16);
-GOBLIN_PE_IS_AT(places, relocations, 24);
-GOBLIN_PE_IS_AT(places, file_alignment, 32);
-GOBLIN_PE_IS_AT(places, size_of_headers, 36);
-GOBLIN_PE_IS_AT(places, number_of_sections, 40);
-GOBLIN_PE_IS_AT(places, magic, 42);
-GOBLIN_PE_IS_AT(places, has_exports, 44);
-GOBLIN_PE_IS_AT(places, has_imports, 45);
-GOBLIN_PE_IS_AT(places, has_relocations, 46);
+GOBLIN_PE_IS_AT(places, directories, 8);
+GOBLIN_PE_IS_AT(places, file_alignment, 136);
+GOBLIN_PE_IS_AT(places, size_of_headers, 140);
+GOBLIN_PE_IS_AT(places, number_of_sections, 144);
+GOBLIN_PE_IS_AT(places, magic, 146);
 
 GOBLIN_PE_HAS_SIZE(import_cursor, 56, 8);
 GOBLIN_PE_IS_AT(import_cursor, first_record, 0);
@@ -1685,22 +1653,17 @@ GOBLIN_PE_IS_AT(dos_header, oem_info, 38);
 GOBLIN_PE_IS_AT(dos_header, reserved2, 40);
 GOBLIN_PE_IS_AT(dos_header, pe_pointer, 60);
 
-GOBLIN_PE_HAS_SIZE(file, 440, 8);
+GOBLIN_PE_HAS_SIZE(file, 544, 8);
 GOBLIN_PE_IS_AT(file, optional_header, 0);
 GOBLIN_PE_IS_AT(file, directories, 144);
 GOBLIN_PE_IS_AT(file, sections, 152);
 GOBLIN_PE_IS_AT(file, places, 160);
-GOBLIN_PE_IS_AT(file, imports, 208);
-GOBLIN_PE_IS_AT(file, exports, 224);
-GOBLIN_PE_IS_AT(file, relocations, 240);
-GOBLIN_PE_IS_AT(file, rich_header, 288);
-GOBLIN_PE_IS_AT(file, dos_header, 352);
-GOBLIN_PE_IS_AT(file, coff_header, 416);
-
-GOBLIN_PE_HAS_SIZE(directory, 24, 8);
-GOBLIN_PE_IS_AT(directory, end, 0);
-GOBLIN_PE_IS_AT(directory, directory, 8);
-GOBLIN_PE_IS_AT(directory, is_present, 16);
+GOBLIN_PE_IS_AT(file, imports, 312);
+GOBLIN_PE_IS_AT(file, exports, 328);
+GOBLIN_PE_IS_AT(file, relocations, 344);
+GOBLIN_PE_IS_AT(file, rich_header, 392);
+GOBLIN_PE_IS_AT(file, dos_header, 456);
+GOBLIN_PE_IS_AT(file, coff_header, 520);
 
 GOBLIN_PE_HAS_SIZE(rich_metadata, 8, 4);
 GOBLIN_PE_IS_AT(rich_metadata, build, 0);
@@ -1723,29 +1686,29 @@ GOBLIN_PE_IS_AT(tables, block_count, 88);
 GOBLIN_PE_IS_AT(tables, export_directory, 96);
 GOBLIN_PE_IS_AT(tables, dos_stub, 160);
 
-GOBLIN_PE_HAS_SIZE(layout, 312, 8);
+GOBLIN_PE_HAS_SIZE(layout, 416, 8);
 GOBLIN_PE_IS_AT(layout, optional_header, 0);
 GOBLIN_PE_IS_AT(layout, directories, 144);
 GOBLIN_PE_IS_AT(layout, sections, 152);
 GOBLIN_PE_IS_AT(layout, places, 160);
-GOBLIN_PE_IS_AT(layout, dos_header, 208);
-GOBLIN_PE_IS_AT(layout, coff_header, 272);
-GOBLIN_PE_IS_AT(layout, dos_stub, 296);
+GOBLIN_PE_IS_AT(layout, dos_header, 312);
+GOBLIN_PE_IS_AT(layout, coff_header, 376);
+GOBLIN_PE_IS_AT(layout, dos_stub, 400);
 
-GOBLIN_PE_HAS_SIZE(parts, 496, 8);
+GOBLIN_PE_HAS_SIZE(parts, 600, 8);
 GOBLIN_PE_IS_AT(parts, optional_header, 0);
 GOBLIN_PE_IS_AT(parts, directories, 144);
 GOBLIN_PE_IS_AT(parts, sections, 152);
 GOBLIN_PE_IS_AT(parts, missing_sections, 160);
 GOBLIN_PE_IS_AT(parts, places, 168);
-GOBLIN_PE_IS_AT(parts, dos_header, 216);
-GOBLIN_PE_IS_AT(parts, coff_header, 280);
-GOBLIN_PE_IS_AT(parts, refusal, 304);
-GOBLIN_PE_IS_AT(parts, dos_header_fault, 336);
-GOBLIN_PE_IS_AT(parts, coff_header_fault, 368);
-GOBLIN_PE_IS_AT(parts, standard_fields_fault, 400);
-GOBLIN_PE_IS_AT(parts, windows_fields_fault, 432);
-GOBLIN_PE_IS_AT(parts, directories_fault, 464);
+GOBLIN_PE_IS_AT(parts, dos_header, 320);
+GOBLIN_PE_IS_AT(parts, coff_header, 384);
+GOBLIN_PE_IS_AT(parts, refusal, 408);
+GOBLIN_PE_IS_AT(parts, dos_header_fault, 440);
+GOBLIN_PE_IS_AT(parts, coff_header_fault, 472);
+GOBLIN_PE_IS_AT(parts, standard_fields_fault, 504);
+GOBLIN_PE_IS_AT(parts, windows_fields_fault, 536);
+GOBLIN_PE_IS_AT(parts, directories_fault, 568);
 
 GOBLIN_PE_HAS_SIZE(damage, 192, 8);
 GOBLIN_PE_IS_AT(damage, dos_stub, 0);

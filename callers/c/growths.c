@@ -53,7 +53,6 @@ void free(void *block)
 /* What a call fills, or leaves as it is. */
 struct records {
     struct goblin_pe_file file;
-    struct goblin_pe_directory directories[16];
     struct goblin_pe_tables tables;
     struct goblin_pe_layout layout;
     struct goblin_pe_damage damage;
@@ -104,9 +103,9 @@ static struct goblin_pe_fault called_by_places(const char *name, struct records 
 static struct goblin_pe_fault called(const char *name, struct records *r)
 {
     if (!strcmp(name, "open"))
-        return goblin_pe_open(bytes, length, NULL, &r->file, r->directories, 16, &r->tables);
+        return goblin_pe_open(bytes, length, NULL, &r->file, &r->tables);
     if (!strcmp(name, "layout"))
-        return goblin_pe_read_layout(bytes, length, NULL, &r->layout, r->directories, 16, r->sections, 4);
+        return goblin_pe_read_layout(bytes, length, NULL, &r->layout, r->sections, 4);
     if (!strcmp(name, "damage"))
         return goblin_pe_read_damage(bytes, length, NULL, &r->damage);
     if (!strcmp(name, "footprint"))
@@ -128,9 +127,9 @@ int main(int argc, char **argv)
         return 3;
     length = fread(bytes, 1, sizeof bytes, from);
     fclose(from);
-    goblin_pe_read_layout(bytes, length, NULL, &layout, NULL, 0, NULL, 0);
-    old.file.sections = old.directories[15].end = old.damage.left_out_entries = old.object.sections = old.count = 7;
-    old.te_header.machine = old.sections[3].number_of_relocations = 7;
+    goblin_pe_read_layout(bytes, length, NULL, &layout, NULL, 0);
+    old.file.sections = old.damage.left_out_entries = old.object.sections = old.count = 7;
+    old.file.places.directories[15].size = old.te_header.machine = old.sections[3].number_of_relocations = 7;
     old.directory.table.ordinal_base = old.addresses[3].rva = old.blocks[3].rva = 7;
     for (size_t growth = 1;; growth++) {
         memcpy(&new, &old, sizeof new);

@@ -26,7 +26,7 @@ static bool one_way_out(void)
     bool is_found = false;
     struct goblin_pe_file file;
     struct goblin_pe_tables tables = { 0 };
-    struct goblin_pe_fault fault = goblin_pe_open(bytes, length, NULL, &file, NULL, 0, &tables);
+    struct goblin_pe_fault fault = goblin_pe_open(bytes, length, NULL, &file, &tables);
     if (fault.status)
         goto out;
     for (size_t i = 0; i < tables.import_count; i++)
@@ -44,7 +44,7 @@ static bool other_options(void)
     struct goblin_pe_file file;
     struct goblin_pe_tables tables;
     options.parse_imports = false;
-    if (goblin_pe_open(bytes, length, &options, &file, NULL, 0, &tables).status != GOBLIN_PE_STATUS_OK)
+    if (goblin_pe_open(bytes, length, &options, &file, &tables).status != GOBLIN_PE_STATUS_OK)
         return false;
     bool is_absent = file.imports.state == GOBLIN_PE_STATE_ABSENT && tables.import_count == 0;
     return goblin_pe_free(&tables), is_absent;
@@ -56,7 +56,7 @@ static bool a_refusal(void)
     struct goblin_pe_file file;
     struct goblin_pe_tables tables = { 0 };
     char text[GOBLIN_PE_FAULT_ROOM], line[200];
-    struct goblin_pe_fault fault = goblin_pe_open((const uint8_t *)"no image", 8, NULL, &file, NULL, 0, &tables);
+    struct goblin_pe_fault fault = goblin_pe_open((const uint8_t *)"no image", 8, NULL, &file, &tables);
     switch (fault.status) {
     case GOBLIN_PE_STATUS_MALFORMED:
         snprintf(line, sizeof line, "refused: %s", goblin_pe_fault_string(&fault, text));
@@ -72,7 +72,7 @@ static bool a_sorted_table(void)
     struct goblin_pe_file file;
     struct goblin_pe_tables tables = { 0 };
     struct goblin_pe_export wanted, *found = NULL;
-    if (!goblin_pe_open(bytes, length, NULL, &file, NULL, 0, &tables).status && tables.export_count == 2) {
+    if (!goblin_pe_open(bytes, length, NULL, &file, &tables).status && tables.export_count == 2) {
         wanted = tables.exports[1];
         qsort(tables.exports, tables.export_count, sizeof *tables.exports, by_name);
         found = bsearch(&wanted, tables.exports, tables.export_count, sizeof *tables.exports, by_name);
@@ -88,9 +88,9 @@ static bool room_by_a_first_call(void)
     struct goblin_pe_layout layout;
     struct goblin_pe_section *sections = NULL;
     bool is_read = false;
-    if (!goblin_pe_read_layout(bytes, length, NULL, &layout, NULL, 0, NULL, 0).status)
+    if (!goblin_pe_read_layout(bytes, length, NULL, &layout, NULL, 0).status)
         sections = malloc(layout.sections * sizeof *sections);
-    if (sections && !goblin_pe_read_layout(bytes, length, NULL, &layout, NULL, 0, sections, layout.sections).status)
+    if (sections && !goblin_pe_read_layout(bytes, length, NULL, &layout, sections, layout.sections).status)
         is_read = layout.sections == 4 && memcmp(sections[0].name, ".text\0\0\0", 8) == 0;
     free(sections);
     return is_read;
@@ -102,7 +102,7 @@ static bool a_walk(void)
     size_t position = 0, count, all = 0;
     struct goblin_pe_export room[1];
     struct goblin_pe_layout layout;
-    if (goblin_pe_read_layout(bytes, length, NULL, &layout, NULL, 0, NULL, 0).status)
+    if (goblin_pe_read_layout(bytes, length, NULL, &layout, NULL, 0).status)
         return false;
     do {
         if (goblin_pe_next_exports(bytes, length, NULL, &layout.places, &position, room, 1, 0, &count).status)
@@ -119,7 +119,7 @@ static bool the_code_at_the_entry(void)
     struct goblin_pe_tables tables = { 0 };
     struct goblin_pe_section_data data = { 0 };
     size_t index = 0, offset = 0;
-    if (goblin_pe_open(bytes, length, NULL, &file, NULL, 0, &tables).status)
+    if (goblin_pe_open(bytes, length, NULL, &file, &tables).status)
         return false;
     struct goblin_pe_image image = goblin_pe_image_of(bytes, length, NULL, &file, &tables);
     uint32_t entry = tables.sections[0].virtual_address;
@@ -129,15 +129,15 @@ static bool the_code_at_the_entry(void)
     return goblin_pe_free(&tables), is_there;
 }
 
-/* A directory, by its name; the records past the number of them are not looked at. */
+/* A directory, by its name; one that is not there has zeros. */
 static bool a_directory(void)
 {
     struct goblin_pe_layout layout;
-    struct goblin_pe_directory directories[16];
-    if (goblin_pe_read_layout(bytes, length, NULL, &layout, directories, 16, NULL, 0).status || !layout.directories)
+    if (goblin_pe_read_layout(bytes, length, NULL, &layout, NULL, 0).status || !layout.directories)
         return false;
-    return directories[GOBLIN_PE_DIRECTORY_TYPE_IMPORT_TABLE].is_present
-        && !directories[GOBLIN_PE_DIRECTORY_TYPE_CLR_RUNTIME_HEADER].is_present;
+    const struct goblin_pe_data_directory *directories = layout.places.directories;
+    return directories[GOBLIN_PE_DIRECTORY_TYPE_IMPORT_TABLE].virtual_address
+        && !directories[GOBLIN_PE_DIRECTORY_TYPE_CLR_RUNTIME_HEADER].virtual_address;
 }
 
 /* Flags are tested by their names. */
@@ -145,7 +145,7 @@ static bool flags(void)
 {
     struct goblin_pe_layout layout;
     if (goblin_pe_kind_of(bytes, length) != GOBLIN_PE_KIND_IMAGE
-        || goblin_pe_read_layout(bytes, length, NULL, &layout, NULL, 0, NULL, 0).status)
+        || goblin_pe_read_layout(bytes, length, NULL, &layout, NULL, 0).status)
         return false;
     return layout.coff_header.machine == GOBLIN_PE_COFF_MACHINE_X86_64
         && (layout.coff_header.characteristics & GOBLIN_PE_IMAGE_FILE_DLL) != 0;
@@ -155,16 +155,15 @@ static bool flags(void)
 static bool a_changed_header(void)
 {
     struct goblin_pe_file file;
-    struct goblin_pe_directory directories[16];
     struct goblin_pe_tables tables;
     size_t room = 0, written = 0;
-    if (goblin_pe_open(bytes, length, NULL, &file, directories, 16, &tables).status)
+    if (goblin_pe_open(bytes, length, NULL, &file, &tables).status)
         return false;
-    if (goblin_pe_write_header(&file, directories, file.directories, tables.dos_stub, NULL, 0, &room).status)
+    if (goblin_pe_write_header(&file, tables.dos_stub, NULL, 0, &room).status)
         return goblin_pe_free(&tables), false;
     uint8_t *out = malloc(room);
     file.coff_header.time_date_stamp = 7;
-    bool is_written = out && !goblin_pe_write_header(&file, directories, file.directories, tables.dos_stub, out, room, &written).status
+    bool is_written = out && !goblin_pe_write_header(&file, tables.dos_stub, out, room, &written).status
         && written == room && out[file.dos_header.pe_pointer + 8] == 7;
     free(out);
     goblin_pe_free(&tables);

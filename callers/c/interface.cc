@@ -10,7 +10,7 @@ int main()
     goblin_pe_section section{};
     goblin_pe_damage damage;
     const uint8_t *bytes = nullptr;
-    goblin_pe_fault fault = goblin_pe_open(bytes, 0, &options, &file, nullptr, 0, &tables);
+    goblin_pe_fault fault = goblin_pe_open(bytes, 0, &options, &file, &tables);
     goblin_pe_free(&tables);
     goblin_pe_free_ranges(&ranges);
     bool is_named = goblin_pe_set_name(&section, ".text", 5) && !goblin_pe_set_name(&section, "too long a name", 15);

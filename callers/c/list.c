@@ -121,7 +121,7 @@ static int list_image(const uint8_t *bytes, size_t length, bool is_permissive)
     struct goblin_pe_file file;
     struct goblin_pe_tables tables;
     options.is_permissive = is_permissive;
-    struct goblin_pe_fault fault = goblin_pe_open(bytes, length, &options, &file, NULL, 0, &tables);
+    struct goblin_pe_fault fault = goblin_pe_open(bytes, length, &options, &file, &tables);
     if (fault.status != GOBLIN_PE_STATUS_OK)
         return refused(fault);
     const struct goblin_pe_standard_fields *standard = &file.optional_header.standard_fields;

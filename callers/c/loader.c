@@ -164,7 +164,7 @@ static struct goblin_pe_fault open_image(struct module *m)
 {
     struct goblin_pe_options options = loading();
     struct goblin_pe_fault fault;
-    fault = goblin_pe_open(m->bytes, m->length, &options, &m->file, NULL, 0, &m->tables);
+    fault = goblin_pe_open(m->bytes, m->length, &options, &m->file, &m->tables);
     if (fault.status == GOBLIN_PE_STATUS_OK)
         m->image = goblin_pe_image_of(m->bytes, m->length, &options, &m->file, &m->tables);
     return fault;

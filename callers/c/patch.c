@@ -14,7 +14,6 @@ struct image {
     uint8_t *bytes;
     size_t length;
     struct goblin_pe_file file;
-    struct goblin_pe_directory directories[GOBLIN_PE_NUM_DATA_DIRECTORIES];
     struct goblin_pe_tables tables;
 };
 
@@ -55,7 +54,7 @@ static bool fails(const char *why)
 static bool open_image(struct image *image)
 {
     return is_ok(goblin_pe_open(
-        image->bytes, image->length, NULL, &image->file, image->directories, GOBLIN_PE_NUM_DATA_DIRECTORIES, &image->tables));
+        image->bytes, image->length, NULL, &image->file, &image->tables));
 }
 
 /* The index of the section with these eight bytes of name, or how many there are. */
@@ -86,14 +85,12 @@ static bool write_header(struct image *image)
 {
     size_t size = 0;
     struct goblin_pe_text stub = image->tables.dos_stub;
-    const struct goblin_pe_directory *directories = image->directories;
-    size_t count = image->file.directories;
-    if (!is_ok(goblin_pe_write_header(&image->file, directories, count, stub, NULL, 0, &size)))
+    if (!is_ok(goblin_pe_write_header(&image->file, stub, NULL, 0, &size)))
         return false;
     uint8_t *header = malloc(size);
     if (!header)
         return fails("out of memory");
-    bool is_put = is_ok(goblin_pe_write_header(&image->file, directories, count, stub, header, size, &size)) &&
+    bool is_put = is_ok(goblin_pe_write_header(&image->file, stub, header, size, &size)) &&
                   put_header(image, header, size);
     free(header);
     return is_put;

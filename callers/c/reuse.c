@@ -56,7 +56,7 @@ static bool is_permissively_in_file(struct goblin_pe_file *file, struct goblin_p
 {
     struct goblin_pe_options options = GOBLIN_PE_DEFAULT_OPTIONS;
     options.is_permissive = true;
-    if (goblin_pe_open(bytes, length, &options, file, NULL, 0, tables).status != GOBLIN_PE_STATUS_OK)
+    if (goblin_pe_open(bytes, length, &options, file, tables).status != GOBLIN_PE_STATUS_OK)
         return true;
     bool is_right = are_in_file(tables);
     goblin_pe_free(tables);
@@ -219,11 +219,10 @@ static bool has_addresses(const struct goblin_pe_tables *tables)
 }
 
 /* Whether the header and the sections are written as they stand in the file. */
-static bool is_written(const struct goblin_pe_file *file, const struct goblin_pe_directory *directories,
-                       const struct goblin_pe_tables *tables)
+static bool is_written(const struct goblin_pe_file *file, const struct goblin_pe_tables *tables)
 {
     size_t count = 0, table = goblin_pe_section_table(file);
-    if (goblin_pe_write_header(file, directories, file->directories, tables->dos_stub, written, sizeof written, &count)
+    if (goblin_pe_write_header(file, tables->dos_stub, written, sizeof written, &count)
             .status != GOBLIN_PE_STATUS_OK)
         return false;
     for (size_t i = 0; i < tables->section_count; i++) {
@@ -238,11 +237,9 @@ static bool is_written(const struct goblin_pe_file *file, const struct goblin_pe
 int main(int argc, char **argv)
 {
     struct goblin_pe_tables tables;
-    struct goblin_pe_directory directories[16];
     struct goblin_pe_file file;
     memset(&file, 0xff, sizeof file);
     memset(&tables, 0xff, sizeof tables);
-    memset(directories, 0xff, sizeof directories);
     for (int i = 1; i < argc; i++) {
         FILE *from = fopen(argv[i], "rb");
         if (!from)
@@ -251,7 +248,7 @@ int main(int argc, char **argv)
         fclose(from);
         if (!is_permissively_in_file(&file, &tables))
             return 8;
-        struct goblin_pe_fault fault = goblin_pe_open(bytes, length, NULL, &file, directories, 16, &tables);
+        struct goblin_pe_fault fault = goblin_pe_open(bytes, length, NULL, &file, &tables);
         if (fault.status != GOBLIN_PE_STATUS_OK)
             continue;
         bool has_header = file.coff_header.size_of_optional_header;
@@ -263,7 +260,7 @@ int main(int argc, char **argv)
             !walks_over_exports(&file.places, &tables) || !walks_over_addresses(&file.places, &tables) ||
             !has_directory(&file.places, &tables) || !walks_over_blocks(&file, &tables))
             return 6;
-        if (has_header && !is_written(&file, directories, &tables))
+        if (has_header && !is_written(&file, &tables))
             return 7;
         goblin_pe_free(&tables);
     }

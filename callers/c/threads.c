@@ -29,7 +29,7 @@ static bool makes_the_other_calls(void)
     bool is_granted = goblin_pe_read_damage(image.bytes, image.length, NULL, &damage).status == GOBLIN_PE_STATUS_OK;
     is_granted &= goblin_pe_footprint(image.bytes, image.length, NULL, &ranges).status == GOBLIN_PE_STATUS_OK;
     goblin_pe_free_ranges(&ranges);
-    is_granted &= goblin_pe_read_layout(image.bytes, image.length, NULL, &layout, NULL, 0, NULL, 0).status ==
+    is_granted &= goblin_pe_read_layout(image.bytes, image.length, NULL, &layout, NULL, 0).status ==
                   GOBLIN_PE_STATUS_OK;
     is_granted &= goblin_pe_next_imports(image.bytes, image.length, NULL, &layout.places, &position, &import, 1, 0, &count)
                       .status == GOBLIN_PE_STATUS_OK;
@@ -46,7 +46,7 @@ static void *reads(void *imports_wanted)
     for (int i = 0; i < 200; i++) {
         struct goblin_pe_file file;
         struct goblin_pe_tables tables = { 0 };
-        struct goblin_pe_fault fault = goblin_pe_open(image.bytes, image.length, NULL, &file, NULL, 0, &tables);
+        struct goblin_pe_fault fault = goblin_pe_open(image.bytes, image.length, NULL, &file, &tables);
         size_t found = tables.import_count;
         goblin_pe_free(&tables);
         if (fault.status != GOBLIN_PE_STATUS_OK || found != *(const size_t *)imports_wanted || !makes_the_other_calls())

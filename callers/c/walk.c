@@ -60,7 +60,7 @@ int main(int argc, char **argv)
     if (!bytes)
         return 2;
     struct goblin_pe_layout layout;
-    struct goblin_pe_fault fault = goblin_pe_read_layout(bytes, length, NULL, &layout, NULL, 0, NULL, 0);
+    struct goblin_pe_fault fault = goblin_pe_read_layout(bytes, length, NULL, &layout, NULL, 0);
     bool is_read = fault.status == GOBLIN_PE_STATUS_OK && count_imports(bytes, length, &layout.places, most);
     if (fault.status == GOBLIN_PE_STATUS_OK)
         is_read = count_exports(bytes, length, &layout.places, most) && is_read;

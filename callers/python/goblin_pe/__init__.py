@@ -297,7 +297,7 @@ class _File:
     _sections: _t.Any  # (their records, whose texts lie in the bytes, which begin at the address)
     _address: int
     _counts: _t.Dict[str, int]
-    _made: _t.Dict[str, _t.Any]  # (the rows that were asked for, and the damage)
+    _made: _t.Dict[str, _t.Any]  # (the rows and data directories that were asked for, and the damage)
 
     def _bytes(self) -> _Kept:
         return _here(self._data)
@@ -413,13 +413,13 @@ class Layout(_File):
 
     def __init__(self, data: Data, options: _t.Optional[Options] = None):
         self._hold(data, options)
-        layout, directories = records.Layout(), (records.Directory * 16)()
+        layout = records.Layout()
         with _held(self._bytes()) as (address, length):
             for _ in range(2):
                 sections, count = _room(records.Section, layout.sections), layout.sections
                 _test(_LIB.goblin_pe_raw_read_layout(
-                    address, length, _c.byref(self._options), _c.byref(layout), directories, 16, sections, count))
-        self._take_headers(layout, directories[: layout.directories])
+                    address, length, _c.byref(self._options), _c.byref(layout), sections, count))
+        self._take_headers(layout)
         self._counts = {"sections": count}
         self._take_sections(sections, address)
         self._take_stub(layout.dos_stub, address)
@@ -432,11 +432,10 @@ class Layout(_File):
         self._made = {}
         self._symbol_table: _t.Optional[records.SymbolTable] = None  # (until a symbol is asked for)
 
-    def _take_headers(self, file: _t.Union[records.File, records.Layout, records.Parts], directories: _t.List[records.Directory]) -> None:
+    def _take_headers(self, file: _t.Union[records.File, records.Layout, records.Parts]) -> None:
         self._dos_header, self._coff_header, self._header = file.dos_header, file.coff_header, file.optional_header
         self._places = file.places
-        self._directories = {_named(DirectoryType, index): d.directory for index, d in enumerate(directories) if d.is_present}
-        self._has_directories = bool(directories)
+        self._has_directories = bool(file.directories)
 
     def _take_sections(self, stored: _t.Any, address: int) -> None:
         # their records, whose texts lie in the file's bytes, which begin at the address
@@ -523,7 +522,10 @@ class Layout(_File):
     @property
     def data_directories(self) -> _t.Mapping[int, DataDirectory]:
         """The data directories that are there, by their index, which is a DirectoryType below 15."""
-        return _types.MappingProxyType(self._directories)
+        return _types.MappingProxyType(self._once("data_directories", self._present_directories))
+
+    def _present_directories(self) -> _t.Dict[int, DataDirectory]:
+        return {_named(DirectoryType, index): d for index, d in enumerate(self._places.directories) if any(d)}
 
     @property
     def is_64(self) -> bool:
@@ -696,7 +698,7 @@ class Layout(_File):
 
     def _state(self, table: DirectoryType) -> State:
         # how a table stands: in strict mode a call without room for a record is refused where the table is
-        if table not in self._directories:
+        if table not in self.data_directories:
             return State.ABSENT
         (_, kind, position), how = _WALKED[table], self._options
         strict = records.Options.from_buffer_copy(self._with_imports)
@@ -886,7 +888,7 @@ class Layout(_File):
         if optional_header is not None and self.optional_header is None:
             raise ValueError("the file has no optional header")
         coff = coff_header or self.coff_header
-        directories = self._directories if data_directories is None else data_directories
+        directories = self.data_directories if data_directories is None else data_directories
         header = self._written_header(dos_header or self.dos_header, coff, optional_header or self._header, directories)
         with memoryview(self._bytes()) as view:
             out = bytearray(view)
@@ -920,17 +922,17 @@ class Layout(_File):
         for index in given:
             if index not in range(places):
                 raise ValueError("the file has no place for the data directory %d: it has %d" % (index, places))
-        directories = (records.Directory * _NUM_DATA_DIRECTORIES)(*(
-            records.Directory(0, _laid_out.record_of(DataDirectory, given.get(index, none)), index in given)
-            for index in range(_NUM_DATA_DIRECTORIES)))
         file = records.File(
             optional_header=_laid_out.record_of(OptionalHeader, optional), directories=count,
             dos_header=_laid_out.record_of(DosHeader, dos), coff_header=_laid_out.record_of(CoffHeader, coff))
+        directories = tuple(given.get(index, none) for index in range(_NUM_DATA_DIRECTORIES))
+        file.places.directories = directories
+        _laid_out.test_widths(directories, file.places.directories)
         size, stub = _c.c_size_t(), self.dos_stub
         for _ in range(2):  # (without room it tells how much it needs)
             room = (_c.c_uint8 * size.value)()
             _test(_LIB.goblin_pe_raw_write_header(
-                _c.byref(file), directories, count, stub, len(stub), room, size.value, _c.byref(size)))
+                _c.byref(file), stub, len(stub), room, size.value, _c.byref(size)))
         self._test_directories(optional, size.value - _SIZEOF_DATA_DIRECTORY * (count - said))
         return bytes(room[: size.value - _SIZEOF_DATA_DIRECTORY * (count - places)])
 
@@ -971,13 +973,13 @@ class Parts(Layout):
 
     def __init__(self, data: Data, options: _t.Optional[Options] = None):
         self._hold(data, options)
-        parts, directories = records.Parts(), (records.Directory * 16)()
+        parts = records.Parts()
         with _held(self._bytes()) as (address, length):
             for _ in range(2):
                 sections, count = _room(records.Section, parts.sections), parts.sections
                 _LIB.goblin_pe_raw_read_parts(
-                    address, length, _c.byref(self._options), _c.byref(parts), directories, 16, sections, count)
-        self._take_headers(parts, directories[: parts.directories])
+                    address, length, _c.byref(self._options), _c.byref(parts), sections, count)
+        self._take_headers(parts)
         self._counts = {"sections": count}
         self._take_sections(sections, address)
         self._missing_sections, self._refusal = parts.missing_sections, _refusal(parts.refusal)
@@ -1019,13 +1021,13 @@ class Pe(Layout):
 
     def __init__(self, data: Data, options: _t.Optional[Options] = None):
         self._hold(data, options)
-        file, directories, tables = records.File(), (records.Directory * 16)(), records.Tables()
+        file, tables = records.File(), records.Tables()
         with _held(self._bytes()) as (address, length):
-            _test(_LIB.goblin_pe_raw_open(address, length, _c.byref(self._options), _c.byref(file), directories, 16, _c.byref(tables)))
+            _test(_LIB.goblin_pe_raw_open(address, length, _c.byref(self._options), _c.byref(file), _c.byref(tables)))
         self._tables: _t.Optional[records.Tables] = tables  # (the library's own)
         self._counts = {name: tables.count(name) for name in tables.KINDS}
         self._take_sections(tables.sections, address)
-        self._take_headers(file, directories[: file.directories])
+        self._take_headers(file)
         self._take_tables(file)
         self._take_stub(tables.dos_stub, address)
         self._export_directory = _Rows(self._bytes(), address).export_directory(tables.export_directory)

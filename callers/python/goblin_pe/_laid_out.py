@@ -36,6 +36,12 @@ def read(header: Type[_Kind], record: Any) -> _Kind:
     return header(*_FIELDS[header](record))
 
 
+def read_all(header: Type[_Kind], records: Any) -> Tuple[_Kind, ...]:
+    """The headers that stand in an array of their records."""
+    fields = _FIELDS[header]
+    return tuple([header(*fields(it)) for it in records])
+
+
 def test_widths(values: Any, stored: Any) -> None:
     """Raises OverflowError where the fields of a record do not hold the values that were put into them: a number that does
     not fit its field is cut."""
@@ -58,10 +64,11 @@ def _converted(convert: Any, field: Any) -> property:
 def record(kind: _Kind) -> _Kind:
     """A record with the fields that it names, in their order; what stands there of headers is read as such."""
     hints: Dict[str, Any] = kind.__annotations__
-    setattr(kind, "_fields_", [(name, laid_out(getattr(hint, "__metadata__", [hint])[0])) for name, hint in hints.items()])
-    for name, hint in hints.items():
-        if hint in _RECORDS:
-            setattr(kind, name, _converted(functools.partial(read, hint), getattr(kind, name)))
+    kinds = {name: getattr(hint, "__metadata__", (hint,)) for name, hint in hints.items()}  # (and of an array its length)
+    setattr(kind, "_fields_", [(name, functools.reduce(operator.mul, length, laid_out(what))) for name, (what, *length) in kinds.items()])
+    for name, (what, *length) in kinds.items():
+        if what in _RECORDS:
+            setattr(kind, name, _converted(functools.partial(read_all if length else read, what), getattr(kind, name)))
     return kind
 
 

@@ -7,7 +7,7 @@ from typing import Annotated, Any, Dict, List, NamedTuple, Tuple
 from ._laid_out import Address, HandedOver, Record, header, record, tables, to
 
 # The sum of the interface that is declared here: of its records, the numbers in them, and its calls.
-INTERFACE = 0xdc0566c2
+INTERFACE = 0x97d49eb8
 
 
 @record
@@ -43,7 +43,7 @@ class AuxFunctionDefinition(NamedTuple):
     total_size: Annotated[int, c.c_uint32]
     pointer_to_line_number: Annotated[int, c.c_uint32]
     pointer_to_next_function: Annotated[int, c.c_uint32]
-    unused: Annotated[Tuple[int, ...], c.c_uint8 * 2]
+    unused: Annotated[Tuple[int, ...], c.c_uint8, 2]
 
 
 @header
@@ -61,11 +61,11 @@ class AuxBeginAndEndFunction(NamedTuple):
     unused3: Not used, at 16.
     """
 
-    unused1: Annotated[Tuple[int, ...], c.c_uint8 * 4]
+    unused1: Annotated[Tuple[int, ...], c.c_uint8, 4]
     line_number: Annotated[int, c.c_uint16]
-    unused2: Annotated[Tuple[int, ...], c.c_uint8 * 6]
+    unused2: Annotated[Tuple[int, ...], c.c_uint8, 6]
     pointer_to_next_function: Annotated[int, c.c_uint32]
-    unused3: Annotated[Tuple[int, ...], c.c_uint8 * 2]
+    unused3: Annotated[Tuple[int, ...], c.c_uint8, 2]
 
 
 @header
@@ -83,7 +83,7 @@ class AuxWeakExternal(NamedTuple):
 
     tag_index: Annotated[int, c.c_uint32]
     characteristics: Annotated[int, c.c_uint32]
-    unused: Annotated[Tuple[int, ...], c.c_uint8 * 10]
+    unused: Annotated[Tuple[int, ...], c.c_uint8, 10]
 
 
 @header
@@ -110,7 +110,7 @@ class AuxSectionDefinition(NamedTuple):
     checksum: Annotated[int, c.c_uint32]
     number: Annotated[int, c.c_uint16]
     selection: Annotated[int, c.c_uint8]
-    unused: Annotated[Tuple[int, ...], c.c_uint8 * 3]
+    unused: Annotated[Tuple[int, ...], c.c_uint8, 3]
 
 
 @record
@@ -193,7 +193,7 @@ class Section(Record):
     """
 
     real_name: Text
-    name: Annotated[Tuple[int, ...], c.c_uint8 * 8]
+    name: Annotated[Tuple[int, ...], c.c_uint8, 8]
     virtual_size: Annotated[int, c.c_uint32]
     virtual_address: Annotated[int, c.c_uint32]
     size_of_raw_data: Annotated[int, c.c_uint32]
@@ -287,9 +287,7 @@ class Places(Record):
     "Section Table (Section Headers)".
 
     section_table: The file offset of the section table.
-    exports: The export directory; zeros where there is none.
-    imports: The import directory; zeros where there is none.
-    relocations: The directory of base relocations; zeros where there is none.
+    directories: The data directories by their indexes; zeros where there is none.
     file_alignment: The file alignment of the sections' raw data, in bytes; 0 where there is no
         optional header.
     size_of_headers: How many bytes the headers have, as the optional header says: so much of the
@@ -298,22 +296,14 @@ class Places(Record):
     number_of_sections: How many records the section table has.
     magic: The magic of the optional header: by 0x10B the entries of import tables have four bytes,
         else eight; 0 where there is no optional header.
-    has_exports: Whether there is an export directory.
-    has_imports: Whether there is an import directory.
-    has_relocations: Whether there is a directory of base relocations.
     """
 
     section_table: Annotated[int, c.c_size_t]
-    exports: DataDirectory
-    imports: DataDirectory
-    relocations: DataDirectory
+    directories: Annotated[Tuple[DataDirectory, ...], DataDirectory, 16]
     file_alignment: Annotated[int, c.c_uint32]
     size_of_headers: Annotated[int, c.c_uint32]
     number_of_sections: Annotated[int, c.c_uint16]
     magic: Annotated[int, c.c_uint16]
-    has_exports: Annotated[bool, c.c_bool]
-    has_imports: Annotated[bool, c.c_bool]
-    has_relocations: Annotated[bool, c.c_bool]
 
 
 @record
@@ -490,7 +480,7 @@ class Symbol(NamedTuple):
         these.
     """
 
-    name: Annotated[Tuple[int, ...], c.c_uint8 * 8]
+    name: Annotated[Tuple[int, ...], c.c_uint8, 8]
     value: Annotated[int, c.c_uint32]
     section_number: Annotated[int, c.c_int16]
     typ: Annotated[int, c.c_uint16]
@@ -946,10 +936,10 @@ class DosHeader(NamedTuple):
     initial_relative_cs: Annotated[int, c.c_uint16]
     file_address_of_relocation_table: Annotated[int, c.c_uint16]
     overlay_number: Annotated[int, c.c_uint16]
-    reserved: Annotated[Tuple[int, ...], c.c_uint16 * 4]
+    reserved: Annotated[Tuple[int, ...], c.c_uint16, 4]
     oem_id: Annotated[int, c.c_uint16]
     oem_info: Annotated[int, c.c_uint16]
-    reserved2: Annotated[Tuple[int, ...], c.c_uint16 * 10]
+    reserved2: Annotated[Tuple[int, ...], c.c_uint16, 10]
     pe_pointer: Annotated[int, c.c_uint32]
 
 
@@ -958,8 +948,8 @@ class File(Record):
     """The file as a whole.
 
     optional_header: The optional header.
-    directories: How many data directories there are, whatever the room: sixteen, or none where
-        there is no optional header. Records past them are not filled.
+    directories: How many data directories there are: sixteen, or none where there is no optional
+        header.
     sections: How many sections there are.
     places: Where the sections and the tables lie, for walks over these.
     imports: The imports.
@@ -980,21 +970,6 @@ class File(Record):
     rich_header: RichHeader
     dos_header: DosHeader
     coff_header: CoffHeader
-
-
-@record
-class Directory(Record):
-    """An entry of the table of data directories.
-
-    end: Where the entry's record ends, in bytes from the front of the optional header; 0 where
-        there is no entry.
-    directory: Where what it leads to lies; zeros where there is no entry.
-    is_present: Whether there is such an entry, and not all of it is 0.
-    """
-
-    end: Annotated[int, c.c_size_t]
-    directory: DataDirectory
-    is_present: Annotated[bool, c.c_bool]
 
 
 @header
@@ -1041,8 +1016,8 @@ class Layout(Record):
     """An image as a whole, without its tables.
 
     optional_header: The optional header.
-    directories: How many data directories there are, whatever the room: sixteen, or none where
-        there is no optional header. Records past them are not filled.
+    directories: How many data directories there are: sixteen, or none where there is no optional
+        header.
     sections: How many sections there are, whatever the room.
     places: Where the sections and the tables lie, for walks over these.
     dos_header: The DOS header.
@@ -1068,9 +1043,8 @@ class Parts(Record):
 
     optional_header: The optional header: the standard fields and the Windows fields, zeros in place
         of those that are refused.
-    directories: How many data directories there are, whatever the room: sixteen, or none where
-        there is no optional header, or its standard fields are refused. Records past them are not
-        filled.
+    directories: How many data directories there are: sixteen, or none where there is no optional
+        header, or its standard fields are refused.
     sections: How many sections there are, whatever the room: as many as the COFF header says, or as
         the file has whole records, if these are fewer.
     missing_sections: How many more the COFF header says.
@@ -1236,17 +1210,17 @@ CALLS: Dict[str, Tuple[Any, List[Any]]] = {
     "goblin_pe_raw_kind_of":
         (c.c_uint32, [c.c_void_p, c.c_size_t]),
     "goblin_pe_raw_open":
-        (Fault, [c.c_void_p, c.c_size_t, to(Options), to(File), to(Directory), c.c_size_t, to(Tables)]),
+        (Fault, [c.c_void_p, c.c_size_t, to(Options), to(File), to(Tables)]),
     "goblin_pe_raw_read_layout":
-        (Fault, [c.c_void_p, c.c_size_t, to(Options), to(Layout), to(Directory), c.c_size_t, to(Section), c.c_size_t]),
+        (Fault, [c.c_void_p, c.c_size_t, to(Options), to(Layout), to(Section), c.c_size_t]),
     "goblin_pe_raw_read_parts":
-        (c.c_bool, [c.c_void_p, c.c_size_t, to(Options), to(Parts), to(Directory), c.c_size_t, to(Section), c.c_size_t]),
+        (c.c_bool, [c.c_void_p, c.c_size_t, to(Options), to(Parts), to(Section), c.c_size_t]),
     "goblin_pe_raw_read_damage":
         (Fault, [c.c_void_p, c.c_size_t, to(Options), to(Damage)]),
     "goblin_pe_raw_footprint":
         (Fault, [c.c_void_p, c.c_size_t, to(Options), to(Ranges)]),
     "goblin_pe_raw_write_header":
-        (Fault, [to(File), to(Directory), c.c_size_t, c.c_void_p, c.c_size_t, c.c_void_p, c.c_size_t, to(c.c_size_t)]),
+        (Fault, [to(File), c.c_void_p, c.c_size_t, c.c_void_p, c.c_size_t, to(c.c_size_t)]),
     "goblin_pe_raw_write_section":
         (Fault, [to(Section), c.c_void_p, c.c_size_t, to(c.c_size_t)]),
     "goblin_pe_raw_set_name_offset":

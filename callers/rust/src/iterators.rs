@@ -9,6 +9,7 @@ use std::sync::OnceLock;
 
 use crate::constants::MOST_WITHOUT_INDEX;
 use crate::error::Error;
+use crate::numbers::DirectoryType;
 use crate::parts::Parts;
 use crate::raw::{self, CoffHeader, Fault, Options, Relocation};
 use crate::rows::{Block, Export, ExportAddress, ExportEntry, Import, Library, Section, Symbol};
@@ -166,11 +167,11 @@ impl fmt::Debug for IntoImports<'_> {
 
 /// The data directories that are there, as pairs (index, directory), by rising index.
 #[derive(Clone, Debug)]
-pub struct DataDirectories<'p>(pub(crate) Enumerate<Iter<'p, raw::Directory>>);
+pub struct DataDirectories<'p>(pub(crate) Enumerate<Iter<'p, raw::DataDirectory>>);
 
 // The directory at an index, where it is there.
-fn present((index, d): (usize, &raw::Directory)) -> Option<(usize, raw::DataDirectory)> {
-    d.is_present.then_some((index, d.directory))
+fn present((index, d): (usize, &raw::DataDirectory)) -> Option<(usize, raw::DataDirectory)> {
+    (*d != raw::DataDirectory::default()).then_some((index, *d))
 }
 
 impl Iterator for DataDirectories<'_> {
@@ -237,7 +238,7 @@ struct BlockPosition {
 impl BlockPosition {
     // The first one, in a file whose tables lie there.
     fn of(places: &raw::Places) -> Self {
-        let size = places.relocations.size as usize;
+        let size = places.directories[DirectoryType::BaseRelocationTable as usize].size as usize;
         BlockPosition { offset: 0, size }
     }
 }
@@ -356,10 +357,10 @@ impl<T: Copy, P: Position> Batches<T, P> {
     }
 
     // From a position of a table on, if there is one, in a file whose sections lie there.
-    fn of_table(places: &raw::Places, is_there: bool, position: P) -> Self {
+    fn of_table(places: &raw::Places, table: DirectoryType, position: P) -> Self {
         Batches {
             is_indexed: usize::from(places.number_of_sections) > MOST_WITHOUT_INDEX,
-            is_over: !is_there,
+            is_over: places.directory(table as usize).is_none(),
             ..Self::new(position)
         }
     }
@@ -497,7 +498,7 @@ impl<T: Copy, P: Position> Batches<T, P> {
 
 // Walks whose items are rows or the refusal that ends them.
 macro_rules! walks {
-    ($($(#[$of:meta])* $name:ident by $call:path, $record:ident from $start:expr => $position:ty, $is_there:ident => $item:ty;)*) => {$(
+    ($($(#[$of:meta])* $name:ident by $call:path, $record:ident from $start:expr => $position:ty, $table:ident => $item:ty;)*) => {$(
         $(#[$of])*
         #[derive(Clone)]
         pub struct $name<'a> {
@@ -513,7 +514,7 @@ macro_rules! walks {
                 let start: fn(&raw::Places) -> $position = $start;
                 let batches = Batches {
                     is_permissive: options.is_permissive,
-                    ..Batches::of_table(&places, places.$is_there, start(&places))
+                    ..Batches::of_table(&places, DirectoryType::$table, start(&places))
                 };
                 $name { bytes, options, places, batches }
             }
@@ -554,19 +555,19 @@ walks! {
     /// A walk over the imports of an image, in constant memory. A copy has room of its own; where memory for it is
     /// refused, the process ends as it does for a [`Vec`].
     WalkImports by raw::next_imports, Import from |_| raw::ImportCursor::default() => raw::ImportCursor,
-        has_imports => Import<'a>;
+        ImportTable => Import<'a>;
 
     /// A walk over the libraries of an image, in constant memory. A copy is as that of [`WalkImports`].
     WalkLibraries by raw::next_libraries, Library from |_| raw::ImportCursor::default() => raw::ImportCursor,
-        has_imports => Library<'a>;
+        ImportTable => Library<'a>;
 
     /// A walk over the exports of an image, in constant memory. A copy is as that of [`WalkImports`].
     WalkExports by next_exports, Export from |_| ExportPosition::default() => ExportPosition,
-        has_exports => Export<'a>;
+        ExportTable => Export<'a>;
 
     /// A walk over the blocks of base relocations of an image, in constant memory. A copy is as that of
     /// [`WalkImports`].
-    WalkBlocks by next_blocks, Block from BlockPosition::of => BlockPosition, has_relocations => Block<'a>;
+    WalkBlocks by next_blocks, Block from BlockPosition::of => BlockPosition, BaseRelocationTable => Block<'a>;
 }
 
 impl WalkImports<'_> {
@@ -628,7 +629,7 @@ impl<'a> WalkExportAddresses<'a> {
             options,
             places,
             ordinal: 0,
-            batches: Batches::of_table(&places, places.has_exports, 0),
+            batches: Batches::of_table(&places, DirectoryType::ExportTable, 0),
             parts: None,
         }
     }

@@ -246,9 +246,7 @@ impl<'a> Layout<'a> {
     /// ```
     #[must_use]
     pub fn data_directory(&self, kind: DirectoryType) -> Option<DataDirectory> {
-        let mut directories = self.data_directories();
-        let found = directories.find(|(index, _)| *index == kind as usize);
-        found.map(|(_, directory)| directory)
+        self.head.file.places.directory(kind as usize)
     }
 
     /// The data directories that are there, as pairs (index, directory), by rising index; an index
@@ -264,8 +262,7 @@ impl<'a> Layout<'a> {
     /// ```
     #[must_use]
     pub fn data_directories(&self) -> DataDirectories<'_> {
-        let count = self.head.file.directories.min(self.head.directories.len());
-        DataDirectories(self.head.directories[..count].iter().enumerate())
+        DataDirectories(self.head.file.places.directories.iter().enumerate())
     }
 
     /// The sections. What follows the data of all of them in the file is its overlay; what is left of a section that the
@@ -335,16 +332,13 @@ impl<'a> Layout<'a> {
     /// ```
     #[must_use]
     pub fn header(&self) -> Header<'a> {
-        let mut data_directories = [None; 16];
-        for (index, directory) in self.data_directories() {
-            data_directories[index] = Some(directory);
-        }
+        let places = &self.head.file.places;
         Header {
             dos_header: self.head.file.dos_header,
             dos_stub: Text(self.head.file.dos_stub.get()),
             coff_header: self.head.file.coff_header,
             optional_header: self.optional_header().copied(),
-            data_directories,
+            data_directories: std::array::from_fn(|index| places.directory(index)),
         }
     }
 

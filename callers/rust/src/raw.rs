@@ -1,7 +1,6 @@
 //! The library's calls over slices, what a slice and a table are in its records, and all else that is
 //! unsafe.
 
-use crate::constants::NUM_DATA_DIRECTORIES;
 use crate::numbers::{Part, RawPointerRule};
 use std::alloc::{self, handle_alloc_error};
 use std::ffi::c_void;
@@ -472,13 +471,19 @@ pub fn kind(bytes: &[u8]) -> u32 {
     unsafe { goblin_pe_raw_kind_of(bytes.as_ptr(), bytes.len()) }
 }
 
+impl Places {
+    /// The data directory at an index, where it is there.
+    pub fn directory(&self, index: usize) -> Option<DataDirectory> {
+        let directory = self.directories[index];
+        (directory != DataDirectory::default()).then_some(directory)
+    }
+}
+
 /// What is read of an image: in one block of memory, which a call fills in place.
 #[derive(Clone)]
 pub struct Head<'a> {
     /// The image without its tables.
     pub file: Layout<'a>,
-    /// Its data directories; zeros past those that there are.
-    pub directories: [Directory; NUM_DATA_DIRECTORIES],
     /// The sections of a layout; an image with its lists has them among these.
     pub sections: Vec<Section<'a>>,
     /// The lists; none of a layout.
@@ -538,16 +543,14 @@ pub fn open<'a>(
             bytes.len(),
             options,
             file.as_mut_ptr(),
-            (&raw mut (*head).directories).cast(),
-            NUM_DATA_DIRECTORIES,
             &raw mut (*head).tables,
         )
     };
     if fault.status != 0 {
         return Err(fault);
     }
-    // SAFETY: of a file that is not refused the library has filled the record, the tables and as many directories as that
-    // says. All other fields of the block are written here.
+    // SAFETY: of a file that is not refused the library has filled the record and the tables. All other fields of the block
+    // are written here.
     unsafe {
         let file = file.assume_init_ref();
         let dos_stub = (*head).tables.dos_stub;
@@ -560,7 +563,6 @@ pub fn open<'a>(
             coff_header: file.coff_header,
             dos_stub,
         });
-        fill_up(&raw mut (*head).directories, file.directories);
         (&raw mut (*head).sections).write(Vec::new());
         (&raw mut (*head).rich_header).write(file.rich_header);
         (&raw mut (*head).imports).write(Part::from(file.imports));
@@ -587,8 +589,6 @@ pub fn read_layout<'a>(
                 bytes.len(),
                 options,
                 &raw mut (*head).file,
-                (&raw mut (*head).directories).cast(),
-                NUM_DATA_DIRECTORIES,
                 first,
                 room,
             );
@@ -603,7 +603,6 @@ pub fn read_layout<'a>(
     }
     // SAFETY: as in `open`.
     unsafe {
-        fill_up(&raw mut (*head).directories, (*head).file.directories);
         (&raw mut (*head).sections).write(sections);
         (&raw mut (*head).tables).write(Tables::default());
         (&raw mut (*head).rich_header).write(RichHeader::default());
@@ -611,14 +610,6 @@ pub fn read_layout<'a>(
         (&raw mut (*head).exports).write(Part::Absent);
         (&raw mut (*head).relocations).write(BaseRelocations::default());
         Ok(block.assume_init())
-    }
-}
-
-// Writes zeros for the directories past so many. The place is one for all of them.
-unsafe fn fill_up(directories: *mut [Directory; NUM_DATA_DIRECTORIES], count: usize) {
-    for index in count..NUM_DATA_DIRECTORIES {
-        // SAFETY: there is place for it.
-        unsafe { (&raw mut (*directories)[index]).write(Directory::default()) };
     }
 }
 
@@ -630,7 +621,6 @@ pub fn read_parts<'a>(
 ) -> (Parts, Head<'a>) {
     test_interface();
     let mut parts = Parts::default();
-    let mut directories = [Directory::default(); NUM_DATA_DIRECTORIES];
     fill(&mut sections, |first, room, count| {
         // SAFETY: as in `read_layout`.
         unsafe {
@@ -639,8 +629,6 @@ pub fn read_parts<'a>(
                 bytes.len(),
                 options,
                 &raw mut parts,
-                directories.as_mut_ptr(),
-                directories.len(),
                 first,
                 room,
             );
@@ -659,7 +647,6 @@ pub fn read_parts<'a>(
     };
     let head = Head {
         file,
-        directories,
         sections,
         tables: Tables::default(),
         rich_header: RichHeader::default(),
@@ -1042,20 +1029,12 @@ pub fn file_checksum(bytes: &[u8], options: &Options) -> Option<u32> {
 }
 
 /// Writes a header, and says how many bytes it has.
-pub fn write_header(
-    file: &File,
-    directories: &[Directory],
-    stub: &[u8],
-    out: &mut [u8],
-    written: &mut usize,
-) -> Fault {
+pub fn write_header(file: &File, stub: &[u8], out: &mut [u8], written: &mut usize) -> Fault {
     test_interface();
     // SAFETY: as in `kind`.
     unsafe {
         goblin_pe_raw_write_header(
             file,
-            directories.as_ptr(),
-            directories.len(),
             stub.as_ptr(),
             stub.len(),
             out.as_mut_ptr(),

@@ -5,7 +5,7 @@ use crate::raw::{List, Shared, Slice};
 use std::mem::offset_of;
 
 /// The sum of the interface that is declared here: of its records, the numbers in them, and its calls.
-pub const INTERFACE: u32 = 0xdc05_66c2;
+pub const INTERFACE: u32 = 0x97d4_9eb8;
 
 /// What follows a symbol that defines a function.
 ///
@@ -246,12 +246,8 @@ pub struct DataDirectory {
 pub struct Places {
     /// The file offset of the section table.
     pub section_table: usize,
-    /// The export directory; zeros where there is none.
-    pub exports: DataDirectory,
-    /// The import directory; zeros where there is none.
-    pub imports: DataDirectory,
-    /// The directory of base relocations; zeros where there is none.
-    pub relocations: DataDirectory,
+    /// The data directories by their indexes; zeros where there is none.
+    pub directories: [DataDirectory; 16],
     /// The file alignment of the sections' raw data, in bytes; 0 where there is no optional header.
     pub file_alignment: u32,
     /// How many bytes the headers have, as the optional header says: so much of the file's front
@@ -262,12 +258,6 @@ pub struct Places {
     /// The magic of the optional header: by 0x10B the entries of import tables have four bytes,
     /// else eight; 0 where there is no optional header.
     pub magic: u16,
-    /// Whether there is an export directory.
-    pub has_exports: bool,
-    /// Whether there is an import directory.
-    pub has_imports: bool,
-    /// Whether there is a directory of base relocations.
-    pub has_relocations: bool,
 }
 
 /// Where a walk over imports is, in numbers; zeros are the beginning. With the file's bytes and
@@ -846,8 +836,7 @@ pub struct DosHeader {
 pub struct File {
     /// The optional header.
     pub optional_header: OptionalHeader,
-    /// How many data directories there are, whatever the room: sixteen, or none where there is no
-    /// optional header. Records past them are not filled.
+    /// How many data directories there are: sixteen, or none where there is no optional header.
     pub directories: usize,
     /// How many sections there are.
     pub sections: usize,
@@ -865,19 +854,6 @@ pub struct File {
     pub dos_header: DosHeader,
     /// The COFF header.
     pub coff_header: CoffHeader,
-}
-
-/// An entry of the table of data directories.
-#[repr(C)]
-#[derive(Clone, Copy, Default, Debug, PartialEq, Eq, PartialOrd, Ord, Hash)]
-pub struct Directory {
-    /// Where the entry's record ends, in bytes from the front of the optional header; 0 where there
-    /// is no entry.
-    pub end: usize,
-    /// Where what it leads to lies; zeros where there is no entry.
-    pub directory: DataDirectory,
-    /// Whether there is such an entry, and not all of it is 0.
-    pub is_present: bool,
 }
 
 /// An entry of a Rich header: a tool, and how often it was used.
@@ -927,8 +903,7 @@ pub struct Tables<'a> {
 pub struct Layout<'a> {
     /// The optional header.
     pub optional_header: OptionalHeader,
-    /// How many data directories there are, whatever the room: sixteen, or none where there is no
-    /// optional header. Records past them are not filled.
+    /// How many data directories there are: sixteen, or none where there is no optional header.
     pub directories: usize,
     /// How many sections there are, whatever the room.
     pub sections: usize,
@@ -952,8 +927,8 @@ pub struct Parts {
     /// The optional header: the standard fields and the Windows fields, zeros in place of those
     /// that are refused.
     pub optional_header: OptionalHeader,
-    /// How many data directories there are, whatever the room: sixteen, or none where there is no
-    /// optional header, or its standard fields are refused. Records past them are not filled.
+    /// How many data directories there are: sixteen, or none where there is no optional header, or
+    /// its standard fields are refused.
     pub directories: usize,
     /// How many sections there are, whatever the room: as many as the COFF header says, or as the
     /// file has whole records, if these are fewer.
@@ -1114,18 +1089,13 @@ const _: () = {
     assert!(size_of::<DataDirectory>() == 8 && align_of::<DataDirectory>() == 4);
     assert!(offset_of!(DataDirectory, virtual_address) == 0);
     assert!(offset_of!(DataDirectory, size) == 4);
-    assert!(size_of::<Places>() == 48 && align_of::<Places>() == 8);
+    assert!(size_of::<Places>() == 152 && align_of::<Places>() == 8);
     assert!(offset_of!(Places, section_table) == 0);
-    assert!(offset_of!(Places, exports) == 8);
-    assert!(offset_of!(Places, imports) == 16);
-    assert!(offset_of!(Places, relocations) == 24);
-    assert!(offset_of!(Places, file_alignment) == 32);
-    assert!(offset_of!(Places, size_of_headers) == 36);
-    assert!(offset_of!(Places, number_of_sections) == 40);
-    assert!(offset_of!(Places, magic) == 42);
-    assert!(offset_of!(Places, has_exports) == 44);
-    assert!(offset_of!(Places, has_imports) == 45);
-    assert!(offset_of!(Places, has_relocations) == 46);
+    assert!(offset_of!(Places, directories) == 8);
+    assert!(offset_of!(Places, file_alignment) == 136);
+    assert!(offset_of!(Places, size_of_headers) == 140);
+    assert!(offset_of!(Places, number_of_sections) == 144);
+    assert!(offset_of!(Places, magic) == 146);
     assert!(size_of::<ImportCursor>() == 56 && align_of::<ImportCursor>() == 8);
     assert!(offset_of!(ImportCursor, first_record) == 0);
     assert!(offset_of!(ImportCursor, next_record) == 8);
@@ -1320,21 +1290,17 @@ const _: () = {
     assert!(offset_of!(DosHeader, oem_info) == 38);
     assert!(offset_of!(DosHeader, reserved2) == 40);
     assert!(offset_of!(DosHeader, pe_pointer) == 60);
-    assert!(size_of::<File>() == 440 && align_of::<File>() == 8);
+    assert!(size_of::<File>() == 544 && align_of::<File>() == 8);
     assert!(offset_of!(File, optional_header) == 0);
     assert!(offset_of!(File, directories) == 144);
     assert!(offset_of!(File, sections) == 152);
     assert!(offset_of!(File, places) == 160);
-    assert!(offset_of!(File, imports) == 208);
-    assert!(offset_of!(File, exports) == 224);
-    assert!(offset_of!(File, relocations) == 240);
-    assert!(offset_of!(File, rich_header) == 288);
-    assert!(offset_of!(File, dos_header) == 352);
-    assert!(offset_of!(File, coff_header) == 416);
-    assert!(size_of::<Directory>() == 24 && align_of::<Directory>() == 8);
-    assert!(offset_of!(Directory, end) == 0);
-    assert!(offset_of!(Directory, directory) == 8);
-    assert!(offset_of!(Directory, is_present) == 16);
+    assert!(offset_of!(File, imports) == 312);
+    assert!(offset_of!(File, exports) == 328);
+    assert!(offset_of!(File, relocations) == 344);
+    assert!(offset_of!(File, rich_header) == 392);
+    assert!(offset_of!(File, dos_header) == 456);
+    assert!(offset_of!(File, coff_header) == 520);
     assert!(size_of::<RichMetadata>() == 8 && align_of::<RichMetadata>() == 4);
     assert!(offset_of!(RichMetadata, build) == 0);
     assert!(offset_of!(RichMetadata, product) == 2);
@@ -1348,28 +1314,28 @@ const _: () = {
     assert!(offset_of!(Tables, blocks) == 80);
     assert!(offset_of!(Tables, export_directory) == 96);
     assert!(offset_of!(Tables, dos_stub) == 160);
-    assert!(size_of::<Layout>() == 312 && align_of::<Layout>() == 8);
+    assert!(size_of::<Layout>() == 416 && align_of::<Layout>() == 8);
     assert!(offset_of!(Layout, optional_header) == 0);
     assert!(offset_of!(Layout, directories) == 144);
     assert!(offset_of!(Layout, sections) == 152);
     assert!(offset_of!(Layout, places) == 160);
-    assert!(offset_of!(Layout, dos_header) == 208);
-    assert!(offset_of!(Layout, coff_header) == 272);
-    assert!(offset_of!(Layout, dos_stub) == 296);
-    assert!(size_of::<Parts>() == 496 && align_of::<Parts>() == 8);
+    assert!(offset_of!(Layout, dos_header) == 312);
+    assert!(offset_of!(Layout, coff_header) == 376);
+    assert!(offset_of!(Layout, dos_stub) == 400);
+    assert!(size_of::<Parts>() == 600 && align_of::<Parts>() == 8);
     assert!(offset_of!(Parts, optional_header) == 0);
     assert!(offset_of!(Parts, directories) == 144);
     assert!(offset_of!(Parts, sections) == 152);
     assert!(offset_of!(Parts, missing_sections) == 160);
     assert!(offset_of!(Parts, places) == 168);
-    assert!(offset_of!(Parts, dos_header) == 216);
-    assert!(offset_of!(Parts, coff_header) == 280);
-    assert!(offset_of!(Parts, refusal) == 304);
-    assert!(offset_of!(Parts, dos_header_fault) == 336);
-    assert!(offset_of!(Parts, coff_header_fault) == 368);
-    assert!(offset_of!(Parts, standard_fields_fault) == 400);
-    assert!(offset_of!(Parts, windows_fields_fault) == 432);
-    assert!(offset_of!(Parts, directories_fault) == 464);
+    assert!(offset_of!(Parts, dos_header) == 320);
+    assert!(offset_of!(Parts, coff_header) == 384);
+    assert!(offset_of!(Parts, refusal) == 408);
+    assert!(offset_of!(Parts, dos_header_fault) == 440);
+    assert!(offset_of!(Parts, coff_header_fault) == 472);
+    assert!(offset_of!(Parts, standard_fields_fault) == 504);
+    assert!(offset_of!(Parts, windows_fields_fault) == 536);
+    assert!(offset_of!(Parts, directories_fault) == 568);
     assert!(size_of::<Damage>() == 192 && align_of::<Damage>() == 8);
     assert!(offset_of!(Damage, dos_stub) == 0);
     assert!(offset_of!(Damage, section_names) == 32);
@@ -1651,8 +1617,6 @@ unsafe extern "C" {
         byte_count: usize,
         options: &Options,
         file: *mut File,
-        directories: *mut Directory,
-        directory_room: usize,
         tables: *mut Tables<'_>,
     ) -> Fault;
 
@@ -1661,8 +1625,6 @@ unsafe extern "C" {
         byte_count: usize,
         options: &Options,
         layout: *mut Layout<'a>,
-        directories: *mut Directory,
-        directory_room: usize,
         sections: *mut Section<'a>,
         section_room: usize,
     ) -> Fault;
@@ -1672,8 +1634,6 @@ unsafe extern "C" {
         byte_count: usize,
         options: &Options,
         parts: *mut Parts,
-        directories: *mut Directory,
-        directory_room: usize,
         sections: *mut Section<'_>,
         section_room: usize,
     ) -> bool;
@@ -1694,8 +1654,6 @@ unsafe extern "C" {
 
     pub fn goblin_pe_raw_write_header(
         file: &File,
-        directories: *const Directory,
-        directory_count: usize,
         stub: *const u8,
         stub_count: usize,
         out: *mut u8,

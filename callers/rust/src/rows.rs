@@ -78,22 +78,21 @@ impl Header<'_> {
     /// # Ok::<(), goblin_pe::Error>(())
     /// ```
     pub fn write(&self, out: &mut [u8]) -> Result<usize, Error> {
-        let directories = self.data_directories.map(|it| raw::Directory {
-            end: 0,
-            directory: it.unwrap_or_default(),
-            is_present: it.is_some(),
-        });
-        let count = self.optional_header.map_or(0, |_| directories.len());
+        let directories = self.data_directories.map(Option::unwrap_or_default);
         let file = raw::File {
             optional_header: self.optional_header.unwrap_or_default(),
-            directories: count,
+            directories: self.optional_header.map_or(0, |_| directories.len()),
+            places: raw::Places {
+                directories,
+                ..raw::Places::default()
+            },
             dos_header: self.dos_header,
             coff_header: self.coff_header,
             ..raw::File::default()
         };
         let mut written = 0;
         let stub = self.dos_stub.0;
-        let fault = raw::write_header(&file, &directories[..count], stub, out, &mut written);
+        let fault = raw::write_header(&file, stub, out, &mut written);
         Error::test(fault)?;
         Ok(written)
     }

@@ -31,7 +31,7 @@ use Rattle.goblin_pe.specs.declared.whole.Part.TheVariants.{Absent, Refused}
 use Rattle.goblin_pe.specs.declared.whole.Part.TheVariants as part
 use Rattle.goblin_pe.specs.declared.whole.imports.FileImports.{FileImports}
 use Rattle.goblin_pe.specs.Layouts.{IsFileImportsCause, file_imports_left}
-use Rattle.goblin_pe.specs.Whole.{TablePlaces, both_lists, entry_format, import_data_part, import_list}
+use Rattle.goblin_pe.specs.Whole.{TablePlaces, both_lists, directory_at, entry_format, import_data_part, import_list}
 use Rattle.goblin_pe.specs.Whole.{imports_in, listed_imports_part, numbered_data_part, part_at, part_map}
 use Rattle.goblin_pe.specs.Whole.{part_of, without_indexes, without_numbers}
 use Rattle.goblin_pe.proofs.KeptImports.{listed_imports, part-kept}
@@ -92,7 +92,7 @@ part-refused kept strict (Some xs) there e = absurd cc
 part-refused kept true None there e = refl
 part-refused kept false None there e = let never = there refl in absurd cc
 
-module _ (opts : ParseOptions) (addressing : Addressing) (places : TablePlaces) (d : DataDirectory) (asked : opts.parse_imports ≡ true) (here : places.imports ≡ Some d) (bytes : List ℕ) where
+module _ (opts : ParseOptions) (addressing : Addressing) (places : TablePlaces) (d : DataDirectory) (asked : opts.parse_imports ≡ true) (here : (directory_at places 1) ≡ Some d) (bytes : List ℕ) where
   abbrev strict : Bool
   strict = is_strict opts.parse_mode
 
@@ -163,7 +163,7 @@ module _ (opts : ParseOptions) (addressing : Addressing) (places : TablePlaces) 
   data-off : (import_data_part opts addressing places).value bytes
       ≡ option_map without_indexes ((numbered_data_part opts addressing places).value bytes)
   unfolding import_data_part numbered_data_part
-  data-off = by opts.parse_imports places.imports
+  data-off = by opts.parse_imports (directory_at places 1)
     where
       by : (asked : Bool) (directory : Option DataDirectory)
           → (pick asked (part_at in_mode (λ d. import_data in_mode (entry_format places.magic) addressing d.virtual_address) directory) (given Absent)).value bytes
@@ -179,7 +179,7 @@ module _ (opts : ParseOptions) (addressing : Addressing) (places : TablePlaces) 
   pub data-refused : (e : ErrorOf) → IsRefused (import_data_part opts addressing places) bytes e
       → IsRefused (numbered_data_part opts addressing places) bytes e
   unfolding import_data_part numbered_data_part
-  data-refused e h = (unmapped _ _ (sym data-off ∙ h.0), by opts.parse_imports places.imports h.1)
+  data-refused e h = (unmapped _ _ (sym data-off ∙ h.0), by opts.parse_imports (directory_at places 1) h.1)
     where
       by : (asked : Bool) (directory : Option DataDirectory)
           → (pick asked (part_at in_mode (λ d. import_data in_mode (entry_format places.magic) addressing d.virtual_address) directory) (given Absent)).IsCause bytes e

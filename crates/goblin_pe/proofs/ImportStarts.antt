@@ -22,13 +22,13 @@ use Rattle.goblin_pe.specs.declared.whole.imports.FileImports.{FileImports}
 use Rattle.goblin_pe.specs.declared.whole.imports.FileImports.TheVariants.{Narrow, Wide}
 use Rattle.goblin_pe.specs.LayoutCursors.{file_ahead, file_cursor_ahead, GivesFileWithin, GivesFileImport, GivesFirst, IsImportWalkAt, PartBegins, StartsAt, begin_in, file_cursor_left, import_begin}
 use Rattle.goblin_pe.specs.Layouts.{IsFileImportsCause, file_imports_left}
-use Rattle.goblin_pe.specs.Whole.{TablePlaces, entry_format}
+use Rattle.goblin_pe.specs.Whole.{TablePlaces, directory_at, entry_format}
 use Rattle.goblin_pe_import.proofs.ImportCursors.{cursor_left_of}
 
 -- ---- where the imports begin
 
 module _ (m : MapOfAddresses) (places : TablePlaces) (bytes : List ℕ) (d : DataDirectory)
-    (asked : m.opts.parse_imports ≡ true) (there : places.imports ≡ Some d) where
+    (asked : m.opts.parse_imports ≡ true) (there : (directory_at places 1) ≡ Some d) where
   abbrev first : Reading ImportCursor
   first = first_import (reads_strictly m) m.addressing d.virtual_address
 
@@ -38,14 +38,14 @@ module _ (m : MapOfAddresses) (places : TablePlaces) (bytes : List ℕ) (d : Dat
   begin-value : (import_begin m.opts m.addressing places).value bytes ≡ first.value bytes
   unfolding import_begin
   begin-value =
-      ap (λ (test : Bool). (begin_by test places.imports).value bytes) asked
+      ap (λ (test : Bool). (begin_by test (directory_at places 1)).value bytes) asked
       ∙ ap (λ (directory : Option DataDirectory). (begin_by true directory).value bytes) there
 
   begin-cause : (e : ErrorOf) → first.IsCause bytes e
       → (import_begin m.opts m.addressing places).IsCause bytes e
   unfolding import_begin
   begin-cause e cause =
-      subst (λ (test : Bool). (begin_by test places.imports).IsCause bytes e) (sym asked)
+      subst (λ (test : Bool). (begin_by test (directory_at places 1)).IsCause bytes e) (sym asked)
       (subst (λ (directory : Option DataDirectory). (begin_by true directory).IsCause bytes e) (sym there) cause)
 
   pub begin-reads : (r : Result ImportCursor ErrorOf) → Reads (λ c. c) r first bytes

@@ -11,7 +11,7 @@ use Rattle.goblin_pe_import.proofs.ListedImports.{imports_of-there}
 use Rattle.goblin_pe.specs.declared.whole.Part.{Part}
 use Rattle.goblin_pe.specs.declared.whole.Part.TheVariants.{Absent, Refused}
 use Rattle.goblin_pe.specs.declared.whole.Part.TheVariants as part
-use Rattle.goblin_pe.specs.Whole.{TablePlaces, entry_format, import_data_part, listed_imports_part, part_of}
+use Rattle.goblin_pe.specs.Whole.{TablePlaces, directory_at, entry_format, import_data_part, listed_imports_part, part_of}
 use Rattle.goblin_pe.proofs.KeptImports.{HasList, listed_imports}
 use Rattle.goblin_pe.proofs.Parts.{read_from}
 
@@ -30,7 +30,7 @@ module _ (opts : ParseOptions) (file : List ℕ) (places : TablePlaces) (short :
       let strict = is_strict opts.parse_mode in
       let format = entry_format places.magic in
       let from = read_from opts.parse_imports strict
-      (λ d. import_data strict format addressing d.virtual_address) places.imports file libraries e in
+      (λ d. import_data strict format addressing d.virtual_address) (directory_at places 1) file libraries e in
       part-there strict (imports_of format.width libraries)
       (imports_of-there strict format addressing file short bytes from.at.virtual_address libraries from.read)
   data-listed Refused e = refl

@@ -41,7 +41,7 @@ use Rattle.goblin_pe_import.proofs.LibraryIndexes.{unnumbered}
 use Rattle.goblin_pe_import.proofs.PermissiveReads.{libraries_at-repeats, numbered_libraries_at-repeats}
 use Rattle.goblin_pe.specs.Damages.{imports_left_out_at, left_out_of}
 use Rattle.goblin_pe.specs.Modes.{ReadsInModes, in_mode, in_permissive_mode, is_front, unless_front}
-use Rattle.goblin_pe.specs.Whole.{IfRead, ListedParts, NumberedTables, TablePlaces, WholeFile}
+use Rattle.goblin_pe.specs.Whole.{IfRead, ListedParts, NumberedTables, TablePlaces, WholeFile, directory_at}
 use Rattle.goblin_pe.specs.Whole.{entry_format, export_part, imports_in, listed_tables, lists_of}
 use Rattle.goblin_pe.specs.Whole.{mapped_in, numbered_data_part, addressing_by, part_at, part_map, part_of}
 use Rattle.goblin_pe.specs.Whole.{places_in, relocation_part, section_table_offset, sections_after}
@@ -259,7 +259,7 @@ module _ (opts : ParseOptions) (addressing : Addressing) (places : TablePlaces) 
   permissively = in_mode Permissive opts
 
   abbrev place : Option ℕ
-  place = place_by addressing places.imports
+  place = place_by addressing (directory_at places 1)
 
   -- what permissive mode has of tables that strict mode has
   abbrev pub permissive_tables : NumberedTables → NumberedTables
@@ -275,10 +275,10 @@ module _ (opts : ParseOptions) (addressing : Addressing) (places : TablePlaces) 
       (numbered_data_part permissively addressing places) _ _
       (record {
         kept = λ bytes.
-            numbered-kept (entry_format places.magic) addressing bytes opts.parse_imports places.imports;
+            numbered-kept (entry_format places.magic) addressing bytes opts.parse_imports (directory_at places 1);
       })
-      (repeats-part_at (numbered_read addressing) places.exports))
-      (repeats-part_at (relocation_data addressing.offset) places.relocations))
+      (repeats-part_at (numbered_read addressing) (directory_at places 0)))
+      (repeats-part_at (relocation_data addressing.offset) (directory_at places 5)))
       (λ all. refl)
 
   -- what it has of their lists
@@ -307,7 +307,7 @@ module _ (opts : ParseOptions) (addressing : Addressing) (places : TablePlaces) 
       let m = mapped _ _ t is in
       let imports = pair_of-left _ _ m.value.0 (pair_of-left _ _ m.value m.is) in
       let same = part_unhidden place m.value.0.0
-      (imports_unhidden (entry_format places.magic) addressing bytes opts.parse_imports places.imports m.value.0.0 imports none) in
+      (imports_unhidden (entry_format places.magic) addressing bytes opts.parse_imports (directory_at places 1) m.value.0.0 imports none) in
       ap permissive_tables (sym m.made)
       ∙ ap (λ (i : Part (List NumberedLibrary)). record { imports = i; exports = m.value.0.1; relocations = m.value.1 }) same
       ∙ m.made

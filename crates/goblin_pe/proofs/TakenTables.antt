@@ -13,7 +13,7 @@ use Rattle.goblin_pe.specs.declared.whole.Part.{Part}
 use Rattle.goblin_pe.specs.declared.whole.Part.TheVariants.{Absent, Refused}
 use Rattle.goblin_pe.specs.declared.whole.Part.TheVariants as part
 use Rattle.goblin_pe.specs.TakenMemory.{TakesImports}
-use Rattle.goblin_pe.specs.Whole.{BecomesPart, IsReadAnd, TablePlaces, entry_format, import_data_part}
+use Rattle.goblin_pe.specs.Whole.{BecomesPart, IsReadAnd, TablePlaces, directory_at, entry_format, import_data_part}
 use Rattle.goblin_pe.proofs.Parts.{read_from}
 
 -- what becomes of a table is refused for memory only where the table is
@@ -45,7 +45,7 @@ imports_taken m places bytes (part.Read libraries) is kept =
     let strict = reads_strictly m in
     let format = entry_format places.magic in
     let from = read_from m.opts.parse_imports strict
-    (λ d. import_data strict format m.addressing d.virtual_address) places.imports bytes libraries is in
+    (λ d. import_data strict format m.addressing d.virtual_address) (directory_at places 1) bytes libraries is in
     let taken = libraries-taken format m.addressing bytes strict from.at.virtual_address libraries
     from.read (some-library libraries kept) in
     (from.is_asked, rw from.is taken)

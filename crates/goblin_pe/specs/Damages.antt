@@ -21,7 +21,7 @@ use Rattle.goblin_pe_export.specs.ExportRecords.{ExportTables, NumberedExport}
 use Rattle.goblin_pe_export.specs.LeftOutExports.{pointers_left_out}
 use Rattle.goblin_pe.specs.declared.whole.damage.Damage.{Damage}
 use Rattle.goblin_pe.specs.Modes.{in_mode}
-use Rattle.goblin_pe.specs.Whole.{TablePlaces, entry_format, export_part, import_list, layout}
+use Rattle.goblin_pe.specs.Whole.{TablePlaces, directory_at, entry_format, export_part, import_list, layout}
 use Rattle.goblin_pe.specs.Whole.{mapped_in, addressing_by, places_in, relocation_part, sections_after}
 use Rattle.goblin_pe.specs.Whole.{whole_in}
 
@@ -49,7 +49,7 @@ imports_left_out_at format addressing bytes (Some d) = record {
 unfoldable pub left_out_of : ParseOptions → Addressing → TablePlaces → List ℕ → LeftOut
 left_out_of opts addressing places bytes =
     imports_left_out_at (entry_format places.magic) addressing bytes
-    (if opts.parse_imports then places.imports else None)
+    (if opts.parse_imports then directory_at places 1 else None)
 
 -- how many name pointers of the export directory that was read give no export; 0 without one
 abbrev pub exports_left_out_of : Addressing → List ℕ
@@ -61,7 +61,7 @@ exports_left_out_of addressing bytes (Some read) = pointers_left_out addressing 
 unfoldable pub exports_left_out : Addressing → TablePlaces → List ℕ → ℕ
 exports_left_out addressing places bytes =
     exports_left_out_of addressing bytes
-    (places.exports >>= λ d. (numbered_read addressing d).value bytes)
+    (directory_at places 0 >>= λ d. (numbered_read addressing d).value bytes)
 
 -- What strict mode would refuse of the tables whose addresses are mapped so.
 pub record AreDamaged (opts : ParseOptions) (addressing : Addressing) (places : TablePlaces)

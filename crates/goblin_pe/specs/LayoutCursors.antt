@@ -27,7 +27,7 @@ use Rattle.goblin_pe.specs.declared.whole.Part.TheVariants as part
 use Rattle.goblin_pe.specs.declared.whole.imports.FileImports.{FileImports}
 use Rattle.goblin_pe.specs.declared.whole.imports.FileImports.TheVariants.{Narrow, Wide}
 use Rattle.goblin_pe.specs.Layouts.{IsFileImportsCause, file_imports_left}
-use Rattle.goblin_pe.specs.Whole.{TablePlaces, entry_format}
+use Rattle.goblin_pe.specs.Whole.{TablePlaces, directory_at, entry_format}
 
 -- what is still to come at a cursor, by this magic and this map of addresses
 abbrev pub file_cursor_left : MapOfAddresses → ℕ → List ℕ → ImportCursor
@@ -124,7 +124,7 @@ begin_in strict addressing (Some directory) =
 -- not asked for.
 unfoldable pub import_begin : ParseOptions → Addressing → TablePlaces → Reading ImportCursor
 import_begin opts addressing places =
-    pick opts.parse_imports (begin_in (is_strict opts.parse_mode) addressing places.imports)
+    pick opts.parse_imports (begin_in (is_strict opts.parse_mode) addressing (directory_at places 1))
     (given no_imports)
 
 -- the imports from there on

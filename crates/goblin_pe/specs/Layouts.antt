@@ -25,7 +25,7 @@ use Rattle.goblin_pe_sect.specs.Options.{is_strict}
 use Rattle.goblin_pe_sect.specs.SectionTable.{Section, recorded_sections}
 use Rattle.goblin_pe_sect.specs.Addresses.{Addressing}
 use Rattle.goblin_pe_head.specs.PeHeader.{header_value}
-use Rattle.goblin_pe.specs.Whole.{TablePlaces, mapped_in, part_at, places_in, sections_after}
+use Rattle.goblin_pe.specs.Whole.{TablePlaces, directory_at, mapped_in, part_at, places_in, sections_after}
 use Rattle.goblin_pe.specs.Whole.{table_places}
 
 -- ---- what all tables are read by
@@ -101,7 +101,7 @@ walked_exports walk = (walked_tables walk, exports_left walk)
 unfoldable pub address_part : ParseOptions → Addressing → TablePlaces
     → Reading (Part ExportTables)
 address_part opts addressing places =
-    part_at (is_strict opts.parse_mode) (export_addresses addressing) places.exports
+    part_at (is_strict opts.parse_mode) (export_addresses addressing) (directory_at places 0)
 
 -- A walk over these bytes, whose addresses are mapped so: all exports are still to come, with their
 -- numbers.

@@ -1,6 +1,7 @@
 pub mod Callers
 pub mod Checksums
 pub mod Damages
+pub mod DirectoryParts
 pub mod Keys
 pub mod LayoutCursors
 pub mod Layouts

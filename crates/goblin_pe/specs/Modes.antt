@@ -8,7 +8,7 @@ use Rattle.goblin_base.specs.Answers.{◌>>=◌}
 use Rattle.goblin_base.specs.Reading.{Reading, Reads}
 use Rattle.goblin_pe_sect.specs.declared.options.ParseOptions.{ParseOptions}
 use Rattle.goblin_pe_sect.specs.declared.options.View.TheVariants.{Sections}
-use Rattle.goblin_pe.specs.Whole.{TablePlaces, WholeFile, mapped_in, addressing_by, part_map, places_in}
+use Rattle.goblin_pe.specs.Whole.{TablePlaces, WholeFile, addressing_by, directory_at, mapped_in, part_map, places_in}
 
 -- these options in a mode
 abbrev pub in_mode : ParseMode → ParseOptions → ParseOptions
@@ -38,7 +38,7 @@ unless_front place xs = if is_front place then [] else xs
 abbrev pub import_place : ParseOptions → WholeFile → Option ℕ
 import_place opts whole =
     let places : TablePlaces = places_in whole.header.optional_header in
-    places.imports
+    directory_at places 1
     >>= λ directory.
     (addressing_by opts (mapped_in Sections whole.header whole.sections) places).offset
     directory.virtual_address

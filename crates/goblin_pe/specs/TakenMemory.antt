@@ -10,7 +10,7 @@ use Rattle.goblin_pe_sect.specs.Addresses.{AreMany, MapOfAddresses, map_by, offs
 use Rattle.goblin_pe_sect.specs.Addresses.{reads_strictly}
 use Rattle.goblin_pe_sect.specs.Options.{is_strict}
 use Rattle.goblin_pe_sect.specs.WindowIndex.{HasPieces}
-use Rattle.goblin_pe.specs.Whole.{TablePlaces, entry_format, places_in, sections_after}
+use Rattle.goblin_pe.specs.Whole.{TablePlaces, directory_at, entry_format, places_in, sections_after}
 
 -- Memory is taken for an index of the sections of a file with this header: they are many, the file
 -- has room for all, and addresses are mapped by their windows.
@@ -25,14 +25,14 @@ TakesIndex opts bytes h =
 abbrev pub TakesImports : MapOfAddresses → TablePlaces → List ℕ → Type 0
 TakesImports m places bytes =
     IsTrue m.opts.parse_imports
-    × IsSomeAnd places.imports (λ d.
+    × IsSomeAnd (directory_at places 1) (λ d.
     IsSomeAnd (first_record_offset (reads_strictly m) (offset_of m d.virtual_address))
     (TakesLibraries (reads_strictly m) (entry_format places.magic) m.addressing bytes))
 
 -- for the exports
 abbrev pub TakesExports : MapOfAddresses → TablePlaces → List ℕ → Type 0
 TakesExports m places bytes =
-    IsSomeAnd places.exports (λ d. IsSomeAnd (export_data m.addressing d bytes) HasExportEntries)
+    IsSomeAnd (directory_at places 0) (λ d. IsSomeAnd (export_data m.addressing d bytes) HasExportEntries)
 
 -- for one of them
 abbrev pub TakesTables : MapOfAddresses → TablePlaces → List ℕ → Type 0

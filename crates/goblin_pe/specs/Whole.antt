@@ -1,6 +1,7 @@
 -- A whole file: its header, its sections, and the tables that its directories lead to.
 use Rattle.std.specs.Prelude.{◌≡◌, ℕ, ◌+◌, ◌==◌, Bool, true, false, if◌then◌else◌, List, Option, Ok}
 use Rattle.std.specs.Prelude.{Some, None, Result, Err, Vec, map, flat_map}
+use Rattle.std.specs.Prelude.{◌&&◌, option_and_then, replicate, slice_get}
 use Rattle.std.specs.Global.{Global}
 use Rattle.goblin_base.specs.declared.error.ErrorOf.{ErrorOf}
 use Rattle.goblin_base.specs.declared.error.ErrorOf.TheVariants.{Memory}
@@ -13,7 +14,7 @@ use Rattle.goblin_pe_sect.specs.declared.options.View.{View}
 use Rattle.goblin_pe_sect.specs.declared.options.View.TheVariants.{Sections}
 use Rattle.goblin_pe_sect.specs.AddressReadings.{relocation_data}
 use Rattle.goblin_pe_sect.specs.BaseRelocations.{relocation_bytes}
-use Rattle.goblin_pe_sect.specs.DataDirectories.{directory_in}
+use Rattle.goblin_pe_sect.specs.DataDirectories.{directory_or_zeros, no_directory}
 use Rattle.goblin_pe_sect.specs.Addresses.{table_offset}
 use Rattle.goblin_pe_sect.specs.Options.{front_of, is_strict}
 use Rattle.goblin_pe_sect.specs.SectionTable.{MappedSections, Section}
@@ -90,9 +91,7 @@ BecomesPart false (Err e) result = result ≡ Ok Refused
 pub record TablePlaces : Type 0 where
   pub magic : ℕ
   pub file_alignment : ℕ
-  pub exports : Option DataDirectory
-  pub imports : Option DataDirectory
-  pub relocations : Option DataDirectory
+  pub directories : List DataDirectory
 
 -- what contracts see of the reader's own struct
 abbrev pub table_places : Places → TablePlaces
@@ -100,21 +99,25 @@ table_places t =
     record {
       magic = t.magic;
       file_alignment = t.file_alignment;
-      exports = t.exports;
-      imports = t.imports;
-      relocations = t.relocations;
+      directories = t.directories;
     }
+
+-- a directory, unless it is all zeros
+abbrev pub unless_zeros : DataDirectory → Option DataDirectory
+unless_zeros d = if d.virtual_address == 0 && d.size == 0 then None else Some d
+
+-- the directory at an index, if there is one
+unfoldable pub directory_at : TablePlaces → ℕ → Option DataDirectory
+directory_at places i = option_and_then unless_zeros (slice_get places.directories i)
 
 -- where the tables lie by an optional header; without one there are no tables
 unfoldable pub places_in : Option OptionalHeader → TablePlaces
 places_in None =
-    record { magic = 0; file_alignment = 0; exports = None; imports = None; relocations = None }
+    record { magic = 0; file_alignment = 0; directories = replicate 16 no_directory }
 places_in (Some h) = record {
   magic = h.standard_fields.magic;
   file_alignment = h.windows_fields.file_alignment;
-  exports = directory_in h.data_directories.data_directories 0;
-  imports = directory_in h.data_directories.data_directories 1;
-  relocations = directory_in h.data_directories.data_directories 5;
+  directories = map directory_or_zeros h.data_directories.data_directories;
 }
 
 -- the entries of the import tables: of four bytes by the magic of 32 bits, else of eight
@@ -142,7 +145,7 @@ addressing_by opts mapped places =
 abbrev pub imports_part : {A : Type 0} → ParseOptions → (DataDirectory → Reading A) → TablePlaces
     → Reading (Part A)
 imports_part opts read places =
-    pick opts.parse_imports (part_at (is_strict opts.parse_mode) read places.imports) (given Absent)
+    pick opts.parse_imports (part_at (is_strict opts.parse_mode) read (directory_at places 1)) (given Absent)
 
 -- the import data
 unfoldable pub import_data_part : ParseOptions → Addressing → TablePlaces
@@ -202,13 +205,13 @@ both_lists magic libraries =
 unfoldable pub export_part : ParseOptions → Addressing → TablePlaces
     → Reading (Part (ExportTables × List NumberedExport))
 export_part opts addressing places =
-    part_at (is_strict opts.parse_mode) (numbered_read addressing) places.exports
+    part_at (is_strict opts.parse_mode) (numbered_read addressing) (directory_at places 0)
 
 -- the bytes of the base relocations
 unfoldable pub relocation_part : ParseOptions → Addressing → TablePlaces
     → Reading (Part (List ℕ))
 relocation_part opts addressing places =
-    part_at (is_strict opts.parse_mode) (relocation_data addressing.offset) places.relocations
+    part_at (is_strict opts.parse_mode) (relocation_data addressing.offset) (directory_at places 5)
 
 -- what is kept of the tables of a file: imports, exports and base relocations
 pub record TableParts (I E : Type 0) : Type 0 where

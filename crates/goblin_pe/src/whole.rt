@@ -36,6 +36,7 @@ pub use damage::Damage;
 pub use imports::FileImports;
 pub use layout::{Layout, section_records_of, section_table_offset, sections_of};
 use listed::{ListedTables, export_parts};
+use places::file_alignment;
 pub use places::{Places, size_of_headers};
 pub use refused::RefusedPart;
 
@@ -155,8 +156,8 @@ impl<'a> Whole<'a> {
             let m = map_by opts.now self.now.sections places.file_alignment in
             result ≡ offset_of m rva }
     {
-        let places = Places::of(&self.header.optional_header);
-        find_offset(rva, &self.sections, places.file_alignment, opts)
+        let alignment = file_alignment(&self.header.optional_header);
+        find_offset(rva, &self.sections, alignment, opts)
     }
 
     /// The text at the address `rva` of the file, whose bytes are `bytes`, up to its first NUL or
@@ -172,7 +173,7 @@ impl<'a> Whole<'a> {
             let m = map_by opts.now self.now.sections places.file_alignment in
             Reads (λ s. s.now) result (text_at_address (offset_of m) rva) bytes.now }
     {
-        let places = Places::of(&self.header.optional_header);
-        try_name(bytes, rva, &self.sections, places.file_alignment, opts)
+        let alignment = file_alignment(&self.header.optional_header);
+        try_name(bytes, rva, &self.sections, alignment, opts)
     }
 }

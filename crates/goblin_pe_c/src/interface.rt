@@ -7,15 +7,15 @@ ghost use Rattle.std.specs.Prelude.{◌≡◌};
 /// The sum of this interface. A caller that declares another one has another number.
 #[unsafe(no_mangle)]
 pub extern "C" fn goblin_pe_interface() -> u32
-    ensures { result ≡ 3691341506 }
+    ensures { result ≡ 2547293880 }
 {
-    3_691_341_506
+    2_547_293_880
 }
 
 /// The same, by a name that no other interface has, with which programs in C are linked.
 #[unsafe(no_mangle)]
-pub extern "C" fn goblin_pe_interface_dc0566c2() -> u32
-    ensures { result ≡ 3691341506 }
+pub extern "C" fn goblin_pe_interface_97d49eb8() -> u32
+    ensures { result ≡ 2547293880 }
 {
-    3_691_341_506
+    2_547_293_880
 }

@@ -23,7 +23,6 @@ use goblin_pe_calls::layout::{self, PeLayout};
 use goblin_pe_calls::open::{self, PeTables};
 use goblin_pe_calls::parts::{self, PeParts};
 use goblin_pe_calls::ranges::{PeRanges, list as list_ranges};
-use goblin_pe_records::directory::PeDirectory;
 use goblin_pe_records::fault::{PeFault, status_of, status_of_part};
 use goblin_pe_records::file::PeFile;
 use goblin_pe_records::kind;
@@ -55,13 +54,12 @@ pub extern "C" fn goblin_pe_raw_open<'a>(
     bytes: &'a [u8],
     options: &PeOptions,
     file: &mut PeFile,
-    directories: &mut [PeDirectory],
     tables: &mut PeTables<'a>,
 ) -> PeFault
     ensures { let old : Opened =
-        record { file = file.old; directories = directories.old; tables = tables.old } in
+        record { file = file.old; tables = tables.old } in
         let new : Opened =
-        record { file = file.new; directories = directories.new; tables = tables.new } in
+        record { file = file.new; tables = tables.new } in
         let opts = options_in options.now bytes.now in
         ReportedOf (refused_number (refused_part (view_of options.now) opts bytes.now)) result
         (ReadsInto (pe_header (is_strict opts.parse_mode))
@@ -76,7 +74,6 @@ pub extern "C" fn goblin_pe_raw_open<'a>(
         view_of(options),
         &opts,
         file,
-        directories,
         tables,
         &mut part,
     );
@@ -95,19 +92,10 @@ pub extern "C" fn goblin_pe_raw_read_layout<'a>(
     bytes: &'a [u8],
     options: &PeOptions,
     layout: &mut PeLayout<'a>,
-    directories: &mut [PeDirectory],
     sections: &mut [PeSection<'a>],
 ) -> PeFault
-    ensures { let old : LayoutRecords = record {
-      layout = layout.old;
-      directories = directories.old;
-      sections = sections.old;
-    } in
-        let new : LayoutRecords = record {
-          layout = layout.new;
-          directories = directories.new;
-          sections = sections.new;
-        } in
+    ensures { let old : LayoutRecords = record { layout = layout.old; sections = sections.old } in
+        let new : LayoutRecords = record { layout = layout.new; sections = sections.new } in
         let opts = header_options options.now in
         ReportedOf (refused_number (layout_part opts bytes.now)) result
         (ReadsWithout (layout_as options.now.raw_section_names opts) bytes.now
@@ -116,15 +104,7 @@ pub extern "C" fn goblin_pe_raw_read_layout<'a>(
     let opts = header_options(options);
     let has_raw_names = options.raw_section_names;
     let mut part = RefusedPart::Nothing;
-    let answer = layout::read(
-        bytes,
-        &opts,
-        has_raw_names,
-        layout,
-        directories,
-        sections,
-        &mut part,
-    );
+    let answer = layout::read(bytes, &opts, has_raw_names, layout, sections, &mut part);
     status_of_part(answer, part as u32)
 }
 
@@ -145,25 +125,17 @@ pub extern "C" fn goblin_pe_raw_read_parts<'a>(
     bytes: &'a [u8],
     options: &PeOptions,
     parts: &mut PeParts,
-    directories: &mut [PeDirectory],
     sections: &mut [PeSection<'a>],
 ) -> bool
     ensures read { result ≡ (parts.new.refusal.status == 0) }
-    ensures parts { let old : PartsRecords = record {
-      parts = parts.old;
-      directories = directories.old;
-      sections = sections.old;
-    } in
-        let new : PartsRecords = record {
-          parts = parts.new;
-          directories = directories.new;
-          sections = sections.new;
-        } in
+    ensures parts { let old : PartsRecords =
+        record { parts = parts.old; sections = sections.old } in
+        let new : PartsRecords = record { parts = parts.new; sections = sections.new } in
         SaysParts options.now.raw_section_names (header_options options.now) bytes.now old new }
 {
     let opts = header_options(options);
     let has_raw_names = options.raw_section_names;
-    parts::read(bytes, &opts, has_raw_names, parts, directories, sections);
+    parts::read(bytes, &opts, has_raw_names, parts, sections);
     parts.refusal.status == 0
 }
 

@@ -13,7 +13,6 @@ ghost use Rattle.goblin_pe_records.specs.Written.{Output, SetsName, WritesHeader
 ghost use Rattle.goblin_pe_calls.specs.Written.{OpenedWritesBack};
 
 use goblin_pe_calls::write_header::write_header;
-use goblin_pe_records::directory::PeDirectory;
 use goblin_pe_records::fault::{PeFault, status_of};
 use goblin_pe_records::file::PeFile;
 use goblin_pe_records::section::{PeSection, set_name_offset, write_section};
@@ -34,17 +33,16 @@ use goblin_pe_records::section::{PeSection, set_name_offset, write_section};
 #[unsafe(no_mangle)]
 pub extern "C" fn goblin_pe_raw_write_header(
     file: &PeFile,
-    directories: &[PeDirectory],
     stub: &[u8],
     out: &mut [u8],
     written: &mut usize,
 ) -> PeFault
     ensures written { let old : Output = record { out = out.old; written = written.old } in
         let new : Output = record { out = out.new; written = written.new } in
-        Reported result (WritesHeader file.now directories.now stub.now old new) }
+        Reported result (WritesHeader file.now stub.now old new) }
     ensures back { OpenedWritesBack }
 {
-    status_of(write_header(file, directories, stub, out, written))
+    status_of(write_header(file, stub, out, written))
 }
 
 /// Writes the record of a section, with the eight bytes of its name, to the front of `out`, and

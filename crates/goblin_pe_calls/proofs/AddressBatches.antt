@@ -1,7 +1,7 @@
 -- The entries of the export address table of a file, from an index on.
 use Rattle.std.proofs.Common.{◌≡◌, ◌∙◌, ◌⊎◌, ℕ, List, [], Option, Some, ap, arith, inl, inr, map, subst, sym, IsSomeAnd}
 use Rattle.goblin_pe_export.specs.declared.export.exports.Exports.{Exports}
-use Rattle.goblin_pe.specs.Addresses.{MapOfAddresses, offset_of}
+use Rattle.goblin_pe.specs.Addresses.{MapOfAddresses}
 use Rattle.goblin_pe.specs.ExportRecords.{ExportTables}
 use Rattle.goblin_pe.specs.ExportWalks.{walked_tables}
 use Rattle.goblin_pe.specs.Layouts.{address_part}

@@ -10,7 +10,7 @@ use Rattle.goblin_pe_export.specs.ExportRecords.{name_pointers}
 use Rattle.goblin_pe_export.specs.ExportWalks.{GivesExportBefore, exports_position, pointer_count}
 use Rattle.goblin_pe_export.proofs.ExportWalk.{from_end}
 use Rattle.goblin_base.proofs.RecordItems.{length-records_in}
-use Rattle.goblin_pe.specs.Addresses.{MapOfAddresses, map_of, offset_of}
+use Rattle.goblin_pe.specs.Addresses.{MapOfAddresses, map_of}
 use Rattle.goblin_pe.specs.ExportRecords.{ExportTables}
 use Rattle.goblin_pe.specs.ExportWalks.{KeepsOver, NumberedExport, exports_at, exports_left, numbered_from, walked_export, walked_tables}
 use Rattle.goblin_pe.specs.Layouts.{IsExportWalk, walked_exports}

@@ -19,8 +19,6 @@ use Rattle.goblin_pe_head.specs.CoffHeader.{symbols_end}
 use Rattle.goblin_pe_head.specs.CoffReadings.{sections_at}
 use Rattle.goblin_pe.specs.Whole.{TablePlaces, WholeFile, layout, mapped_in, addressing_by, places_in, section_table_offset, sections_after, listed_tables, whole_in}
 use Rattle.goblin_pe.specs.Whole.{whole_of, whole_with}
-use Rattle.goblin_pe_records.specs.declared.directory.PeDirectory.{PeDirectory}
-use Rattle.goblin_pe_records.specs.Directories.{directories_of, entry_record}
 use Rattle.goblin_pe_records.specs.Filled.{Filled, without_text}
 use Rattle.goblin_pe_records.specs.Sections.{named_in, section_said}
 use Rattle.goblin_pe_records.proofs.Named.{all-kept, said-unnamed, section-named}
@@ -55,11 +53,10 @@ sections-named view opts bytes w h = after-named (is_strict opts.parse_mode) byt
 pub says_layout : (opts : ParseOptions) (bytes : List ℕ) (header : PeHeader) (stored : List Section) (old new : LayoutRecords)
     → (pe_header (is_strict opts.parse_mode)).value bytes ≡ Some header → option_map (map unnamed) ((sections_after (is_strict opts.parse_mode) header).value bytes) ≡ Some stored
     → layout_view new.layout ≡ layout_said header (length stored)
-    → Filled (λ (d : PeDirectory). d) (map entry_record (directories_of header.optional_header)) old.directories new.directories
     → Filled section_said (map (λ s. without_text (named_in (is_strict opts.parse_mode) bytes (symbols_end header.coff_header) s)) stored) old.sections new.sections
     → IsSomeAnd ((layout opts).value bytes) (λ l. SaysLayout l old new)
 unfolding layout
-says_layout opts bytes header stored old new there are said listed filled =
+says_layout opts bytes header stored old new there are said filled =
     let strict = is_strict opts.parse_mode in
     let table = symbols_end header.coff_header in
     let x = mapped ((sections_after strict header).value bytes) (map unnamed) stored are in
@@ -67,7 +64,7 @@ says_layout opts bytes header stored old new there are said listed filled =
     let names = ap (map (λ (s : Section). without_text (named_in strict bytes table s))) (sym x.made) ∙ said-unnamed strict bytes table x.value
     ∙ ap (map without_text) (after-named strict bytes header x.value x.is) in
     rw (there, x.is)
-    (said ∙ ap (layout_said header) long, listed, subst (λ (xs : List (Section × List ℕ)). Filled section_said xs old.sections new.sections) names filled)
+    (said ∙ ap (layout_said header) long, subst (λ (xs : List (Section × List ℕ)). Filled section_said xs old.sections new.sections) names filled)
 
 -- records as they are stored have no names from the string table
 unnamed_kept : (bytes : List ℕ) → map unnamed (sections_in bytes) ≡ sections_in bytes
@@ -79,12 +76,11 @@ pub says_raw_layout : (opts : ParseOptions) (bytes : List ℕ) (header : PeHeade
     → (pe_header (is_strict opts.parse_mode)).value bytes ≡ Some header
     → (unnamed_sections header.coff_header.number_of_sections (section_table_offset header)).value bytes ≡ Some (recorded_sections records)
     → layout_view new.layout ≡ layout_said header (length (recorded_sections records))
-    → Filled (λ (d : PeDirectory). d) (map entry_record (directories_of header.optional_header)) old.directories new.directories
     → Filled section_said (map (λ s. without_text (unnamed s)) (recorded_sections records)) old.sections new.sections
     → IsSomeAnd ((raw_layout opts).value bytes) (λ l. SaysLayout l old new)
 unfolding raw_layout
-says_raw_layout opts bytes header records old new there are said listed filled =
+says_raw_layout opts bytes header records old new there are said filled =
     let stored = recorded_sections records in
     let names = sym (map-map without_text unnamed stored) ∙ ap (map without_text) (unnamed_kept records.records.now) in
     rw (there, are)
-    (said, listed, subst (λ (xs : List (Section × List ℕ)). Filled section_said xs old.sections new.sections) names filled)
+    (said, subst (λ (xs : List (Section × List ℕ)). Filled section_said xs old.sections new.sections) names filled)

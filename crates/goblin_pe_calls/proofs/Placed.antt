@@ -1,5 +1,5 @@
 -- The places of a header lead back to the sections after it and to its tables.
-use Rattle.std.proofs.Common.{◌≡◌, ◌≢◌, ◌∙◌, ℕ, zero, suc, ◌+◌, ◌-◌, ◌*◌, ◌/◌, ◌<◌, ◌≤◌, Bool, true, false, List, [], Option, None, Some, Result, Ok, Err, ap, arith, length, map, refl, rules, subst, sym, tests, ◌==◌, nat_le, nat_lt, option_map, slice_range, unwrap_or, ne_eqb, is_some, min}
+use Rattle.std.proofs.Common.{◌≡◌, ◌≢◌, ◌∙◌, ℕ, zero, suc, ◌+◌, ◌-◌, ◌*◌, ◌/◌, ◌<◌, ◌≤◌, Bool, true, false, List, [], Option, None, Some, Result, Ok, Err, ap, arith, length, map, refl, rules, subst, sym, tests, ◌==◌, nat_le, nat_lt, option_map, slice_range, unwrap_or, ne_eqb, min}
 use Rattle.goblin_base.specs.declared.error.ErrorOf.{ErrorOf}
 use Rattle.goblin_base.specs.Answers.{all_at}
 use Rattle.goblin_base.specs.Bytes.{slice_at}
@@ -9,8 +9,6 @@ use Rattle.goblin_base.proofs.Numbers.{slice_at-some}
 use Rattle.goblin_base.proofs.RecordItems.{length-records_in}
 use Rattle.goblin_base.proofs.RecordRoundTrip.{length-slice}
 use Rattle.goblin_base.proofs.Steps.{all_at-each, all_at-zero, mapped, same_value}
-use Rattle.goblin_pe_sect.specs.declared.data_directories.DataDirectory.{DataDirectory}
-use Rattle.goblin_pe_sect.specs.DataDirectories.{no_directory}
 use Rattle.goblin_pe_sect.specs.SectionReadings.{named_section_at}
 use Rattle.goblin_pe_sect.specs.declared.section_table.records.SectionRecords.{SectionRecords}
 use Rattle.goblin_pe_sect.specs.SectionTable.{Section, recorded_sections, section_record, sections_in, unnamed}
@@ -21,26 +19,15 @@ use Rattle.goblin_pe_head.specs.declared.header.parts.HeaderParts.{HeaderParts}
 use Rattle.goblin_pe_head.specs.HeaderReadings.{pe_header}
 use Rattle.goblin_pe_head.specs.PeHeader.{PeHeader}
 use Rattle.goblin_pe_head.proofs.SectionRecords.{section_end, section_more, sections_from, sections_of_slice, unnamed_from}
-use Rattle.goblin_pe.specs.Whole.{TablePlaces, places_in, section_table_offset, sections_after, size_of_headers}
+use Rattle.goblin_pe.specs.Whole.{places_in, section_table_offset, sections_after, size_of_headers}
 use Rattle.goblin_pe_sect.specs.Options.{front_of}
 use Rattle.goblin_pe_records.specs.Options.{longest_of, options_at, view_of}
 use Rattle.goblin_pe_sect.specs.Addresses.{with_longest}
-use Rattle.goblin_pe_calls.specs.Places.{LeadsBack, directory_if, places_numbers, places_said}
+use Rattle.goblin_pe_calls.specs.Places.{LeadsBack}
 use Rattle.goblin_pe_calls.specs.Parts.{AreOfLayout, given_count, given_or, given_sections, sections_of, zero_coff_header}
 use Rattle.goblin_pe_head.specs.declared.header.coff.CoffHeader.{CoffHeader}
 use Rattle.goblin_pe_head.specs.HeaderParts.{ArePartsOf, coff_part, placed_coff, sections_part, sections_there, table_after, whole_sections}
 use Rattle.goblin_pe_head.proofs.WholeParts.{whole_placed}
-
--- ---- where the tables lie
-
-directory-back : (o : Option DataDirectory)
-    → directory_if (is_some o) (unwrap_or o no_directory) ≡ o
-directory-back None = refl
-directory-back (Some d) = refl
-
-said-back : (table headers count : ℕ) (t : TablePlaces) → places_said (places_numbers table headers count t) ≡ t
-said-back table headers count t =
-    rw (directory-back t.exports, directory-back t.imports, directory-back t.relocations) refl
 
 -- ---- the sections
 
@@ -151,7 +138,7 @@ given_led bytes parts are =
 pub leads_back : (h : PeHeader) → LeadsBack h
 unfolding sections_after sections_at
 leads_back h = record {
-  tables = said-back (section_table_offset h) (size_of_headers h.optional_header) h.coff_header.number_of_sections (places_in h.optional_header);
+  tables = refl;
   sections = λ strict bytes sections read o.
       let n = h.coff_header.number_of_sections in
       let found = placed strict (symbols_end h.coff_header) bytes (section_table_offset h) n sections read n refl in

@@ -14,7 +14,7 @@ use Rattle.goblin_pe.specs.ExportRecords.{ExportTables, NumberedExport}
 use Rattle.goblin_pe_import.specs.ImportRecords.{NumberedLibrary}
 use Rattle.goblin_pe.specs.declared.whole.Part.{Part}
 use Rattle.goblin_pe.specs.declared.whole.refused.RefusedPart.TheVariants as refused
-use Rattle.goblin_pe.specs.Addresses.{MapOfAddresses, map_in, offset_of}
+use Rattle.goblin_pe.specs.Addresses.{MapOfAddresses, map_in}
 use Rattle.goblin_pe.specs.declared.whole.layout.Layout.{Layout}
 use Rattle.goblin_pe.specs.Layouts.{IsLayoutOf, layout_map, layout_places}
 use Rattle.goblin_pe.specs.RefusedParts.{refused_part, refused_table}

@@ -14,13 +14,11 @@ use Rattle.goblin_pe_head.specs.PeHeader.{PeHeader}
 use Rattle.goblin_pe.specs.declared.whole.refused.RefusedPart.{RefusedPart}
 use Rattle.goblin_pe.specs.declared.whole.refused.RefusedPart.TheVariants as refused
 use Rattle.goblin_pe.specs.Whole.{layout, section_table_offset}
-use Rattle.goblin_pe_records.specs.declared.directory.PeDirectory.{PeDirectory}
 use Rattle.goblin_pe_records.specs.declared.headers.PeOptionalHeader.{PeOptionalHeader}
 use Rattle.goblin_pe_records.specs.declared.places.PePlaces.{PePlaces}
 use Rattle.goblin_pe_records.specs.declared.section.PeSection.{PeSection}
-use Rattle.goblin_pe_records.specs.Directories.{directories_of, entry_record}
 use Rattle.goblin_pe_records.specs.Filled.{Filled, without_text}
-use Rattle.goblin_pe_records.specs.Headers.{optional_record}
+use Rattle.goblin_pe_records.specs.Headers.{directory_count, optional_record}
 use Rattle.goblin_pe_records.specs.Sections.{section_said}
 use Rattle.goblin_pe_calls.specs.declared.layout.PeLayout.{PeLayout}
 use Rattle.goblin_pe_calls.specs.Places.{places_record}
@@ -57,7 +55,7 @@ pub record LayoutSaid : Type 0 where
 abbrev pub layout_said : PeHeader → ℕ → LayoutSaid
 layout_said header sections = record {
   optional_header = optional_record header.optional_header;
-  directories = length (directories_of header.optional_header);
+  directories = directory_count header.optional_header;
   sections = sections;
   places = places_record header;
   dos_header = header.dos_header;
@@ -80,14 +78,11 @@ layout_view l = record {
 -- what a caller passes in to be filled
 pub record LayoutRecords : Type 0 where
   pub layout : PeLayout
-  pub directories : List PeDirectory
   pub sections : List PeSection
 
--- the records hold what an image with this header and these sections is, directories and sections
--- as far as there is room
+-- the records hold what an image with this header and these sections is, the sections as far as there
+-- is room
 abbrev pub SaysLayout : PeHeader × List Section → LayoutRecords → LayoutRecords → Type 0
 SaysLayout l old new =
     (layout_view new.layout ≡ layout_said l.0 (length l.1))
-    × (Filled (λ d. d) (map entry_record (directories_of l.0.optional_header)) old.directories
-    new.directories)
     × (Filled section_said (map without_text l.1) old.sections new.sections)

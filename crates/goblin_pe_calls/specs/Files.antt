@@ -10,8 +10,7 @@ use Rattle.goblin_pe_records.specs.declared.file.PeFile.{PeFile}
 use Rattle.goblin_pe_records.specs.declared.file.State.TheVariants as state
 use Rattle.goblin_pe_calls.specs.Blocks.{base_relocations_of}
 use Rattle.goblin_pe_calls.specs.Places.{places_record}
-use Rattle.goblin_pe_records.specs.Directories.{directories_of}
-use Rattle.goblin_pe_records.specs.Headers.{optional_record}
+use Rattle.goblin_pe_records.specs.Headers.{directory_count, optional_record}
 use Rattle.goblin_pe_records.specs.RichHeaders.{rich_of}
 use Rattle.goblin_pe_records.specs.States.{state_number}
 
@@ -31,7 +30,7 @@ table_of Refused = record { count = 0; state = state_number state.Refused }
 abbrev pub summary : PeHeader → ℕ → PeTable → PeTable → Part (List ℕ) → PeFile
 summary header sections imports exports relocations = record {
   optional_header = optional_record header.optional_header;
-  directories = length (directories_of header.optional_header);
+  directories = directory_count header.optional_header;
   sections = sections;
   places = places_record header;
   imports = imports;

@@ -3,7 +3,7 @@ use Rattle.std.specs.Prelude.{ℕ, ◌+◌, ◌<◌, ◌⊎◌, List, [], IsSome
 use Rattle.std.specs.Prelude.{IsSomeAnd, MatchOption, length}
 use Rattle.goblin_pe_sect.specs.declared.options.ParseOptions.{ParseOptions}
 use Rattle.goblin_pe_sect.specs.declared.options.View.{View}
-use Rattle.goblin_pe.specs.Addresses.{MapOfAddresses, map_in, offset_of}
+use Rattle.goblin_pe.specs.Addresses.{MapOfAddresses, map_in}
 use Rattle.goblin_pe.specs.declared.whole.Part.{Part}
 use Rattle.goblin_pe.specs.LayoutCursors.{file_cursor_left, import_begin}
 use Rattle.goblin_pe.specs.ExportRecords.{ExportTables, NumberedExport}

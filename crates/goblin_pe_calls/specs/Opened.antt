@@ -19,17 +19,15 @@ use Rattle.goblin_pe.specs.declared.whole.layout.Layout.{Layout}
 use Rattle.goblin_pe.specs.BaseRelocations.{relocation_bytes}
 use Rattle.goblin_pe.specs.PeHeader.{header_value}
 use Rattle.goblin_pe_head.specs.declared.header.pe_header.Header.{Header}
-use Rattle.goblin_pe_records.specs.declared.directory.PeDirectory.{PeDirectory}
 use Rattle.goblin_pe_records.specs.declared.file.PeFile.{PeFile}
 use Rattle.goblin_pe_calls.specs.declared.open.PeTables.{PeTables}
 use Rattle.goblin_pe_records.specs.Blocks.{block_view}
 use Rattle.goblin_pe_calls.specs.Blocks.{blocks_in}
-use Rattle.goblin_pe_records.specs.Directories.{directories_of, entry_record}
 use Rattle.goblin_pe_calls.specs.declared.records.FileRecords.{FileRecords}
 use Rattle.goblin_pe_calls.specs.ExportDirectories.{directory_view}
 use Rattle.goblin_pe_calls.specs.Exports.{ExportsSaid, export_view, exports_said, exports_view}
 use Rattle.goblin_pe_calls.specs.Files.{entries_of, file_of}
-use Rattle.goblin_pe_records.specs.Filled.{Filled, without_text}
+use Rattle.goblin_pe_records.specs.Filled.{without_text}
 use Rattle.goblin_pe_records.specs.Options.{alignment_in, alignment_of, options_at, options_in, view_of}
 use Rattle.goblin_pe_records.specs.declared.options.PeOptions.{PeOptions}
 use Rattle.goblin_pe_calls.specs.Imports.{ImportSaid, import_view, import_views, imports_said}
@@ -91,7 +89,6 @@ opened_in o = record {
 
 pub record Opened : Type 0 where
   pub file : PeFile
-  pub directories : List PeDirectory
   pub tables : PeTables
 
 -- the tables are those of a file, each whole
@@ -108,14 +105,11 @@ AreTablesOf read t =
     × (map block_view t.blocks.now ≡ blocks_in w.relocations)
     × (t.dos_stub.now ≡ w.header.dos_stub)
 
--- what a call reports of a file whose tables it keeps: the directories as far as there is room, all
--- else whole
+-- what a call reports of a file whose tables it keeps
 abbrev pub Opens : OpenedFile → Opened → Opened → Type 0
 Opens read old new =
     let w = read.whole in
     (new.file ≡ file_of w)
-    × (Filled (λ d. d) (map entry_record (directories_of w.header.optional_header))
-    old.directories new.directories)
     × AreTablesOf read new.tables
 
 -- ---- the records while they are made

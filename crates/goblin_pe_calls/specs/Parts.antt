@@ -12,15 +12,13 @@ use Rattle.goblin_pe_head.specs.HeaderParts.{AreOfWhole, ArePartsOf, known_optio
 use Rattle.goblin_pe_head.specs.HeaderReadings.{pe_header}
 use Rattle.goblin_pe_head.specs.PeHeader.{PeHeader, zero_dos_header}
 use Rattle.goblin_pe.specs.Whole.{places_in, sections_after, size_of_headers}
-use Rattle.goblin_pe_records.specs.declared.directory.PeDirectory.{PeDirectory}
 use Rattle.goblin_pe_records.specs.declared.fault.PeFault.{PeFault}
 use Rattle.goblin_pe_records.specs.declared.section.PeSection.{PeSection}
 use Rattle.goblin_pe.specs.RefusedParts.{refused_number}
 use Rattle.goblin_pe_records.specs.Calls.{ReportedOf}
-use Rattle.goblin_pe_records.specs.Directories.{directories_of, entry_record}
 use Rattle.goblin_pe_records.specs.Faults.{status_of}
 use Rattle.goblin_pe_records.specs.Filled.{Filled, without_text}
-use Rattle.goblin_pe_records.specs.Headers.{optional_record}
+use Rattle.goblin_pe_records.specs.Headers.{directory_count, optional_record}
 use Rattle.goblin_pe_records.specs.Sections.{section_said}
 use Rattle.goblin_pe_calls.specs.declared.parts.PeParts.{PeParts}
 use Rattle.goblin_pe_calls.specs.FileLayouts.{layout_as, layout_part}
@@ -64,7 +62,7 @@ given_count parts = min (said_count parts) (length (given_sections parts))
 abbrev pub parts_record : HeaderParts → PeFault → PeParts
 parts_record parts refusal = record {
   optional_header = optional_record (known_optional parts);
-  directories = length (directories_of (known_optional parts));
+  directories = directory_count (known_optional parts);
   sections = given_count parts;
   missing_sections = said_count parts - given_count parts;
   places = places_numbers (unwrap_or parts.section_table 0)
@@ -102,11 +100,10 @@ AnswersLayout has_raw_names opts bytes answer =
 -- what a caller passes in to be filled
 pub record PartsRecords : Type 0 where
   pub parts : PeParts
-  pub directories : List PeDirectory
   pub sections : List PeSection
 
 -- The records hold the parts of the header of a file, and how these options answer a read of the
--- layout; directories and sections, with their raw names, as far as there is room.
+-- layout; the sections, with their raw names, as far as there is room.
 pub record SaysParts (has_raw_names : Bool) (opts : ParseOptions) (bytes : List ℕ)
     (old new : PartsRecords) : Type 0 where
   pub parts : HeaderParts
@@ -118,7 +115,5 @@ pub record SaysParts (has_raw_names : Bool) (opts : ParseOptions) (bytes : List 
   pub answered : ReportedOf (refused_number (layout_part opts bytes)) refusal
       (AnswersLayout has_raw_names opts bytes)
   pub made : new.parts ≡ parts_record parts refusal
-  pub listed : Filled (λ d. d) (map entry_record (directories_of (known_optional parts)))
-      old.directories new.directories
   pub filled : Filled section_said (map (λ s. without_text (unnamed s)) (given_sections parts))
       old.sections new.sections

@@ -1,10 +1,8 @@
 -- Where the sections and the tables of a file lie, as the record that a caller keeps.
-use Rattle.std.specs.Prelude.{◌≡◌, ℕ, Bool, if◌then◌else◌, List, length, Option}
-use Rattle.std.specs.Prelude.{None, Some, IsSomeAnd, unwrap_or, is_some}
+use Rattle.std.specs.Prelude.{◌≡◌, ℕ, Bool, List, length}
+use Rattle.std.specs.Prelude.{Some, IsSomeAnd}
 use Rattle.goblin_base.specs.Reading.{Reading}
-use Rattle.goblin_pe_sect.specs.declared.data_directories.DataDirectory.{DataDirectory}
 use Rattle.goblin_pe_sect.specs.Addresses.{AreMany, MapOfAddresses, map_in, with_longest}
-use Rattle.goblin_pe_sect.specs.DataDirectories.{no_directory}
 use Rattle.goblin_pe_sect.specs.Options.{front_of}
 use Rattle.goblin_pe_sect.specs.SectionTable.{Section}
 use Rattle.goblin_pe_sect.specs.WindowIndex.{HasPieces}
@@ -23,16 +21,11 @@ use Rattle.goblin_pe_records.specs.Options.{longest_of, options_at, view_of}
 abbrev pub places_numbers : ℕ → ℕ → ℕ → TablePlaces → PePlaces
 places_numbers section_table headers number_of_sections t = record {
   section_table = section_table;
-  exports = unwrap_or t.exports no_directory;
-  imports = unwrap_or t.imports no_directory;
-  relocations = unwrap_or t.relocations no_directory;
+  directories = t.directories;
   file_alignment = t.file_alignment;
   size_of_headers = headers;
   number_of_sections = number_of_sections;
   magic = t.magic;
-  has_exports = is_some t.exports;
-  has_imports = is_some t.imports;
-  has_relocations = is_some t.relocations;
 }
 
 abbrev pub places_record : PeHeader → PePlaces
@@ -42,18 +35,12 @@ places_record h =
 
 -- ---- what a record says
 
--- a directory, if there is one
-abbrev pub directory_if : Bool → DataDirectory → Option DataDirectory
-directory_if is_there directory = if is_there then Some directory else None
-
 -- where the tables lie
 abbrev pub places_said : PePlaces → TablePlaces
 places_said p = record {
   magic = p.magic;
   file_alignment = p.file_alignment;
-  exports = directory_if p.has_exports p.exports;
-  imports = directory_if p.has_imports p.imports;
-  relocations = directory_if p.has_relocations p.relocations;
+  directories = p.directories;
 }
 
 -- the sections of the records that stand where these places say

@@ -1,5 +1,5 @@
 -- What is written of the records of a file that was opened.
-use Rattle.std.specs.Prelude.{◌≡◌, ◌++◌, List, ℕ, map, Some, take, true}
+use Rattle.std.specs.Prelude.{◌≡◌, ◌++◌, List, ℕ, Some, take, true}
 use Rattle.goblin_base.specs.declared.endian.Endian.TheVariants.{Little}
 use Rattle.goblin_base.specs.Bytes.{IsBytes}
 use Rattle.goblin_pe_sect.specs.declared.options.ParseOptions.{ParseOptions}
@@ -8,7 +8,6 @@ use Rattle.goblin_pe_sect.specs.Options.{is_strict}
 use Rattle.goblin_pe_head.specs.HeaderLaws.{filling_after, header_end}
 use Rattle.goblin_pe_head.specs.PeHeader.{header_bytes}
 use Rattle.goblin_pe.specs.Whole.{WholeFile, whole_in}
-use Rattle.goblin_pe_records.specs.Directories.{directories_of, entry_record}
 use Rattle.goblin_pe_records.specs.Written.{header_said}
 use Rattle.goblin_pe_calls.specs.Files.{file_of}
 
@@ -19,6 +18,5 @@ OpenedWritesBack =
     (view : View) (opts : ParseOptions) (bytes : List ℕ) (w : WholeFile) → IsBytes bytes
     → is_strict opts.parse_mode ≡ true → (whole_in view opts).value bytes ≡ Some w
     → header_bytes Little
-    (header_said (file_of w) (map entry_record (directories_of w.header.optional_header))
-    w.header.dos_stub)
+    (header_said (file_of w) w.header.dos_stub)
     ≡ Some (take (header_end w.header) bytes ++ filling_after w.header.optional_header)

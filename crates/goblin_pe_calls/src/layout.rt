@@ -10,9 +10,8 @@ ghost use Rattle.goblin_pe_calls.specs.FileLayouts.{layout_as, layout_part, layo
 use crate::places::places_record;
 use goblin_pe::header::{CoffHeader, DosHeader, Header, unnamed_records};
 use goblin_pe::options::ParseOptions;
-use goblin_pe::{RefusedPart, Result, section_records_of, section_table_offset};
-use goblin_pe_records::directory::{PeDirectory, directories_of, fill_directories};
-use goblin_pe_records::headers::{PeOptionalHeader, fill_optional};
+use goblin_pe::{Places, RefusedPart, Result, section_records_of, section_table_offset};
+use goblin_pe_records::headers::{PeOptionalHeader, directory_count, fill_optional};
 use goblin_pe_records::places::PePlaces;
 use goblin_pe_records::section::{PeSection, fill_sections};
 
@@ -22,8 +21,7 @@ use goblin_pe_records::section::{PeSection, fill_sections};
 pub struct PeLayout<'a> {
     /// The optional header.
     pub optional_header: PeOptionalHeader,
-    /// How many data directories there are, whatever the room: sixteen, or none where there is no
-    /// optional header. Records past them are not filled.
+    /// How many data directories there are: sixteen, or none where there is no optional header.
     pub directories: usize,
     /// How many sections there are, whatever the room.
     pub sections: usize,
@@ -43,9 +41,9 @@ fn fill_layout<'a>(layout: &mut PeLayout<'a>, header: &Header<'a>, sections: usi
     ensures { layout_view layout.new ≡ layout_said (header_value header.now) sections }
 {
     fill_optional(&mut layout.optional_header, &header.optional_header);
-    layout.directories = directories_of(&header.optional_header).len();
+    layout.directories = directory_count(&header.optional_header);
     layout.sections = sections;
-    layout.places = places_record(header);
+    layout.places = places_record(header, &Places::of(&header.optional_header));
     layout.dos_header = header.dos_header;
     layout.coff_header = header.coff_header;
     layout.dos_stub = header.dos_stub.bytes;
@@ -57,20 +55,12 @@ fn read_named<'a>(
     bytes: &'a [u8],
     opts: &ParseOptions,
     layout: &mut PeLayout<'a>,
-    directories: &mut [PeDirectory],
     sections: &mut [PeSection<'a>],
     part: &mut RefusedPart,
 ) -> Result<()>
-    ensures read { let old : LayoutRecords = record {
-      layout = layout.old;
-      directories = directories.old;
-      sections = sections.old;
-    } in
-        let new : LayoutRecords = record {
-          layout = layout.new;
-          directories = directories.new;
-          sections = sections.new;
-        } in
+    ensures read { let old : LayoutRecords =
+        record { layout = layout.old; sections = sections.old } in
+        let new : LayoutRecords = record { layout = layout.new; sections = sections.new } in
         ReadsWithout (file_layout opts.now) bytes.now (λ l. SaysLayout l old new) (new ≡ old)
         result }
     ensures part { IsRefusedFor (layout_part opts.now bytes.now) part.new result }
@@ -81,7 +71,6 @@ fn read_named<'a>(
     *part = RefusedPart::Sections;
     let records = section_records_of(bytes, &header, opts)?;
     let strings = header.coff_header.symbols_end();
-    fill_directories(directories, directories_of(&header.optional_header));
     fill_sections(sections, bytes, records, None, Some(strings), opts);
     fill_layout(layout, &header, records.len());
     Ok(())
@@ -93,20 +82,12 @@ fn read_raw<'a>(
     bytes: &'a [u8],
     opts: &ParseOptions,
     layout: &mut PeLayout<'a>,
-    directories: &mut [PeDirectory],
     sections: &mut [PeSection<'a>],
     part: &mut RefusedPart,
 ) -> Result<()>
-    ensures read { let old : LayoutRecords = record {
-      layout = layout.old;
-      directories = directories.old;
-      sections = sections.old;
-    } in
-        let new : LayoutRecords = record {
-          layout = layout.new;
-          directories = directories.new;
-          sections = sections.new;
-        } in
+    ensures read { let old : LayoutRecords =
+        record { layout = layout.old; sections = sections.old } in
+        let new : LayoutRecords = record { layout = layout.new; sections = sections.new } in
         ReadsWithout (raw_layout opts.now) bytes.now (λ l. SaysLayout l old new) (new ≡ old)
         result }
     ensures part { IsRefusedFor (layout_part opts.now bytes.now) part.new result }
@@ -117,14 +98,13 @@ fn read_raw<'a>(
     *part = RefusedPart::Sections;
     let count = header.coff_header.number_of_sections;
     let records = unnamed_records(bytes, section_table_offset(&header), count)?;
-    fill_directories(directories, directories_of(&header.optional_header));
     fill_sections(sections, bytes, records, None, None, opts);
     fill_layout(layout, &header, records.len());
     Ok(())
 }
 
 /// Reads an image without its tables: says in `layout` what it is, and fills the records of its
-/// data directories and of its sections as far as there is room. It takes no memory: each name is
+/// sections as far as there is room. It takes no memory: each name is
 /// where it lies in the file. With raw names no name is tested, and none looked up.
 ///
 /// # Errors
@@ -135,27 +115,19 @@ pub fn read<'a>(
     opts: &ParseOptions,
     has_raw_names: bool,
     layout: &mut PeLayout<'a>,
-    directories: &mut [PeDirectory],
     sections: &mut [PeSection<'a>],
     part: &mut RefusedPart,
 ) -> Result<()>
-    ensures read { let old : LayoutRecords = record {
-      layout = layout.old;
-      directories = directories.old;
-      sections = sections.old;
-    } in
-        let new : LayoutRecords = record {
-          layout = layout.new;
-          directories = directories.new;
-          sections = sections.new;
-        } in
+    ensures read { let old : LayoutRecords =
+        record { layout = layout.old; sections = sections.old } in
+        let new : LayoutRecords = record { layout = layout.new; sections = sections.new } in
         ReadsWithout (layout_as has_raw_names opts.now) bytes.now (λ l. SaysLayout l old new) (new ≡ old)
         result }
     ensures part { IsRefusedFor (layout_part opts.now bytes.now) part.new result }
 {
     if has_raw_names {
-        read_raw(bytes, opts, layout, directories, sections, part)
+        read_raw(bytes, opts, layout, sections, part)
     } else {
-        read_named(bytes, opts, layout, directories, sections, part)
+        read_named(bytes, opts, layout, sections, part)
     }
 }

@@ -33,7 +33,6 @@ use goblin_pe::header::{Header, RichMetadata};
 use goblin_pe::options::{ParseOptions, View};
 use goblin_pe::{Layout, Part, RefusedPart, Result};
 use goblin_pe_records::block::{PeBaseRelocations, PeBlock};
-use goblin_pe_records::directory::{PeDirectory, directories_of, fill_directories};
 use goblin_pe_records::file::PeFile;
 use goblin_pe_records::rich::{PeRichHeader, entry_records};
 use goblin_pe_records::section::{PeSection, named_sections};
@@ -182,16 +181,15 @@ fn open_by<'a>(
     opts: &ParseOptions,
     header: &Header<'a>,
     file: &mut PeFile,
-    directories: &mut [PeDirectory],
     tables: &mut PeTables<'a>,
     part: &mut RefusedPart,
 ) -> Result<()>
     requires { (pe_header (is_strict opts.now.parse_mode)).value bytes.now
         ≡ Some (header_value header.now) }
     ensures opened { let old : Opened =
-        record { file = file.old; directories = directories.old; tables = tables.old } in
+        record { file = file.old; tables = tables.old } in
         let new : Opened =
-        record { file = file.new; directories = directories.new; tables = tables.new } in
+        record { file = file.new; tables = tables.new } in
         ReadsInto (pe_header (is_strict opts.now.parse_mode)) (TakesRecords view opts.now bytes.now)
         (opened_file view opts.now) bytes.now (λ read. Opens read old new) (new ≡ old) result }
     ensures part { IsRefusedFor (refused_part view opts.now bytes.now) part.new result }
@@ -200,7 +198,6 @@ fn open_by<'a>(
     let layout = Layout::in_view(alloc, bytes, header, view, opts)?;
     let records = file_records(alloc, &layout, part)?;
     let made = made_of(alloc, header, &layout, &records, bytes, view, opts)?;
-    fill_directories(directories, directories_of(&header.optional_header));
     fill_file(
         file,
         header,
@@ -214,8 +211,7 @@ fn open_by<'a>(
     Ok(())
 }
 
-/// Reads a whole file, whose addresses are mapped as the view says: says in `file` what it is, fills the records of its data directories as far
-/// as there is room, and puts its tables into `tables`, each a block of memory of its own.
+/// Reads a whole file, whose addresses are mapped as the view says: says in `file` what it is, and puts its tables into `tables`, each a block of memory of its own.
 ///
 /// # Errors
 /// What these options refuse of the file, and memory; but for `part`, which becomes the part for
@@ -228,14 +224,13 @@ pub fn open<'a>(
     view: View,
     opts: &ParseOptions,
     file: &mut PeFile,
-    directories: &mut [PeDirectory],
     tables: &mut PeTables<'a>,
     part: &mut RefusedPart,
 ) -> Result<()>
     ensures opened { let old : Opened =
-        record { file = file.old; directories = directories.old; tables = tables.old } in
+        record { file = file.old; tables = tables.old } in
         let new : Opened =
-        record { file = file.new; directories = directories.new; tables = tables.new } in
+        record { file = file.new; tables = tables.new } in
         ReadsInto (pe_header (is_strict opts.now.parse_mode)) (TakesRecords view opts.now bytes.now)
         (opened_file view opts.now) bytes.now (λ read. Opens read old new) (new ≡ old) result }
     ensures part { IsRefusedFor (refused_part view opts.now bytes.now) part.new result }
@@ -243,15 +238,5 @@ pub fn open<'a>(
     let mut header = Header::default();
     *part = RefusedPart::Header;
     header.read_with_opts(bytes, opts)?;
-    open_by(
-        alloc,
-        bytes,
-        view,
-        opts,
-        &header,
-        file,
-        directories,
-        tables,
-        part,
-    )
+    open_by(alloc, bytes, view, opts, &header, file, tables, part)
 }

@@ -19,10 +19,9 @@ use goblin_pe::header::{CoffHeader, DosHeader, Header, HeaderParts, unnamed_reco
 use goblin_pe::optional_header::{OptionalHeader, StandardFields, WindowsFields};
 use goblin_pe::options::ParseOptions;
 use goblin_pe::section_table::SectionRecords;
-use goblin_pe::{RefusedPart, Result, section_records_of, section_table_offset};
-use goblin_pe_records::directory::{PeDirectory, directories_of, fill_directories};
+use goblin_pe::{Places, RefusedPart, Result, section_records_of, section_table_offset};
 use goblin_pe_records::fault::{PeFault, fault_of, no_fault, status_of_part};
-use goblin_pe_records::headers::{PeOptionalHeader, fill_optional};
+use goblin_pe_records::headers::{PeOptionalHeader, directory_count, fill_optional};
 use goblin_pe_records::places::PePlaces;
 use goblin_pe_records::section::{PeSection, fill_sections};
 
@@ -35,8 +34,8 @@ pub struct PeParts {
     /// The optional header: the standard fields and the Windows fields, zeros in place of those that
     /// are refused.
     pub optional_header: PeOptionalHeader,
-    /// How many data directories there are, whatever the room: sixteen, or none where there is no
-    /// optional header, or its standard fields are refused. Records past them are not filled.
+    /// How many data directories there are: sixteen, or none where there is no optional header, or
+    /// its standard fields are refused.
     pub directories: usize,
     /// How many sections there are, whatever the room: as many as the COFF header says, or as the
     /// file has whole records, if these are fewer.
@@ -185,10 +184,15 @@ fn parts_record(parts: &HeaderParts, refusal: PeFault) -> PeParts
     let coff_header = coff_or_zeros(&parts.coff_header);
     PeParts {
         optional_header: optional_record(&optional),
-        directories: directories_of(&optional).len(),
+        directories: directory_count(&optional),
         sections: count as usize,
         missing_sections: (coff_header.number_of_sections - count) as usize,
-        places: places_by(parts.section_table.unwrap_or(0), count, &optional),
+        places: places_by(
+            parts.section_table.unwrap_or(0),
+            count,
+            &optional,
+            &Places::of(&optional),
+        ),
         dos_header: dos_or_zeros(&parts.dos_header),
         coff_header,
         refusal,
@@ -202,33 +206,23 @@ fn parts_record(parts: &HeaderParts, refusal: PeFault) -> PeParts
 
 /// Reads the parts of an image's header, each by itself: says in `parts` what is there, and why the
 /// header or the sections are refused as a whole by these options, and fills the records of the
-/// first sixteen data directories and of the sections that are there, with their raw names, as far
+/// sections that are there, with their raw names, as far
 /// as there is room. It takes no memory, and refuses no file.
 pub fn read<'a>(
     bytes: &'a [u8],
     opts: &ParseOptions,
     has_raw_names: bool,
     parts: &mut PeParts,
-    directories: &mut [PeDirectory],
     sections: &mut [PeSection<'a>],
 )
-    ensures { let old : PartsRecords = record {
-      parts = parts.old;
-      directories = directories.old;
-      sections = sections.old;
-    } in
-        let new : PartsRecords = record {
-          parts = parts.new;
-          directories = directories.new;
-          sections = sections.new;
-        } in
+    ensures { let old : PartsRecords = record { parts = parts.old; sections = sections.old } in
+        let new : PartsRecords = record { parts = parts.new; sections = sections.new } in
         SaysParts has_raw_names opts.now bytes.now old new }
 {
     let read = HeaderParts::read(bytes);
     let refusal = test_layout(bytes, opts, has_raw_names);
     let optional = read.optional_header();
     let records = records_or_none(&read.section_records);
-    fill_directories(directories, directories_of(&optional));
     fill_sections(sections, bytes, records, None, None, opts);
     *parts = parts_record(&read, refusal);
 }

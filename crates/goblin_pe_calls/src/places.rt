@@ -7,12 +7,11 @@ ghost use Rattle.goblin_base.specs.Reading.{ReadsOrMemory};
 ghost use Rattle.goblin_pe_head.specs.PeHeader.{header_value};
 ghost use Rattle.goblin_pe.specs.Layouts.{layout_bytes, layout_map, layout_places, layout_sections};
 ghost use Rattle.goblin_pe.specs.Whole.{places_in, size_of_headers, table_places};
-ghost use Rattle.goblin_pe_calls.specs.Places.{TakesIndexAt, directory_if, map_at, placed_sections};
+ghost use Rattle.goblin_pe_calls.specs.Places.{TakesIndexAt, map_at, placed_sections};
 ghost use Rattle.goblin_pe_calls.specs.Places.{LeadsBack, places_numbers, places_record};
 ghost use Rattle.goblin_pe_calls.specs.Places.{places_said};
 
 use goblin_pe::address_map::MappedRecords;
-use goblin_pe::data_directories::DataDirectory;
 use goblin_pe::header::{Header, section_records_at};
 use goblin_pe::optional_header::OptionalHeader;
 use goblin_pe::{Layout, Places, ResultOf, section_table_offset, size_of_headers};
@@ -20,64 +19,54 @@ use goblin_pe_records::options::{PeOptions, longest_of, options_at, view_of};
 use goblin_pe_records::places::PePlaces;
 use std::alloc::Global;
 
-/// Where so many sections and the tables of a file lie, by the offset of its section table and by
-/// its optional header.
+/// Where so many sections and the tables of a file lie, by the offset of its section table, by its
+/// optional header and by the places of the tables.
 pub fn places_by(
     section_table: usize,
     number_of_sections: u16,
     header: &Option<OptionalHeader>,
+    places: &Places,
 ) -> PePlaces
     ensures { result
         ≡ places_numbers section_table (size_of_headers header.now) number_of_sections
-        (places_in header.now) }
+        (table_places places.now) }
 {
-    let places = Places::of(header);
-    let none = DataDirectory {
-        virtual_address: 0,
-        size: 0,
-    };
+    let directories = places.directories;
     PePlaces {
         section_table,
-        exports: places.exports.unwrap_or(none),
-        imports: places.imports.unwrap_or(none),
-        relocations: places.relocations.unwrap_or(none),
+        directories,
         file_alignment: places.file_alignment,
         size_of_headers: size_of_headers(header),
         number_of_sections,
         magic: places.magic,
-        has_exports: places.exports.is_some(),
-        has_imports: places.imports.is_some(),
-        has_relocations: places.relocations.is_some(),
     }
 }
 
-/// Where the sections and the tables of a file with this header lie. What is read by these places
-/// is read of that file.
-pub fn places_record(header: &Header) -> PePlaces
+/// Where the sections of a file with this header lie, and its tables, at these places. What is read
+/// by the places of the header is read of that file.
+pub fn places_record(header: &Header, places: &Places) -> PePlaces
+    requires { table_places places.now ≡ places_in header.now.optional_header }
     ensures made { result ≡ places_record (header_value header.now) }
     ensures back { LeadsBack (header_value header.now) }
 {
     let count = header.coff_header.number_of_sections;
-    places_by(section_table_offset(header), count, &header.optional_header)
-}
-
-// A directory, if there is one.
-fn directory_if(is_there: bool, directory: DataDirectory) -> Option<DataDirectory>
-    ensures { result ≡ directory_if is_there directory }
-{
-    if is_there { Some(directory) } else { None }
+    places_by(
+        section_table_offset(header),
+        count,
+        &header.optional_header,
+        places,
+    )
 }
 
 // Where the tables lie by a record.
 fn places_said(places: &PePlaces) -> Places
     ensures { table_places result ≡ places_said places.now }
 {
+    let directories = places.directories;
     Places {
         magic: places.magic,
         file_alignment: places.file_alignment,
-        exports: directory_if(places.has_exports, places.exports),
-        imports: directory_if(places.has_imports, places.imports),
-        relocations: directory_if(places.has_relocations, places.relocations),
+        directories,
     }
 }
 

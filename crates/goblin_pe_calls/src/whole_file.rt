@@ -2,7 +2,8 @@
 
 ghost use Rattle.std.specs.Prelude.{◌≡◌, length};
 ghost use Rattle.goblin_pe_head.specs.PeHeader.{header_value};
-ghost use Rattle.goblin_pe.specs.Whole.{part_map};
+ghost use Rattle.goblin_pe.specs.Layouts.{layout_places};
+ghost use Rattle.goblin_pe.specs.Whole.{part_map, places_in};
 ghost use Rattle.goblin_pe_records.specs.RichHeaders.{rich_of};
 ghost use Rattle.goblin_pe_calls.specs.Blocks.{base_relocations_of};
 ghost use Rattle.goblin_pe_calls.specs.Files.{summary, table_of};
@@ -13,9 +14,8 @@ use crate::records::FileRecords;
 use goblin_pe::header::Header;
 use goblin_pe::{Layout, Part};
 use goblin_pe_records::block::PeBaseRelocations;
-use goblin_pe_records::directory::directories_of;
 use goblin_pe_records::file::{PeFile, PeTable, State};
-use goblin_pe_records::headers::fill_optional;
+use goblin_pe_records::headers::{directory_count, fill_optional};
 use goblin_pe_records::rich::PeRichHeader;
 
 // Says how a table of records stands.
@@ -42,6 +42,7 @@ pub(crate) fn fill_file<'a>(
     relocations: PeBaseRelocations,
     rich_header: PeRichHeader,
 )
+    requires placed { layout_places layout.now ≡ places_in header.now.optional_header }
     requires relocations { let v = records_view header.now layout.now records.now in
         relocations ≡ base_relocations_of v.tables.relocations }
     requires rich_header { rich_header ≡ rich_of (header_value header.now).rich_header }
@@ -51,9 +52,9 @@ pub(crate) fn fill_file<'a>(
         (table_of v.tables.exports.exports) v.tables.relocations }
 {
     fill_optional(&mut file.optional_header, &header.optional_header);
-    file.directories = directories_of(&header.optional_header).len();
+    file.directories = directory_count(&header.optional_header);
     file.sections = layout.section_records().len();
-    file.places = places_record(header);
+    file.places = places_record(header, layout.places());
     fill_table(&mut file.imports, &records.imports);
     fill_table(&mut file.exports, &records.exports.exports);
     file.relocations = relocations;

@@ -10,4 +10,3 @@ pub mod Names
 pub mod Puts
 pub mod SymbolTables
 pub mod Symbols
-pub mod Written

@@ -1,21 +1,21 @@
 -- What is in memory where an address has an offset inside the file.
-use Rattle.std.proofs.Common.{◌≡◌, ◌∙◌, ℕ, ◌+◌, ◌-◌, ◌<◌, ◌==◌, Bool, true, false, cond, if◌then◌else◌, IsTrue, List, [], ◌∷◌, Option, Some, None, find, length, map, max, min, nat_le, nat_lt, not, position, refl, ap, sym, subst, arith, rules, tests, option_map, option_and_then, slice_get, slice_range, IsSomeAnd}
+use Rattle.std.proofs.Common.{◌≡◌, ◌∙◌, ℕ, ◌+◌, ◌-◌, ◌<◌, ◌==◌, Bool, true, false, cond, if◌then◌else◌, List, [], ◌∷◌, Option, Some, None, find, length, map, max, min, nat_le, nat_lt, not, position, refl, ap, sym, arith, rules, tests, option_map, option_and_then, slice_get, slice_range}
 use Rattle.std.specs.Int.{is_power_of_two}
 use Rattle.std.specs.List.{position_or_len}
-use Rattle.std.specs.Option.{is_some, option_or}
+use Rattle.std.specs.Option.{option_or}
 use Rattle.std.proofs.lemmas.Bool.Decides.{nat_tests}
 use Rattle.std.proofs.lemmas.Option.{slice_get-map, slice_get_within}
 use Rattle.goblin_base.proofs.Numbers.{slice_at-inside}
 use Rattle.goblin_base.proofs.Steps.{same_value}
 use Rattle.readings.specs.Reads.{given, mapped, pick, slice_at}
 use Rattle.goblin_pe_sect.specs.declared.options.ParseOptions.{ParseOptions}
-use Rattle.goblin_pe_sect.specs.Mapping.{InWindow, file_offset, is_in_window, offset_in, raw_begin, read_size, section_at, section_index}
+use Rattle.goblin_pe_sect.specs.Mapping.{InWindow, file_offset, is_in_window, offset_in, raw_begin, read_size, section_index}
 use Rattle.goblin_pe_sect.specs.SectionTable.{Section, front_section, unnamed, with_front}
 use Rattle.goblin_pe_sect.proofs.First.{find_with_front, found_at_first, found_passes}
 use Rattle.goblin_pe_sect.proofs.Mapped.{in_window}
 use Rattle.goblin_pe_records.specs.declared.image.PeImage.{PeImage}
-use Rattle.goblin_pe_records.specs.Images.{image_front, image_map, image_mapped, image_sections}
-use Rattle.goblin_pe_records.specs.Memory.{IsUnstored, SeesFile, holder, is_in_front, is_in_memory, memory_at, memory_end, memory_section, section_in_memory, seen_by_sections, seen_of_section, stored_in_memory, stored_of, window_size}
+use Rattle.goblin_pe_records.specs.Images.{image_front, image_mapped, image_sections}
+use Rattle.goblin_pe_records.specs.Memory.{IsUnstored, SeesFile, holder, is_in_front, is_in_memory, memory_at, memory_end, seen_by_sections, stored_in_memory, stored_of, window_size}
 use Rattle.goblin_pe_records.specs.Options.{options_at}
 use Rattle.goblin_pe_records.specs.SectionData.{is_unstored, memory_size, stored_size}
 

@@ -1,5 +1,5 @@
 -- The record of an optional header, as a definition.
-use Rattle.std.specs.Prelude.{Option, Some, None}
+use Rattle.std.specs.Prelude.{ℕ, Option, Some, None}
 use Rattle.goblin_pe_head.specs.declared.optional_header.OptionalHeader.{OptionalHeader}
 use Rattle.goblin_pe_head.specs.declared.optional_header.standard_fields.StandardFields.{StandardFields}
 use Rattle.goblin_pe_head.specs.HeaderParts.{no_windows_fields}
@@ -18,6 +18,11 @@ no_standard_fields = record {
   base_of_code = 0;
   base_of_data = 0;
 }
+
+-- how many data directories there are: sixteen, or none where there is no optional header
+abbrev pub directory_count : Option OptionalHeader → ℕ
+directory_count None = 0
+directory_count (Some h) = 16
 
 -- the fields of an optional header, zeros where there is none
 abbrev pub optional_record : Option OptionalHeader → PeOptionalHeader

@@ -1,7 +1,6 @@
 pub mod Blocked
 pub mod Blocks
 pub mod Calls
-pub mod Directories
 pub mod Faults
 pub mod Filled
 pub mod Found

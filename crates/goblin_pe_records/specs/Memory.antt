@@ -1,5 +1,5 @@
 -- What is in memory at an address of an image, as a caller passes it: as a loader maps it.
-use Rattle.std.specs.Prelude.{ℕ, ◌+◌, ◌-◌, ◌==◌, ◌≡◌, ◌<◌, ◌≤◌, ◌&&◌, Bool, IsTrue, nat_le, nat_lt, min, max}
+use Rattle.std.specs.Prelude.{ℕ, ◌+◌, ◌-◌, ◌==◌, ◌≡◌, ◌<◌, ◌&&◌, Bool, IsTrue, nat_le, nat_lt, min, max}
 use Rattle.std.specs.Prelude.{if◌then◌else◌, List, [], find, position, Option, Some, None, length}
 use Rattle.std.specs.Prelude.{IsSomeAnd, option_and_then, option_map, slice_get, slice_range}
 use Rattle.std.specs.Int.{is_power_of_two}

@@ -1,8 +1,8 @@
 -- The data of a section: the bytes that the file has of it, and how many zeros follow them.
 use Rattle.std.specs.Prelude.{ℕ, ◌+◌, ◌-◌, ◌==◌, ◌&&◌, Bool, bit_and, min, not}
-use Rattle.std.specs.Prelude.{if◌then◌else◌, List, [], length}
+use Rattle.std.specs.Prelude.{if◌then◌else◌, List, length}
 use Rattle.goblin_base.specs.Reading.{Reading}
-use Rattle.readings.specs.Reads.{◌>>=◌, bytes_between, file_length, given, mapped, pick}
+use Rattle.readings.specs.Reads.{◌>>=◌, bytes_between, file_length, mapped}
 use Rattle.goblin_pe_sect.specs.declared.options.ParseOptions.{ParseOptions}
 use Rattle.goblin_pe_sect.specs.Mapping.{raw_begin}
 use Rattle.goblin_pe_sect.specs.SectionReadings.{raw_bytes}

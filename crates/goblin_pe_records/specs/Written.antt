@@ -1,7 +1,6 @@
 -- What is written of the records of a caller.
-use Rattle.std.specs.Prelude.{◌≡◌, ◌++◌, ◌-◌, ◌==◌, if◌then◌else◌, ℕ, Bool, List, length, map}
+use Rattle.std.specs.Prelude.{◌≡◌, ◌==◌, if◌then◌else◌, ℕ, Bool, List, length, map}
 use Rattle.std.specs.Prelude.{IsSomeAnd, Option, None, Some, Result, Ok, Err, option_and_then}
-use Rattle.std.specs.Prelude.{replicate, take}
 use Rattle.goblin_base.specs.declared.endian.Endian.TheVariants.{Little}
 use Rattle.goblin_base.specs.declared.error.ErrorOf.{ErrorOf}
 use Rattle.goblin_base.specs.Answers.{FirstFault, IsSliceFault}
@@ -10,41 +9,35 @@ use Rattle.goblin_pe_sect.specs.declared.data_directories.DataDirectory.{DataDir
 use Rattle.goblin_pe_sect.specs.SectionName.{IsNameOffsetFault, indirect_name, name_value}
 use Rattle.goblin_pe_head.specs.declared.optional_header.OptionalHeader.{OptionalHeader}
 use Rattle.goblin_pe_head.specs.PeHeader.{IsUnwrittenPart, PeHeader, header_bytes}
-use Rattle.goblin_pe_records.specs.declared.directory.PeDirectory.{PeDirectory}
 use Rattle.goblin_pe_records.specs.declared.file.PeFile.{PeFile}
 use Rattle.goblin_pe_records.specs.declared.section.PeSection.{PeSection}
 
 -- ---- what records say
 
--- the entry that a record says
-abbrev pub entry_said : PeDirectory → Option (ℕ × DataDirectory)
-entry_said d = if d.is_present then Some (d.end, d.directory) else None
-
--- sixteen entries: the first records, and none in place of those that are not there
-abbrev pub entries_said : List PeDirectory → List (Option (ℕ × DataDirectory))
-entries_said directories =
-    take 16 (map entry_said directories) ++ replicate (16 - length directories) None
+-- the entry of a directory; where its record ends does not matter
+abbrev pub entry_said : DataDirectory → Option (ℕ × DataDirectory)
+entry_said d = Some (0, d)
 
 -- the optional header, which is there if it has directories
-abbrev pub optional_said : PeFile → List PeDirectory → Option OptionalHeader
-optional_said file directories =
+abbrev pub optional_said : PeFile → Option OptionalHeader
+optional_said file =
     if file.directories == 0
     then None
     else Some (record {
       standard_fields = file.optional_header.standard_fields;
       windows_fields = file.optional_header.windows_fields;
-      data_directories = record { data_directories = entries_said directories };
+      data_directories = record { data_directories = map entry_said file.places.directories };
     })
 
 -- the header, its Rich header part of the stub, with the PE signature
-abbrev pub header_said : PeFile → List PeDirectory → List ℕ → PeHeader
-header_said file directories stub = record {
+abbrev pub header_said : PeFile → List ℕ → PeHeader
+header_said file stub = record {
   dos_header = file.dos_header;
   dos_stub = stub;
   rich_header = None;
   signature = 0x4550;
   coff_header = file.coff_header;
-  optional_header = optional_said file directories;
+  optional_header = optional_said file;
 }
 
 -- ---- what calls do
@@ -67,13 +60,13 @@ with_header out header = if length out == 0 then Some out else overwritten out 0
 
 -- A call has written the header that records say to the front of bytes, and told how many it takes;
 -- without any room it told that alone.
-abbrev pub WritesHeader : PeFile → List PeDirectory → List ℕ → Output → Output
+abbrev pub WritesHeader : PeFile → List ℕ → Output → Output
     → Result Unit ErrorOf → Type 0
-WritesHeader file directories stub old new =
-    let made = header_bytes Little (header_said file directories stub) in
+WritesHeader file stub old new =
+    let made = header_bytes Little (header_said file stub) in
     WritesOut (option_and_then (with_header old.out) made)
     (λ size. IsSomeAnd made (λ header. size ≡ length header))
-    (FirstFault made (IsUnwrittenPart (optional_said file directories))
+    (FirstFault made (IsUnwrittenPart (optional_said file))
     (λ header. IsSliceFault old.out 0 (length header)))
     old new
 

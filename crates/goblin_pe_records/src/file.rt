@@ -54,8 +54,7 @@ impl PeTable {
 pub struct PeFile {
     /// The optional header.
     pub optional_header: PeOptionalHeader,
-    /// How many data directories there are, whatever the room: sixteen, or none where there is no
-    /// optional header. Records past them are not filled.
+    /// How many data directories there are: sixteen, or none where there is no optional header.
     pub directories: usize,
     /// How many sections there are.
     pub sections: usize,

@@ -1,50 +1,44 @@
 //! The header that records say.
 
-ghost use Rattle.std.specs.Prelude.{◌≡◌};
+ghost use Rattle.std.specs.Prelude.{◌≡◌, map};
 ghost use Rattle.goblin_pe_head.specs.PeHeader.{header_value};
-ghost use Rattle.goblin_pe_records.specs.Written.{entries_said, entry_said, header_said};
+ghost use Rattle.goblin_pe_records.specs.Written.{entry_said, header_said};
 ghost use Rattle.goblin_pe_records.specs.Written.{optional_said};
 
-use crate::directory::PeDirectory;
 use crate::file::PeFile;
 use goblin_pe_head::header::{DosStub, Header, PE_MAGIC};
 use goblin_pe_head::optional_header::OptionalHeader;
 use goblin_pe_sect::data_directories::{DataDirectories, DataDirectory, NUM_DATA_DIRECTORIES};
 
-// The entry that a record says.
-fn entry_said(directory: &PeDirectory) -> Option<(usize, DataDirectory)>
-    ensures { result ≡ entry_said directory.now }
+// The entry of a directory. Where its record ends does not matter to who writes it.
+fn entry_said(directory: DataDirectory) -> Option<(usize, DataDirectory)>
+    ensures { result ≡ entry_said directory }
 {
-    if directory.is_present {
-        Some((directory.end, directory.directory))
-    } else {
-        None
-    }
+    Some((0, directory))
 }
 
-// The entries that records say: the first sixteen, and none in place of those that are not there.
+// The entries of these directories.
 fn entries_said(
-    directories: &[PeDirectory],
+    directories: [DataDirectory; NUM_DATA_DIRECTORIES],
 ) -> [Option<(usize, DataDirectory)>; NUM_DATA_DIRECTORIES]
-    ensures { result ≡ entries_said directories.now }
+    ensures { result ≡ map entry_said directories }
 {
     let mut entries = [None; NUM_DATA_DIRECTORIES];
-    let count = directories.len().min(NUM_DATA_DIRECTORIES);
-    'records: for i in 0..count {
-        entries[i] = entry_said(&directories[i]);
+    'directories: for i in 0..NUM_DATA_DIRECTORIES {
+        entries[i] = entry_said(directories[i]);
     }
     entries
 }
 
 // The optional header, which is there if it has directories.
-fn optional_said(file: &PeFile, directories: &[PeDirectory]) -> Option<OptionalHeader>
-    ensures { result ≡ optional_said file.now directories.now }
+fn optional_said(file: &PeFile) -> Option<OptionalHeader>
+    ensures { result ≡ optional_said file.now }
 {
     if file.directories == 0 {
         return None;
     }
     let data_directories = DataDirectories {
-        data_directories: entries_said(directories),
+        data_directories: entries_said(file.places.directories),
     };
     Some(OptionalHeader {
         standard_fields: file.optional_header.standard_fields,
@@ -53,11 +47,10 @@ fn optional_said(file: &PeFile, directories: &[PeDirectory]) -> Option<OptionalH
     })
 }
 
-/// The header that `file`, the records of its data directories and the bytes of its DOS stub say,
-/// its Rich header part of the stub.
-pub fn header_said<'a>(file: &PeFile, directories: &[PeDirectory], stub: &'a [u8]) -> Header<'a>
-    ensures value { header_value result ≡ header_said file.now directories.now stub.now }
-    ensures optional { result.optional_header ≡ optional_said file.now directories.now }
+/// The header that `file` and the bytes of its DOS stub say, its Rich header part of the stub.
+pub fn header_said<'a>(file: &PeFile, stub: &'a [u8]) -> Header<'a>
+    ensures value { header_value result ≡ header_said file.now stub.now }
+    ensures optional { result.optional_header ≡ optional_said file.now }
 {
     Header {
         dos_header: file.dos_header,
@@ -65,6 +58,6 @@ pub fn header_said<'a>(file: &PeFile, directories: &[PeDirectory], stub: &'a [u8
         rich_header: None,
         signature: PE_MAGIC,
         coff_header: file.coff_header,
-        optional_header: optional_said(file, directories),
+        optional_header: optional_said(file),
     }
 }

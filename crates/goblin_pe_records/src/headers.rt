@@ -1,9 +1,10 @@
 //! The optional header.
 
 ghost use Rattle.std.specs.Prelude.{◌≡◌};
-ghost use Rattle.goblin_pe_records.specs.Headers.{optional_record};
+ghost use Rattle.goblin_pe_records.specs.Headers.{directory_count, optional_record};
 
 use goblin_pe_head::optional_header::{OptionalHeader, StandardFields, WindowsFields};
+use goblin_pe_sect::data_directories::NUM_DATA_DIRECTORIES;
 
 /// The optional header without its data directories; zeros where there is none.
 #[repr(C)]
@@ -29,5 +30,15 @@ pub fn fill_optional(fields: &mut PeOptionalHeader, header: &Option<OptionalHead
             fields.standard_fields = StandardFields::default();
             fields.windows_fields = WindowsFields::default();
         }
+    }
+}
+
+/// How many data directories there are: sixteen, or none where there is no optional header.
+pub fn directory_count(header: &Option<OptionalHeader>) -> usize
+    ensures { result ≡ directory_count header.now }
+{
+    match header {
+        Some(_) => NUM_DATA_DIRECTORIES,
+        None => 0,
     }
 }

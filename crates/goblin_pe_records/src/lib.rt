@@ -10,7 +10,6 @@
 
 pub mod address;
 pub mod block;
-pub mod directory;
 pub mod fault;
 pub mod file;
 mod filled;

@@ -12,12 +12,8 @@ use goblin_pe_sect::data_directories::DataDirectory;
 pub struct PePlaces {
     /// The file offset of the section table.
     pub section_table: usize,
-    /// The export directory; zeros where there is none.
-    pub exports: DataDirectory,
-    /// The import directory; zeros where there is none.
-    pub imports: DataDirectory,
-    /// The directory of base relocations; zeros where there is none.
-    pub relocations: DataDirectory,
+    /// The data directories by their indexes; zeros where there is none.
+    pub directories: [DataDirectory; 16],
     /// The file alignment of the sections' raw data, in bytes; 0 where there is no optional header.
     pub file_alignment: u32,
     /// How many bytes the headers have, as the optional header says: so much of the file's front the
@@ -28,10 +24,4 @@ pub struct PePlaces {
     /// The magic of the optional header: by 0x10B the entries of import tables have four bytes,
     /// else eight; 0 where there is no optional header.
     pub magic: u16,
-    /// Whether there is an export directory.
-    pub has_exports: bool,
-    /// Whether there is an import directory.
-    pub has_imports: bool,
-    /// Whether there is a directory of base relocations.
-    pub has_relocations: bool,
 }

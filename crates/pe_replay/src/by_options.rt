@@ -15,8 +15,9 @@ use goblin_pe::{Layout, Places, Whole};
 use goblin_pe_export::laws::read_exports;
 use goblin_pe_head::Header;
 use goblin_pe_sect::address_map::MappedRecords;
+use goblin_pe_sect::data_directories::NUM_DATA_DIRECTORIES;
 use goblin_pe_sect::section_table::{SIZEOF_SECTION_TABLE, SectionRecords};
-use goblin_pe_sect::{ParseOptions, SectionTable, WindowIndex};
+use goblin_pe_sect::{DataDirectory, ParseOptions, SectionTable, WindowIndex};
 use std::alloc::Global;
 use std::io;
 
@@ -75,9 +76,7 @@ fn show_layout_of_many(rt: &HostRuntime, opts: &ParseOptions) -> io::Result<()> 
     let places = Places {
         magic: 0,
         file_alignment: ALIGNMENT,
-        exports: None,
-        imports: None,
-        relocations: None,
+        directories: [DataDirectory::default(); NUM_DATA_DIRECTORIES],
     };
     let mapped = MappedRecords {
         records: SectionRecords::of(&records),

@@ -23,6 +23,7 @@ ghost use Rattle.goblin_pe_import.specs.ImportReadings.{numbered_data};
 ghost use Rattle.goblin_pe_import.specs.Imports.{numbered_imports};
 ghost use Rattle.goblin_pe.specs.Callers.{layout_table};
 ghost use Rattle.goblin_pe.specs.Damages.{exports_left_out, imports_left_out_at, left_out_of};
+ghost use Rattle.goblin_pe.specs.DirectoryParts.{directory_data, directory_part};
 ghost use Rattle.goblin_pe.specs.LayoutCursors.{GivesFirst, IsFileCursorCause, IsImportWalkAt, StartsAt};
 ghost use Rattle.goblin_pe.specs.LayoutCursors.{file_cursor_left, file_map, import_begin};
 ghost use Rattle.goblin_pe.specs.Layouts.{IsExportWalk, IsFileImportsCause, IsLayoutOf, PartWalks};
@@ -39,9 +40,11 @@ ghost use Rattle.goblin_pe.specs.Whole.{places_in, sections_after, table_places}
 
 use crate::export::Exports;
 use crate::import::{ImportCursor, Imports, LeftOut};
-use crate::whole::places::{Places, part_of, size_of_headers};
+use crate::whole::places::{
+    EXPORT_TABLE, IMPORT_TABLE, Places, file_alignment, part_of, size_of_headers,
+};
 use crate::whole::{FileImports, Part};
-use goblin_base::{Result, ResultOf};
+use goblin_base::{Cause, Error, Result, ResultOf, pread_slice};
 use goblin_pe_head::header::{Header, SIZEOF_COFF_HEADER, SIZEOF_PE_MAGIC};
 use goblin_pe_sect::address_map::{AddressMap, Finder, MappedRecords};
 use goblin_pe_sect::relocation::RelocationData;
@@ -192,7 +195,7 @@ impl<'a> Layout<'a> {
             let loaded = record opts.now { raw_pointer_rule = rule_by_alignment alignment } in
             IfOk result (IsLayoutOf Loader loaded bytes.now header.now) }
     {
-        let alignment = Places::of(&header.optional_header).file_alignment;
+        let alignment = file_alignment(&header.optional_header);
         let rule = RawPointerRule::by_file_alignment(alignment);
         let opts = opts.with_raw_pointer_rule(rule);
         Layout::in_view(alloc, bytes, header, View::Loader, &opts)
@@ -293,6 +296,14 @@ impl<'a> Layout<'a> {
         self.address_map.set_longest_name(longest);
     }
 
+    /// Where the tables of the file lie.
+    #[inline(always)]
+    pub fn places(&self) -> &Places
+        ensures { table_places result.now ≡ layout_places self.now }
+    {
+        &self.places
+    }
+
     /// The bytes of the file.
     pub fn bytes(&self) -> &'a [u8]
         ensures { result.now ≡ layout_bytes self.now }
@@ -325,7 +336,7 @@ impl<'a> Layout<'a> {
         ensures over { IfOk result (IfRead (λ walk. file_map walk ≡ layout_map self.now)) }
     {
         let opts = self.address_map.opts();
-        match self.places.imports {
+        match self.places.directory(IMPORT_TABLE) {
             Some(directory) if opts.parse_imports => {
                 let imports = self.imports_in(directory)?;
                 Ok(Part::Read(imports))
@@ -345,7 +356,7 @@ impl<'a> Layout<'a> {
             Reads (λ c. c) result (import_begin m.opts m.addressing (layout_places self.now))
             (layout_bytes self.now) }
     {
-        match self.places.imports {
+        match self.places.directory(IMPORT_TABLE) {
             Some(directory) if self.address_map.opts().parse_imports => {
                 ImportCursor::first(directory, &mut self.finder())
             }
@@ -400,7 +411,7 @@ impl<'a> Layout<'a> {
         ensures walk { IfOk result
             (IfRead (IsExportWalk (layout_map self.now) (layout_bytes self.now))) }
     {
-        let Some(directory) = self.places.exports else {
+        let Some(directory) = self.places.directory(EXPORT_TABLE) else {
             return Ok(Part::Absent);
         };
         let opts = *finder.opts();
@@ -419,7 +430,7 @@ impl<'a> Layout<'a> {
         ensures { Reads (part_map walked_tables) result
             (layout_table address_part self.now) (layout_bytes self.now) }
     {
-        let Some(directory) = self.places.exports else {
+        let Some(directory) = self.places.directory(EXPORT_TABLE) else {
             return Ok(Part::Absent);
         };
         let opts = *self.address_map.opts();
@@ -448,6 +459,38 @@ impl<'a> Layout<'a> {
         self.places.relocations(self.bytes, &self.address_map)
     }
 
+    /// The bytes of the data directory at an index, at its address; so they are none of the
+    /// certificates', whose address is a file offset.
+    ///
+    /// # Errors
+    /// In strict mode [`Error::Malformed`] with [`Cause::Unmapped`] if the address has no file
+    /// offset, and [`Error::Read`] if the bytes there run past the end of the file, or begin at or
+    /// past it.
+    #[tactic(auto, unfolding(crate::specs::DirectoryParts::directory_part))]
+    pub fn directory(&self, index: usize) -> Result<Part<&'a [u8]>>
+        requires { index < 16 }
+        ensures { Reads (part_map (λ b. b.now)) result
+            (layout_table (directory_part index) self.now) (layout_bytes self.now) }
+    {
+        let Some(directory) = self.places.directory(index) else {
+            return Ok(Part::Absent);
+        };
+        part_of(self.bytes_of(directory), self.address_map.opts())
+    }
+
+    // The bytes of a directory.
+    fn bytes_of(&self, directory: DataDirectory) -> Result<&'a [u8]>
+        ensures { let m = layout_map self.now in
+            Reads (λ b. b.now) result (directory_data m.addressing directory)
+            (layout_bytes self.now) }
+    {
+        let rva = directory.virtual_address;
+        match self.address_map.offset_of(rva) {
+            Some(offset) => pread_slice(self.bytes, offset, directory.size as usize),
+            None => Err(Error::Malformed(Cause::Unmapped(rva as usize))),
+        }
+    }
+
     /// How much is left out of the imports; nothing where they are not asked for.
     #[tactic(auto, unfolding(crate::specs::Damages::left_out_of))]
     pub fn left_out(&self) -> LeftOut
@@ -456,7 +499,7 @@ impl<'a> Layout<'a> {
             (layout_bytes self.now) }
     {
         let opts = self.address_map.opts();
-        match self.places.imports {
+        match self.places.directory(IMPORT_TABLE) {
             Some(directory) if opts.parse_imports => self.imports_left_out_at(directory),
             _ => LeftOut::default(),
         }
@@ -471,7 +514,7 @@ impl<'a> Layout<'a> {
             result ≡ exports_left_out m.addressing (layout_places self.now)
             (layout_bytes self.now) }
     {
-        let Some(directory) = self.places.exports else {
+        let Some(directory) = self.places.directory(EXPORT_TABLE) else {
             return 0;
         };
         match Exports::by(self.bytes, directory, self.finder()) {

@@ -20,7 +20,7 @@ ghost use Rattle.goblin_pe.specs.Whole.{numbered_data_part, part_map, table_plac
 use crate::export::{Export, ExportData};
 use crate::import::{Import, ImportData};
 use crate::whole::Part;
-use crate::whole::places::{Places, part_of};
+use crate::whole::places::{EXPORT_TABLE, IMPORT_TABLE, Places, part_of};
 use goblin_base::Result;
 use goblin_pe_sect::address_map::AddressMap;
 use goblin_pe_sect::relocation::RelocationData;
@@ -72,7 +72,7 @@ impl Places {
             (λ e. IsMemory e → TakesImports m (table_places self.now) bytes.now) }
     {
         let opts = address_map.opts();
-        match self.imports {
+        match self.directory(IMPORT_TABLE) {
             Some(directory) if opts.parse_imports => part_of(
                 self.import_data_of(alloc, bytes, directory, address_map),
                 opts,
@@ -166,7 +166,7 @@ impl Places {
             IfErr result
             (λ e. IsMemory e → TakesExports m (table_places self.now) bytes.now) }
     {
-        let Some(directory) = self.exports else {
+        let Some(directory) = self.directory(EXPORT_TABLE) else {
             return Ok(Part::Absent);
         };
         part_of(

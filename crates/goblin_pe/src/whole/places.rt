@@ -1,17 +1,19 @@
 //! Where the tables of a file lie, and the one that lists and walks both have as its bytes.
 
-ghost use Rattle.std.specs.Prelude.{◌==◌, ◌≡◌};
+ghost use Rattle.std.specs.Prelude.{◌==◌, ◌<◌, ◌≡◌, map};
 ghost use Rattle.goblin_base.specs.Reading.{Reads};
 ghost use Rattle.goblin_pe_sect.specs.Addresses.{map_of};
 ghost use Rattle.goblin_pe_sect.specs.BaseRelocations.{relocation_bytes};
+ghost use Rattle.goblin_pe_sect.specs.DataDirectories.{directory_or_zeros};
 ghost use Rattle.goblin_pe_sect.specs.Options.{is_strict};
 ghost use Rattle.goblin_pe.specs.Whole.{BecomesPart, part_map, places_in, relocation_part};
-ghost use Rattle.goblin_pe.specs.Whole.{size_of_headers, table_places};
+ghost use Rattle.goblin_pe.specs.Whole.{directory_at, size_of_headers, table_places};
 
 use crate::whole::Part;
 use goblin_base::{Result, ResultOf, is_passed_over};
 use goblin_pe_head::optional_header::{MAGIC_32, OptionalHeader};
 use goblin_pe_sect::address_map::AddressMap;
+use goblin_pe_sect::data_directories::{DataDirectories, NUM_DATA_DIRECTORIES};
 use goblin_pe_sect::relocation::RelocationData;
 use goblin_pe_sect::{DataDirectory, ParseOptions};
 
@@ -30,6 +32,15 @@ pub(super) fn part_of<'e, T: Drop>(
     }
 }
 
+// The index of the export directory.
+pub(super) const EXPORT_TABLE: usize = 0;
+
+// The index of the import directory.
+pub(super) const IMPORT_TABLE: usize = 1;
+
+// The index of the directory of base relocations.
+pub(super) const BASE_RELOCATION_TABLE: usize = 5;
+
 /// Where the tables of a file lie, and how they are read.
 ///
 /// Source: PE Format, "Optional Header (Image Only)".
@@ -40,12 +51,29 @@ pub struct Places {
     /// The file alignment of the sections' raw data, in bytes; 0 without an optional header: then
     /// no section maps an address.
     pub file_alignment: u32,
-    /// The export directory, if there is one.
-    pub exports: Option<DataDirectory>,
-    /// The import directory, if there is one.
-    pub imports: Option<DataDirectory>,
-    /// The directory of base relocations, if there is one.
-    pub relocations: Option<DataDirectory>,
+    /// The data directories by their indexes; zeros where there is none.
+    pub directories: [DataDirectory; NUM_DATA_DIRECTORIES],
+}
+
+// The directory of an entry, zeros where there is none.
+fn directory_or_zeros(entry: Option<(usize, DataDirectory)>) -> DataDirectory
+    ensures { result ≡ directory_or_zeros entry }
+{
+    match entry {
+        Some((_, directory)) => directory,
+        None => DataDirectory::default(),
+    }
+}
+
+// The directories of these entries, zeros where there is none.
+fn directories_of(entries: DataDirectories) -> [DataDirectory; NUM_DATA_DIRECTORIES]
+    ensures { result ≡ map directory_or_zeros entries.data_directories }
+{
+    let mut directories = [DataDirectory::default(); NUM_DATA_DIRECTORIES];
+    'entries: for i in 0..NUM_DATA_DIRECTORIES {
+        directories[i] = directory_or_zeros(entries.data_directories[i]);
+    }
+    directories
 }
 
 /// How many bytes the headers of an image have, by its optional header; 0 without one.
@@ -60,6 +88,17 @@ pub fn size_of_headers(header: &Option<OptionalHeader>) -> u32
     }
 }
 
+// The file alignment of the sections' raw data, by an optional header; 0 without one.
+#[tactic(auto, unfolding(crate::specs::Whole::places_in))]
+pub(super) fn file_alignment(header: &Option<OptionalHeader>) -> u32
+    ensures { result ≡ (places_in header.now).file_alignment }
+{
+    match header {
+        Some(header) => header.windows_fields.file_alignment,
+        None => 0,
+    }
+}
+
 impl Places {
     /// Those that an optional header says; without one there are none.
     #[tactic(auto, unfolding(crate::specs::Whole::places_in))]
@@ -70,18 +109,27 @@ impl Places {
             return Places {
                 magic: 0,
                 file_alignment: 0,
-                exports: None,
-                imports: None,
-                relocations: None,
+                directories: [DataDirectory::default(); NUM_DATA_DIRECTORIES],
             };
         };
         Places {
             magic: header.standard_fields.magic,
             file_alignment: header.windows_fields.file_alignment,
-            exports: header.data_directories.get_export_table().copied(),
-            imports: header.data_directories.get_import_table().copied(),
-            relocations: header.data_directories.get_base_relocation_table().copied(),
+            directories: directories_of(header.data_directories),
         }
+    }
+
+    /// The directory at an index, if there is one.
+    #[tactic(auto, unfolding(crate::specs::Whole::directory_at))]
+    pub fn directory(&self, index: usize) -> Option<DataDirectory>
+        requires { index < 16 }
+        ensures { result ≡ directory_at (table_places self.now) index }
+    {
+        let directory = self.directories[index];
+        if directory.virtual_address == 0 && directory.size == 0 {
+            return None;
+        }
+        Some(directory)
     }
 
     // Whether the magic says that entries of the import tables have four bytes, not eight.
@@ -103,7 +151,7 @@ impl Places {
             Reads (part_map relocation_bytes) result
             (relocation_part m.opts m.addressing places) bytes.now }
     {
-        let Some(directory) = self.relocations else {
+        let Some(directory) = self.directory(BASE_RELOCATION_TABLE) else {
             return Ok(Part::Absent);
         };
         let offset = address_map.offset_of(directory.virtual_address);

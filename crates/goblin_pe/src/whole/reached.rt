@@ -10,6 +10,7 @@ ghost use Rattle.goblin_pe.specs.Whole.{entry_format, export_part, numbered_data
 ghost use Rattle.goblin_pe.specs.Whole.{relocation_part, table_parts};
 
 use crate::whole::Layout;
+use crate::whole::places::{BASE_RELOCATION_TABLE, EXPORT_TABLE, IMPORT_TABLE};
 use goblin_base::footprint::{Marks, add_slice};
 use goblin_pe_export::laws::add_exports;
 use goblin_pe_import::laws::add_imports;
@@ -36,7 +37,7 @@ impl Layout<'_> {
         ensures { let read = layout_table numbered_data_part self.now in
             marks.new ≡ marked marks.old (read.reaches (layout_bytes self.now)) }
     {
-        match self.places.imports {
+        match self.places.directory(IMPORT_TABLE) {
             Some(directory) if self.address_map.opts().parse_imports => {
                 self.mark_import_data(marks, directory.virtual_address)
             }
@@ -50,7 +51,7 @@ impl Layout<'_> {
         ensures { let read = layout_table export_part self.now in
             marks.new ≡ marked marks.old (read.reaches (layout_bytes self.now)) }
     {
-        match self.places.exports {
+        match self.places.directory(EXPORT_TABLE) {
             Some(directory) => add_exports(marks, self.bytes(), directory, &self.address_map),
             None => (),
         }
@@ -62,7 +63,7 @@ impl Layout<'_> {
         ensures { let read = layout_table relocation_part self.now in
             marks.new ≡ marked marks.old (read.reaches (layout_bytes self.now)) }
     {
-        let Some(directory) = self.places.relocations else {
+        let Some(directory) = self.places.directory(BASE_RELOCATION_TABLE) else {
             return;
         };
         match self.address_map.offset_of(directory.virtual_address) {

@@ -1,6 +1,5 @@
 use Rattle.std.proofs.Common.{refl}
 use Rattle.std.proofs.lemmas.Result.{err_from_is_err_and}
-use Rattle.goblin_pe.specs.Addresses.{offset_of}
 use Rattle.goblin_pe.specs.Layouts.{address_part, layout_bytes, layout_map, layout_places}
 use Rattle.goblin_pe_calls.specs.Batches.{IsAddressesFault, SaysDirectory}
 use Rattle.goblin_pe_calls.specs.ExportDirectories.{directory_view}

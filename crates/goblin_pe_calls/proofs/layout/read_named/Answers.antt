@@ -1,10 +1,7 @@
-use Rattle.std.proofs.Common.{◌∙◌, ap, map, subst, ℕ, List, Option}
-use Rattle.goblin_pe_sect.specs.declared.data_directories.DataDirectory.{DataDirectory}
+use Rattle.std.proofs.Common.{◌∙◌, ap, map, subst, ℕ}
 use Rattle.goblin_pe_sect.specs.Options.{is_strict}
 use Rattle.goblin_pe_sect.specs.SectionTable.{recorded_sections}
 use Rattle.goblin_pe_head.specs.PeHeader.{header_value}
-use Rattle.goblin_pe_records.specs.declared.directory.PeDirectory.{PeDirectory}
-use Rattle.goblin_pe_records.specs.Directories.{entry_record}
 use Rattle.goblin_pe_records.specs.Filled.{Filled, without_text}
 use Rattle.goblin_pe_records.specs.Sections.{named_in, section_said}
 use Rattle.goblin_pe_calls.specs.FileLayouts.{LayoutRecords, layout_said}
@@ -18,9 +15,8 @@ returns-clause-read c =
     let bytes = c.args.bytes.now in
     let header = header_value c.read_with_opts.new.self in
     let stored = recorded_sections c.in_ok-records.records in
-    let old : LayoutRecords = record { layout = c.args.layout.now; directories = c.args.directories.now; sections = c.args.sections.now } in
-    let new : LayoutRecords = record { layout = c.fill_layout.new.layout; directories = c.fill_directories.new.records; sections = c.fill_sections.new.records } in
+    let old : LayoutRecords = record { layout = c.args.layout.now; sections = c.args.sections.now } in
+    let new : LayoutRecords = record { layout = c.fill_layout.new.layout; sections = c.fill_sections.new.records } in
     let said = c.fill_layout.ensures ∙ ap (layout_said header) c.len.ensures.value in
-    let listed = subst (λ (xs : List (Option (ℕ × DataDirectory))). Filled (λ (d : PeDirectory). d) (map entry_record xs) old.directories new.directories) c.directories_of.ensures c.fill_directories.ensures in
     let filled = subst (λ (table : ℕ). Filled section_said (map (λ s. without_text (named_in strict bytes table s)) stored) old.sections new.sections) c.symbols_end-strings.ensures c.fill_sections.ensures in
-    says_layout opts bytes header stored old new c.in_ok-read_with_opts.ensures.value c.in_ok-records.ensures.value said listed filled
+    says_layout opts bytes header stored old new c.in_ok-read_with_opts.ensures.value c.in_ok-records.ensures.value said filled

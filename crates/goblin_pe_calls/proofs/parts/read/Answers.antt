@@ -1,8 +1,5 @@
-use Rattle.std.proofs.Common.{◌∙◌, ℕ, List, Option, ap, map, subst, sym}
-use Rattle.goblin_pe_sect.specs.declared.data_directories.DataDirectory.{DataDirectory}
+use Rattle.std.proofs.Common.{List, map, subst, sym}
 use Rattle.goblin_pe_sect.specs.SectionTable.{Section, unnamed}
-use Rattle.goblin_pe_records.specs.declared.directory.PeDirectory.{PeDirectory}
-use Rattle.goblin_pe_records.specs.Directories.{directories_of, entry_record}
 use Rattle.goblin_pe_records.specs.Filled.{Filled, without_text}
 use Rattle.goblin_pe_records.specs.Sections.{section_said}
 use Rattle.goblin_pe_calls.specs.declared.parts.PeParts.{PeParts}
@@ -13,7 +10,6 @@ use Rattle.goblin_pe_calls.proofs.parts.read.Goals as goal
 pub returns : goal.returns
 returns c =
     let parts = c.read-read.result in
-    let entries = c.directories_of.ensures ∙ ap directories_of c.optional_header-optional.ensures in
     record {
       parts = parts;
       refusal = c.test_layout-refusal.result;
@@ -23,6 +19,5 @@ returns c =
       led = subst (λ (p : PeParts). LeadToGiven c.args.bytes.now parts p.places) (sym c.parts_record.ensures) (given_led c.args.bytes.now parts c.read-read.ensures.parts);
       answered = c.test_layout-refusal.ensures;
       made = c.parts_record.ensures;
-      listed = subst (λ (xs : List (Option (ℕ × DataDirectory))). Filled (λ (d : PeDirectory). d) (map entry_record xs) c.args.directories.now c.fill_directories.new.records) entries c.fill_directories.ensures;
       filled = subst (λ (xs : List Section). Filled section_said (map (λ s. without_text (unnamed s)) xs) c.args.sections.now c.fill_sections.new.records) c.records_or_none-records.ensures c.fill_sections.ensures;
     }

@@ -1,4 +1,4 @@
-use Rattle.std.proofs.Common.{subst}
+use Rattle.std.proofs.Common.{◌∙◌, subst, sym}
 use Rattle.goblin_pe_sect.specs.declared.options.ParseOptions.{ParseOptions}
 use Rattle.goblin_pe_sect.specs.Options.{is_strict}
 use Rattle.goblin_pe_sect.specs.Addresses.{reads_strictly}
@@ -16,5 +16,5 @@ returns c =
     let bytes = layout_bytes c.args.self.now in
     let made : BecomesPart (reads_strictly m) c.addresses_of.result c.part_of.result =
     subst (λ (o : ParseOptions). BecomesPart (is_strict o.parse_mode) c.addresses_of.result c.part_of.result) c.opts.ensures c.part_of.ensures in
-    rw c.in-Some.is
+    rw (sym c.directory.ensures ∙ c.in-Some.is)
     (becomes_read walked_tables (export_addresses m.addressing c.in-Some.directory) bytes (reads_strictly m) c.addresses_of.result c.part_of.result c.addresses_of.ensures.value made)

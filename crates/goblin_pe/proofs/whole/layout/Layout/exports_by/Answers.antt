@@ -1,4 +1,4 @@
-use Rattle.std.proofs.Common.{IfOk, subst}
+use Rattle.std.proofs.Common.{◌∙◌, IfOk, subst, sym}
 use Rattle.goblin_base.specs.Reading.{Reads}
 use Rattle.readings.specs.Reads.{turned}
 use Rattle.goblin_pe_sect.specs.declared.options.ParseOptions.{ParseOptions}
@@ -17,7 +17,7 @@ returns-clause-value c =
     let made : BecomesPart (reads_strictly m) c.by.result c.part_of.result =
     subst (λ (o : ParseOptions). BecomesPart (is_strict o.parse_mode) c.by.result c.part_of.result) c.opts.ensures c.part_of.ensures in
     let read = becomes_read walked_exports (numbered_read m.addressing c.in-Some.directory) (layout_bytes c.args.self.now) (reads_strictly m) c.by.result c.part_of.result c.by.ensures.value made in
-    rw c.in-Some.is
+    rw (sym c.directory.ensures ∙ c.in-Some.is)
     (subst (λ (m : MapOfAddresses). Reads (part_map walked_exports) c.part_of.result (turned (part_of (reads_strictly m)) (numbered_read m.addressing c.in-Some.directory)) (layout_bytes c.args.self.now)) c.requires read)
 
 pub returns-clause-walk : goal.returns-clause-walk

@@ -16,4 +16,4 @@ returns-in-Some c =
     subst
     (λ (k : MapOfAddresses). Reads (λ c. c) c.first.result (first_import (reads_strictly k) k.addressing c.in-Some.directory.virtual_address) (layout_bytes l))
     c.finder.ensures (c.first.ensures.first (layout_bytes l)) in
-    begin-reads m (layout_places l) (layout_bytes l) c.in-Some.directory asked c.in-Some.is c.first.result first
+    begin-reads m (layout_places l) (layout_bytes l) c.in-Some.directory asked (sym c.directory.ensures ∙ c.in-Some.is) c.first.result first

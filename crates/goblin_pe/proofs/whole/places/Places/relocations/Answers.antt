@@ -1,4 +1,4 @@
-use Rattle.std.proofs.Common.{ℕ, Option, subst}
+use Rattle.std.proofs.Common.{◌∙◌, ℕ, Option, subst, sym}
 use Rattle.goblin_base.specs.Reading.{Reads}
 use Rattle.goblin_pe_sect.specs.declared.options.ParseOptions.{ParseOptions}
 use Rattle.goblin_pe_sect.specs.AddressReadings.{relocation_data}
@@ -22,6 +22,6 @@ returns c =
     subst
     (λ (o : ParseOptions). BecomesPart (is_strict o.parse_mode) c.parse_at.result c.part_of.result)
     c.opts.ensures c.part_of.ensures in
-    rw c.in-Some.is
+    rw (sym c.directory.ensures ∙ c.in-Some.is)
     (becomes_read relocation_bytes (relocation_data (offset_of map) directory) c.args.bytes.now
     (reads_strictly map) c.parse_at.result c.part_of.result read made)
