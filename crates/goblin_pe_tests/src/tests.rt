@@ -5,6 +5,7 @@
 //! it, or takes it.
 
 mod caller;
+mod directories;
 mod exports;
 mod footprints;
 mod imports;

@@ -1,0 +1,40 @@
+//! The bytes of a data directory, by its index.
+
+use fixture::sample::{put, sample};
+use goblin_pe::header::Header;
+use goblin_pe::options::ParseOptions;
+use goblin_pe::{Cause, Error, Layout, Part};
+use std::alloc::Global;
+
+/// Whether the import directory has its bytes: a record, and the one that ends it.
+fn has_imports(layout: &Layout) -> bool {
+    matches!(&layout.directory(1), Ok(Part::Read(bytes)) if bytes.len() == 0x28 && bytes.starts_with(b"\x40\x10"))
+}
+
+/// Whether there are no base relocations, and the exceptions lie at no offset.
+fn has_no_others(layout: &Layout) -> bool {
+    matches!(&layout.directory(5), Ok(Part::Absent))
+        && matches!(&layout.directory(3), Err(Error::Malformed(Cause::Unmapped(0x9000))))
+}
+
+fn has_all(layout: &Layout) -> bool {
+    has_imports(layout) && has_no_others(layout)
+}
+
+fn has_all_by(alloc: Global, file: &[u8], header: &Header) -> bool {
+    let opts = ParseOptions::default();
+    matches!(&Layout::of(alloc, file, header, &opts), Ok(layout) if has_all(layout))
+}
+
+/// Whether a file has its import directory, no base relocations, and an exception directory nowhere.
+fn has_directories(alloc: Global, file: &[u8]) -> bool {
+    matches!(&Header::parse(file), Ok(header) if has_all_by(alloc, file, header))
+}
+
+#[test]
+fn a_directory_is_read_by_its_index(rt: HostRuntime) {
+    let mut file = sample();
+    // The fourth directory begins 24 bytes after the first.
+    put(&mut file, 0xD1, b"\x90");
+    assert!(rt; has_directories(rt.alloc(), &file));
+}
