@@ -381,12 +381,15 @@ struct goblin_pe_options {
        Else a name that begins with a slash is looked up there, in either mode. Only a read of a
        layout looks at it: an open, the damage and a footprint test each name. */
     bool raw_section_names;
-    /* The most bytes of a name that are read of imports, libraries and exports; 0 is no limit. Of a
-       longer one its front is given, up to where the first character ends that reaches past so
-       many: so a name that is longer than this is cut. A forwarder's text is such a name, too: of a
-       longer one the library is what stands before its first dot, and all that follows is a name.
-       Only calls that read a table from its places look at it; those that list a whole file, its
-       damage or a footprint read each name to its end. */
+    /* How many bytes a name of an import, a library or an export may have before it is cut; 0 is no
+       limit. Of a longer one the front is given, up to where the first character ends that reaches
+       past so many: so a name that is longer than this is cut. What follows is not tested: it may
+       be no UTF-8. The text of a forwarder is such a name, too: of a longer one the library is what
+       stands before its first dot, or all without a dot, and the name what follows, which may be
+       empty or begin with `#`; it is cut where library, dot and name are longer than this. Only
+       calls that read a table from its places, and forwarders of an image, look at it; those that
+       list a whole file, its damage or a footprint read each name to its end, so they may refuse or
+       leave out what a walk gives. */
     uint32_t longest_name;
 };
 
@@ -455,7 +458,8 @@ struct goblin_pe_image {
     /* How many bytes its headers have, as its optional header says; 0 without one. They are looked
        at where the options map as the Windows loader does, and where an address lies. */
     uint32_t size_of_headers;
-    /* Whether addresses are mapped, and by which rule; all else is not looked at. */
+    /* Whether addresses are mapped, by which rule, and how long a forwarder's text may be; all else
+       is not looked at. */
     struct goblin_pe_options options;
 };
 

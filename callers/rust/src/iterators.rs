@@ -3,6 +3,7 @@
 
 use std::fmt;
 use std::iter::{Enumerate, FusedIterator, Zip};
+use std::mem;
 use std::ops::Range;
 use std::slice::{ChunksExact, Iter};
 use std::sync::OnceLock;
@@ -440,21 +441,23 @@ impl<T: Copy, P: Position> Batches<T, P> {
     }
 
     // Calls within so many steps, 0 for no limit. Where it is then not known how many the call has taken, the position is
-    // put back, and the call is made within half of them.
+    // put back, and the call is made within half of them. (What a call is given by a pointer, here and by the walks, is a
+    // copy: else all of a walk would stay in memory, and no part in a register.)
     fn go_on(
         &mut self,
         mut steps: usize,
         mut call: impl FnMut(&mut P, usize, &mut raw::Rows<T>) -> Fault,
     ) -> Result<(), Error> {
         loop {
-            let before = (steps != 0).then(|| self.position.clone());
-            Error::test(call(&mut self.position, steps, &mut self.records))?;
+            let mut position = self.position.clone();
+            Error::test(call(&mut position, steps, &mut self.records))?;
+            let before = mem::replace(&mut self.position, position);
             let count = self.records.len();
             self.had_many |= 2 * count >= self.records.room();
-            let Some(before) = before else {
+            if steps == 0 {
                 self.is_over = count == 0 || self.is_end(0);
                 return Ok(());
-            };
+            }
             let told = self.position.taken_from(&before, count);
             let taken = told.or_else(|| self.has_taken(steps).then_some(steps));
             if let Some(taken) = taken {
@@ -509,14 +512,15 @@ macro_rules! walks {
         }
 
         impl<'a> $name<'a> {
-            // From the beginning, in a file whose sections and tables lie there.
-            pub(crate) fn of(bytes: &'a [u8], options: Options, places: raw::Places) -> Self {
+            // From the beginning, in a file whose sections and tables lie there. (A copy of a value that is given is made
+            // field by field.)
+            pub(crate) fn of(bytes: &'a [u8], options: &Options, places: &raw::Places) -> Self {
                 let start: fn(&raw::Places) -> $position = $start;
                 let batches = Batches {
                     is_permissive: options.is_permissive,
-                    ..Batches::of_table(&places, DirectoryType::$table, start(&places))
+                    ..Batches::of_table(places, DirectoryType::$table, start(places))
                 };
-                $name { bytes, options, places, batches }
+                $name { bytes, options: *options, places: *places, batches }
             }
 
             /// The walk from here on within so many steps: each looks at a record of its table, or at a slot, whether
@@ -535,7 +539,8 @@ macro_rules! walks {
 
             fn next(&mut self) -> Option<Result<$item, Error>> {
                 let found = self.batches.next(|position, steps, records| {
-                    $call(&self.bytes, &self.options, &self.places, position, steps, records)
+                    let (options, places) = (self.options, self.places);
+                    $call(&self.bytes, &options, &places, position, steps, records)
                 })?;
                 Some(found.map(<$item>::from))
             }
@@ -623,13 +628,13 @@ pub struct WalkExportAddresses<'a> {
 
 impl<'a> WalkExportAddresses<'a> {
     // From the beginning, in a file whose sections and tables lie there.
-    pub(crate) fn of(bytes: &'a [u8], options: Options, places: raw::Places) -> Self {
+    pub(crate) fn of(bytes: &'a [u8], options: Options, places: &raw::Places) -> Self {
         WalkExportAddresses {
             bytes,
             options,
-            places,
+            places: *places,
             ordinal: 0,
-            batches: Batches::of_table(&places, DirectoryType::ExportTable, 0),
+            batches: Batches::of_table(places, DirectoryType::ExportTable, 0),
             parts: None,
         }
     }
@@ -707,13 +712,19 @@ pub struct WalkRelocations<'a> {
 }
 
 impl<'a> WalkRelocations<'a> {
-    // From the beginning.
+    // From the beginning. Most sections say none, at a place that the file has: then no call is made. (Any other place is
+    // refused, by the call.)
     pub(crate) fn of(bytes: &'a [u8], section: raw::Section<'static>) -> Self {
         let start = CountedPosition::of_relocations(&section);
+        let is_in_file = (section.pointer_to_relocations as usize) < bytes.len();
+        let batches = Batches {
+            is_over: start.most == 0 && is_in_file,
+            ..Batches::new(start)
+        };
         WalkRelocations {
             bytes,
             section,
-            batches: Batches::new(start),
+            batches,
         }
     }
 }
@@ -733,13 +744,8 @@ impl Iterator for WalkRelocations<'_> {
 
     fn next(&mut self) -> Option<Result<Relocation, Error>> {
         let found = self.batches.next(|position, steps, records| {
-            raw::next_relocations(
-                &self.bytes,
-                &self.section,
-                &mut position.index,
-                steps,
-                records,
-            )
+            let (section, index) = (self.section, &mut position.index);
+            raw::next_relocations(&self.bytes, &section, index, steps, records)
         })?;
         Some(found.copied())
     }
@@ -800,17 +806,6 @@ impl<'a> Symbols<'a> {
             table,
             batches,
         })
-    }
-
-    // Reads the next ones, if others may follow; what is refused is so at the first call. It stands apart from what is done
-    // for each symbol.
-    #[inline(never)]
-    fn go_on(&mut self) {
-        if !self.batches.is_over {
-            let _ = self.batches.fill(|position, steps, records| {
-                raw::next_symbols(self.bytes, &self.table, &mut position.index, steps, records)
-            });
-        }
     }
 
     /// The walk from here on within so many steps: each gives a symbol.
@@ -902,10 +897,11 @@ impl<'a> Iterator for Symbols<'a> {
     type Item = Symbol<'a>;
 
     fn next(&mut self) -> Option<Symbol<'a>> {
-        if self.batches.records.is_empty() {
-            self.go_on();
-        }
-        self.batches.records.next().map(Symbol::from)
+        let found = self.batches.next(|position, steps, records| {
+            let (table, index) = (self.table, &mut position.index);
+            raw::next_symbols(self.bytes, &table, index, steps, records)
+        })?;
+        found.ok().map(Symbol::from)
     }
 }
 

@@ -456,8 +456,8 @@ impl<'a> Layout<'a> {
     pub fn walk_imports(&self) -> WalkImports<'a> {
         WalkImports::of(
             self.bytes,
-            self.options.with_parse_imports(true),
-            self.head.file.places,
+            &self.options.with_parse_imports(true),
+            &self.head.file.places,
         )
     }
 
@@ -499,8 +499,8 @@ impl<'a> Layout<'a> {
     pub fn walk_libraries(&self) -> WalkLibraries<'a> {
         WalkLibraries::of(
             self.bytes,
-            self.options.with_parse_imports(true),
-            self.head.file.places,
+            &self.options.with_parse_imports(true),
+            &self.head.file.places,
         )
     }
 
@@ -516,13 +516,13 @@ impl<'a> Layout<'a> {
     /// ```
     #[must_use]
     pub fn walk_exports(&self) -> WalkExports<'a> {
-        WalkExports::of(self.bytes, self.options, self.head.file.places)
+        WalkExports::of(self.bytes, &self.options, &self.head.file.places)
     }
 
     // The walk over imports with whole names, whatever the options say.
     pub(crate) fn walk_whole_imports(&self) -> WalkImports<'a> {
         let options = self.options.with_parse_imports(true).with_longest_name(0);
-        WalkImports::of(self.bytes, options, self.head.file.places)
+        WalkImports::of(self.bytes, &options, &self.head.file.places)
     }
 
     /// The record of the exports, read anew by each call; `None` where there are none, and where permissive mode passes
@@ -565,7 +565,7 @@ impl<'a> Layout<'a> {
             0 => self.options,
             longest => self.options.with_longest_name(longest.max(most)),
         };
-        let mut walk = WalkExports::of(self.bytes, options, self.head.file.places);
+        let mut walk = WalkExports::of(self.bytes, &options, &self.head.file.places);
         walk.find(|it| it.is_err() || it.is_ok_and(|export| export.is_named(name.as_ref())))
             .transpose()
     }
@@ -712,7 +712,7 @@ impl<'a> Layout<'a> {
     /// ```
     #[must_use]
     pub fn walk_export_addresses(&self) -> WalkExportAddresses<'a> {
-        WalkExportAddresses::of(self.bytes, self.options, self.head.file.places)
+        WalkExportAddresses::of(self.bytes, self.options, &self.head.file.places)
     }
 
     /// A walk over the blocks of base relocations, in constant memory, which reads the file as it goes on. Where a rest
@@ -729,7 +729,7 @@ impl<'a> Layout<'a> {
     /// ```
     #[must_use]
     pub fn walk_blocks(&self) -> WalkBlocks<'a> {
-        WalkBlocks::of(self.bytes, self.options, self.head.file.places)
+        WalkBlocks::of(self.bytes, &self.options, &self.head.file.places)
     }
 
     /// The symbols, which few images have; they are read as the walk goes on. The first call tests the whole string table,

@@ -5,7 +5,7 @@ use crate::numbers::{Part, RawPointerRule};
 use std::alloc::{self, handle_alloc_error};
 use std::ffi::c_void;
 use std::marker::PhantomData;
-use std::mem::{self, MaybeUninit, offset_of};
+use std::mem::{MaybeUninit, offset_of};
 use std::ptr::NonNull;
 use std::sync::Once;
 
@@ -292,47 +292,19 @@ fn fill<T>(records: &mut Vec<T>, call: impl FnOnce(*mut T, usize, &mut usize) ->
     fault
 }
 
-// A block of memory of this crate's own, which is given back with it. It names no lifetime, as `Memory` does.
-struct Own {
-    first: NonNull<u8>,
-    layout: alloc::Layout,
-}
-
-// SAFETY: nobody else has the block.
-unsafe impl Send for Own {}
-// SAFETY: by a shared reference it is not changed.
-unsafe impl Sync for Own {}
-
-impl Own {
-    // For no record (where each could stand).
-    const EMPTY: Own = Own {
-        first: NonNull::<u64>::dangling().cast(),
-        layout: alloc::Layout::new::<()>(),
-    };
-
-    // For so many records, at least one; `None` where memory is refused.
-    fn of<T>(room: usize) -> Option<Own> {
-        let layout = alloc::Layout::array::<T>(room).ok()?;
-        assert!(layout.size() != 0);
-        // SAFETY: it has a size.
-        let first = NonNull::new(unsafe { alloc::alloc(layout) })?;
-        Some(Own { first, layout })
-    }
-}
-
-impl Drop for Own {
-    fn drop(&mut self) {
-        if self.layout.size() != 0 {
-            // SAFETY: it was taken by this layout.
-            unsafe { alloc::dealloc(self.first.as_ptr(), self.layout) }
-        }
-    }
+// Memory for so many values, at least one, which an owner gives back; `None` where it is refused.
+fn allocated<T>(count: usize) -> Option<*mut T> {
+    let layout = alloc::Layout::array::<T>(count).ok()?;
+    assert!(layout.size() != 0);
+    // SAFETY: it has a size.
+    let first: *mut T = unsafe { alloc::alloc(layout) }.cast();
+    (!first.is_null()).then_some(first)
 }
 
 /// Room for records that a call fills, which are then taken one by one.
 pub struct Rows<T> {
-    block: Own,
-    room: usize,
+    // (of no value: what is in its room it does not know)
+    block: Vec<T>,
     // The records that are left, in the block.
     next: NonNull<T>,
     end: NonNull<T>,
@@ -347,8 +319,7 @@ impl<T: Copy> Rows<T> {
     /// Room for no record.
     pub const fn new() -> Self {
         Rows {
-            block: Own::EMPTY,
-            room: 0,
+            block: Vec::new(),
             next: NonNull::dangling(),
             end: NonNull::dangling(),
         }
@@ -356,7 +327,7 @@ impl<T: Copy> Rows<T> {
 
     /// For how many records there is room.
     pub fn room(&self) -> usize {
-        self.room
+        self.block.capacity()
     }
 
     /// How many are left.
@@ -378,22 +349,23 @@ impl<T: Copy> Rows<T> {
 
     /// Makes room for so many records, where there is less, and gives up what is left. Answers whether there is room:
     /// where memory for so many is refused, it is what it was.
-    pub fn make_room(&mut self, room: usize) -> bool {
+    pub fn make_room(&mut self, most: usize) -> bool {
         self.clear();
-        if room <= self.room {
+        if most <= self.room() {
             return true;
         }
-        let Some(block) = Own::of::<T>(room) else {
+        let Some(block) = room(most) else {
             return false;
         };
-        let first = block.first.cast();
-        *self = Rows {
-            block,
-            room,
-            next: first,
-            end: first,
-        };
+        self.block = block;
+        self.next = self.first();
+        self.end = self.next;
         true
+    }
+
+    // The begin of the block.
+    fn first(&mut self) -> NonNull<T> {
+        NonNull::from(self.block.spare_capacity_mut()).cast()
     }
 
     /// Whether none are left.
@@ -419,7 +391,7 @@ impl<T: Copy> Rows<T> {
 
     // Fills the room with the records of a call, as `fill` does.
     fn fill(&mut self, call: impl FnOnce(*mut T, usize, &mut usize) -> Fault) -> Fault {
-        let (first, room, mut count) = (self.block.first.cast::<T>(), self.room, 0);
+        let (first, room, mut count) = (self.first(), self.room(), 0);
         let fault = call(first.as_ptr(), room, &mut count);
         if fault.status != 0 {
             count = 0;
@@ -451,9 +423,8 @@ impl<T: Copy> Clone for Rows<T> {
     /// A block of its own, with what is left. Where memory for it is refused, the process ends, as it does for a `Vec`.
     fn clone(&self) -> Self {
         let mut rows = Rows::new();
-        if !rows.make_room(self.room) {
-            handle_alloc_error(self.block.layout);
-        }
+        rows.block = Vec::with_capacity(self.room());
+        rows.next = rows.first();
         // SAFETY: what is left lies in one block, and the new one has room for as many.
         unsafe {
             rows.next.copy_from_nonoverlapping(self.next, self.len());
@@ -500,11 +471,9 @@ const _: () = assert!(size_of::<Head>() <= 1032);
 
 /// A block for a value that is not there yet; `None` where memory is refused.
 pub fn block<T>() -> Option<Box<MaybeUninit<T>>> {
-    let block = Own::of::<T>(1)?;
+    let first = allocated(1)?;
     // SAFETY: the allocator of a `Box` gave the block, for one value, and nobody else has it.
-    let value = unsafe { Box::from_raw(block.first.cast().as_ptr()) };
-    mem::forget(block);
-    Some(value)
+    Some(unsafe { Box::from_raw(first) })
 }
 
 /// A block with this value; `None` where memory is refused.
@@ -520,11 +489,9 @@ pub fn room<T>(count: usize) -> Option<Vec<T>> {
     if count == 0 {
         return Some(Vec::new());
     }
-    let block = Own::of::<T>(count)?;
+    let first = allocated(count)?;
     // SAFETY: the allocator of a `Vec` gave the block, for so many values, and nobody else has it.
-    let room = unsafe { Vec::from_raw_parts(block.first.cast().as_ptr(), 0, count) };
-    mem::forget(block);
-    Some(room)
+    Some(unsafe { Vec::from_raw_parts(first, 0, count) })
 }
 
 /// Reads a whole file into a block.

@@ -289,7 +289,7 @@ fn walks_over_export_addresses_relocations_and_symbols_end_after_so_many_steps()
     for section in object.sections() {
         let rows = section.relocations(&bytes).unwrap();
         let walk = || section.walk_relocations(&bytes);
-        test_steps(&rows, rows.len().max(1), |steps| walk().within(steps));
+        test_steps(&rows, rows.len(), |steps| walk().within(steps));
     }
     let walk = || object.symbols().unwrap();
     let rows: Vec<_> = walk().collect();
@@ -1424,6 +1424,21 @@ fn a_walk_gives_all_relocations() {
     for s in object.sections().filter(|s| s.number_of_relocations != 0) {
         let all: Result<Vec<_>, _> = s.walk_relocations(&bytes).collect();
         assert_eq!(all, s.relocations(&bytes));
+    }
+}
+
+#[test]
+fn no_relocations_are_refused_where_they_begin_past_the_end() {
+    let bytes = sample("object_x64.obj");
+    let object = Object::parse(&bytes).unwrap();
+    let mut sections = object.sections();
+    let mut section = sections.find(|s| s.number_of_relocations == 0).unwrap();
+    let end = u32::try_from(bytes.len()).unwrap();
+    for place in [0, end - 1, end, end + 1, u32::MAX] {
+        section.pointer_to_relocations = place;
+        let walked: Result<Vec<_>, _> = section.walk_relocations(&bytes).collect();
+        assert_eq!(walked.is_err(), place >= end);
+        assert_eq!(walked, section.relocations(&bytes));
     }
 }
 

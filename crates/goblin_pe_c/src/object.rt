@@ -159,7 +159,6 @@ pub extern "C" fn goblin_pe_raw_next_symbols<'a>(
 /// from there: relocations and weak externals name symbols by this index. A table that is refused
 /// there has none. Nothing is then changed.
 #[unsafe(no_mangle)]
-#[tactic(auto, using(goblin_pe_records::proofs::Puts::puts_view))]
 pub extern "C" fn goblin_pe_raw_symbol_at<'a>(
     bytes: &'a [u8],
     table: &PeSymbolTable,
@@ -169,7 +168,7 @@ pub extern "C" fn goblin_pe_raw_symbol_at<'a>(
     ensures { Puts named_symbol_view result (symbol_said table.now bytes.now index) symbol.old
         symbol.new }
 {
-    put_found(symbol, find_symbol(bytes, table, index))
+    find_symbol(bytes, table, index, symbol)
 }
 
 /// Reads the relocations of a section of an object, fills the records as far as there is room, and

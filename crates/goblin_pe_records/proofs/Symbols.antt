@@ -46,12 +46,11 @@ pub giving_start : (table strings : List ℕ) (from : ℕ) (old : List PeNamedSy
 unfolding index_after
 giving_start table strings from old = record { filling = filling-start _ _ _ _; place = refl; left = refl; few = omega arith }
 
-pub giving_next : (table strings : List ℕ) (from : ℕ) (old : List PeNamedSymbol) (i position : ℕ) (records : List PeNamedSymbol) (r : PeNamedSymbol) → IsGiving table strings from old i position records → i < length records → position < length table / 18
-    → named_symbol_view r ≡ named_symbol table strings (symbol_of table position) → IsGiving table strings from old (i + 1) (position + (1 + r.symbol.number_of_aux_symbols)) (set records i r)
+pub giving_next : (table strings : List ℕ) (from : ℕ) (old : List PeNamedSymbol) (i position n : ℕ) (records : List PeNamedSymbol) (r : PeNamedSymbol) → IsGiving table strings from old i position records → i < length records → position < length table / 18
+    → n ≡ aux table position → named_symbol_view r ≡ named_symbol table strings (symbol_of table position) → IsGiving table strings from old (i + 1) (position + (1 + n)) (set records i r)
 unfolding index_after
-giving_next table strings from old i position records r h room inside is =
-    let count : r.symbol.number_of_aux_symbols ≡ aux table position = ap (λ x. x.0.symbol.number_of_aux_symbols) is in
-    let next : position + (1 + r.symbol.number_of_aux_symbols) ≡ next_index table position = omega (arith, count) in
+giving_next table strings from old i position n records r h room inside count is =
+    let next : position + (1 + n) ≡ next_index table position = omega (arith, count) in
     let step = symbols_next (length table / 18) table position inside in
     let first = left_first _ _ _ _ (sym h.left ∙ step) in
     let one : i + 1 ≡ suc i = omega arith in

@@ -4,8 +4,10 @@ ghost use Rattle.std.specs.Prelude.{◌≡◌, ◌/◌, ◌<◌, ◌≤◌, IfSo
 ghost use Rattle.goblin_base.specs.Bytes.{before_nul, text_of};
 ghost use Rattle.goblin_base.specs.Reading.{Reads};
 ghost use Rattle.goblin_base.specs.Strtab.{is_in_piece};
+ghost use Rattle.goblin_pe_symbol.specs.Symbols.{name_and_symbol, named_value, record_of};
 ghost use Rattle.goblin_pe_symbol.specs.Symbols.{symbol_of};
 ghost use Rattle.goblin_pe_records.specs.Calls.{ReadsWithout};
+ghost use Rattle.goblin_pe_records.specs.Found.{Puts};
 ghost use Rattle.goblin_pe_records.specs.Symbols.{named_symbol_view, SymbolRecords, name_in_piece};
 ghost use Rattle.goblin_pe_records.specs.Symbols.{symbol_tables, GivesSymbols, auxiliary_of};
 ghost use Rattle.goblin_pe_records.specs.Symbols.{named_symbol, strings_said, symbol_named};
@@ -13,7 +15,7 @@ ghost use Rattle.goblin_pe_records.specs.Symbols.{table_record, NamesOfText, Say
 ghost use Rattle.goblin_pe_records.specs.Symbols.{symbol_said, tables_said, SaysTable, symbol_in};
 ghost use Rattle.goblin_pe_records.specs.Symbols.{FindsTables, found_table, text_said, texts_of};
 
-use goblin_base::read::{pread_slice, pread_str, pread_u32};
+use goblin_base::read::{pread_plain_str, pread_slice, pread_str, pread_u32};
 use goblin_base::{Cause, Endian, Error, Result, Strtab};
 use goblin_pe_head::header::CoffHeader;
 use goblin_pe_symbol::symbol::{COFF_SYMBOL_SIZE, Symbol};
@@ -55,6 +57,13 @@ pub struct PeNamedSymbol<'a> {
     pub has_name: bool,
 }
 
+// The bytes of a symbol table, and those of the texts of a string table.
+#[derive(Copy, Clone)]
+struct Tables<'a> {
+    records: &'a [u8],
+    strings: &'a [u8],
+}
+
 // The text that bytes are.
 #[tactic(auto, using(goblin_base::proofs::Texts::text_test))]
 fn text(bytes: &[u8]) -> Option<&str>
@@ -84,15 +93,26 @@ fn is_in_piece(strings: &[u8], offset: usize) -> bool
     offset < strings.len() || offset == strings.len() && 0 < offset && strings[offset - 1] != 0
 }
 
-// The name at an offset of the bytes of a string table.
-#[inline(always)]
-fn name_in_piece(strings: &[u8], offset: usize) -> Option<&str>
+// The name at an offset of the bytes of a string table, also where it is not ASCII or ends within the last bytes.
+#[inline(never)]
+fn any_name_in_piece(strings: &[u8], offset: usize) -> Option<&str>
     ensures { option_map (λ s. s.now) result ≡ name_in_piece strings.now offset }
 {
     if is_in_piece(strings, offset) {
         front_text(&strings[offset..])
     } else {
         None
+    }
+}
+
+// The name at an offset of the bytes of a string table.
+#[inline(always)]
+fn name_in_piece(strings: &[u8], offset: usize) -> Option<&str>
+    ensures { option_map (λ s. s.now) result ≡ name_in_piece strings.now offset }
+{
+    match pread_plain_str(strings, offset) {
+        Some(name) => Some(name),
+        None => any_name_in_piece(strings, offset),
     }
 }
 
@@ -125,61 +145,70 @@ fn auxiliary_of<'a>(table: &'a [u8], index: usize, symbol: &Symbol) -> &'a [u8]
     }
 }
 
-// The record of a symbol at an index of a table, with this name.
+// Fills a record with a symbol at an index of a table, and with this name.
 #[inline(always)]
-fn named_record<'a>(
+fn fill_record<'a>(
+    place: &mut PeNamedSymbol<'a>,
     bytes: &'a [u8],
     table: &'a [u8],
     index: usize,
     name: Option<&'a str>,
     symbol: Symbol,
-) -> PeNamedSymbol<'a>
+)
     requires { index < length table.now / 18 }
-    ensures { named_symbol_view result
+    ensures { named_symbol_view place.new
         ≡ symbol_named table.now index (option_map (λ s. s.now) name.entry) symbol }
 {
-    PeNamedSymbol {
-        name: match name {
-            Some(name) => name.as_bytes(),
-            None => &bytes[..0],
-        },
-        auxiliary: auxiliary_of(table, index, &symbol),
-        index,
-        symbol,
-        has_name: name.is_some(),
-    }
+    place.has_name = name.is_some();
+    place.name = match name {
+        Some(name) => name.as_bytes(),
+        None => &bytes[..0],
+    };
+    place.auxiliary = auxiliary_of(table, index, &symbol);
+    place.index = index;
+    place.symbol = symbol;
 }
 
-// The symbol of the record at an index of a table.
+// The record at an index of a table, read as a symbol, after the name in it.
 #[inline(always)]
-#[tactic(auto, using(crate::proofs::Symbols::record_there))]
-fn symbol_at<'a>(
-    bytes: &'a [u8],
-    table: &'a [u8],
-    strings: &'a [u8],
-    index: usize,
-) -> Option<PeNamedSymbol<'a>>
+fn record_at(table: &[u8], index: usize) -> Option<(Option<&str>, Symbol)>
     ensures inside { IfSome result (λ s. index < length table.now / 18) }
-    ensures some { IfSome result
-        (λ s. named_symbol_view s
-        ≡ named_symbol table.now strings.now (symbol_of table.now index)) }
+    ensures some { IfSome result (λ s. named_value s ≡ name_and_symbol (record_of table.now index)) }
     ensures none { result ≡ None → length table.now / 18 ≤ index }
-    ensures value { option_map named_symbol_view result ≡ symbol_in table.now strings.now index }
 {
     if table.len() / COFF_SYMBOL_SIZE <= index {
         return None;
     }
-    let (inline_name, symbol) = Symbol::parse(table, COFF_SYMBOL_SIZE * index).ok()?;
-    let name = name_in(inline_name, &symbol, strings);
-    Some(named_record(bytes, table, index, name, symbol))
+    let begin = COFF_SYMBOL_SIZE * index;
+    Some(Symbol::named(&table[begin..begin + COFF_SYMBOL_SIZE]))
+}
+
+// Fills a record with what was found at an index of a table. (It takes the place, as a record that is moved has its
+// unused bytes copied, too.)
+#[inline(always)]
+fn fill_symbol<'a>(
+    place: &mut PeNamedSymbol<'a>,
+    bytes: &'a [u8],
+    tables: Tables<'a>,
+    index: usize,
+    found: (Option<&'a str>, Symbol),
+)
+    requires inside { index < length tables.records.now / 18 }
+    requires found { named_value found ≡ name_and_symbol (record_of tables.records.now index) }
+    ensures { named_symbol_view place.new
+        ≡ named_symbol tables.entry.records.now tables.entry.strings.now
+        (symbol_of tables.entry.records.now index) }
+{
+    let (inline_name, symbol) = found;
+    let name = name_in(inline_name, &symbol, tables.strings);
+    fill_record(place, bytes, tables.records, index, name, symbol);
 }
 
 // Fills the records of the symbols of a table from an index on, as far as there is room, moves the
 // index past them, and answers how many there are.
 fn fill_symbols_at<'a>(
     bytes: &'a [u8],
-    table: &'a [u8],
-    strings: &'a [u8],
+    tables: Tables<'a>,
     position: &mut usize,
     records: &mut [PeNamedSymbol<'a>],
 ) -> usize
@@ -187,15 +216,18 @@ fn fill_symbols_at<'a>(
         record { position = position.old; records = records.old; count = 0 } in
         let new : SymbolRecords =
         record { position = position.new; records = records.new; count = result } in
-        GivesSymbols table.now strings.now old new }
+        GivesSymbols tables.entry.records.now tables.entry.strings.now old new }
 {
+    let mut index = *position; // (a place behind a pointer is stored for each symbol)
     'symbols: for count in 0..records.len() {
-        let Some(symbol) = symbol_at(bytes, table, strings, *position) else {
+        let Some(found) = record_at(tables.records, index) else {
+            *position = index;
             return count;
         };
-        *position += 1 + symbol.symbol.number_of_aux_symbols as usize;
-        records[count] = symbol;
+        fill_symbol(&mut records[count], bytes, tables, index, found);
+        index += 1 + found.1.number_of_aux_symbols as usize;
     }
+    *position = index;
     records.len()
 }
 
@@ -249,13 +281,6 @@ fn table_with(header: &CoffHeader, texts: Option<usize>) -> PeSymbolTable
             strings_length: 0,
         },
     }
-}
-
-// The bytes of a symbol table, and those of the texts of a string table.
-#[derive(Copy, Clone)]
-struct Tables<'a> {
-    records: &'a [u8],
-    strings: &'a [u8],
 }
 
 // So many bytes at an offset; there may be none.
@@ -338,23 +363,32 @@ pub fn read_symbols<'a>(
         result }
 {
     *count = match tables_said(bytes, table)? {
-        Some(tables) => fill_symbols_at(bytes, tables.records, tables.strings, position, records),
+        Some(tables) => fill_symbols_at(bytes, tables, position, records),
         None => 0,
     };
     Ok(())
 }
 
-/// The symbol at an index of a table, which counts auxiliary records, too; `None` where the table
-/// has no such record, or does not lie in the file.
+/// Puts the symbol at an index of a table, which counts auxiliary records, too, into its place, and
+/// answers whether there is one: none where the table has no such record, or does not lie in the
+/// file.
 pub fn find_symbol<'a>(
     bytes: &'a [u8],
     table: &PeSymbolTable,
     index: usize,
-) -> Option<PeNamedSymbol<'a>>
-    ensures { option_map named_symbol_view result ≡ symbol_said table.now bytes.now index }
+    symbol: &mut PeNamedSymbol<'a>,
+) -> bool
+    ensures { Puts named_symbol_view result (symbol_said table.now bytes.now index) symbol.old
+        symbol.new }
 {
-    let tables = tables_said(bytes, table).ok()??;
-    symbol_at(bytes, tables.records, tables.strings, index)
+    let Ok(Some(tables)) = tables_said(bytes, table) else {
+        return false;
+    };
+    let Some(found) = record_at(tables.records, index) else {
+        return false;
+    };
+    fill_symbol(symbol, bytes, tables, index, found);
+    true
 }
 
 /// The text at an offset of the string table that a record says, whose first four bytes are its

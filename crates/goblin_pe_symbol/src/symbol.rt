@@ -5,7 +5,7 @@ ghost use Rattle.std.specs.Prelude.{Some, IfOk, IfSome, IsTrue, length, option_m
 ghost use Rattle.std.specs.Iterator.{UpTo, YieldsFirstBy, at_most};
 ghost use Rattle.std.specs.Iterator.SizeHint.{IsWithinCount};
 ghost use Rattle.goblin_base.specs.Answers.{Answers, IsSliceFault, Writes};
-ghost use Rattle.goblin_base.specs.Bytes.{overwritten, slice_at};
+ghost use Rattle.goblin_base.specs.Bytes.{bounded_text_at, overwritten, slice_at};
 ghost use Rattle.goblin_base.specs.Reading.{Reads};
 ghost use Rattle.goblin_base.specs.Record.{WritesRecord, record_at};
 ghost use Rattle.goblin_pe_symbol.specs.declared.symbol.Symbol.{Symbol};
@@ -22,7 +22,8 @@ ghost use Rattle.goblin_pe_symbol.specs.Symbols.{symbol_table, symbols_left, sym
 
 use goblin_base::{
     Cause, Endian, Error, Field, Record, Result, Strtab, encode_fields, field_array, field_i16,
-    field_u8, field_u16, field_u32, pread_slice, pread_str_until, put_fields, pwrite_slice,
+    field_u8, field_u16, field_u32, pread_plain_str_until, pread_slice, pread_str_until,
+    put_fields, pwrite_slice,
 };
 
 mod auxiliary;
@@ -138,7 +139,17 @@ impl Symbol {
         ensures { Reads named_value result (symbol_at offset) bytes.now }
     {
         let record = pread_slice(bytes, offset, COFF_SYMBOL_SIZE)?;
-        Ok(named(record))
+        Ok(Symbol::named(record))
+    }
+
+    /// The symbol of a record's 18 bytes, as the pair that [`Symbol::parse`] reads: (name in it,
+    /// symbol).
+    #[inline(always)]
+    pub fn named(bytes: &[u8]) -> (Option<&str>, Symbol)
+        requires { length bytes.now ≡ 18 }
+        ensures { named_value result ≡ name_and_symbol bytes.now }
+    {
+        (inline_name(bytes), Symbol::in_record(bytes, Endian::Little))
     }
 
     // The number stored in place of a name.
@@ -278,7 +289,17 @@ impl Symbol {
     }
 }
 
+// The name that the first eight bytes of a record are, also where it is not ASCII.
+#[inline(never)]
+fn any_name(bytes: &[u8]) -> Option<&str>
+    requires { length bytes.now ≡ 18 }
+    ensures { option_map (λ s. s.now) result ≡ bounded_text_at bytes.now 0 8 }
+{
+    pread_str_until(bytes, 0, 8).ok()
+}
+
 // The name in a record.
+#[inline(always)]
 fn inline_name(bytes: &[u8]) -> Option<&str>
     requires { length bytes.now ≡ 18 }
     ensures { option_map (λ s. s.now) result ≡ inline_name bytes.now }
@@ -286,16 +307,10 @@ fn inline_name(bytes: &[u8]) -> Option<&str>
     if bytes[0] == 0 {
         return None;
     }
-    pread_str_until(bytes, 0, 8).ok()
-}
-
-// The symbol of a record, and the name in it.
-#[inline(always)]
-fn named(bytes: &[u8]) -> (Option<&str>, Symbol)
-    requires { length bytes.now ≡ 18 }
-    ensures { named_value result ≡ name_and_symbol bytes.now }
-{
-    (inline_name(bytes), Symbol::in_record(bytes, Endian::Little))
+    match pread_plain_str_until(bytes, 0, 8) {
+        Some(name) => Some(name),
+        None => any_name(bytes),
+    }
 }
 
 /// The symbol table of a file: records of 18 bytes, one after the other. Each symbol is followed by
@@ -349,7 +364,7 @@ impl<'a> SymbolTable<'a> {
         ensures { option_map named_value result
             ≡ record_at 18 name_and_symbol (symbol_bytes self.now) (18 * index) }
     {
-        Some(named(self.record_at(index)?))
+        Some(Symbol::named(self.record_at(index)?))
     }
 
     /// The record at `index`, whatever it is, as an auxiliary record of a function definition.
@@ -458,7 +473,7 @@ impl<'a> Iterator for SymbolIterator<'a> {
             return None;
         }
         let offset = COFF_SYMBOL_SIZE * index;
-        let (name, symbol) = named(&self.symbols[offset..offset + COFF_SYMBOL_SIZE]);
+        let (name, symbol) = Symbol::named(&self.symbols[offset..offset + COFF_SYMBOL_SIZE]);
         self.index = index + 1 + symbol.number_of_aux_symbols as usize;
         Some((index, name, symbol))
     }

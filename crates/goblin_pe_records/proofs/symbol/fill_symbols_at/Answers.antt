@@ -1,4 +1,4 @@
-use Rattle.std.proofs.Common.{arith}
+use Rattle.std.proofs.Common.{ap, arith}
 use Rattle.goblin_pe_records.proofs.Symbols.{giving_all, giving_full, giving_next, giving_start}
 use Rattle.goblin_pe_records.proofs.symbol.fill_symbols_at.Goals as goal
 
@@ -6,10 +6,10 @@ pub symbols-init : goal.symbols-init
 symbols-init c = giving_start _ _ _ _
 
 pub symbols-preserved : goal.symbols-preserved
-symbols-preserved c = giving_next _ _ _ _ _ _ _ _ c.symbols.invariant (omega (arith, c.symbols-test.true, c.symbols.auto.records)) c.in-Some.ensures.inside c.in-Some.ensures.some
+symbols-preserved c = giving_next _ _ _ _ _ _ _ _ _ c.symbols.invariant (omega (arith, c.symbols-test.true, c.symbols.auto.records)) c.in-Some.ensures.inside (ap (λ x. x.1.number_of_aux_symbols) c.in-Some.ensures.some) c.fill_symbol.ensures
 
 pub returns-in_default : goal.returns-in_default
-returns-in_default c = giving_all _ _ _ _ _ _ _ (omega (arith, c.symbols-test.true)) c.symbols.invariant c.symbols.auto.records (c.symbol_at.ensures.none c.in_default.is)
+returns-in_default c = giving_all _ _ _ _ _ _ _ (omega (arith, c.symbols-test.true)) c.symbols.invariant c.symbols.auto.records (c.record_at.ensures.none c.in_default.is)
 
 pub returns : goal.returns
 returns c =

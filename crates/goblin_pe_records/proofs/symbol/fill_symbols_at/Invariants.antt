@@ -3,4 +3,4 @@ use Rattle.goblin_pe_records.proofs.Symbols.{IsGiving}
 use Rattle.goblin_pe_records.proofs.symbol.fill_symbols_at.Given as goal
 
 abbrev pub invariant-symbols : goal.invariant-symbols
-invariant-symbols l = IsGiving l.table l.strings l.initial.position l.initial.records l.count l.position l.records
+invariant-symbols l = IsGiving l.tables.records.now l.tables.strings.now l.initial.position l.initial.records l.count l.index l.records
