@@ -14,7 +14,10 @@ fn has_imports(layout: &Layout) -> bool {
 /// Whether there are no base relocations, and the exceptions lie at no offset.
 fn has_no_others(layout: &Layout) -> bool {
     matches!(&layout.directory(5), Ok(Part::Absent))
-        && matches!(&layout.directory(3), Err(Error::Malformed(Cause::Unmapped(0x9000))))
+        && matches!(
+            &layout.directory(3),
+            Err(Error::Malformed(Cause::Unmapped(0x9000)))
+        )
 }
 
 fn has_all(layout: &Layout) -> bool {
