@@ -16,7 +16,8 @@ ghost use Rattle.goblin_pe_import.specs.LookupReadings as reading;
 use crate::import::bitfield::Bitfield;
 use crate::import::kept::next_kept;
 use goblin_base::{
-    Cause, Endian, Error, Result, ResultOf, field_u16, no_text, pread_plain_str, pread_str_within, pread_u16,
+    Cause, Endian, Error, Result, ResultOf, field_u16, no_text, pread_plain_str, pread_str_within,
+    pread_u16,
 };
 use goblin_pe_sect::address_map::{AddressMap, Finder};
 use goblin_pe_sect::options::ParseOptions;

@@ -1,7 +1,7 @@
 //! The base relocations of an image: blocks of words.
 
 ghost use Rattle.std.specs.Prelude.{◌≡◌, ◌+◌, ◌-◌, ◌/◌, ◌%◌, ◌^◌, ◌<◌, ◌≤◌, Some, length, IfOk};
-ghost use Rattle.std.specs.Prelude.{IfSome};
+ghost use Rattle.std.specs.Prelude.{Err, IfSome};
 ghost use Rattle.std.specs.Iterator.{UpTo, YieldsFirst, YieldsFirstBy, at_most};
 ghost use Rattle.std.specs.Iterator.SizeHint.{IsWithinCount};
 ghost use Rattle.goblin_base.specs.Reading.{Reads};
@@ -166,6 +166,25 @@ pub struct RelocationBlock<'a> {
 }
 
 impl<'a> RelocationBlock<'a> {
+    // Why the last bytes of a directory, of which there are at most eight from `offset` on, are no block.
+    #[inline(always)]
+    #[tactic(auto, unfolding(crate::specs::BaseRelocations::block_at))]
+    fn refusal_of_rest(directory: &[u8], offset: usize) -> Error
+        requires before { offset < length directory.now }
+        requires few { length directory.now ≤ offset + 8 }
+        ensures { block_at directory.now offset ≡ Err result }
+    {
+        if directory.len() - offset < RELOCATION_BLOCK_SIZE {
+            return Error::Read(ReadFault::TooBig);
+        }
+        let begin = offset + RELOCATION_BLOCK_SIZE;
+        let size = field_u32(&directory[offset..begin], 4, Endian::Little);
+        if (size as usize) < RELOCATION_BLOCK_SIZE {
+            return Error::Malformed(Cause::BlockSize(size));
+        }
+        Error::Malformed(Cause::BlockRange(begin, size as usize - RELOCATION_BLOCK_SIZE))
+    }
+
     // Reads the block at `offset` of a directory, which lies before its end.
     #[tactic(auto, unfolding(crate::specs::BaseRelocations::block_at))]
     fn in_directory(directory: &'a [u8], offset: usize) -> Result<RelocationBlock<'a>>
@@ -174,8 +193,8 @@ impl<'a> RelocationBlock<'a> {
         ensures large { IfOk result (λ block. 8 ≤ block.size) }
     {
         let rest = directory.len() - offset;
-        if rest < RELOCATION_BLOCK_SIZE {
-            return Err(Error::Read(ReadFault::TooBig));
+        if rest <= RELOCATION_BLOCK_SIZE {
+            return Err(RelocationBlock::refusal_of_rest(directory, offset));
         }
         let begin = offset + RELOCATION_BLOCK_SIZE;
         let head = &directory[offset..begin];
@@ -183,7 +202,7 @@ impl<'a> RelocationBlock<'a> {
         if (size as usize) < RELOCATION_BLOCK_SIZE {
             return Err(Error::Malformed(Cause::BlockSize(size)));
         }
-        if rest < size as usize || rest == RELOCATION_BLOCK_SIZE {
+        if rest < size as usize {
             let len = size as usize - RELOCATION_BLOCK_SIZE;
             return Err(Error::Malformed(Cause::BlockRange(begin, len)));
         }
