@@ -486,7 +486,8 @@ class HowFilesAreRead(unittest.TestCase):
     def test_options_are_those_of_the_library_but_for_what_is_said(self):
         with open(os.path.join(HERE, "../c/goblin_pe_records.h"), encoding="ascii") as file:
             stored = re.search(r"GOBLIN_PE_DEFAULT_OPTIONS \{(.*)\}", file.read()).group(1)
-        values = ", ".join("%d" % it if isinstance(it, RawPointerRule) else str(it).lower() for it in dataclasses.astuple(Options()))
+        said = (0 if it is None else it for it in dataclasses.astuple(Options()))
+        values = ", ".join(str(it).lower() if isinstance(it, bool) else "%d" % it for it in said)
         self.assertEqual(values, stored.strip())
         data = sample("imports_by_name_x64.dll")
         self.assertEqual(Pe(data, Options(is_permissive=True)).imports, Pe(data).imports)
