@@ -53,6 +53,14 @@ def object_with_symbols(count):
     return header + symbols + struct.pack("<I", len(strings) + 4) + strings
 
 
+def symbols_of_one_name(size):
+    """An object, one half symbols, the other half the one long name that all of them have."""
+    count = size // 36
+    strings = size - 20 - 18 * count
+    symbols = struct.pack("<II10x", 0, 4) * count
+    return struct.pack("<HHIIIHH", 0x8664, 0, 0, 20, count, 0, 0) + symbols + struct.pack("<I", strings) + b"n" * (strings - 4)
+
+
 def in_one_section(directories, make, size):
     """The small image of this size instead, with these directories and one section, which make has for an address and a size."""
     base, begin = 0x1000, 0x200
@@ -125,15 +133,19 @@ def dead_name_pointers(base, size):
     return struct.pack("<IIHHIIIIIII", 0, 0, 0, 0, 0, 1, 0, count, 0, pointers, ordinals) + bytes(6 * count)
 
 
-def read_object(file, room=65535):
+def read_object(file, room=65535, options=STRICT):
     found = records.Object()
     sections = (records.Section * room)()
-    fault = LIB.goblin_pe_raw_read_object(file, len(file), c.byref(STRICT), c.byref(found), sections, room)
+    fault = LIB.goblin_pe_raw_read_object(file, len(file), c.byref(options), c.byref(found), sections, room)
     return fault.status, found.sections
 
 
 def count_sections_of_object(file):
     return read_object(file, 0)
+
+
+def object_of_short_names(file):
+    return read_object(file, options=SHORT)
 
 
 def read_te(file):
@@ -142,10 +154,14 @@ def read_te(file):
     return fault.status, sum(it.real_name.length == len(file) - 10240 for it in room)
 
 
-def read_layout(file):
+def read_layout(file, options=STRICT):
     layout, room = records.Layout(), (records.Section * 65535)()
-    fault = LIB.goblin_pe_raw_read_layout(file, len(file), c.byref(STRICT), c.byref(layout), room, 65535)
+    fault = LIB.goblin_pe_raw_read_layout(file, len(file), c.byref(options), c.byref(layout), room, 65535)
     return fault.status, layout.sections
+
+
+def layout_of_short_names(file):
+    return read_layout(file, SHORT)
 
 
 def footprint(file):
@@ -154,17 +170,22 @@ def footprint(file):
     return fault.status, min(ranges.count("ranges"), 1)
 
 
-def next_symbols(file):
+def next_symbols(file, longest=0):
     header = _laid_out.laid_out(CoffHeader)(*struct.unpack_from("<HHIIIHH", file))
     table, room = records.SymbolTable(), (records.NamedSymbol * 256)()
     position, count, found = c.c_size_t(), c.c_size_t(), 0
     fault = LIB.goblin_pe_raw_read_symbol_table(file, len(file), c.byref(header), c.byref(table))
+    table.longest_name = longest
     while not fault.status:
         fault = LIB.goblin_pe_raw_next_symbols(file, len(file), c.byref(table), c.byref(position), room, 256, 0, c.byref(count))
         if not count.value:
             break
         found += count.value
     return fault.status, found
+
+
+def symbols_of_short_names(file):
+    return next_symbols(file, 200)
 
 
 def read_damage(file):
@@ -233,10 +254,13 @@ def all_imports_permissively(file):
 ROWS = {
     "an object of one long name": (read_object, lambda: object_of_one_name(MIB)),
     "an object of one long name, without room": (count_sections_of_object, lambda: object_of_one_name(MIB)),
+    "an object of one long name that is cut": (object_of_short_names, lambda: object_of_one_name(MIB)),
     "a Terse Executable of one long name": (read_te, lambda: te_of_one_name(16 * MIB)),
     "a layout of one long name": (read_layout, lambda: image_of_one_name(MIB)),
+    "a layout of one long name that is cut": (layout_of_short_names, lambda: image_of_one_name(MIB)),
     "a layout of many name pointers": (read_layout, lambda: in_one_section((0x1000, 40, 0, 0), many_name_pointers, 16 * MIB)),
     "a footprint of one long name": (footprint, lambda: image_of_one_name(MIB)),
+    "symbols of one long name that is cut": (symbols_of_short_names, lambda: symbols_of_one_name(MIB)),
     "many symbols": (next_symbols, lambda: object_with_symbols(320000)),
     "damage of imports in one text": (read_damage, lambda: in_one_section((0, 0, 0x1000, 40), imports_in_one_text, MIB // 2)),
     "exports in one text": (open_without_imports, lambda: in_one_section((0x1000, 40, 0, 0), exports_in_one_text, MIB // 2)),

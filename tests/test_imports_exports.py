@@ -312,6 +312,25 @@ class LongNames(Read):
                     self.assertEqual([it.forwarder for it in layout.walk_exports()], [wanted])
                     self.assertEqual([it.forwarder for it in layout.walk_export_addresses()], [wanted])
 
+    def named(self, text):
+        """An object and an image of one section and one symbol, which have this name, and what reads them."""
+        tables = struct.pack("<II10xI", 0, 4, len(text) + 5) + text + b"\0"
+        image = sample((0x138, b"/4\0\0\0\0\0\0"))
+        counted = struct.pack("<II", len(image), 1)
+        object_file = struct.pack("<HHIIIHH8s32x", 0x8664, 1, 0, 60, 1, 0, 0, b"/4") + tables
+        yield lambda how: package().ObjectFile(object_file, how, tests_texts=False), ()
+        yield lambda how: package().Layout(images.with_parts(image + tables, (image.index(b"PE\0\0") + 12, counted)), how), (False,)
+
+    def test_the_names_of_sections_and_symbols(self):
+        for text, wanted in UP_TO_8:
+            for read, untested in self.named(text):
+                for how in self.strict, self.permissive:
+                    with self.subTest(text, how=how):
+                        found = read(how)
+                        self.assertEqual([it.name for it in found.sections], [b"/4" if wanted is None else wanted])
+                        self.assertEqual([it.name for it in found.walk_symbols(*untested)], [wanted])
+                        self.assertEqual((found.symbol_at(0, *untested).name, found.string_at(4)), (wanted, wanted))
+
     def test_an_export_is_found_by_its_whole_name(self):
         for layout in self.layouts(images.library(b"a.dll", [(b"123456789A", 0x9000)])):
             self.assertEqual(layout.find_export(b"123456789"), None)

@@ -12,10 +12,13 @@ ROOM = 400 << 10
 ROWS = [
     ("an object of one long name", 4500, 13107),
     ("an object of one long name, without room", 50, 13107),
+    ("an object of one long name that is cut", 50, 13107),
     ("a Terse Executable of one long name", 5000, 255),
     ("a layout of one long name", 4500, 13107),
+    ("a layout of one long name that is cut", 50, 13107),
     ("a layout of many name pointers", 50, 1),
     ("a footprint of one long name", 35000, 1),
+    ("symbols of one long name that is cut", 50, 29127),
     ("many symbols", 200, 320000),
     ("damage of imports in one text", 120000, 0),
     ("exports in one text", 75000, 65465),

@@ -473,12 +473,13 @@ static bool tells_what_is_there(void)
            !found.bytes.length && found.zeros == 0x5000;
 }
 
-/* Whether the symbols of an object are read of which one name is not UTF-8, and the texts of its string table. */
+/* Whether the symbols of an object are read of which one name is not UTF-8, and the texts of its string
+   table, whole and cut. */
 static bool reads_odd_names(void)
 {
     static const uint8_t file[] = "\0\0\0\0\0\0\0\0\x14\0\0\0\x01\0\0\0\0\0\0\0" /* a header */
         "\0\0\0\0\x04\0\0\0\0\0\0\0\0\0\0\0\0\0" /* a symbol, whose name is at 4 */
-        "\x09\0\0\0\xE9\0ok"; /* (the last NUL is the literal's) */
+        "\x0B\0\0\0\xE9\0okay"; /* (the last NUL is the literal's) */
     struct goblin_pe_object object;
     struct goblin_pe_symbol_table table;
     struct goblin_pe_named_symbol symbol;
@@ -488,10 +489,11 @@ static bool reads_odd_names(void)
                   GOBLIN_PE_READ_FAULT_BAD_INPUT))
         return false;
     return is_ok(goblin_pe_find_symbol_table(file, sizeof file, &object.coff_header, &table)) &&
-           table.strings_length == 5 && goblin_pe_symbol_at(file, sizeof file, &table, 0, &symbol) &&
+           table.strings_length == 7 && goblin_pe_symbol_at(file, sizeof file, &table, 0, &symbol) &&
            !symbol.has_name && !goblin_pe_string_at(file, sizeof file, &table, 4, &text) && text.length == 77 &&
-           goblin_pe_string_at(file, sizeof file, &table, 6, &text) && text.length == 2 &&
-           !memcmp(text.bytes, "ok", 2);
+           goblin_pe_string_at(file, sizeof file, &table, 6, &text) && text.length == 4 &&
+           !memcmp(text.bytes, "okay", 4) && !table.longest_name && (table.longest_name = 1) &&
+           goblin_pe_string_at(file, sizeof file, &table, 6, &text) && text.length == 2;
 }
 
 /* Whether the words of a block and the relocations of a section are walked over in batches, and a checksum is added

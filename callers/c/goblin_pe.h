@@ -40,8 +40,9 @@
    What a file of n bytes may take, beside the caller's records. A name is a text of the file, which nothing
    bounds but the file's end, and which is read once for each who has it: m names take n * m steps at most. A step
    of a long text takes some 0.15 nanoseconds where it is ASCII, else up to three. Where the options say a
-   `longest_name`, next_imports, next_libraries, next_exports, read_export_directory and forwarder_at read no more of a
-   name than that and four bytes. A walk is stopped after any batch, and a batch by its `steps`; no other call is stopped.
+   `longest_name`, next_imports, next_libraries, next_exports, read_export_directory, forwarder_at, read_layout and
+   read_object read no more of a name than that and four bytes; nor do next_symbols, symbol_at and string_at, where their
+   symbol table says one. A walk is stopped after any batch, and a batch by its `steps`; no other call is stopped.
 
    The `steps` of a call are how many records of its table it may look at: of imports the records of libraries and the
    slots of their tables, of exports the name pointers, whether or not these give something; of all else each gives a
@@ -365,8 +366,8 @@ static inline struct goblin_pe_fault goblin_pe_next_blocks(
 
 /* Reads an object, which begins with a COFF header: says in `object` how many sections there are, and fills
    their records as far as there is room. No machine is tested, so a file that is no object may be read as one
-   with sections that make no sense: ask goblin_pe_kind_of before. Of the options only the mode counts. No memory
-   is taken. */
+   with sections that make no sense: ask goblin_pe_kind_of before. Of the options only the mode counts, and
+   `longest_name`. No memory is taken. */
 static inline struct goblin_pe_fault goblin_pe_read_object(
     const uint8_t *bytes, size_t length, const struct goblin_pe_options *options, struct goblin_pe_object *object,
     struct goblin_pe_section *sections, size_t room)
@@ -393,7 +394,8 @@ static inline struct goblin_pe_fault goblin_pe_read_te(
 }
 
 /* Tests the symbol table and the string table of an image or an object, by its COFF header, and says in `table`
-   where they lie: zeros for a file without them. The whole string table is read here, and by no call that takes
+   where they lie: zeros for a file without them. No name has a limit then; who wants one puts it into
+   `table.longest_name`. The whole string table is read here, and by no call that takes
    the table. Refused is a file that is too short for its symbol table or the string table after it, and one whose
    string table is not UTF-8, or says a length below 4. No memory is taken. */
 static inline struct goblin_pe_fault goblin_pe_read_symbol_table(
@@ -414,9 +416,9 @@ static inline struct goblin_pe_fault goblin_pe_find_symbol_table(
     return goblin_pe_raw_find_symbol_table(GOBLIN_PE_BYTES(bytes, length), length, header, table);
 }
 
-/* Puts the text at an offset of a string table into `text`, up to a NUL or the table's end, and answers whether
-   there is one that is UTF-8. The offset counts from the table's length of four bytes, as the numbers do that stand
-   in place of names; strings_length + 4 is the table's size. No memory is taken. */
+/* Puts the text at an offset of a string table into `text`, up to a NUL, the table's end or its `longest_name`, and
+   answers whether there is one that is UTF-8. The offset counts from the table's length of four bytes, as the numbers
+   do that stand in place of names; strings_length + 4 is the table's size. No memory is taken. */
 static inline bool goblin_pe_string_at(
     const uint8_t *bytes, size_t length, const struct goblin_pe_symbol_table *table, size_t offset,
     struct goblin_pe_text *text)

@@ -16,15 +16,15 @@ extern "C" {
 #define GOBLIN_PE_INTERFACE_VERSION 4
 
 /* The sum of the interface that is declared here. goblin_pe_interface answers that of the library. */
-#define GOBLIN_PE_INTERFACE 0x97d49eb8u
+#define GOBLIN_PE_INTERFACE 0x5431f3a1u
 
 /* What follows .so. in the name by which programs ask for the shared library. */
-#define GOBLIN_PE_SONAME "4.97d49eb8"
+#define GOBLIN_PE_SONAME "4.5431f3a1"
 
 /* Only a library of this very interface has this call, so that a program is linked with no other. */
-uint32_t goblin_pe_interface_97d49eb8(void);
+uint32_t goblin_pe_interface_5431f3a1(void);
 #ifdef __GNUC__
-__attribute__((used)) static uint32_t (*const goblin_pe_needs_interface)(void) = goblin_pe_interface_97d49eb8;
+__attribute__((used)) static uint32_t (*const goblin_pe_needs_interface)(void) = goblin_pe_interface_5431f3a1;
 #endif
 
 /* What a file is, by its first bytes. This does not tell whether it can be read, and no call reads
@@ -381,15 +381,16 @@ struct goblin_pe_options {
        Else a name that begins with a slash is looked up there, in either mode. Only a read of a
        layout looks at it: an open, the damage and a footprint test each name. */
     bool raw_section_names;
-    /* How many bytes a name of an import, a library or an export may have before it is cut; 0 is no
-       limit. Of a longer one the front is given, up to where the first character ends that reaches
-       past so many: so a name that is longer than this is cut. What follows is not tested: it may
-       be no UTF-8. The text of a forwarder is such a name, too: of a longer one the library is what
-       stands before its first dot, or all without a dot, and the name what follows, which may be
-       empty or begin with `#`; it is cut where library, dot and name are longer than this. Only
-       calls that read a table from its places, and forwarders of an image, look at it; those that
-       list a whole file, its damage or a footprint read each name to its end, so they may refuse or
-       leave out what a walk gives. */
+    /* How many bytes a name of an import, a library, an export or a section may have before it is
+       cut; 0 is no limit. Of a longer one the front is given, up to where the first character ends
+       that reaches past so many: so a name that is longer than this is cut. What follows is not
+       tested: it may be no UTF-8. The text of a forwarder is such a name, too: of a longer one the
+       library is what stands before its first dot, or all without a dot, and the name what follows,
+       which may be empty or begin with `#`; it is cut where library, dot and name are longer than
+       this. Only calls that read a table from its places, forwarders of an image, and the sections
+       of a layout or an object look at it; those that list a whole file, its damage or a footprint
+       read each name to its end, so they may refuse or leave out what a walk gives. Symbols have
+       the limit of their `goblin_pe_symbol_table`. */
     uint32_t longest_name;
 };
 
@@ -642,6 +643,13 @@ struct goblin_pe_symbol_table {
     size_t strings_offset;
     /* How many bytes these texts have. */
     size_t strings_length;
+    /* How many bytes a name or a text of the string table may have before it is cut; 0 is no limit.
+       Of a longer one the front is given, up to where the first character ends that reaches past so
+       many: so one that is longer than this is cut. What follows is not tested. A call that says
+       where the tables lie puts 0 here; its caller may put another number. */
+    uint32_t longest_name;
+    /* Zero. It stands where padding would be, so that each byte of the record is defined. */
+    uint32_t reserved;
 };
 
 /* A symbol, as its record describes it.
@@ -1484,11 +1492,13 @@ GOBLIN_PE_HAS_SIZE(object, 32, 8);
 GOBLIN_PE_IS_AT(object, sections, 0);
 GOBLIN_PE_IS_AT(object, coff_header, 8);
 
-GOBLIN_PE_HAS_SIZE(symbol_table, 24, 8);
+GOBLIN_PE_HAS_SIZE(symbol_table, 32, 8);
 GOBLIN_PE_IS_AT(symbol_table, offset, 0);
 GOBLIN_PE_IS_AT(symbol_table, record_count, 4);
 GOBLIN_PE_IS_AT(symbol_table, strings_offset, 8);
 GOBLIN_PE_IS_AT(symbol_table, strings_length, 16);
+GOBLIN_PE_IS_AT(symbol_table, longest_name, 24);
+GOBLIN_PE_IS_AT(symbol_table, reserved, 28);
 
 GOBLIN_PE_HAS_SIZE(symbol, 20, 4);
 GOBLIN_PE_IS_AT(symbol, name, 0);

@@ -121,12 +121,13 @@ def _walk(data: _Kept, kind: _t.Any, row: str, call: _t.Callable[..., records.Fa
         map(getattr(_Rows(data, address, _MOST_KEPT), row), _laid_out.first_of(found, count)) for address, count, found in batches)
 
 
-def _symbol_table(data: _Kept, header: CoffHeader, tests_texts: bool = True) -> records.SymbolTable:
-    # where the symbols lie; the string table is read here alone, where its texts are tested
+def _symbol_table(data: _Kept, header: CoffHeader, longest_name: int, tests_texts: bool = True) -> records.SymbolTable:
+    # where the symbols lie, with the limit of their names; the string table is read here alone, where its texts are tested
     coff, table = _laid_out.laid_out(CoffHeader)(*header), records.SymbolTable()
     call = _LIB.goblin_pe_raw_read_symbol_table if tests_texts else _LIB.goblin_pe_raw_find_symbol_table
     with _held(data) as (address, length):
         _test(call(address, length, _c.byref(coff), _c.byref(table)))
+    table.longest_name = longest_name
     return table
 
 
@@ -228,12 +229,13 @@ class Options:
     raw_section_names: whether the sections of a Layout have their raw names alone, which refuse no file; where not, a name that
         begins with a slash is looked up in the string table. Only the read of a Layout looks at this: a file with a name that
         can't be read is refused by Pe and by `damage` all the same, and footprint and fingerprint tell of that refusal alone.
-    longest_name: how many bytes a name of an import, a library or an export may have before it is cut, in a Layout, in Parts and
-        in their walks, from 1 to 2**32 - 1; None is no limit. Of a longer one the front is given, to the end of the character
-        that reaches past: what has more bytes than this is a longer name. What follows is not tested, so a walk may give what a
-        Pe refuses or leaves out. So is the text of a forwarder: of a longer one the library is what stands before its first dot,
-        or all without a dot, and the name what follows, which may be empty or begin with "#"; it is longer where library, dot and
-        name are. A Pe lists whole names, and imphash hashes these. ValueError is raised where it is another number.
+    longest_name: how many bytes a name of an import, a library, an export, a section or a symbol may have before it is cut, in a
+        Layout, in Parts, in an ObjectFile and in their walks, from 1 to 2**32 - 1; None is no limit. Of a longer one the front is
+        given, to the end of the character that reaches past: what has more bytes than this is a longer name. What follows is not
+        tested, so a walk may give what a Pe refuses or leaves out. So is the text of a forwarder: of a longer one the library is
+        what stands before its first dot, or all without a dot, and the name what follows, which may be empty or begin with "#"; it
+        is longer where library, dot and name are. A Pe lists whole names, and imphash hashes these. ValueError is raised where it
+        is another number.
 
     Neither mode passes over more than sixteen data directories (so number_of_rva_and_sizes is at most sixteen of what was read, and
     was not cut to that), a magic that is neither of the two, a header or a section table that the file's end cuts, a section's name
@@ -828,9 +830,9 @@ class Layout(_File):
     def _found_symbols(self, data: _Kept, tests_texts: bool) -> records.SymbolTable:
         # where the symbols lie; the texts are tested once
         if not tests_texts:
-            return self._symbol_table or _symbol_table(data, self.coff_header, False)
+            return self._symbol_table or _symbol_table(data, self.coff_header, self._options.longest_name, False)
         if self._symbol_table is None:
-            self._symbol_table = _symbol_table(data, self.coff_header)
+            self._symbol_table = _symbol_table(data, self.coff_header, self._options.longest_name)
         return self._symbol_table
 
     @property
@@ -1138,8 +1140,8 @@ class Pe(Layout):
 
 
 class ObjectFile(_File):
-    """An object that was read: ObjectFile(data, options); of the Options only is_permissive counts. A file that is refused
-    raises Refused, and so does one whose symbol table or string table is. Without tests_texts a string table that is not UTF-8
+    """An object that was read: ObjectFile(data, options); of the Options only is_permissive and longest_name count. A file
+    that is refused raises Refused, and so does one whose symbol table or string table is. Without tests_texts a string table that is not UTF-8
     is read, too, and a symbol whose name is not has none. No machine is tested, so a file that is no object may be read as one
     with sections that make no sense: ask `kind` before.
 
@@ -1155,7 +1157,7 @@ class ObjectFile(_File):
                 sections, count = _room(records.Section, found.sections), found.sections
                 _test(_LIB.goblin_pe_raw_read_object(address, length, _c.byref(asked), _c.byref(found), sections, count))
         self._coff_header: CoffHeader = found.coff_header
-        self._symbol_table = _symbol_table(read, found.coff_header, tests_texts)
+        self._symbol_table = _symbol_table(read, found.coff_header, asked.longest_name, tests_texts)
         self._sections, self._counts, self._address = sections, {"sections": count}, address
         self._made = {}
 

@@ -7,7 +7,7 @@ from typing import Annotated, Any, Dict, List, NamedTuple, Tuple
 from ._laid_out import Address, HandedOver, Record, header, record, tables, to
 
 # The sum of the interface that is declared here: of its records, the numbers in them, and its calls.
-INTERFACE = 0x97d49eb8
+INTERFACE = 0x5431f3a1
 
 
 @record
@@ -132,15 +132,16 @@ class Options(Record):
         images takes them: no name is tested, none refuses the file, and none is looked up in the
         string table. Else a name that begins with a slash is looked up there, in either mode. Only
         a read of a layout looks at it: an open, the damage and a footprint test each name.
-    longest_name: How many bytes a name of an import, a library or an export may have before it is
-        cut; 0 is no limit. Of a longer one the front is given, up to where the first character ends
-        that reaches past so many: so a name that is longer than this is cut. What follows is not
-        tested: it may be no UTF-8. The text of a forwarder is such a name, too: of a longer one the
-        library is what stands before its first dot, or all without a dot, and the name what
-        follows, which may be empty or begin with `#`; it is cut where library, dot and name are
-        longer than this. Only calls that read a table from its places, and forwarders of an image,
-        look at it; those that list a whole file, its damage or a footprint read each name to its
-        end, so they may refuse or leave out what a walk gives.
+    longest_name: How many bytes a name of an import, a library, an export or a section may have
+        before it is cut; 0 is no limit. Of a longer one the front is given, up to where the first
+        character ends that reaches past so many: so a name that is longer than this is cut. What
+        follows is not tested: it may be no UTF-8. The text of a forwarder is such a name, too: of a
+        longer one the library is what stands before its first dot, or all without a dot, and the
+        name what follows, which may be empty or begin with `#`; it is cut where library, dot and
+        name are longer than this. Only calls that read a table from its places, forwarders of an
+        image, and the sections of a layout or an object look at it; those that list a whole file,
+        its damage or a footprint read each name to its end, so they may refuse or leave out what a
+        walk gives. Symbols have the limit of their `SymbolTable`.
     """
 
     is_permissive: Annotated[bool, c.c_bool]
@@ -455,12 +456,19 @@ class SymbolTable(Record):
     strings_offset: The file offset of the texts of the string table, in bytes: after the four of
         its length.
     strings_length: How many bytes these texts have.
+    longest_name: How many bytes a name or a text of the string table may have before it is cut; 0
+        is no limit. Of a longer one the front is given, up to where the first character ends that
+        reaches past so many: so one that is longer than this is cut. What follows is not tested. A
+        call that says where the tables lie puts 0 here; its caller may put another number.
+    reserved: Zero. It stands where padding would be, so that each byte of the record is defined.
     """
 
     offset: Annotated[int, c.c_uint32]
     record_count: Annotated[int, c.c_uint32]
     strings_offset: Annotated[int, c.c_size_t]
     strings_length: Annotated[int, c.c_size_t]
+    longest_name: Annotated[int, c.c_uint32]
+    reserved: Annotated[int, c.c_uint32]
 
 
 @header

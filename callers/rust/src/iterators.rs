@@ -772,11 +772,12 @@ pub struct Symbols<'a> {
 }
 
 impl<'a> Symbols<'a> {
-    // Those that a COFF header tells of, the first of them read. Where the tables lie stays in `tested`, so that no later
-    // call tests them.
+    // Those that a COFF header tells of, the first of them read, with names up to a limit. Where the tables lie stays in
+    // `tested`, so that no later call tests them.
     pub(crate) fn of(
         bytes: &'a [u8],
         header: &CoffHeader,
+        longest_name: u32,
         tested: &OnceLock<raw::SymbolTable>,
     ) -> Result<Self, Error> {
         if let Some(table) = tested.get() {
@@ -784,13 +785,19 @@ impl<'a> Symbols<'a> {
         }
         let mut table = raw::SymbolTable::default();
         Error::test(raw::read_symbol_table(bytes, header, &mut table))?;
+        table.longest_name = longest_name;
         Symbols::by(bytes, *tested.get_or_init(|| table))
     }
 
     // The same, whatever the texts of the string table are.
-    pub(crate) fn untested(bytes: &'a [u8], header: &CoffHeader) -> Result<Self, Error> {
+    pub(crate) fn untested(
+        bytes: &'a [u8],
+        header: &CoffHeader,
+        longest_name: u32,
+    ) -> Result<Self, Error> {
         let mut table = raw::SymbolTable::default();
         Error::test(raw::find_symbol_table(bytes, header, &mut table))?;
+        table.longest_name = longest_name;
         Symbols::by(bytes, table)
     }
 
@@ -861,8 +868,8 @@ impl<'a> Symbols<'a> {
         raw::symbol_at(self.bytes, &self.table, index).map(|it| Symbol::from(&it))
     }
 
-    /// The text at an offset of the string table, up to a NUL or the table's end; `None` where there is none that is
-    /// UTF-8. The offset counts from the four bytes of the table's length, as the numbers do that stand in place of
+    /// The text at an offset of the string table, up to a NUL, the table's end or, as a name is, the limit of the options;
+    /// `None` where there is none that is UTF-8. The offset counts from the four bytes of the table's length, as the numbers do that stand in place of
     /// names, so that a text is at 4 or more.
     ///
     /// ```no_run

@@ -748,7 +748,8 @@ impl<'a> Layout<'a> {
     /// # Ok::<(), goblin_pe::Error>(())
     /// ```
     pub fn symbols(&self) -> Result<Symbols<'a>, Error> {
-        Symbols::of(self.bytes, self.coff_header(), &self.symbol_table)
+        let longest = self.options.longest_name;
+        Symbols::of(self.bytes, self.coff_header(), longest, &self.symbol_table)
     }
 
     /// The same, whatever the texts of the string table are; see
@@ -765,7 +766,7 @@ impl<'a> Layout<'a> {
     /// # Ok::<(), goblin_pe::Error>(())
     /// ```
     pub fn untested_symbols(&self) -> Result<Symbols<'a>, Error> {
-        Symbols::untested(self.bytes, self.coff_header())
+        Symbols::untested(self.bytes, self.coff_header(), self.options.longest_name)
     }
 
     /// Writes the text whose MD5 is the hash of the imports that analysts compare, as

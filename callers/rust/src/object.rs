@@ -28,14 +28,15 @@ pub struct Object<'a> {
     bytes: &'a [u8],
     found: raw::Object,
     sections: Vec<raw::Section<'a>>,
+    longest_name: u32,
     // Where the symbols and their names lie, once these were tested.
     symbol_table: OnceLock<raw::SymbolTable>,
 }
 
 impl<'a> Object<'a> {
-    /// Reads an object that lies in memory; of the options only the mode counts. No machine is tested,
-    /// so a file that is no object may be read as one with sections that make no sense: ask
-    /// [`kind`](crate::kind) before.
+    /// Reads an object that lies in memory; of the options only the mode counts, and how long names
+    /// may be, of sections and symbols. No machine is tested, so a file that is no object may be read as one with sections
+    /// that make no sense: ask [`kind`](crate::kind) before.
     ///
     /// # Errors
     /// Why it was refused.
@@ -57,6 +58,7 @@ impl<'a> Object<'a> {
             bytes,
             found,
             sections,
+            longest_name: options.longest_name,
             symbol_table: OnceLock::new(),
         })
     }
@@ -224,7 +226,8 @@ impl<'a> Object<'a> {
     /// # Ok::<(), goblin_pe::Error>(())
     /// ```
     pub fn symbols(&self) -> Result<Symbols<'a>, Error> {
-        Symbols::of(self.bytes, self.coff_header(), &self.symbol_table)
+        let longest = self.longest_name;
+        Symbols::of(self.bytes, self.coff_header(), longest, &self.symbol_table)
     }
 
     /// The same, whatever the texts of the string table are: also of a file of which one name is not UTF-8, which
@@ -241,7 +244,7 @@ impl<'a> Object<'a> {
     /// # Ok::<(), goblin_pe::Error>(())
     /// ```
     pub fn untested_symbols(&self) -> Result<Symbols<'a>, Error> {
-        Symbols::untested(self.bytes, self.coff_header())
+        Symbols::untested(self.bytes, self.coff_header(), self.longest_name)
     }
 }
 

@@ -5,7 +5,7 @@ use crate::raw::{List, Shared, Slice};
 use std::mem::offset_of;
 
 /// The sum of the interface that is declared here: of its records, the numbers in them, and its calls.
-pub const INTERFACE: u32 = 0x97d4_9eb8;
+pub const INTERFACE: u32 = 0x5431_f3a1;
 
 /// What follows a symbol that defines a function.
 ///
@@ -111,15 +111,16 @@ pub struct Options {
     /// Else a name that begins with a slash is looked up there, in either mode. Only a read of a
     /// layout looks at it: an open, the damage and a footprint test each name.
     pub raw_section_names: bool,
-    /// How many bytes a name of an import, a library or an export may have before it is cut; 0 is
-    /// no limit. Of a longer one the front is given, up to where the first character ends that
-    /// reaches past so many: so a name that is longer than this is cut. What follows is not tested:
-    /// it may be no UTF-8. The text of a forwarder is such a name, too: of a longer one the library
-    /// is what stands before its first dot, or all without a dot, and the name what follows, which
-    /// may be empty or begin with `#`; it is cut where library, dot and name are longer than this.
-    /// Only calls that read a table from its places, and forwarders of an image, look at it; those
-    /// that list a whole file, its damage or a footprint read each name to its end, so they may
-    /// refuse or leave out what a walk gives.
+    /// How many bytes a name of an import, a library, an export or a section may have before it is
+    /// cut; 0 is no limit. Of a longer one the front is given, up to where the first character ends
+    /// that reaches past so many: so a name that is longer than this is cut. What follows is not
+    /// tested: it may be no UTF-8. The text of a forwarder is such a name, too: of a longer one the
+    /// library is what stands before its first dot, or all without a dot, and the name what
+    /// follows, which may be empty or begin with `#`; it is cut where library, dot and name are
+    /// longer than this. Only calls that read a table from its places, forwarders of an image, and
+    /// the sections of a layout or an object look at it; those that list a whole file, its damage
+    /// or a footprint read each name to its end, so they may refuse or leave out what a walk gives.
+    /// Symbols have the limit of their `SymbolTable`.
     pub longest_name: u32,
 }
 
@@ -397,6 +398,13 @@ pub struct SymbolTable {
     pub strings_offset: usize,
     /// How many bytes these texts have.
     pub strings_length: usize,
+    /// How many bytes a name or a text of the string table may have before it is cut; 0 is no
+    /// limit. Of a longer one the front is given, up to where the first character ends that reaches
+    /// past so many: so one that is longer than this is cut. What follows is not tested. A call
+    /// that says where the tables lie puts 0 here; its caller may put another number.
+    pub longest_name: u32,
+    /// Zero. It stands where padding would be, so that each byte of the record is defined.
+    pub reserved: u32,
 }
 
 /// A symbol, as its record describes it.
@@ -1140,11 +1148,13 @@ const _: () = {
     assert!(size_of::<Object>() == 32 && align_of::<Object>() == 8);
     assert!(offset_of!(Object, sections) == 0);
     assert!(offset_of!(Object, coff_header) == 8);
-    assert!(size_of::<SymbolTable>() == 24 && align_of::<SymbolTable>() == 8);
+    assert!(size_of::<SymbolTable>() == 32 && align_of::<SymbolTable>() == 8);
     assert!(offset_of!(SymbolTable, offset) == 0);
     assert!(offset_of!(SymbolTable, record_count) == 4);
     assert!(offset_of!(SymbolTable, strings_offset) == 8);
     assert!(offset_of!(SymbolTable, strings_length) == 16);
+    assert!(offset_of!(SymbolTable, longest_name) == 24);
+    assert!(offset_of!(SymbolTable, reserved) == 28);
     assert!(size_of::<Symbol>() == 20 && align_of::<Symbol>() == 4);
     assert!(offset_of!(Symbol, name) == 0);
     assert!(offset_of!(Symbol, value) == 8);

@@ -1298,6 +1298,26 @@ fn uninitialized_data_is_zeros_and_an_odd_name_is_none() {
     assert_eq!(symbols.map(|s| s.name).collect::<Vec<_>>(), [None]);
 }
 
+// The one text of the string table, of eleven bytes, is cut behind eight; a section's name in its record is whole.
+#[test]
+fn names_of_symbols_up_to_a_limit() {
+    let mut file = odd_object();
+    file.truncate(file.len() - 9);
+    file.extend(b"\x10\0\0\0eleven_more\0");
+    for (longest, wanted) in [(0, 11), (8, 9), (11, 11)] {
+        let options = Options::default().with_longest_name(longest);
+        let object = Object::read(&file, &options).unwrap();
+        let wanted = Some(Text(&b"eleven_more"[..wanted]));
+        for symbols in [object.symbols(), object.untested_symbols()] {
+            let mut symbols = symbols.unwrap();
+            assert_eq!(symbols.text_at(4), wanted);
+            assert_eq!(symbols.symbol_at(0).unwrap().name, wanted);
+            assert_eq!(symbols.next().unwrap().name, wanted);
+        }
+        assert!(object.section_by_name(".bss").is_some());
+    }
+}
+
 #[test]
 fn each_forwarder_is_at_its_address() {
     let bytes = sample("forwarders_x64.dll");

@@ -7,15 +7,15 @@ ghost use Rattle.std.specs.Prelude.{◌≡◌};
 /// The sum of this interface. A caller that declares another one has another number.
 #[unsafe(no_mangle)]
 pub extern "C" fn goblin_pe_interface() -> u32
-    ensures { result ≡ 2547293880 }
+    ensures { result ≡ 1412559777 }
 {
-    2_547_293_880
+    1_412_559_777
 }
 
 /// The same, by a name that no other interface has, with which programs in C are linked.
 #[unsafe(no_mangle)]
-pub extern "C" fn goblin_pe_interface_97d49eb8() -> u32
-    ensures { result ≡ 2547293880 }
+pub extern "C" fn goblin_pe_interface_5431f3a1() -> u32
+    ensures { result ≡ 1412559777 }
 {
-    2_547_293_880
+    1_412_559_777
 }

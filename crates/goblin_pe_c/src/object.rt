@@ -6,10 +6,10 @@ ghost use Rattle.goblin_pe_sect.specs.Options.{is_strict};
 ghost use Rattle.goblin_pe_records.specs.Calls.{ReadsWithout, Reported};
 ghost use Rattle.goblin_pe_records.specs.Found.{Puts};
 ghost use Rattle.goblin_pe_records.specs.Objects.{ObjectRecords, SaysObject, object_file};
-ghost use Rattle.goblin_pe_records.specs.Options.{header_options};
+ghost use Rattle.goblin_pe_records.specs.Options.{header_options, longest_of};
 ghost use Rattle.goblin_pe_records.specs.Relocations.{RelocationRecords, SaysRelocations};
 ghost use Rattle.goblin_pe_records.specs.Relocations.{relocations_of};
-ghost use Rattle.goblin_pe_records.specs.Sections.{section_view};
+ghost use Rattle.goblin_pe_records.specs.Sections.{cut_names, section_view};
 ghost use Rattle.goblin_pe_records.specs.Images.{text_view};
 ghost use Rattle.goblin_pe_records.specs.Symbols.{FindsTables, NamesOfText, SaysSymbols};
 ghost use Rattle.goblin_pe_records.specs.Symbols.{SaysTable, SymbolRecords, found_table};
@@ -23,7 +23,7 @@ use goblin_pe_records::fault::{PeFault, status_of};
 use goblin_pe_records::found::put_found;
 use goblin_pe_records::image::{PeText, text_record};
 use goblin_pe_records::object::{self, PeObject};
-use goblin_pe_records::options::{PeOptions, header_options};
+use goblin_pe_records::options::{PeOptions, header_options, longest_of};
 use goblin_pe_records::relocation::read_relocations;
 use goblin_pe_records::section::PeSection;
 use goblin_pe_records::symbol::{
@@ -48,11 +48,14 @@ pub extern "C" fn goblin_pe_raw_read_object<'a>(
         let new : ObjectRecords =
         record { object = object.new; sections = sections.new } in
         let strict = is_strict (header_options options.now).parse_mode in
+        let names = cut_names strict (longest_of options.now) bytes.now in
         Reported result
-        (ReadsWithout (object_file strict) bytes.now (λ x. SaysObject x old new) (new ≡ old)) }
+        (ReadsWithout (object_file strict) bytes.now (λ x. SaysObject names x old new)
+        (new ≡ old)) }
 {
     let opts = header_options(options);
-    status_of(object::read(bytes, &opts, object, sections))
+    let longest = longest_of(options);
+    status_of(object::read(bytes, &opts, longest, object, sections))
 }
 
 /// Tests the symbol table and the string table of an image or an object, which its COFF header
@@ -145,7 +148,7 @@ pub extern "C" fn goblin_pe_raw_next_symbols<'a>(
         let new : SymbolRecords =
         record { position = position.new; records = take room records.new; count = count.new } in
         Reported result
-        (ReadsWithout (tables_said table.now) bytes.now (λ x. SaysSymbols x old new)
+        (ReadsWithout (tables_said table.now) bytes.now (λ x. SaysSymbols table.now x old new)
         (new ≡ old)) }
     ensures rest { let room = room_within steps (length records.old) in
         drop room records.new ≡ drop room records.old }

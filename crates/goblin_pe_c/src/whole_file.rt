@@ -7,6 +7,7 @@ ghost use Rattle.goblin_pe.specs.RefusedParts.{refused_number, refused_part};
 ghost use Rattle.goblin_pe.specs.Whole.{layout as file_layout};
 ghost use Rattle.goblin_pe_records.specs.Calls.{ReadsInto, ReadsWithout, Reported, ReportedOf};
 ghost use Rattle.goblin_pe_calls.specs.FileLayouts.{LayoutRecords, SaysLayout, layout_as};
+ghost use Rattle.goblin_pe_calls.specs.FileLayouts.{layout_names};
 ghost use Rattle.goblin_pe_calls.specs.FileLayouts.{layout_part};
 ghost use Rattle.goblin_pe_calls.specs.Parts.{PartsRecords, SaysParts};
 ghost use Rattle.goblin_pe.specs.TakenMemory.{TakesIndex};
@@ -99,12 +100,10 @@ pub extern "C" fn goblin_pe_raw_read_layout<'a>(
         let opts = header_options options.now in
         ReportedOf (refused_number (layout_part opts bytes.now)) result
         (ReadsWithout (layout_as options.now.raw_section_names opts) bytes.now
-        (λ l. SaysLayout l old new) (new ≡ old)) }
+        (λ l. SaysLayout (layout_names options.now bytes.now) l old new) (new ≡ old)) }
 {
-    let opts = header_options(options);
-    let has_raw_names = options.raw_section_names;
     let mut part = RefusedPart::Nothing;
-    let answer = layout::read(bytes, &opts, has_raw_names, layout, sections, &mut part);
+    let answer = layout::read(bytes, options, layout, sections, &mut part);
     status_of_part(answer, part as u32)
 }
 

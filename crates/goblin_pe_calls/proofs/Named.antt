@@ -1,5 +1,5 @@
 -- The sections of an image that was read have their names from its string table.
-use Rattle.std.proofs.Common.{◌≡◌, ◌∙◌, ◌+◌, ◌*◌, ◌/◌, Bool, List, ap, length, slice_range, map, subst, sym, ℕ, IsSomeAnd, Some, option_map}
+use Rattle.std.proofs.Common.{◌≡◌, ◌∙◌, ◌+◌, ◌*◌, ◌/◌, Bool, List, ap, length, slice_range, map, subst, sym, ℕ, IsSomeAnd, Option, None, Some, option_map}
 use Rattle.std.specs.List.{range_with_len}
 use Rattle.std.proofs.lemmas.List.{length-map}
 use Rattle.std.proofs.lemmas.Simd.{map-map}
@@ -20,8 +20,8 @@ use Rattle.goblin_pe_head.specs.CoffReadings.{sections_at}
 use Rattle.goblin_pe.specs.Whole.{TablePlaces, WholeFile, layout, mapped_in, addressing_by, places_in, section_table_offset, sections_after, listed_tables, whole_in}
 use Rattle.goblin_pe.specs.Whole.{whole_of, whole_with}
 use Rattle.goblin_pe_records.specs.Filled.{Filled, without_text}
-use Rattle.goblin_pe_records.specs.Sections.{named_in, section_said}
-use Rattle.goblin_pe_records.proofs.Named.{all-kept, said-unnamed, section-named}
+use Rattle.goblin_pe_records.specs.Sections.{cut_names, named_in, section_said}
+use Rattle.goblin_pe_records.proofs.Named.{all-cut, all-kept, said-unnamed, section-named}
 use Rattle.goblin_pe_calls.specs.FileLayouts.{LayoutRecords, SaysLayout, layout_said, layout_view, raw_layout}
 
 -- where the sections of a file come from
@@ -37,32 +37,32 @@ read-from view opts bytes w h =
     subst (λ (x : WholeFile). (sections_after strict x.header).value bytes ≡ Some x.sections) s3.made s2.is
 
 -- the sections after a header
-pub after-named : (strict : Bool) (bytes : List ℕ) (header : PeHeader) (sections : List Section) → (sections_after strict header).value bytes ≡ Some sections → map (named_in strict bytes (symbols_end header.coff_header)) sections ≡ sections
+pub after-named : (strict : Bool) (bytes : List ℕ) (header : PeHeader) (sections : List Section) → (sections_after strict header).value bytes ≡ Some sections → map (named_in strict None bytes (symbols_end header.coff_header)) sections ≡ sections
 unfolding sections_after sections_at
 after-named strict bytes header sections read =
     let table = symbols_end header.coff_header in
-    all-kept (named_in strict bytes table) (λ i. (named_section_at strict table (section_table_offset header + 40 * i)).value bytes) header.coff_header.number_of_sections 0 sections
+    all-kept (named_in strict None bytes table) (λ i. (named_section_at strict table (section_table_offset header + 40 * i)).value bytes) header.coff_header.number_of_sections 0 sections
     (λ i s is. section-named strict table bytes (section_table_offset header + 40 * i) s is)
     read
 
 -- the sections of a file
-pub sections-named : (view : View) (opts : ParseOptions) (bytes : List ℕ) (w : WholeFile) → (whole_in view opts).value bytes ≡ Some w → map (named_in (is_strict opts.parse_mode) bytes (symbols_end w.header.coff_header)) w.sections ≡ w.sections
+pub sections-named : (view : View) (opts : ParseOptions) (bytes : List ℕ) (w : WholeFile) → (whole_in view opts).value bytes ≡ Some w → map (named_in (is_strict opts.parse_mode) None bytes (symbols_end w.header.coff_header)) w.sections ≡ w.sections
 sections-named view opts bytes w h = after-named (is_strict opts.parse_mode) bytes w.header w.sections (read-from view opts bytes w h)
 
 -- what is filled by the records of the sections holds the image
-pub says_layout : (opts : ParseOptions) (bytes : List ℕ) (header : PeHeader) (stored : List Section) (old new : LayoutRecords)
+pub says_layout : (opts : ParseOptions) (longest : Option ℕ) (bytes : List ℕ) (header : PeHeader) (stored : List Section) (old new : LayoutRecords)
     → (pe_header (is_strict opts.parse_mode)).value bytes ≡ Some header → option_map (map unnamed) ((sections_after (is_strict opts.parse_mode) header).value bytes) ≡ Some stored
     → layout_view new.layout ≡ layout_said header (length stored)
-    → Filled section_said (map (λ s. without_text (named_in (is_strict opts.parse_mode) bytes (symbols_end header.coff_header) s)) stored) old.sections new.sections
-    → IsSomeAnd ((layout opts).value bytes) (λ l. SaysLayout l old new)
+    → Filled section_said (map (λ s. without_text (named_in (is_strict opts.parse_mode) longest bytes (symbols_end header.coff_header) s)) stored) old.sections new.sections
+    → IsSomeAnd ((layout opts).value bytes) (λ l. SaysLayout (cut_names (is_strict opts.parse_mode) longest bytes) l old new)
 unfolding layout
-says_layout opts bytes header stored old new there are said filled =
+says_layout opts longest bytes header stored old new there are said filled =
     let strict = is_strict opts.parse_mode in
     let table = symbols_end header.coff_header in
     let x = mapped ((sections_after strict header).value bytes) (map unnamed) stored are in
     let long : length stored ≡ length x.value = ap length (sym x.made) ∙ length-map x.value unnamed in
-    let names = ap (map (λ (s : Section). without_text (named_in strict bytes table s))) (sym x.made) ∙ said-unnamed strict bytes table x.value
-    ∙ ap (map without_text) (after-named strict bytes header x.value x.is) in
+    let names = ap (map (λ (s : Section). without_text (named_in strict longest bytes table s))) (sym x.made) ∙ said-unnamed strict longest bytes table x.value
+    ∙ ap (map without_text) (all-cut strict longest bytes table x.value (after-named strict bytes header x.value x.is)) in
     rw (there, x.is)
     (said ∙ ap (layout_said header) long, subst (λ (xs : List (Section × List ℕ)). Filled section_said xs old.sections new.sections) names filled)
 
@@ -77,7 +77,7 @@ pub says_raw_layout : (opts : ParseOptions) (bytes : List ℕ) (header : PeHeade
     → (unnamed_sections header.coff_header.number_of_sections (section_table_offset header)).value bytes ≡ Some (recorded_sections records)
     → layout_view new.layout ≡ layout_said header (length (recorded_sections records))
     → Filled section_said (map (λ s. without_text (unnamed s)) (recorded_sections records)) old.sections new.sections
-    → IsSomeAnd ((raw_layout opts).value bytes) (λ l. SaysLayout l old new)
+    → IsSomeAnd ((raw_layout opts).value bytes) (λ l. SaysLayout (λ _ s. s) l old new)
 unfolding raw_layout
 says_raw_layout opts bytes header records old new there are said filled =
     let stored = recorded_sections records in

@@ -8,6 +8,7 @@ use Rattle.goblin_pe_sect.specs.Options.{is_strict}
 use Rattle.goblin_pe_sect.specs.SectionTable.{Section}
 use Rattle.goblin_pe_head.specs.declared.header.coff.CoffHeader.{CoffHeader}
 use Rattle.goblin_pe_head.specs.declared.header.dos.DosHeader.{DosHeader}
+use Rattle.goblin_pe_head.specs.CoffHeader.{symbols_end}
 use Rattle.goblin_pe_head.specs.HeaderParts.{unnamed_sections}
 use Rattle.goblin_pe_head.specs.HeaderReadings.{pe_header}
 use Rattle.goblin_pe_head.specs.PeHeader.{PeHeader}
@@ -19,7 +20,9 @@ use Rattle.goblin_pe_records.specs.declared.places.PePlaces.{PePlaces}
 use Rattle.goblin_pe_records.specs.declared.section.PeSection.{PeSection}
 use Rattle.goblin_pe_records.specs.Filled.{Filled, without_text}
 use Rattle.goblin_pe_records.specs.Headers.{directory_count, optional_record}
-use Rattle.goblin_pe_records.specs.Sections.{section_said}
+use Rattle.goblin_pe_records.specs.declared.options.PeOptions.{PeOptions}
+use Rattle.goblin_pe_records.specs.Options.{header_options, longest_of}
+use Rattle.goblin_pe_records.specs.Sections.{cut_names, section_said}
 use Rattle.goblin_pe_calls.specs.declared.layout.PeLayout.{PeLayout}
 use Rattle.goblin_pe_calls.specs.Places.{places_record}
 
@@ -80,9 +83,18 @@ pub record LayoutRecords : Type 0 where
   pub layout : PeLayout
   pub sections : List PeSection
 
+-- the sections of a layout with their names as the options say: raw, whole, or cut
+abbrev pub layout_names : PeOptions → List ℕ → ℕ → List Section → List Section
+layout_names o bytes table sections =
+    if o.raw_section_names
+    then sections
+    else cut_names (is_strict (header_options o).parse_mode) (longest_of o) bytes table sections
+
 -- the records hold what an image with this header and these sections is, the sections as far as there
--- is room
-abbrev pub SaysLayout : PeHeader × List Section → LayoutRecords → LayoutRecords → Type 0
-SaysLayout l old new =
+-- is room, with their names as they are given of a string table
+abbrev pub SaysLayout : (ℕ → List Section → List Section) → PeHeader × List Section → LayoutRecords
+    → LayoutRecords → Type 0
+SaysLayout named l old new =
     (layout_view new.layout ≡ layout_said l.0 (length l.1))
-    × (Filled section_said (map without_text l.1) old.sections new.sections)
+    × (Filled section_said (map without_text (named (symbols_end l.0.coff_header) l.1))
+    old.sections new.sections)

@@ -23,7 +23,7 @@ use goblin_pe::{Places, RefusedPart, Result, section_records_of, section_table_o
 use goblin_pe_records::fault::{PeFault, fault_of, no_fault, status_of_part};
 use goblin_pe_records::headers::{PeOptionalHeader, directory_count, fill_optional};
 use goblin_pe_records::places::PePlaces;
-use goblin_pe_records::section::{PeSection, fill_sections};
+use goblin_pe_records::section::{NameTable, PeSection, fill_sections};
 
 /// The parts of an image's header, each read by itself: what is there of a file that is refused as a
 /// whole. Each part has a fault of the status 0 where it is given, or the file has no such part;
@@ -223,6 +223,6 @@ pub fn read<'a>(
     let refusal = test_layout(bytes, opts, has_raw_names);
     let optional = read.optional_header();
     let records = records_or_none(&read.section_records);
-    fill_sections(sections, bytes, records, None, None, opts);
+    fill_sections(sections, bytes, records, None, NameTable::none(), opts);
     *parts = parts_record(&read, refusal);
 }

@@ -1,15 +1,15 @@
 -- Names in the bytes of a string table.
-use Rattle.std.proofs.Common.{◌≡◌, ◌⊎◌, ◌<◌, ◌≤◌, ℕ, suc, ◌+◌, Bool, true, false, cond, ◌&&◌, List, [], ◌∷◌, length, drop, refl, ap, sym, subst, ◌∙◌, inl, inr, arith, ◌==◌, not, Some, None, slice_index, slice_range}
+use Rattle.std.proofs.Common.{◌≡◌, ◌⊎◌, ◌<◌, ◌≤◌, ℕ, suc, ◌+◌, Bool, true, false, cond, ◌&&◌, List, [], ◌∷◌, length, drop, refl, ap, sym, subst, ◌∙◌, inl, inr, arith, ◌==◌, nat_lt, not, Some, None, slice_index, slice_range}
 use Rattle.std.specs.List.{prefix_len}
 use Rattle.std.specs.Str.{IsCharBoundary, is_utf8}
 use Rattle.std.proofs.lemmas.Bool.{false_from_ne_true}
 use Rattle.std.proofs.lemmas.Bool.Decides.{nat_tests}
-use Rattle.std.proofs.lemmas.List.{drop_more}
-use Rattle.std.proofs.lemmas.Str.{IsUtf8-between, IsUtf8-from_is_utf8, is_utf8-from_IsUtf8, IsCharBoundary-before_ascii, IsCharBoundary-end, IsCharBoundary-start}
+use Rattle.std.proofs.lemmas.List.{drop_all, drop_more}
+use Rattle.std.proofs.lemmas.Str.{IsUtf8-between, IsUtf8-nil, IsUtf8-from_is_utf8, is_utf8-from_IsUtf8, IsCharBoundary-before_ascii, IsCharBoundary-end, IsCharBoundary-start}
 use Rattle.goblin_base.specs.Bytes.{before_nul, stretch, text_of}
 use Rattle.goblin_base.specs.Strtab.{is_border, is_in_piece, rest_at}
 use Rattle.goblin_base.proofs.Pieces.{rest_by_pieces}
-use Rattle.goblin_pe_records.specs.Symbols.{NamesOfText}
+use Rattle.goblin_pe_records.specs.Symbols.{NamesOfText, name_in_piece}
 
 -- a table may be cut where a piece ends
 cut_at_end : (table : List ℕ) (end : ℕ) → (end ≡ length table) ⊎ ((end < length table) × (slice_index table end ≡ 0)) → IsCharBoundary table end
@@ -56,13 +56,25 @@ by_border true false xs holds fails = rw (fails refl refl) refl
 goes_on : (table : List ℕ) (o : ℕ) → is_in_piece table o ≡ true → is_border table o ≡ false → o < length table
 goes_on table o inside border = grind (arith, nat_tests)
 
+-- a name that is not cut is the text of what is left of the piece
+none_left : (table : List ℕ) → name_in_piece None table (length table) ≡ cond (is_in_piece table (length table)) (text_of (stretch table (length table))) None
+none_left table =
+    let itself : (length table == length table) ≡ true = grind (arith, nat_tests) in
+    let none : is_utf8 [] ≡ true = is_utf8-from_IsUtf8 [] IsUtf8-nil in
+    rw (itself, drop_all (length table) table (omega arith), none) refl
+
+by_place : (table : List ℕ) (o : ℕ) (end before : Bool) → (o == length table) ≡ end → nat_lt o (length table) ≡ before → name_in_piece None table o ≡ cond (is_in_piece table o) (text_of (stretch table o)) None
+by_place table o true before e b =
+    let same : o ≡ length table = grind (arith, nat_tests, e) in
+    subst (λ (n : ℕ). name_in_piece None table n ≡ cond (is_in_piece table n) (text_of (stretch table n)) None) (sym same) (none_left table)
+by_place table o false true e b = rw (e, b) refl
+by_place table o false false e b = rw (e, b) refl
+
+whole_name : (table : List ℕ) (o : ℕ) → name_in_piece None table o ≡ cond (is_in_piece table o) (text_of (stretch table o)) None
+whole_name table o = by_place table o (o == length table) (nat_lt o (length table)) refl refl
+
 pub names_of_text : NamesOfText
 names_of_text table o text =
-    by_border (is_in_piece table o) (is_border table o) (stretch table o)
+    whole_name table o ∙ by_border (is_in_piece table o) (is_border table o) (stretch table o)
     (λ inside border. rest_is_text table o (stretch table o) text (rw (inside, border) refl))
     (λ inside border. inside_character table o border (goes_on table o inside border))
-
--- no bytes are a text of their own
-pub front_of_none : (bytes : List ℕ) → length bytes ≡ 0 → before_nul bytes ≡ bytes
-front_of_none [] none = refl
-front_of_none (b ∷ rest) none = absurd (omega (arith, none))

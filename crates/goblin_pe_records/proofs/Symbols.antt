@@ -1,5 +1,5 @@
 -- The symbols of a table from an index on, one by one.
-use Rattle.std.proofs.Common.{◌≡◌, ◌<◌, ◌≤◌, ℕ, zero, suc, ◌+◌, ◌*◌, ◌/◌, List, [], ◌∷◌, length, take, drop, set, nat_lt, nat_le, true, arith, ap, sym, refl, ◌∙◌, inl, inr, Some, slice_index_or, take_all}
+use Rattle.std.proofs.Common.{◌≡◌, ◌<◌, ◌≤◌, ℕ, zero, suc, ◌+◌, ◌*◌, ◌/◌, List, [], ◌∷◌, length, take, drop, set, nat_lt, nat_le, true, arith, ap, sym, refl, ◌∙◌, inl, inr, Option, Some, slice_index_or, take_all}
 use Rattle.goblin_base.specs.Bytes.{slice_at}
 use Rattle.goblin_pe_symbol.specs.Symbols.{aux, record_of, symbol_of}
 use Rattle.goblin_pe_symbol.proofs.SymbolHeads.{symbols_next, symbols_past}
@@ -36,20 +36,20 @@ left_none (x ∷ xs) (suc i) is = let rest = left_none xs i is in omega (arith, 
 
 -- the first i records hold the first i symbols from an index on, and the others are those from the
 -- position on
-pub record IsGiving (table strings : List ℕ) (from : ℕ) (old : List PeNamedSymbol) (i position : ℕ) (records : List PeNamedSymbol) : Type 0 where
-  pub filling : IsFilling named_symbol_view (named_symbol table strings) (symbols_onward table from) old i records
+pub record IsGiving (table : List ℕ) (names : ℕ → Option (List ℕ)) (from : ℕ) (old : List PeNamedSymbol) (i position : ℕ) (records : List PeNamedSymbol) : Type 0 where
+  pub filling : IsFilling named_symbol_view (named_symbol table names) (symbols_onward table from) old i records
   pub place : position ≡ index_after table i from
   pub left : symbols_onward table position ≡ drop i (symbols_onward table from)
   pub few : i ≤ length (symbols_onward table from)
 
-pub giving_start : (table strings : List ℕ) (from : ℕ) (old : List PeNamedSymbol) → IsGiving table strings from old 0 from old
+pub giving_start : (table : List ℕ) (names : ℕ → Option (List ℕ)) (from : ℕ) (old : List PeNamedSymbol) → IsGiving table names from old 0 from old
 unfolding index_after
-giving_start table strings from old = record { filling = filling-start _ _ _ _; place = refl; left = refl; few = omega arith }
+giving_start table names from old = record { filling = filling-start _ _ _ _; place = refl; left = refl; few = omega arith }
 
-pub giving_next : (table strings : List ℕ) (from : ℕ) (old : List PeNamedSymbol) (i position n : ℕ) (records : List PeNamedSymbol) (r : PeNamedSymbol) → IsGiving table strings from old i position records → i < length records → position < length table / 18
-    → n ≡ aux table position → named_symbol_view r ≡ named_symbol table strings (symbol_of table position) → IsGiving table strings from old (i + 1) (position + (1 + n)) (set records i r)
+pub giving_next : (table : List ℕ) (names : ℕ → Option (List ℕ)) (from : ℕ) (old : List PeNamedSymbol) (i position n : ℕ) (records : List PeNamedSymbol) (r : PeNamedSymbol) → IsGiving table names from old i position records → i < length records → position < length table / 18
+    → n ≡ aux table position → named_symbol_view r ≡ named_symbol table names (symbol_of table position) → IsGiving table names from old (i + 1) (position + (1 + n)) (set records i r)
 unfolding index_after
-giving_next table strings from old i position n records r h room inside count is =
+giving_next table names from old i position n records r h room inside count is =
     let next : position + (1 + n) ≡ next_index table position = omega (arith, count) in
     let step = symbols_next (length table / 18) table position inside in
     let first = left_first _ _ _ _ (sym h.left ∙ step) in
@@ -62,9 +62,9 @@ giving_next table strings from old i position n records r h room inside count is
     })
 
 -- where no more symbols come
-pub giving_all : (table strings : List ℕ) (from : ℕ) (old : List PeNamedSymbol) (i position : ℕ) (records : List PeNamedSymbol) (room : i ≤ length old) → IsGiving table strings from old i position records → length records ≡ length old → length table / 18 ≤ position
-    → GivesSymbols table strings (record { position = from; records = old; count = 0 }) (record { position = position; records = records; count = i })
-giving_all table strings from old i position records room h same past =
+pub giving_all : (table : List ℕ) (names : ℕ → Option (List ℕ)) (from : ℕ) (old : List PeNamedSymbol) (i position : ℕ) (records : List PeNamedSymbol) (room : i ≤ length old) → IsGiving table names from old i position records → length records ≡ length old → length table / 18 ≤ position
+    → GivesSymbols table names (record { position = from; records = old; count = 0 }) (record { position = position; records = records; count = i })
+giving_all table names from old i position records room h same past =
     let all = left_none _ _ (sym h.left ∙ symbols_past (length table / 18) table position past) in
     let few = h.few in
     record {
@@ -75,9 +75,9 @@ giving_all table strings from old i position records room h same past =
     }
 
 -- where there is no more room
-pub giving_full : (table strings : List ℕ) (from : ℕ) (old : List PeNamedSymbol) (i n position : ℕ) (records : List PeNamedSymbol) → IsGiving table strings from old i position records → length records ≡ length old → i ≡ length old → n ≡ i
-    → GivesSymbols table strings (record { position = from; records = old; count = 0 }) (record { position = position; records = records; count = n })
-giving_full table strings from old i n position records h same full is =
+pub giving_full : (table : List ℕ) (names : ℕ → Option (List ℕ)) (from : ℕ) (old : List PeNamedSymbol) (i n position : ℕ) (records : List PeNamedSymbol) → IsGiving table names from old i position records → length records ≡ length old → i ≡ length old → n ≡ i
+    → GivesSymbols table names (record { position = from; records = old; count = 0 }) (record { position = position; records = records; count = n })
+giving_full table names from old i n position records h same full is =
     let few = h.few in
     rw is (record {
       filled = filling-end _ _ _ _ _ _ h.filling same few (omega (arith, full)) (inr (omega (arith, full)));

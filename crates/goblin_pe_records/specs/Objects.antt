@@ -1,5 +1,5 @@
 -- What a call reports of an object.
-use Rattle.std.specs.Prelude.{◌≡◌, ◌+◌, Bool, List, length, map}
+use Rattle.std.specs.Prelude.{◌≡◌, ◌+◌, ℕ, Bool, List, length, map}
 use Rattle.goblin_base.specs.declared.endian.Endian.TheVariants.{Little}
 use Rattle.goblin_base.specs.Reading.{Reading}
 use Rattle.readings.specs.Reads.{◌>>=◌, mapped, record_at}
@@ -46,8 +46,11 @@ pub record ObjectRecords : Type 0 where
   pub object : PeObject
   pub sections : List PeSection
 
--- the records hold what an object has, the sections as far as there is room
-abbrev pub SaysObject : ObjectFile → ObjectRecords → ObjectRecords → Type 0
-SaysObject x old new =
+-- the records hold what an object has, the sections as far as there is room, with their names as
+-- they are given of a string table
+abbrev pub SaysObject : (ℕ → List Section → List Section) → ObjectFile → ObjectRecords
+    → ObjectRecords → Type 0
+SaysObject named x old new =
     (new.object ≡ object_record x)
-    × (Filled section_said (map without_text x.sections) old.sections new.sections)
+    × (Filled section_said (map without_text (named (symbols_end x.header) x.sections))
+    old.sections new.sections)

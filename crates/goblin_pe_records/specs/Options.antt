@@ -38,9 +38,13 @@ options_at o alignment = record (header_options o) {
   raw_pointer_rule = rule_at o.raw_pointer_rule alignment;
 }
 
+-- the limit of a name's length that a number says; 0 is none
+abbrev pub name_limit : ℕ → Option ℕ
+name_limit longest = if longest == 0 then None else Some longest
+
 -- how many bytes of a name are read, if there is a limit
 abbrev pub longest_of : PeOptions → Option ℕ
-longest_of o = if o.longest_name == 0 then None else Some o.longest_name
+longest_of o = name_limit o.longest_name
 
 -- the file alignment that an optional header says; 0 without one
 abbrev pub alignment_by : Option OptionalHeader → ℕ

@@ -6,7 +6,7 @@ use Rattle.std.specs.Str.{is_utf8}
 use Rattle.goblin_base.specs.declared.endian.Endian.TheVariants.{Little}
 use Rattle.goblin_base.specs.declared.error.CauseOf.TheVariants.{CoffLength, StringTable}
 use Rattle.goblin_base.specs.Answers.{◌>>=◌}
-use Rattle.goblin_base.specs.Bytes.{stretch, text_of}
+use Rattle.goblin_base.specs.Bytes.{text_within}
 use Rattle.goblin_base.specs.Reading.{Reading}
 use Rattle.goblin_base.specs.Strtab.{is_in_piece, rest_at}
 use Rattle.readings.specs.Reads as reads
@@ -21,24 +21,30 @@ use Rattle.goblin_pe_head.specs.CoffReadings.{strings_of, symbols_of}
 use Rattle.goblin_pe_records.specs.declared.symbol.PeNamedSymbol.{PeNamedSymbol}
 use Rattle.goblin_pe_records.specs.declared.symbol.PeSymbolTable.{PeSymbolTable}
 use Rattle.goblin_pe_records.specs.Filled.{Filled, without_text}
+use Rattle.goblin_pe_records.specs.Options.{name_limit}
+
+-- the name at the end of the bytes of a string table: an empty one, if a piece ends there
+abbrev pub name_at_end : List ℕ → Option (List ℕ)
+name_at_end strings = if is_in_piece strings (length strings) then Some [] else None
 
 -- the name at an offset of the bytes of a string table: what is left of the piece there, where that
--- is UTF-8, whatever the other bytes are
-abbrev pub name_in_piece : List ℕ → ℕ → Option (List ℕ)
-name_in_piece strings o = if is_in_piece strings o then text_of (stretch strings o) else None
+-- is UTF-8, whatever the other bytes are, whole or, where there is a limit, cut there
+abbrev pub name_in_piece : Option ℕ → List ℕ → ℕ → Option (List ℕ)
+name_in_piece longest strings o =
+    if o == length strings then name_at_end strings else text_within longest strings o
 
 -- Of bytes that are UTF-8 as a whole, these are the texts of the string table that they are.
 abbrev pub NamesOfText : Type 0
 NamesOfText =
     (strings : List ℕ) (o : ℕ) → is_utf8 strings ≡ true
-    → name_in_piece strings o ≡ rest_at strings o
+    → name_in_piece None strings o ≡ rest_at strings o
 
--- the name: if a number is stored in its place, what the string table has at that offset, else the
+-- the name: if a number is stored in its place, what a string table has at that offset, else the
 -- one in the record
-abbrev pub name_in : List ℕ → Option (List ℕ) → Symbol → Option (List ℕ)
-name_in strings inline_name symbol =
+abbrev pub name_in : (ℕ → Option (List ℕ)) → Option (List ℕ) → Symbol → Option (List ℕ)
+name_in names inline_name symbol =
     if slice_index symbol.name 0 == 0
-    then (name_offset_of symbol.name >>= name_in_piece strings)
+    then (name_offset_of symbol.name >>= names)
     else inline_name
 
 -- a symbol with its index, its name, and the bytes of its auxiliary records
@@ -63,9 +69,9 @@ symbol_named table i name symbol =
     })
 
 -- a symbol of a table with its name from the record or a string table
-abbrev pub named_symbol : List ℕ → List ℕ → SymbolItem → NamedSymbol × List ℕ
-named_symbol table strings item =
-    symbol_named table item.0 (name_in strings item.1 item.2) item.2
+abbrev pub named_symbol : List ℕ → (ℕ → Option (List ℕ)) → SymbolItem → NamedSymbol × List ℕ
+named_symbol table names item =
+    symbol_named table item.0 (name_in names item.1 item.2) item.2
 
 -- what a record holds of it, and what replaces a missing name
 abbrev pub named_symbol_view : PeNamedSymbol → NamedSymbol × List ℕ
@@ -100,19 +106,20 @@ pub record SymbolRecords : Type 0 where
 
 -- The records hold the symbols from the position on, as far as there is room. The position is then
 -- that of the symbols that come next.
-pub record GivesSymbols (table strings : List ℕ) (old new : SymbolRecords) : Type 0 where
+pub record GivesSymbols (table : List ℕ) (names : ℕ → Option (List ℕ)) (old new : SymbolRecords)
+    : Type 0 where
   pub filled : Filled named_symbol_view
-      (map (named_symbol table strings) (symbols_onward table old.position)) old.records new.records
+      (map (named_symbol table names) (symbols_onward table old.position)) old.records new.records
   pub count : new.count ≡ min (length old.records) (length (symbols_onward table old.position))
   pub position : new.position ≡ index_after table new.count old.position
   pub left : symbols_onward table new.position
       ≡ drop new.count (symbols_onward table old.position)
 
 -- the symbol at index i of a table, if it has so many records
-abbrev pub symbol_in : List ℕ → List ℕ → ℕ → Option (NamedSymbol × List ℕ)
-symbol_in table strings i =
+abbrev pub symbol_in : List ℕ → (ℕ → Option (List ℕ)) → ℕ → Option (NamedSymbol × List ℕ)
+symbol_in table names i =
     if nat_lt i (length table / 18)
-    then Some (named_symbol table strings (symbol_of table i))
+    then Some (named_symbol table names (symbol_of table i))
     else None
 
 -- ---- where the tables lie
@@ -126,12 +133,21 @@ symbol_tables header =
 -- the record of these, by the length of the string table's texts, if there is one
 abbrev pub table_record : CoffHeader → Option ℕ → PeSymbolTable
 table_record header None =
-    record { offset = 0; record_count = 0; strings_offset = 0; strings_length = 0 }
+    record {
+      offset = 0;
+      record_count = 0;
+      strings_offset = 0;
+      strings_length = 0;
+      longest_name = 0;
+      reserved = 0;
+    }
 table_record header (Some n) = record {
   offset = header.pointer_to_symbol_table;
   record_count = header.number_of_symbol_table;
   strings_offset = symbols_end header + 4;
   strings_length = n;
+  longest_name = 0;
+  reserved = 0;
 }
 
 -- the n bytes at p, of which there may be none
@@ -180,19 +196,25 @@ FindsTables =
     → (found_table header).value bytes
     ≡ Some (table_record header (option_map (λ s. length s) tables.1))
 
+-- the name at an offset of a string table, by the limit that a record says
+abbrev pub names_said : PeSymbolTable → List ℕ → ℕ → Option (List ℕ)
+names_said table = name_in_piece (name_limit table.longest_name)
+
 -- what a call gives of these tables; where there are none, only that there are no symbols
-abbrev pub SaysSymbols : Option (List ℕ × List ℕ) → SymbolRecords → SymbolRecords → Type 0
-SaysSymbols (Some tables) old new = GivesSymbols tables.0 tables.1 old new
-SaysSymbols None old new = new ≡ record old { count = 0 }
+abbrev pub SaysSymbols : PeSymbolTable → Option (List ℕ × List ℕ) → SymbolRecords → SymbolRecords
+    → Type 0
+SaysSymbols table (Some tables) old new = GivesSymbols tables.0 (names_said table tables.1) old new
+SaysSymbols table None old new = new ≡ record old { count = 0 }
 
 -- the symbol at index i of the table that a record says; none where there is no such table
 abbrev pub symbol_said : PeSymbolTable → List ℕ → ℕ → Option (NamedSymbol × List ℕ)
 symbol_said table bytes i =
-    (tables_said table).value bytes >>= λ both. both >>= λ t. symbol_in t.0 t.1 i
+    (tables_said table).value bytes
+    >>= λ both. both >>= λ t. symbol_in t.0 (names_said table t.1) i
 
 -- the text at an offset of the string table that a record says, whose first four bytes are its
--- length: what is left of the piece there, where that is UTF-8
+-- length: what is left of the piece there, where that is UTF-8, by the limit
 abbrev pub text_said : PeSymbolTable → List ℕ → ℕ → Option (List ℕ)
 text_said table bytes o =
     (strings_said table.strings_offset table.strings_length).value bytes
-    >>= λ strings. stored_offset o >>= name_in_piece strings
+    >>= λ strings. stored_offset o >>= names_said table strings

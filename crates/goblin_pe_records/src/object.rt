@@ -8,8 +8,9 @@ ghost use Rattle.goblin_pe_sect.specs.SectionTable.{recorded_sections, unnamed};
 ghost use Rattle.goblin_pe_records.specs.Calls.{ReadsWithout};
 ghost use Rattle.goblin_pe_records.specs.Objects.{ObjectRecords, SaysObject, object_file};
 ghost use Rattle.goblin_pe_records.specs.Objects.{object_sections, unnamed_object};
+ghost use Rattle.goblin_pe_records.specs.Sections.{cut_names};
 
-use crate::section::{PeSection, fill_sections};
+use crate::section::{NameTable, PeSection, fill_sections};
 use goblin_base::Result;
 use goblin_pe_head::header::{CoffHeader, SIZEOF_COFF_HEADER};
 use goblin_pe_sect::options::ParseOptions;
@@ -68,7 +69,8 @@ impl<'a> Object<'a> {
 }
 
 /// Reads an object: says in `object` what it is, and fills the records of its sections as far as
-/// there is room. It takes no memory: each name is where it lies in the file.
+/// there is room. It takes no memory: each name is where it lies in the file, whole or, where there
+/// is a limit, cut there.
 ///
 /// # Errors
 /// What the readers of the COFF header and of its sections refuse by these options; nothing is then
@@ -76,6 +78,7 @@ impl<'a> Object<'a> {
 pub fn read<'a>(
     bytes: &'a [u8],
     opts: &ParseOptions,
+    longest: Option<u32>,
     object: &mut PeObject,
     sections: &mut [PeSection<'a>],
 ) -> Result<()>
@@ -84,12 +87,15 @@ pub fn read<'a>(
         let new : ObjectRecords =
         record { object = object.new; sections = sections.new } in
         let strict = is_strict opts.now.parse_mode in
-        ReadsWithout (object_file strict) bytes.now (λ x. SaysObject x old new) (new ≡ old)
-        result }
+        ReadsWithout (object_file strict) bytes.now
+        (λ x. SaysObject (cut_names strict longest bytes.now) x old new) (new ≡ old) result }
 {
     let whole = Object::read(bytes, opts)?;
-    let strings = whole.header.symbols_end();
-    fill_sections(sections, bytes, whole.records, None, Some(strings), opts);
+    let table = NameTable {
+        offset: Some(whole.header.symbols_end()),
+        longest,
+    };
+    fill_sections(sections, bytes, whole.records, None, table, opts);
     *object = PeObject {
         sections: whole.records.len(),
         coff_header: whole.header,

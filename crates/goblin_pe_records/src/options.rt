@@ -2,7 +2,8 @@
 
 ghost use Rattle.std.specs.Prelude.{◌≡◌, ℕ, None};
 ghost use Rattle.goblin_pe_records.specs.Options.{alignment_in, header_options, options_at};
-ghost use Rattle.goblin_pe_records.specs.Options.{longest_of, options_in, rule_at, view_of};
+ghost use Rattle.goblin_pe_records.specs.Options.{longest_of, name_limit, options_in, rule_at};
+ghost use Rattle.goblin_pe_records.specs.Options.{view_of};
 ghost use Rattle.goblin_pe_sect.specs.Options.{default_options};
 
 use goblin_pe_head::header::Header;
@@ -62,15 +63,16 @@ pub struct PeOptions {
     /// Else a name that begins with a slash is looked up there, in either mode. Only a read of a
     /// layout looks at it: an open, the damage and a footprint test each name.
     pub raw_section_names: bool,
-    /// How many bytes a name of an import, a library or an export may have before it is cut; 0 is no
-    /// limit. Of a longer one the front is given, up to where the first character ends that reaches
-    /// past so many: so a name that is longer than this is cut. What follows is not tested: it may
-    /// be no UTF-8. The text of a forwarder is such a name, too: of a longer one the library is what
-    /// stands before its first dot, or all without a dot, and the name what follows, which may be
+    /// How many bytes a name of an import, a library, an export or a section may have before it is cut;
+    /// 0 is no limit. Of a longer one the front is given, up to where the first character ends that
+    /// reaches past so many: so a name that is longer than this is cut. What follows is not tested: it
+    /// may be no UTF-8. The text of a forwarder is such a name, too: of a longer one the library is
+    /// what stands before its first dot, or all without a dot, and the name what follows, which may be
     /// empty or begin with `#`; it is cut where library, dot and name are longer than this. Only
-    /// calls that read a table from its places, and forwarders of an image, look at it; those that
-    /// list a whole file, its damage or a footprint read each name to its end, so they may refuse or
-    /// leave out what a walk gives.
+    /// calls that read a table from its places, forwarders of an image, and the sections of a layout
+    /// or an object look at it; those that list a whole file, its damage or a footprint read each
+    /// name to its end, so they may refuse or leave out what a walk gives. Symbols have the limit of
+    /// their `PeSymbolTable`.
     pub longest_name: u32,
 }
 
@@ -90,15 +92,20 @@ pub fn default_options() -> PeOptions
     }
 }
 
+/// The limit of a name's length that a number says; 0 is none.
+#[inline(always)]
+pub fn name_limit(longest: u32) -> Option<u32>
+    ensures { result ≡ name_limit longest }
+{
+    if longest == 0 { None } else { Some(longest) }
+}
+
 /// How many bytes of a name are read, if there is a limit.
 #[inline(always)]
 pub fn longest_of(options: &PeOptions) -> Option<u32>
     ensures { result ≡ longest_of options.now }
 {
-    match options.longest_name {
-        0 => None,
-        longest => Some(longest),
-    }
+    name_limit(options.longest_name)
 }
 
 // The rule for raw pointers with this number, at this file alignment.

@@ -1,6 +1,7 @@
 //! The records of sections, filled and written.
 
-ghost use Rattle.std.specs.Prelude.{◌≡◌, ◌<◌, IfOk, OnErr, Some, length, map, option_map};
+ghost use Rattle.std.specs.Prelude.{◌≡◌, ◌<◌, IfOk, OnErr, None, Some, length, map};
+ghost use Rattle.std.specs.Prelude.{option_map};
 ghost use Rattle.std.specs.Prelude.{slice_get};
 ghost use Rattle.goblin_base.specs.declared.endian.Endian.TheVariants.{Little};
 ghost use Rattle.goblin_base.specs.Answers.{GivesOrMemory, IsSliceFault};
@@ -17,7 +18,7 @@ ghost use Rattle.goblin_pe_records.specs.Sections.{section_said};
 ghost use Rattle.goblin_pe_records.specs.Sections.{section_view};
 ghost use Rattle.goblin_pe_records.specs.Written.{Output, SetsName, WritesOut};
 
-use goblin_base::read::pread_str;
+use goblin_base::read::pread_str_within;
 use goblin_base::{Endian, Result};
 use goblin_pe_head::header::adjust_section;
 use goblin_pe_sect::options::ParseOptions;
@@ -78,19 +79,42 @@ pub(crate) fn section_of(section: &PeSection) -> SectionTable
     }
 }
 
+/// Where the names of sections lie, and how many bytes of one are read, if there is a limit.
+#[derive(Copy, Clone)]
+pub struct NameTable {
+    /// The file offset of the string table; `None` where the sections have their raw names alone.
+    pub offset: Option<usize>,
+    /// How many bytes a name from it may have before it is cut.
+    pub longest: Option<u32>,
+}
+
+impl NameTable {
+    /// No string table.
+    pub fn none() -> NameTable
+        ensures { result ≡ record { offset = None; longest = None } }
+    {
+        NameTable {
+            offset: None,
+            longest: None,
+        }
+    }
+}
+
 // The name of a section from the string table at `table`, by the number in its eight bytes.
 #[tactic(auto, unfolding(crate::specs::Sections::real_name_in))]
 fn name_in_table<'a>(
     bytes: &'a [u8],
     section: &SectionTable,
     table: usize,
+    longest: Option<u32>,
     opts: &ParseOptions,
 ) -> Option<&'a str>
-    ensures { option_map (λ s. s.now) result
-        ≡ real_name_in (is_strict opts.now.parse_mode) bytes.now table section.now.name }
+    ensures { let strict = is_strict opts.now.parse_mode in
+        option_map (λ s. s.now) result
+        ≡ real_name_in strict longest bytes.now table section.now.name }
 {
     let offset = section.name_offset_with_opts(opts).ok()??;
-    pread_str(bytes, table.checked_add(offset)?).ok()
+    pread_str_within(bytes, table.checked_add(offset)?, longest).ok()
 }
 
 // The record of a section, without a name from the string table.
@@ -117,13 +141,19 @@ fn section_record<'a>(bytes: &'a [u8], section: &SectionTable) -> PeSection<'a>
 // takes the record alone: a section that it took by reference would be stored at each call of
 // `name_record`.)
 #[inline(never)]
-fn name_by_table<'a>(place: &mut PeSection<'a>, bytes: &'a [u8], table: usize, opts: &ParseOptions)
+fn name_by_table<'a>(
+    place: &mut PeSection<'a>,
+    bytes: &'a [u8],
+    table: usize,
+    longest: Option<u32>,
+    opts: &ParseOptions,
+)
     requires { section_said place.old ≡ without_text (unnamed (section_view place.old)) }
-    ensures { section_said place.new
-        ≡ without_text (named_in (is_strict opts.now.parse_mode) bytes.now table
-        (section_view place.old)) }
+    ensures { let strict = is_strict opts.now.parse_mode in
+        section_said place.new
+        ≡ without_text (named_in strict longest bytes.now table (section_view place.old)) }
 {
-    if let Some(name) = name_in_table(bytes, &section_of(place), table, opts) {
+    if let Some(name) = name_in_table(bytes, &section_of(place), table, longest, opts) {
         place.real_name = name.as_bytes();
         place.has_real_name = true;
     }
@@ -138,14 +168,16 @@ fn name_record<'a>(
     bytes: &'a [u8],
     section: &SectionTable,
     table: usize,
+    longest: Option<u32>,
     opts: &ParseOptions,
 )
     requires { section_said place.old ≡ without_text (unnamed section.now) }
-    ensures { section_said place.new
-        ≡ without_text (named_in (is_strict opts.now.parse_mode) bytes.now table section.now) }
+    ensures { let strict = is_strict opts.now.parse_mode in
+        section_said place.new
+        ≡ without_text (named_in strict longest bytes.now table section.now) }
 {
     if section.name[0] == b'/' {
-        name_by_table(place, bytes, table, opts);
+        name_by_table(place, bytes, table, longest, opts);
     }
 }
 
@@ -155,15 +187,16 @@ fn name_where<'a>(
     place: &mut PeSection<'a>,
     bytes: &'a [u8],
     section: &SectionTable,
-    table: Option<usize>,
+    table: NameTable,
     opts: &ParseOptions,
 )
     requires { section_said place.old ≡ without_text (unnamed section.now) }
-    ensures { section_said place.new
-        ≡ without_text (named_where (is_strict opts.now.parse_mode) bytes.now table section.now) }
+    ensures { let strict = is_strict opts.now.parse_mode in
+        section_said place.new
+        ≡ without_text (named_where strict table.longest bytes.now table.offset section.now) }
 {
-    if let Some(table) = table {
-        name_record(place, bytes, section, table, opts);
+    if let Some(offset) = table.offset {
+        name_record(place, bytes, section, offset, table.longest, opts);
     }
 }
 
@@ -185,19 +218,20 @@ fn stored_section(
 }
 
 /// Fills the records of the sections of a section table, as far as there is room, each with its
-/// name from the string table at `table`, or, without one, with its raw name alone; with a
-/// displacement, as they are in the stripped file.
+/// name from the string table, or, without one, with its raw name alone; with a displacement, as
+/// they are in the stripped file.
 pub fn fill_sections<'a>(
     records: &mut [PeSection<'a>],
     bytes: &'a [u8],
     sections: SectionRecords,
     displacement: Option<u32>,
-    table: Option<usize>,
+    table: NameTable,
     opts: &ParseOptions,
 )
     ensures { let strict = is_strict opts.now.parse_mode in
+        let named = named_where strict table.longest bytes.now table.offset in
         Filled section_said
-        (map (λ s. without_text (named_where strict bytes.now table (section_moved displacement s)))
+        (map (λ s. without_text (named (section_moved displacement s)))
         (recorded_sections sections.entry))
         records.old records.new }
 {
@@ -218,7 +252,7 @@ pub fn named_sections<'a>(
     opts: &ParseOptions,
 ) -> Result<Vec<PeSection<'a>>>
     ensures made { GivesOrMemory (λ v. map section_said v.items) result
-        (map (λ s. without_text (named_in (is_strict opts.now.parse_mode) bytes.now table s))
+        (map (λ s. without_text (named_in (is_strict opts.now.parse_mode) None bytes.now table s))
         (recorded_sections sections.entry)) }
     ensures grown { OnErr result (0 < length (recorded_sections sections.entry)) }
     ensures none { IfOk result HasNoSpareRoom }
@@ -228,7 +262,7 @@ pub fn named_sections<'a>(
     'records: for i in 0..count {
         let section = sections.at(i);
         records.push_reserved(section_record(bytes, &section));
-        name_record(&mut records[i], bytes, &section, table, opts);
+        name_record(&mut records[i], bytes, &section, table, None, opts);
     }
     Ok(records)
 }

@@ -1,7 +1,6 @@
 //! The symbols of an image or an object.
 
-ghost use Rattle.std.specs.Prelude.{◌≡◌, ◌/◌, ◌<◌, ◌≤◌, IfSome, None, length, option_map};
-ghost use Rattle.goblin_base.specs.Bytes.{before_nul, text_of};
+ghost use Rattle.std.specs.Prelude.{◌≡◌, ◌/◌, ◌<◌, ◌≤◌, IfOk, IfSome, None, length, option_map};
 ghost use Rattle.goblin_base.specs.Reading.{Reads};
 ghost use Rattle.goblin_base.specs.Strtab.{is_in_piece};
 ghost use Rattle.goblin_pe_symbol.specs.Symbols.{name_and_symbol, named_value, record_of};
@@ -9,18 +8,20 @@ ghost use Rattle.goblin_pe_symbol.specs.Symbols.{symbol_of};
 ghost use Rattle.goblin_pe_records.specs.Calls.{ReadsWithout};
 ghost use Rattle.goblin_pe_records.specs.Found.{Puts};
 ghost use Rattle.goblin_pe_records.specs.Symbols.{named_symbol_view, SymbolRecords, name_in_piece};
+ghost use Rattle.goblin_pe_records.specs.Options.{name_limit};
+ghost use Rattle.goblin_pe_records.specs.Symbols.{name_at_end};
 ghost use Rattle.goblin_pe_records.specs.Symbols.{symbol_tables, GivesSymbols, auxiliary_of};
 ghost use Rattle.goblin_pe_records.specs.Symbols.{named_symbol, strings_said, symbol_named};
 ghost use Rattle.goblin_pe_records.specs.Symbols.{table_record, NamesOfText, SaysSymbols, name_in};
 ghost use Rattle.goblin_pe_records.specs.Symbols.{symbol_said, tables_said, SaysTable, symbol_in};
 ghost use Rattle.goblin_pe_records.specs.Symbols.{FindsTables, found_table, text_said, texts_of};
 
-use goblin_base::read::{pread_plain_str, pread_slice, pread_str, pread_u32};
+use crate::options::name_limit;
+use goblin_base::read::{no_text, pread_plain_str, pread_slice, pread_str_within, pread_u32};
 use goblin_base::{Cause, Endian, Error, Result, Strtab};
 use goblin_pe_head::header::CoffHeader;
 use goblin_pe_symbol::symbol::{COFF_SYMBOL_SIZE, Symbol};
 use std::alloc::Global;
-use std::str;
 
 // The size of the length at the front of a string table, in bytes.
 const LENGTH_FIELD_SIZE: usize = 4;
@@ -38,6 +39,13 @@ pub struct PeSymbolTable {
     pub strings_offset: usize,
     /// How many bytes these texts have.
     pub strings_length: usize,
+    /// How many bytes a name or a text of the string table may have before it is cut; 0 is no limit.
+    /// Of a longer one the front is given, up to where the first character ends that reaches past so
+    /// many: so one that is longer than this is cut. What follows is not tested. A call that says
+    /// where the tables lie puts 0 here; its caller may put another number.
+    pub longest_name: u32,
+    /// Zero. It stands where padding would be, so that each byte of the record is defined.
+    pub reserved: u32,
 }
 
 /// A symbol with its name and the bytes of its auxiliary records.
@@ -57,33 +65,13 @@ pub struct PeNamedSymbol<'a> {
     pub has_name: bool,
 }
 
-// The bytes of a symbol table, and those of the texts of a string table.
+// The bytes of a symbol table, those of the texts of a string table, and how many bytes of a name
+// are read, if there is a limit.
 #[derive(Copy, Clone)]
 struct Tables<'a> {
     records: &'a [u8],
     strings: &'a [u8],
-}
-
-// The text that bytes are.
-#[tactic(auto, using(goblin_base::proofs::Texts::text_test))]
-fn text(bytes: &[u8]) -> Option<&str>
-    ensures { option_map (λ s. s.now) result ≡ text_of bytes.now }
-{
-    match str::from_utf8(bytes) {
-        Ok(text) => Some(text),
-        Err(_) => None,
-    }
-}
-
-// The text at the front of bytes, up to a NUL or the end; there may be no bytes.
-#[tactic(auto, using(crate::proofs::Names::front_of_none))]
-fn front_text(bytes: &[u8]) -> Option<&str>
-    ensures { option_map (λ s. s.now) result ≡ text_of (before_nul bytes.now) }
-{
-    if bytes.is_empty() {
-        return text(bytes);
-    }
-    pread_str(bytes, 0).ok()
+    longest: Option<u32>,
 }
 
 // Whether a piece of a string table begins at or before an offset and ends at or after it.
@@ -93,38 +81,55 @@ fn is_in_piece(strings: &[u8], offset: usize) -> bool
     offset < strings.len() || offset == strings.len() && 0 < offset && strings[offset - 1] != 0
 }
 
-// The name at an offset of the bytes of a string table, also where it is not ASCII or ends within the last bytes.
-#[inline(never)]
-fn any_name_in_piece(strings: &[u8], offset: usize) -> Option<&str>
-    ensures { option_map (λ s. s.now) result ≡ name_in_piece strings.now offset }
+// The name at the end of the bytes of a string table.
+fn name_at_end(strings: &[u8]) -> Option<&str>
+    ensures { option_map (λ s. s.now) result ≡ name_at_end strings.now }
 {
-    if is_in_piece(strings, offset) {
-        front_text(&strings[offset..])
+    if is_in_piece(strings, strings.len()) {
+        Some(no_text(&strings[strings.len()..])) // (where it lies)
     } else {
         None
     }
 }
 
+// The name at an offset of the bytes of a string table, also where it is not ASCII, ends within the last bytes or has a
+// limit.
+#[inline(never)]
+fn any_name_in_piece(strings: &[u8], offset: usize, longest: Option<u32>) -> Option<&str>
+    ensures { option_map (λ s. s.now) result ≡ name_in_piece longest strings.now offset }
+{
+    if offset == strings.len() {
+        name_at_end(strings)
+    } else {
+        pread_str_within(strings, offset, longest).ok()
+    }
+}
+
 // The name at an offset of the bytes of a string table.
 #[inline(always)]
-fn name_in_piece(strings: &[u8], offset: usize) -> Option<&str>
-    ensures { option_map (λ s. s.now) result ≡ name_in_piece strings.now offset }
+fn name_in_piece(strings: &[u8], offset: usize, longest: Option<u32>) -> Option<&str>
+    ensures { option_map (λ s. s.now) result ≡ name_in_piece longest strings.now offset }
 {
+    if longest.is_some() {
+        return any_name_in_piece(strings, offset, longest);
+    }
     match pread_plain_str(strings, offset) {
         Some(name) => Some(name),
-        None => any_name_in_piece(strings, offset),
+        None => any_name_in_piece(strings, offset, None),
     }
 }
 
 // The name of a symbol: where a number stands in its place, the text of the string table there, and
 // else the one that stands in the record.
 #[inline(always)]
-fn name_in<'a>(inline_name: Option<&'a str>, symbol: &Symbol, strings: &'a [u8]) -> Option<&'a str>
+fn name_in<'a>(inline_name: Option<&'a str>, symbol: &Symbol, tables: Tables<'a>) -> Option<&'a str>
     ensures { option_map (λ s. s.now) result
-        ≡ name_in strings.now (option_map (λ s. s.now) inline_name.entry) symbol.now }
+        ≡ name_in (name_in_piece tables.entry.longest tables.entry.strings.now)
+        (option_map (λ s. s.now) inline_name.entry) symbol.now }
 {
     if symbol.name[0] == 0 {
-        name_in_piece(strings, symbol.name_offset()? as usize)
+        let offset = symbol.name_offset()? as usize;
+        name_in_piece(tables.strings, offset, tables.longest)
     } else {
         inline_name
     }
@@ -196,11 +201,12 @@ fn fill_symbol<'a>(
     requires inside { index < length tables.records.now / 18 }
     requires found { named_value found ≡ name_and_symbol (record_of tables.records.now index) }
     ensures { named_symbol_view place.new
-        ≡ named_symbol tables.entry.records.now tables.entry.strings.now
+        ≡ named_symbol tables.entry.records.now
+        (name_in_piece tables.entry.longest tables.entry.strings.now)
         (symbol_of tables.entry.records.now index) }
 {
     let (inline_name, symbol) = found;
-    let name = name_in(inline_name, &symbol, tables.strings);
+    let name = name_in(inline_name, &symbol, tables);
     fill_record(place, bytes, tables.records, index, name, symbol);
 }
 
@@ -216,7 +222,8 @@ fn fill_symbols_at<'a>(
         record { position = position.old; records = records.old; count = 0 } in
         let new : SymbolRecords =
         record { position = position.new; records = records.new; count = result } in
-        GivesSymbols tables.entry.records.now tables.entry.strings.now old new }
+        GivesSymbols tables.entry.records.now
+        (name_in_piece tables.entry.longest tables.entry.strings.now) old new }
 {
     let mut index = *position; // (a place behind a pointer is stored for each symbol)
     'symbols: for count in 0..records.len() {
@@ -273,12 +280,16 @@ fn table_with(header: &CoffHeader, texts: Option<usize>) -> PeSymbolTable
             record_count: header.number_of_symbol_table,
             strings_offset: header.symbols_end() + LENGTH_FIELD_SIZE,
             strings_length,
+            longest_name: 0,
+            reserved: 0,
         },
         None => PeSymbolTable {
             offset: 0,
             record_count: 0,
             strings_offset: 0,
             strings_length: 0,
+            longest_name: 0,
+            reserved: 0,
         },
     }
 }
@@ -296,8 +307,9 @@ fn strings_said(bytes: &[u8], offset: usize, length: usize) -> Result<&[u8]>
 // The tables that a record says; `None` where it says that there are none.
 #[tactic(auto, unfolding(crate::specs::Symbols::tables_said))]
 fn tables_said<'a>(bytes: &'a [u8], table: &PeSymbolTable) -> Result<Option<Tables<'a>>>
-    ensures { Reads (option_map (λ t. (t.records.now, t.strings.now))) result
+    ensures read { Reads (option_map (λ t. (t.records.now, t.strings.now))) result
         (tables_said table.now) bytes.now }
+    ensures limit { IfOk result (λ t. IfSome t (λ t. t.longest ≡ name_limit table.now.longest_name)) }
 {
     if table.offset == 0 {
         return Ok(None);
@@ -305,7 +317,11 @@ fn tables_said<'a>(bytes: &'a [u8], table: &PeSymbolTable) -> Result<Option<Tabl
     let size = COFF_SYMBOL_SIZE * table.record_count as usize;
     let records = pread_slice(bytes, table.offset as usize, size)?;
     let strings = strings_said(bytes, table.strings_offset, table.strings_length)?;
-    Ok(Some(Tables { records, strings }))
+    Ok(Some(Tables {
+        records,
+        strings,
+        longest: name_limit(table.longest_name),
+    }))
 }
 
 // How many bytes the texts of the string table that a header leads to have, if there is one.
@@ -359,7 +375,7 @@ pub fn read_symbols<'a>(
         record { position = position.old; records = records.old; count = count.old } in
         let new : SymbolRecords =
         record { position = position.new; records = records.new; count = count.new } in
-        ReadsWithout (tables_said table.now) bytes.now (λ x. SaysSymbols x old new) (new ≡ old)
+        ReadsWithout (tables_said table.now) bytes.now (λ x. SaysSymbols table.now x old new) (new ≡ old)
         result }
 {
     *count = match tables_said(bytes, table)? {
@@ -392,10 +408,12 @@ pub fn find_symbol<'a>(
 }
 
 /// The text at an offset of the string table that a record says, whose first four bytes are its
-/// length; `None` where there is none, it is not UTF-8, or the table does not lie in the file.
+/// length, cut where that record says so; `None` where there is none, it is not UTF-8, or the table
+/// does not lie in the file.
 pub fn text_at<'a>(bytes: &'a [u8], table: &PeSymbolTable, offset: usize) -> Option<&'a str>
     ensures { option_map (λ s. s.now) result ≡ text_said table.now bytes.now offset }
 {
     let strings = strings_said(bytes, table.strings_offset, table.strings_length).ok()?;
-    name_in_piece(strings, offset.checked_sub(LENGTH_FIELD_SIZE)?)
+    let offset = offset.checked_sub(LENGTH_FIELD_SIZE)?;
+    name_in_piece(strings, offset, name_limit(table.longest_name))
 }

@@ -8,7 +8,7 @@ ghost use Rattle.goblin_pe_head.specs.TeHeader.{displacement, section_moved};
 ghost use Rattle.goblin_pe_records.specs.Calls.{ReadsWithout};
 ghost use Rattle.goblin_pe_records.specs.TeImages.{SaysImage, TeRecords, te_file, unnamed_image};
 
-use crate::section::{PeSection, fill_sections};
+use crate::section::{NameTable, PeSection, fill_sections};
 use goblin_base::Result;
 use goblin_pe_head::header::TeHeader;
 use goblin_pe_sect::options::ParseOptions;
@@ -67,7 +67,11 @@ pub fn read<'a>(
     let image = Image::read(bytes)?;
     let displacement = displacement_of(&image.header);
     let opts = ParseOptions::default();
-    fill_sections(sections, bytes, image.records, displacement, Some(0), &opts);
+    let table = NameTable {
+        offset: Some(0),
+        longest: None,
+    };
+    fill_sections(sections, bytes, image.records, displacement, table, &opts);
     *header = image.header;
     Ok(())
 }

@@ -18,5 +18,5 @@ returns-clause-read c =
     let old : LayoutRecords = record { layout = c.args.layout.now; sections = c.args.sections.now } in
     let new : LayoutRecords = record { layout = c.fill_layout.new.layout; sections = c.fill_sections.new.records } in
     let said = c.fill_layout.ensures ∙ ap (layout_said header) c.len.ensures.value in
-    let filled = subst (λ (table : ℕ). Filled section_said (map (λ s. without_text (named_in strict bytes table s)) stored) old.sections new.sections) c.symbols_end-strings.ensures c.fill_sections.ensures in
-    says_layout opts bytes header stored old new c.in_ok-read_with_opts.ensures.value c.in_ok-records.ensures.value said filled
+    let filled = subst (λ (table : ℕ). Filled section_said (map (λ s. without_text (named_in strict c.args.longest bytes table s)) stored) old.sections new.sections) c.symbols_end.ensures c.fill_sections.ensures in
+    says_layout opts c.args.longest bytes header stored old new c.in_ok-read_with_opts.ensures.value c.in_ok-records.ensures.value said filled

@@ -1,4 +1,4 @@
-use Rattle.std.proofs.Common.{◌≡◌, ◌∙◌, List, ap, map, sym, ℕ}
+use Rattle.std.proofs.Common.{◌≡◌, ◌∙◌, List, ap, map, sym, None, ℕ}
 use Rattle.goblin_base.proofs.Steps.{same_value}
 use Rattle.goblin_pe_sect.specs.Options.{is_strict}
 use Rattle.goblin_pe_sect.specs.SectionTable.{Section, unnamed}
@@ -25,7 +25,7 @@ returns-clause-sections c = λ w read.
     let from = sym (ap (λ (x : WholeFile). map unnamed x.sections) same) ∙ of.sections in
     let table = c.symbols_end-table.ensures ∙ sym (ap (λ (h : PeHeader). symbols_end h.coff_header) header) in
     sym c.in_ok-sections.ensures.made
-    ∙ ap (λ (s : List Section). map (λ s. without_text (named_in strict bytes c.symbols_end-table.result s)) s) (c.section_records.ensures ∙ sym from)
-    ∙ said-unnamed strict bytes c.symbols_end-table.result w.sections
-    ∙ ap (λ (t : ℕ). map without_text (map (named_in strict bytes t) w.sections)) table
+    ∙ ap (λ (s : List Section). map (λ s. without_text (named_in strict None bytes c.symbols_end-table.result s)) s) (c.section_records.ensures ∙ sym from)
+    ∙ said-unnamed strict None bytes c.symbols_end-table.result w.sections
+    ∙ ap (λ (t : ℕ). map without_text (map (named_in strict None bytes t) w.sections)) table
     ∙ ap (map without_text) (sections-named c.args.view opts bytes w read)

@@ -16,7 +16,7 @@ pub records-preserved : goal.records-preserved
 records-preserved c =
     let from = recorded_sections c.args.sections in
     let named = c.name_where.new.place in
-    let made = λ (s : Section). without_text (named_where (is_strict c.args.opts.now.parse_mode) c.args.bytes.now c.args.table s) in
+    let made = λ (s : Section). without_text (named_where (is_strict c.args.opts.now.parse_mode) c.args.table.longest c.args.bytes.now c.args.table.offset s) in
     let of = λ (s : Section). made (section_moved c.args.displacement s) in
     let at = mapped (slice_get from c.records.i) (section_moved c.args.displacement) c.stored_section-section.result c.stored_section-section.ensures in
     let stored = sym (get_or_from_slice_get from c.records.i at.value at.value at.is) in

@@ -1,4 +1,4 @@
-use Rattle.std.proofs.Common.{◌≡◌, ◌∙◌, ◌++◌, ◌∷◌, [], List, length, ap, arith, set, sym, ℕ}
+use Rattle.std.proofs.Common.{◌≡◌, ◌∙◌, ◌++◌, ◌∷◌, [], List, length, ap, arith, set, sym, None, ℕ}
 use Rattle.std.proofs.Math.Seq.{set-append_seam}
 use Rattle.std.proofs.lemmas.Option.{get_or_from_slice_get}
 use Rattle.goblin_pe_sect.specs.Options.{is_strict}
@@ -11,7 +11,7 @@ use Rattle.goblin_pe_records.proofs.section.named_sections.Goals as goal
 
 pub records-init : goal.records-init
 records-init c =
-    (making-start section_said (λ s. without_text (named_in (is_strict c.args.opts.now.parse_mode) c.args.bytes.now c.args.table s)) (recorded_sections c.args.sections) _ c.in_ok-records.ensures.items, c.in_ok-records.ensures.len, c.in_ok-records.ensures.exact ∙ c.len-count.ensures.value)
+    (making-start section_said (λ s. without_text (named_in (is_strict c.args.opts.now.parse_mode) None c.args.bytes.now c.args.table s)) (recorded_sections c.args.sections) _ c.in_ok-records.ensures.items, c.in_ok-records.ensures.len, c.in_ok-records.ensures.exact ∙ c.len-count.ensures.value)
 
 pub records-preserved : goal.records-preserved
 records-preserved c =
