@@ -1,6 +1,7 @@
 """Imports and exports: as lists and as walks, what permissive mode leaves out of them, damage, and sections that overlap.
 
 Each table has files whose every byte is known, and what is read of them."""
+import pickle
 import struct
 import unittest
 from unittest import mock
@@ -312,24 +313,38 @@ class LongNames(Read):
                     self.assertEqual([it.forwarder for it in layout.walk_exports()], [wanted])
                     self.assertEqual([it.forwarder for it in layout.walk_export_addresses()], [wanted])
 
-    def named(self, text):
-        """An object and an image of one section and one symbol, which have this name, and what reads them."""
-        tables = struct.pack("<II10xI", 0, 4, len(text) + 5) + text + b"\0"
-        image = sample((0x138, b"/4\0\0\0\0\0\0"))
-        counted = struct.pack("<II", len(image), 1)
-        object_file = struct.pack("<HHIIIHH8s32x", 0x8664, 1, 0, 60, 1, 0, 0, b"/4") + tables
-        yield lambda how: package().ObjectFile(object_file, how, tests_texts=False), ()
-        yield lambda how: package().Layout(images.with_parts(image + tables, (image.index(b"PE\0\0") + 12, counted)), how), (False,)
+    def named(self, text, section=b"/4", symbol=struct.pack("<II", 0, 4)):
+        """An object and an image of one section and one symbol, whose names are these, and that text in the string table."""
+        tables = struct.pack("<8s10xI", symbol, len(text) + 5) + text + b"\0"
+        image = sample((0x138, struct.pack("8s", section)))
+        yield struct.pack("<HHIIIHH8s32x", 0x8664, 1, 0, 60, 1, 0, 0, section) + tables
+        yield images.with_parts(image + tables, (image.index(b"PE\0\0") + 12, struct.pack("<II", len(image), 1)))
 
     def test_the_names_of_sections_and_symbols(self):
         for text, wanted in UP_TO_8:
-            for read, untested in self.named(text):
-                for how in self.strict, self.permissive:
-                    with self.subTest(text, how=how):
-                        found = read(how)
-                        self.assertEqual([it.name for it in found.sections], [b"/4" if wanted is None else wanted])
-                        self.assertEqual([it.name for it in found.walk_symbols(*untested)], [wanted])
-                        self.assertEqual((found.symbol_at(0, *untested).name, found.string_at(4)), (wanted, wanted))
+            of_object, of_image = self.named(text)
+            for how in self.strict, self.permissive:
+                layout, found = package().Layout(of_image, how), package().ObjectFile(of_object, how, tests_texts=False)
+                copy = pickle.loads(pickle.dumps(found))
+                with self.subTest(text, how=how):
+                    for it in layout, found, copy:
+                        self.assertEqual([s.name for s in it.sections], [b"/4" if wanted is None else wanted])
+                    for symbols in layout.walk_symbols(False), found.walk_symbols(), copy.symbols:
+                        self.assertEqual([s.name for s in symbols], [wanted])
+                    self.assertEqual([it.name for it in (layout.symbol_at(0, False), found.symbol_at(0))], [wanted, wanted])
+                    self.assertEqual((layout.string_at(4), found.string_at(4)), (wanted, wanted))
+
+    def test_a_name_in_a_record_is_whole(self):
+        how = package().Options(longest_name=4)
+        of_object, of_image = self.named(b"", b".longsec", b"longname")
+        for it in package().Layout(of_image, how), package().ObjectFile(of_object, how):
+            self.assertEqual((it.sections, [s.name for s in it.walk_symbols()]), ((it.section_by_name(".longsec"),), [b"longname"]))
+
+    def test_a_section_is_found_by_no_name_that_is_cut(self):
+        of_object, of_image = self.named(b"123456789A")
+        for it in (*self.layouts(of_image), package().ObjectFile(of_object, self.strict)):
+            self.assertEqual([it.section_by_name(name) for name in ("12345678", "123456789", "123456789A")], [None, None, None])
+        self.assertIsNotNone(package().Pe(of_image, self.strict).section_by_name("123456789A"))
 
     def test_an_export_is_found_by_its_whole_name(self):
         for layout in self.layouts(images.library(b"a.dll", [(b"123456789A", 0x9000)])):
@@ -355,7 +370,12 @@ class LongNames(Read):
 
     def test_whole_files_have_whole_names(self):
         file = images.importer([(b"a_long_name.dll", [b"a_long_name"])])
-        self.assertEqual([(it.dll, it.name) for it in package().Pe(file, self.strict).imports], [(b"a_long_name.dll", b"a_long_name")])
+        found = package().Pe(file, self.strict)
+        for imports in found.imports, found.walk_imports():
+            self.assertEqual([(it.dll, it.name) for it in imports], [(b"a_long_name.dll", b"a_long_name")])
+        _, of_image = self.named(b"123456789A")
+        found = package().Pe(of_image, self.strict)
+        self.assertEqual([it.name for it in (*found.sections, *found.symbols)], [b"123456789A"] * 2)
 
     def test_a_limit_is_a_number_of_bytes(self):
         self.assertEqual(package().Options().longest_name, None)

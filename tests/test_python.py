@@ -264,6 +264,9 @@ class Triage(Case):
         self.written("hidden.dll", images.without_a_place(data))
         self.written("long.dll", images.importer([(b"a.dll", [b"f" * 513])]))
         self.written("exports.dll", images.library(b"a.dll", [(b"f" * 513, 0x9000), (b"g", b"a." + b"g" * 511)]))
+        long_text = struct.pack("<I", 518) + b"s" * 513 + b"\0"
+        self.written("sections.dll", images.with_parts(
+            data + long_text, (data.index(b"PE\0\0") + 12, struct.pack("<I", len(data))), (data.index(b".text\0\0\0"), b"/4\0\0\0\0")))
         found = self.triaged()
         self.assertEqual((list(found["unmapped.dll"]["damage"]), found["unmapped.dll"]["libraries"]), (["imports"], {}))
         # (what is left of the last section follows the others, and is no overlay)
@@ -287,6 +290,7 @@ class Triage(Case):
 
         self.assertEqual([found["long.dll"][it] for it in ("cut_off", "imphash", "damage")], [["import_names"], None, {}])
         self.assertEqual([found["exports.dll"][it] for it in ("cut_off", "imphash", "exports")], [["export_names"], "", 2])
+        self.assertEqual(found["sections.dll"]["cut_off"], ["section_names"])
 
     def test_hostile_files(self):
         """Each has a line."""

@@ -389,8 +389,9 @@ struct goblin_pe_options {
        which may be empty or begin with `#`; it is cut where library, dot and name are longer than
        this. Only calls that read a table from its places, forwarders of an image, and the sections
        of a layout or an object look at it; those that list a whole file, its damage or a footprint
-       read each name to its end, so they may refuse or leave out what a walk gives. Symbols have
-       the limit of their `goblin_pe_symbol_table`. */
+       read each name to its end, so they may refuse or leave out what a walk gives. A section's
+       name that stands in the eight bytes of its record is whole. Calls for symbols take no
+       options: their limit stands in the record of their table, where Rust and Python put this one. */
     uint32_t longest_name;
 };
 
@@ -645,8 +646,9 @@ struct goblin_pe_symbol_table {
     size_t strings_length;
     /* How many bytes a name or a text of the string table may have before it is cut; 0 is no limit.
        Of a longer one the front is given, up to where the first character ends that reaches past so
-       many: so one that is longer than this is cut. What follows is not tested. A call that says
-       where the tables lie puts 0 here; its caller may put another number. */
+       many: so one that is longer than this is cut. What follows is not tested. A name that stands
+       in the eight bytes of a symbol's record is whole. A call that says where the tables lie puts
+       0 here; its caller may put another number. */
     uint32_t longest_name;
     /* Zero. It stands where padding would be, so that each byte of the record is defined. */
     uint32_t reserved;

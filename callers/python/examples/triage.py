@@ -61,9 +61,10 @@ def overlay(layout: Layout, data: Any) -> Optional[int]:
     return end if 0 < end < len(data) else None
 
 
-def sections(layout: Layout) -> Iterator[Dict[str, Any]]:
+def sections(layout: Layout, cut_off: Set[str]) -> Iterator[Dict[str, Any]]:
     """What each section is like; of one that passes the file nothing of its data."""
     for s in layout.sections:
+        note_cut_names(cut_off, "section_names", s.name)
         told: Dict[str, Any] = {"name": text(s.name), "flags": names_of(s.characteristics)}
         try:
             content, _ = layout.section_view(s)
@@ -141,6 +142,7 @@ def contents(layout: Layout, data: Any) -> Dict[str, Any]:
     cut_off: Set[str] = set()
     hashed = imphash(counted(within(layout.walk_imports(steps=STEPS), "imports", cut_off), libraries, cut_off))
     exports = count_exports(layout, cut_off)
+    found = list(sections(layout, cut_off))
     header = layout.optional_header
     return {
         "machine": names_of(layout.coff_header.machine, "machine")[0], "time_date_stamp": layout.coff_header.time_date_stamp,
@@ -148,7 +150,7 @@ def contents(layout: Layout, data: Any) -> Dict[str, Any]:
         "subsystem": header and names_of(header.windows_fields.subsystem, "subsystem")[0],
         "libraries": {text(name): count for name, count in sorted(libraries.items())},
         "imphash": None if cut_off & {"imports", "import_names"} else hashed, "exports": exports, "cut_off": sorted(cut_off),
-        **lone_imports(layout, data), "overlay": overlay(layout, data), "sections": list(sections(layout))}
+        **lone_imports(layout, data), "overlay": overlay(layout, data), "sections": found}
 
 
 def image(data: Any) -> Dict[str, Any]:
@@ -156,7 +158,7 @@ def image(data: Any) -> Dict[str, Any]:
     with Layout(data, Options(is_permissive=True, parse_imports=False, longest_name=LONGEST)) as layout:
         told = contents(layout, data)
         is_counted = told["imphash"] is not None
-        damage = (Layout(data, Options(is_permissive=True)) if is_counted else layout).damage  # (else not of the imports)
+        damage = (Layout(data, Options(is_permissive=True, longest_name=LONGEST)) if is_counted else layout).damage  # (else not of the imports)
         return {
             **told, "rich_hash": rich_hash(layout, data),
             "damage": {part: str(why) for part, why in damage.parts()},

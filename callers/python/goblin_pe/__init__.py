@@ -231,11 +231,12 @@ class Options:
         can't be read is refused by Pe and by `damage` all the same, and footprint and fingerprint tell of that refusal alone.
     longest_name: how many bytes a name of an import, a library, an export, a section or a symbol may have before it is cut, in a
         Layout, in Parts, in an ObjectFile and in their walks, from 1 to 2**32 - 1; None is no limit. Of a longer one the front is
-        given, to the end of the character that reaches past: what has more bytes than this is a longer name. What follows is not
-        tested, so a walk may give what a Pe refuses or leaves out. So is the text of a forwarder: of a longer one the library is
-        what stands before its first dot, or all without a dot, and the name what follows, which may be empty or begin with "#"; it
-        is longer where library, dot and name are. A Pe lists whole names, and imphash hashes these. ValueError is raised where it
-        is another number.
+        given, to the end of the character that reaches past: what has more bytes than this is a longer name, unless it stands in
+        the eight bytes of a section's or a symbol's record, which are told whole. What follows is not tested, so a walk may give
+        what a Pe refuses or leaves out. So is the text of a forwarder: of a longer one the library is what stands before its
+        first dot, or all without a dot, and the name what follows, which may be empty or begin with "#"; it is longer where
+        library, dot and name are. A Pe has whole names, and imphash hashes these. ValueError is raised where it is another
+        number.
 
     Neither mode passes over more than sixteen data directories (so number_of_rva_and_sizes is at most sixteen of what was read, and
     was not cut to that), a magic that is neither of the two, a header or a section table that the file's end cuts, a section's name
@@ -300,6 +301,7 @@ class _File:
     _address: int
     _counts: _t.Dict[str, int]
     _made: _t.Dict[str, _t.Any]  # (the rows and data directories that were asked for, and the damage)
+    _longest_name = 0  # (how many bytes a name may have before it is cut, if that is not 0)
 
     def _bytes(self) -> _Kept:
         return _here(self._data)
@@ -348,9 +350,11 @@ class _File:
         return self._rows("sections")
 
     def section_by_name(self, name: _t.Union[bytes, str]) -> _t.Optional[Section]:
-        """The first section of this name; None where there is none."""
+        """The first section of this name; None where there is none, and where the options cut this name."""
         wanted = _in_bytes(name)
-        return next((s for s in self._made.get("sections") or self._each("sections") if s.name == wanted), None)
+        is_cut = 0 < self._longest_name < len(wanted)
+        return next((s for s in self._made.get("sections") or self._each("sections")
+                     if s.name == wanted and (not is_cut or s.raw_name.startswith(wanted))), None)
 
     def section_by_number(self, number: int) -> _t.Optional[Section]:
         """The section of this number, counted from 1, as a symbol's section_number has it; None where there is none, as where a
@@ -426,9 +430,12 @@ class Layout(_File):
         self._take_sections(sections, address)
         self._take_stub(layout.dos_stub, address)
 
-    def _hold(self, data: Data, options: _t.Optional[Options]) -> None:
+    def _hold(self, data: Data, options: _t.Optional[Options], has_limit: bool = True) -> None:
         self._data = _kept(data)
         how = self._options = _record_of(options)
+        if not has_limit:
+            how.longest_name = 0
+        self._longest_name = how.longest_name
         self._with_imports = records.Options(
             how.is_permissive, how.resolve_rva, how.raw_pointer_rule, True, how.raw_section_names, how.longest_name)
         self._made = {}
@@ -802,15 +809,16 @@ class Layout(_File):
         return self._once("symbols", lambda: tuple(self.walk_symbols()))
 
     def walk_symbols(self, tests_texts: bool = True, *, steps: _t.Optional[int] = None) -> _t.Iterator[Symbol]:
-        """The symbols one by one, of which none is kept. With `steps` it raises OutOfSteps after so many. Refused is raised as by
-        `symbols`; without tests_texts not where the string table is not UTF-8: a symbol whose name is not has none."""
+        """The symbols one by one, of which none is kept, their names up to the limit of the options. With `steps` it raises
+        OutOfSteps after so many. Refused is raised as by `symbols`; without tests_texts not where the string table is not
+        UTF-8: a symbol whose name is not has none."""
         data = self._bytes()
         return _walk_symbols(data, self._found_symbols(data, tests_texts), steps)
 
     def string_at(self, offset: int) -> _t.Optional[bytes]:
-        """The text at an offset of the string table, up to a NUL or the table's end; None where there is none that is UTF-8. The
-        offset counts from the four bytes of the table's length, as the numbers do that stand in place of names. Refused is
-        raised where a table does not lie in the file."""
+        """The text at an offset of the string table, up to a NUL, the table's end or, as a name is, the limit of the options;
+        None where there is none that is UTF-8. The offset counts from the four bytes of the table's length, as the numbers do
+        that stand in place of names. Refused is raised where a table does not lie in the file."""
         data = self._bytes()
         return _string_at(data, self._found_symbols(data, False), offset)
 
@@ -1022,7 +1030,7 @@ class Pe(Layout):
     """
 
     def __init__(self, data: Data, options: _t.Optional[Options] = None):
-        self._hold(data, options)
+        self._hold(data, options, has_limit=False)  # (the names that it lists are whole, so are those of its walks)
         file, tables = records.File(), records.Tables()
         with _held(self._bytes()) as (address, length):
             _test(_LIB.goblin_pe_raw_open(address, length, _c.byref(self._options), _c.byref(file), _c.byref(tables)))
@@ -1157,6 +1165,7 @@ class ObjectFile(_File):
                 sections, count = _room(records.Section, found.sections), found.sections
                 _test(_LIB.goblin_pe_raw_read_object(address, length, _c.byref(asked), _c.byref(found), sections, count))
         self._coff_header: CoffHeader = found.coff_header
+        self._longest_name = asked.longest_name
         self._symbol_table = _symbol_table(read, found.coff_header, asked.longest_name, tests_texts)
         self._sections, self._counts, self._address = sections, {"sections": count}, address
         self._made = {}
@@ -1193,8 +1202,9 @@ class ObjectFile(_File):
         return _symbol_at(self._bytes(), self._symbol_table, index)
 
     def string_at(self, offset: int) -> _t.Optional[bytes]:
-        """The text at an offset of the string table, up to a NUL or the table's end; None where there is none that is UTF-8. The
-        offset counts from the four bytes of the table's length, as the numbers do that stand in place of names."""
+        """The text at an offset of the string table, up to a NUL, the table's end or, as a name is, the limit of the options;
+        None where there is none that is UTF-8. The offset counts from the four bytes of the table's length, as the numbers do
+        that stand in place of names."""
         return _string_at(_here(self._data), self._symbol_table, offset)
 
     @property

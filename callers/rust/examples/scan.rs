@@ -8,6 +8,9 @@ use std::thread;
 const THREADS: usize = 4;
 const MOST: usize = 100_000;
 
+// Of a name no more is read than so many bytes, and the rest of a character.
+const LONGEST: u32 = 512;
+
 // How many rows a walk has, as far as one more than are looked at.
 fn counted<T>(walk: impl Iterator<Item = Result<T, Error>>) -> Result<usize, Error> {
     walk.take(MOST + 1)
@@ -15,7 +18,8 @@ fn counted<T>(walk: impl Iterator<Item = Result<T, Error>>) -> Result<usize, Err
 }
 
 fn found(bytes: &[u8]) -> Result<String, Error> {
-    let layout = Layout::read(bytes, &Options::permissive())?;
+    let options = Options::permissive().with_longest_name(LONGEST);
+    let layout = Layout::read(bytes, &options)?;
     let imports = counted(layout.walk_imports())?;
     if imports > MOST {
         return Ok(format!("more than {MOST} imports"));

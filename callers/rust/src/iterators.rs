@@ -869,8 +869,8 @@ impl<'a> Symbols<'a> {
     }
 
     /// The text at an offset of the string table, up to a NUL, the table's end or, as a name is, the limit of the options;
-    /// `None` where there is none that is UTF-8. The offset counts from the four bytes of the table's length, as the numbers do that stand in place of
-    /// names, so that a text is at 4 or more.
+    /// `None` where there is none that is UTF-8. The offset counts from the four bytes of the table's length, as the numbers
+    /// do that stand in place of names, so that a text is at 4 or more.
     ///
     /// ```no_run
     /// # let bytes = [];

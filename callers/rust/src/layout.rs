@@ -291,7 +291,7 @@ impl<'a> Layout<'a> {
         }
     }
 
-    /// The first section of this name; `None` where there is none.
+    /// The first section of this name; `None` where there is none, and where the options cut this name.
     ///
     /// ```no_run
     /// # let bytes = [];
@@ -301,7 +301,8 @@ impl<'a> Layout<'a> {
     /// ```
     #[must_use]
     pub fn section_by_name(&self, name: impl AsRef<[u8]>) -> Option<Section<'a>> {
-        self.sections().find(|s| s.name == *name.as_ref())
+        let (name, longest) = (name.as_ref(), self.options.longest_name);
+        self.sections().find(|s| s.is_named(name, longest))
     }
 
     /// The section of this number, counted from 1, as a symbol's `section_number` has it; `None` where there is none, as

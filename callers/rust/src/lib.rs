@@ -31,7 +31,7 @@
 //! | [`Layout::walk_export_addresses`] | as it goes on, at most as many steps as [`WalkExportAddresses::within`] says; a walk over the sections for each forwarder, and for the first a [`Layout::read`] | as the walks above, and of forwarders a record for each section |
 //! | [`Layout::export_directory`], [`Layout::name`] | a walk over the sections, and a text | an index of more than 96 sections |
 //! | [`Layout::find_export_by_ordinal`] | twice that | room for a row, and the same |
-//! | [`Layout::symbols`], [`Object::symbols`] | at first as long as the string table, then as they go on, at most as many steps as [`Symbols::within`] says; names end at [`Options::with_longest_name`] | room for 256 rows |
+//! | [`Layout::symbols`], [`Object::symbols`] | at first as long as the string table, then as they go on, at most as many steps as [`Symbols::within`] says; names end at [`Options::with_longest_name`]; `untested_symbols` as they go on, [`Symbols::symbol_at`] and [`Symbols::text_at`] as long as a name | room for 256 rows |
 //! | [`Section::walk_relocations`] | as it goes on, at most as many steps as [`WalkRelocations::within`] says | room for at most 256 rows |
 //! | [`Layout::damage`] | as a read | an index of more than 96 sections |
 //! | [`Layout::footprint`], [`Layout::write_fingerprint_text`] | as two reads | a bit for each byte of the file, and the ranges; an index of more than 96 sections |

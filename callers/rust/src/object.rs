@@ -34,9 +34,9 @@ pub struct Object<'a> {
 }
 
 impl<'a> Object<'a> {
-    /// Reads an object that lies in memory; of the options only the mode counts, and how long names
-    /// may be, of sections and symbols. No machine is tested, so a file that is no object may be read as one with sections
-    /// that make no sense: ask [`kind`](crate::kind) before.
+    /// Reads an object that lies in memory; of the options only the mode counts, and how long names of sections and symbols
+    /// may be. No machine is tested, so a file that is no object may be read as one with sections that make no sense: ask
+    /// [`kind`](crate::kind) before.
     ///
     /// # Errors
     /// Why it was refused.
@@ -120,7 +120,7 @@ impl<'a> Object<'a> {
         Sections::at(self.bytes, SIZEOF_COFF_HEADER + size, &self.sections)
     }
 
-    /// The first section of this name; `None` where there is none.
+    /// The first section of this name; `None` where there is none, and where the options cut this name.
     ///
     /// ```no_run
     /// # let bytes = [];
@@ -130,7 +130,8 @@ impl<'a> Object<'a> {
     /// ```
     #[must_use]
     pub fn section_by_name(&self, name: impl AsRef<[u8]>) -> Option<Section<'a>> {
-        self.sections().find(|s| s.name == *name.as_ref())
+        let (name, longest) = (name.as_ref(), self.longest_name);
+        self.sections().find(|s| s.is_named(name, longest))
     }
 
     /// The section of this number, counted from 1, as a symbol's `section_number` has it; `None` where there is none, as

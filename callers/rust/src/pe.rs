@@ -68,8 +68,10 @@ impl<'a> Pe<'a> {
     pub fn read(bytes: &'a [u8], options: &Options) -> Result<Pe<'a>, Error> {
         let block = raw::block().ok_or(Error::MEMORY)?;
         let head = raw::open(bytes, options, block).map_err(Error::refused)?;
+        // (the names that it lists are whole, so are those of its walks)
+        let options = options.with_longest_name(0);
         Ok(Pe {
-            layout: Layout::by(bytes, *options, head),
+            layout: Layout::by(bytes, options, head),
         })
     }
 

@@ -97,13 +97,14 @@ impl Options {
     }
 
     /// The same options, with so many bytes that a name of an import, a library, an export, a section or a symbol may have
-    /// before it is cut; 0 is no limit. Of a longer one the front is given, to the end of the character that reaches past: what has more bytes
-    /// than this is a longer name. What follows is not tested, so a walk may give what [`Pe::read`](crate::Pe::read) refuses
-    /// or leaves out. So is the text of a forwarder: of a longer one the library is what stands before its first dot, or all
-    /// without a dot, and the name what follows, which may be empty or begin with `#`; it is longer where library, dot and
-    /// name are. Only a [`Layout`](crate::Layout), [`Parts`](crate::Parts) and an [`Object`](crate::Object), with their walks,
-    /// look at this: [`Pe::read`](crate::Pe::read) lists whole names, of which texts that analysts hash,
-    /// [`damage`](crate::Layout::damage) and footprints tell.
+    /// before it is cut; 0 is no limit. Of a longer one the front is given, to the end of the character that reaches past:
+    /// what has more bytes than this is a longer name, but for one that stands in the eight bytes of a record, which is whole.
+    /// What follows is not tested, so a walk may give what [`Pe::read`](crate::Pe::read) refuses or leaves out. So is the text
+    /// of a forwarder: of a longer one the library is what stands before its first dot, or all without a dot, and the name
+    /// what follows, which may be empty or begin with `#`; it is longer where library, dot and name are. Only a
+    /// [`Layout`](crate::Layout), [`Parts`](crate::Parts) and an [`Object`](crate::Object), with their walks, look at this: a
+    /// [`Pe`](crate::Pe) has whole names, of which texts that analysts hash, [`damage`](crate::Layout::damage) and footprints
+    /// tell.
     ///
     /// ```
     /// use goblin_pe::Options;

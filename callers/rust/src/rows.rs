@@ -244,6 +244,13 @@ pub struct Section<'a> {
 }
 
 impl<'a> Section<'a> {
+    // Whether it has this name, where names have a limit, if that is not 0: of a longer one only a front is known, but one
+    // that stands in its record is whole.
+    pub(crate) fn is_named(&self, name: &[u8], longest: u32) -> bool {
+        let is_cut = longest != 0 && name.len() > longest as usize;
+        self.name == *name && (!is_cut || self.raw_name.starts_with(name))
+    }
+
     // The row of a record, and of its bytes in the file, which begin with the short name.
     pub(crate) fn of((s, stored): (&raw::Section<'a>, &'a [u8])) -> Section<'a> {
         let short = stored[..s.name.len()].split(|&byte| byte == 0).next();

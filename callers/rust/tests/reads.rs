@@ -1298,16 +1298,17 @@ fn uninitialized_data_is_zeros_and_an_odd_name_is_none() {
     assert_eq!(symbols.map(|s| s.name).collect::<Vec<_>>(), [None]);
 }
 
-// The one text of the string table, of eleven bytes, is cut behind eight; a section's name in its record is whole.
+// The one text of the string table, of eleven bytes, is cut behind a limit; a section's name in its record is whole.
 #[test]
-fn names_of_symbols_up_to_a_limit() {
+fn names_of_symbols_and_sections_up_to_a_limit() {
     let mut file = odd_object();
     file.truncate(file.len() - 9);
     file.extend(b"\x10\0\0\0eleven_more\0");
-    for (longest, wanted) in [(0, 11), (8, 9), (11, 11)] {
+    for (longest, wanted) in [(0, 11), (3, 4), (8, 9), (11, 11)] {
         let options = Options::default().with_longest_name(longest);
         let object = Object::read(&file, &options).unwrap();
-        let wanted = Some(Text(&b"eleven_more"[..wanted]));
+        let told = &b"eleven_more"[..wanted];
+        let wanted = Some(Text(told));
         for symbols in [object.symbols(), object.untested_symbols()] {
             let mut symbols = symbols.unwrap();
             assert_eq!(symbols.text_at(4), wanted);
@@ -1315,7 +1316,33 @@ fn names_of_symbols_up_to_a_limit() {
             assert_eq!(symbols.next().unwrap().name, wanted);
         }
         assert!(object.section_by_name(".bss").is_some());
+        let mut named = file.clone();
+        named[20..24].copy_from_slice(b"/4\0\0");
+        let object = Object::read(&named, &options).unwrap();
+        assert_eq!(object.sections().next().map(|s| s.name), wanted);
+        let is_found = object.section_by_name(told).is_some();
+        assert_eq!(is_found, told.len() == 11);
     }
+}
+
+// Of an image with a section of a name in the string table: a layout cuts it, and finds none by it, a `Pe` has it whole.
+#[test]
+fn a_name_of_a_section_of_an_image_up_to_a_limit() {
+    let mut bytes = sample("imports_by_name_x64.dll");
+    let at = |bytes: &[u8], text: &[u8]| bytes.windows(text.len()).position(|it| it == text);
+    let header = at(&bytes, b"PE\0\0").unwrap();
+    let place = at(&bytes, b".text\0\0\0").unwrap();
+    let end = u32::try_from(bytes.len()).unwrap();
+    bytes[header + 12..][..4].copy_from_slice(&end.to_le_bytes());
+    bytes[place..][..5].copy_from_slice(b"/4\0\0\0");
+    bytes.extend(b"\x10\0\0\0eleven_more\0");
+    let options = Options::default().with_longest_name(8);
+    let layout = Layout::read(&bytes, &options).unwrap();
+    assert_eq!(layout.sections().next().unwrap().name, Text(b"eleven_mo"));
+    assert_eq!(layout.section_by_name("eleven_mo"), None);
+    assert_eq!(layout.section_by_name("eleven_more"), None);
+    let pe = Pe::read(&bytes, &options).unwrap();
+    assert!(pe.section_by_name("eleven_more").is_some());
 }
 
 #[test]

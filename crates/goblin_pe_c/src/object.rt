@@ -33,7 +33,8 @@ use goblin_pe_records::symbol::{
 use std::alloc::Global;
 
 /// Reads an object, which begins with a COFF header: says in `object` what it is, and fills the
-/// records of its sections as far as there is room. No machine is tested, so a file that is no
+/// records of its sections as far as there is room, each with its name, up to the `longest_name` of
+/// the options. No machine is tested, so a file that is no
 /// object may be read as one with sections that make no sense. Its symbols are a call of their own.
 /// It takes no memory. After a refusal nothing is changed.
 #[unsafe(no_mangle)]
@@ -103,7 +104,7 @@ pub extern "C" fn goblin_pe_raw_find_symbol_table(
 }
 
 /// Puts the text at an offset of a string table into `text`, and answers whether there is one: what
-/// stands there up to a NUL or the table's end. The offset counts from the table's length of four
+/// stands there up to a NUL, the table's end or its `longest_name`. The offset counts from the table's length of four
 /// bytes, as the numbers do that stand in place of names. Where the table does not lie in the file,
 /// the offset does not lie in its texts, or the bytes are not UTF-8, there is none, and nothing is
 /// changed.

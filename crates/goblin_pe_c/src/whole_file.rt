@@ -82,7 +82,8 @@ pub extern "C" fn goblin_pe_raw_open<'a>(
 }
 
 /// Reads an image without its tables: says in `layout` what it is, and fills the records of its
-/// data directories and of its sections as far as there is room. It takes no memory, however much
+/// sections as far as there is room, each with its name, up to the `longest_name` of the options. It
+/// takes no memory, however much
 /// the tables list: these are walked over, or looked up, by other calls. It is refused where
 /// [`goblin_pe_raw_open`](crate::whole_file::goblin_pe_raw_open) refuses the header or the sections,
 /// whichever the refusal's `part` says; nothing is then changed. With `raw_section_names` no name of

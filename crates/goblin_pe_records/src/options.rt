@@ -71,8 +71,9 @@ pub struct PeOptions {
     /// empty or begin with `#`; it is cut where library, dot and name are longer than this. Only
     /// calls that read a table from its places, forwarders of an image, and the sections of a layout
     /// or an object look at it; those that list a whole file, its damage or a footprint read each
-    /// name to its end, so they may refuse or leave out what a walk gives. Symbols have the limit of
-    /// their `PeSymbolTable`.
+    /// name to its end, so they may refuse or leave out what a walk gives. A section's name that
+    /// stands in the eight bytes of its record is whole. Calls for symbols take no options: their
+    /// limit stands in the record of their table, where Rust and Python put this one.
     pub longest_name: u32,
 }
 

@@ -41,8 +41,9 @@ pub struct PeSymbolTable {
     pub strings_length: usize,
     /// How many bytes a name or a text of the string table may have before it is cut; 0 is no limit.
     /// Of a longer one the front is given, up to where the first character ends that reaches past so
-    /// many: so one that is longer than this is cut. What follows is not tested. A call that says
-    /// where the tables lie puts 0 here; its caller may put another number.
+    /// many: so one that is longer than this is cut. What follows is not tested. A name that stands
+    /// in the eight bytes of a symbol's record is whole. A call that says where the tables lie puts 0
+    /// here; its caller may put another number.
     pub longest_name: u32,
     /// Zero. It stands where padding would be, so that each byte of the record is defined.
     pub reserved: u32,
