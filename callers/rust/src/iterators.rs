@@ -277,7 +277,7 @@ struct CountedPosition {
 
 impl CountedPosition {
     // The first relocation of a section, which has more than its counter can say where that has its greatest number.
-    fn of_relocations(section: &raw::Section<'_>) -> Self {
+    fn of_relocations(section: &Section) -> Self {
         let most = match section.number_of_relocations {
             u16::MAX => usize::MAX,
             count => count.into(),
@@ -707,23 +707,25 @@ impl fmt::Debug for WalkExportAddresses<'_> {
 #[derive(Clone)]
 pub struct WalkRelocations<'a> {
     bytes: &'a [u8],
-    section: raw::Section<'static>,
+    // What the section's record says of them; a call looks at nothing else of it.
+    offset: u32,
+    count: u16,
+    characteristics: u32,
     batches: Batches<Relocation, CountedPosition>,
 }
 
 impl<'a> WalkRelocations<'a> {
-    // From the beginning. Most sections say none, at a place that the file has: then no call is made. (Any other place is
-    // refused, by the call.)
-    pub(crate) fn of(bytes: &'a [u8], section: raw::Section<'static>) -> Self {
-        let start = CountedPosition::of_relocations(&section);
-        let is_in_file = (section.pointer_to_relocations as usize) < bytes.len();
+    // From the beginning.
+    pub(crate) fn of(bytes: &'a [u8], section: &Section) -> Self {
         let batches = Batches {
-            is_over: start.most == 0 && is_in_file,
-            ..Batches::new(start)
+            is_over: section.says_no_relocations(bytes),
+            ..Batches::new(CountedPosition::of_relocations(section))
         };
         WalkRelocations {
             bytes,
-            section,
+            offset: section.pointer_to_relocations,
+            count: section.number_of_relocations,
+            characteristics: section.characteristics,
             batches,
         }
     }
@@ -744,8 +746,13 @@ impl Iterator for WalkRelocations<'_> {
 
     fn next(&mut self) -> Option<Result<Relocation, Error>> {
         let found = self.batches.next(|position, steps, records| {
-            let (section, index) = (self.section, &mut position.index);
-            raw::next_relocations(&self.bytes, &section, index, steps, records)
+            let section = raw::Section {
+                pointer_to_relocations: self.offset,
+                number_of_relocations: self.count,
+                characteristics: self.characteristics,
+                ..raw::Section::default()
+            };
+            raw::next_relocations(&self.bytes, &section, &mut position.index, steps, records)
         })?;
         Some(found.copied())
     }

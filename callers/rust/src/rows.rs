@@ -364,12 +364,21 @@ impl<'a> Section<'a> {
     /// # Ok::<(), goblin_pe::Error>(())
     /// ```
     pub fn relocations(&self, bytes: &[u8]) -> Result<Vec<Relocation>, Error> {
+        if self.says_no_relocations(bytes) {
+            return Ok(Vec::new());
+        }
         let section = self.record();
         let expected = usize::from(self.number_of_relocations);
         read_all(
             expected.min(bytes.len() / COFF_RELOCATION_SIZE),
             |to, count| raw::read_relocations(bytes, &section, to, count),
         )
+    }
+
+    // Whether it has no relocations, at a place that the file has, as most sections: then no call is made for them. (Any
+    // other place is refused, by the call.)
+    pub(crate) fn says_no_relocations(&self, bytes: &[u8]) -> bool {
+        self.number_of_relocations == 0 && (self.pointer_to_relocations as usize) < bytes.len()
     }
 
     /// A walk over all relocations of a section of the object `bytes`, also where there are more than
@@ -387,7 +396,7 @@ impl<'a> Section<'a> {
     /// ```
     #[must_use]
     pub fn walk_relocations<'b>(&self, bytes: &'b [u8]) -> WalkRelocations<'b> {
-        WalkRelocations::of(bytes, self.record())
+        WalkRelocations::of(bytes, self)
     }
 
     /// Puts into `raw_name` that the name stands at this offset of the string table.
