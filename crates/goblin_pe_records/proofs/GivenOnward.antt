@@ -1,5 +1,5 @@
 -- A list whose items fill records from an index on.
-use Rattle.std.proofs.Common.{◌≡◌, ◌<◌, ◌≤◌, ◌^◌, ◌*◌, ◌/◌, ℕ, ◌+◌, ◌-◌, List, length, map, drop, min, set, take, Some, None, slice_get, get_or, [], ap, sym, subst, refl, arith, ◌∙◌, inl, inr, slice_range, get_or-drop, length-drop, map-id, take_all, drop_of_length-le}
+use Rattle.std.proofs.Common.{◌≡◌, ◌<◌, ◌≤◌, ◌^◌, ◌*◌, ◌/◌, ◌%◌, ℕ, ◌+◌, ◌-◌, List, length, map, drop, set, take, Some, None, slice_get, get_or, [], ap, sym, subst, refl, arith, ◌∙◌, inl, inr, slice_range, get_or-drop, length-drop, map-id, take_all, drop_of_length-le}
 use Rattle.std.specs.List.{range_with_len}
 use Rattle.std.proofs.lemmas.List.FromFn.{get_or-map-range_with_len, length-map-range_with_len}
 use Rattle.std.proofs.lemmas.Option.{get_or_from_slice_get, slice_get_cases, slice_get-get_or, slice_get_past, slice_get_within}
@@ -19,15 +19,14 @@ pub record IsOnward {W : Type 0} (items : List W) (from : ℕ) (old : List W) (i
 pub onward-start : {W : Type 0} (items : List W) (from : ℕ) (old : List W) → IsOnward items from old 0 old
 onward-start items from old = record { filling = filling-start _ _ _ _; few = omega arith }
 
-module _ {W : Type 0} (items : List W) (from : ℕ) (old : List W) (i : ℕ) (records : List W) (short : length items < 2 ^ 64) (fits : from < 2 ^ 64) (is : IsOnward items from old i records) where
-  -- an item that is there, and its place
-  place_of : (at : ℕ) (r : W) → at ≡ min (from + i) (2 ^ 64 - 1) → slice_get items at ≡ Some r → at ≡ from + i
-  place_of at r place there = let within = slice_get_within items at r there in omega (arith, within, place, short)
+-- the index after that of an item, in 64 bits
+pub index-next : {W : Type 0} (items : List W) (at next : ℕ) (r : W) → length items < 2 ^ 64 → slice_get items at ≡ Some r → next ≡ (at + 1) % 2 ^ 64 → next ≡ at + 1
+index-next items at next r short there place = let within = slice_get_within items at r there in omega (arith, within, short, place)
 
-  pub onward-next : (at : ℕ) (r : W) → at ≡ min (from + i) (2 ^ 64 - 1) → slice_get items at ≡ Some r → i < length records → IsOnward items from old (i + 1) (set records i r)
-  onward-next at r place there room =
+module _ {W : Type 0} (items : List W) (from : ℕ) (old : List W) (i : ℕ) (records : List W) (is : IsOnward items from old i records) where
+  pub onward-next : (at : ℕ) (r : W) → at ≡ from + i → slice_get items at ≡ Some r → i < length records → IsOnward items from old (i + 1) (set records i r)
+  onward-next at r here there room =
       let within = slice_get_within items at r there in
-      let here = place_of at r place there in
       let left = length-drop from items in
       let own : r ≡ get_or (drop from items) i r = sym (get_or-drop from items i r ∙ ap (λ (k : ℕ). get_or items k r) (sym here) ∙ get_or_from_slice_get items at r r there) in
       record {
@@ -35,36 +34,36 @@ module _ {W : Type 0} (items : List W) (from : ℕ) (old : List W) (i : ℕ) (re
         few = omega (arith, within, here);
       }
 
-  missing : (at : ℕ) → at ≡ min (from + i) (2 ^ 64 - 1) → slice_get items at ≡ None → length items ≤ from + i
-  missing at place none =
+  missing : (at : ℕ) → at ≡ from + i → slice_get items at ≡ None → length items ≤ from + i
+  missing at here none =
       elim (slice_get_cases items at).1 [
         | inl there ↦ absurd (cc (there.2, none))
-        | inr past ↦ let end = past.0 in omega (arith, end, place)
+        | inr past ↦ let end = past.0 in omega (arith, end, here)
       ]
 
   -- where no item is left
-  pub onward-all : (at to : ℕ) → at ≡ min (from + i) (2 ^ 64 - 1) → to ≡ min (from + i) (2 ^ 64 - 1) → slice_get items at ≡ None → i < length records → length records ≡ length old → GivesOnward items from old to records i
-  onward-all at to place end none room same =
-      let past = missing at place none in
+  pub onward-all : (at : ℕ) → at ≡ from + i → slice_get items at ≡ None → i < length records → length records ≡ length old → GivesOnward items from old at records i
+  onward-all at here none room same =
+      let past = missing at here none in
       let few = is.few in
       let left = length-drop from items in
       record {
         filled = subst (λ (made : List W). Filled (λ (w : W). w) made old records) (map-id (drop from items))
             (filling-end (λ (w : W). w) (λ (w : W). w) (drop from items) old records i is.filling same (omega (arith, few, left)) (omega (arith, room, same)) (inl (omega (arith, past, left))));
         counted = omega (arith, past, few, room, same);
-        position = omega (arith, few, short, fits, past, end);
+        position = here;
       }
 
   -- and where no room is
-  pub onward-full : (n to : ℕ) → n ≡ i → to ≡ min (from + n) (2 ^ 64 - 1) → i ≡ length records → length records ≡ length old → GivesOnward items from old to records n
-  onward-full n to all end full same =
+  pub onward-full : (at n : ℕ) → n ≡ i → at ≡ from + i → i ≡ length records → length records ≡ length old → GivesOnward items from old at records n
+  onward-full at n all here full same =
       let few = is.few in
       let left = length-drop from items in
       record {
         filled = subst (λ (made : List W). Filled (λ (w : W). w) made old records) (map-id (drop from items))
             (filling-end (λ (w : W). w) (λ (w : W). w) (drop from items) old records i is.filling same (omega (arith, few, left)) (omega (arith, full, same)) (inr (omega (arith, full, same))));
         counted = omega (arith, few, full, same, all);
-        position = omega (arith, few, short, fits, end, all);
+        position = omega (arith, here, all);
       }
 
 -- where nothing is left

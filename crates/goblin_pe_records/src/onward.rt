@@ -16,14 +16,16 @@ pub fn fill_onward<W: Copy, F: Fn(usize) -> Option<W>>(
         → ((index : _) (found : _) → F.post item index found → found ≡ slice_get items index)
         → GivesOnward items position.old records.old position.new records.new result }
 {
-    let start = *position;
+    let mut index = *position;
     'records: for count in 0..records.len() {
-        let Some(found) = item(start.saturating_add(count)) else {
-            *position = start.saturating_add(count);
+        let Some(found) = item(index) else {
+            *position = index;
             return count;
         };
         records[count] = found;
+        // (an index at which an item is has one after it)
+        index = index.wrapping_add(1);
     }
-    *position = start.saturating_add(records.len());
+    *position = index;
     records.len()
 }
