@@ -1,6 +1,6 @@
 //! The records of exports.
 
-ghost use Rattle.std.specs.Prelude.{◌≡◌, ◌≤◌, ◌<◌, ◌+◌, ◌++◌, ◌∷◌, [], IfErr, IfOk, IfSome, OnErr};
+ghost use Rattle.std.specs.Prelude.{◌≡◌, ◌<◌, ◌+◌, ◌++◌, ◌∷◌, [], IfErr, IfOk, IfSome, OnErr};
 ghost use Rattle.std.specs.Prelude.{OnOk, IsSomeAnd, None, Some, length, map};
 ghost use Rattle.std.specs.Prelude.{vec_capacity, vec_len};
 ghost use Rattle.goblin_base.specs.Answers.{GivesOrMemory, IsMemory};
@@ -156,9 +156,6 @@ pub struct ExportRecords<'a> {
     pub directory: PeExportDirectory<'a>,
 }
 
-// For at most so many records room is made first.
-const MOST_FIRST: usize = 32;
-
 // Adds the record of an export that is no forwarder, for which there is room.
 #[inline(always)]
 fn push_plain<'a>(records: &mut Vec<PeExport<'a>>, bytes: &'a [u8], walked: &WalkedExport<'a>)
@@ -189,15 +186,13 @@ fn push_within<'a>(records: &mut Vec<PeExport<'a>>, bytes: &'a [u8], walked: &Wa
     }
 }
 
-// Adds the record of an export. Room for so many more is made at first.
+// Adds the record of an export, of which so many are expected at first.
 fn push_export<'a>(
     records: &mut Vec<PeExport<'a>>,
     bytes: &'a [u8],
     export: &WalkedExport<'a>,
     expected: usize,
 ) -> Result<()>
-    requires some { 0 < expected }
-    requires few { expected ≤ 32 }
     ensures value { let made = export_said (walked_export export.now) ∷ [] in
         GivesOrMemory (λ _. map export_view records.new.items) result
         (map export_view records.old.items ++ made) }
@@ -225,11 +220,7 @@ fn records_of<'a, 'm>(
     ensures none { IfOk result HasLittleRoom }
     ensures grown { OnErr result (0 < length (exports_left exports.entry)) }
 {
-    let expected = exports
-        .size_hint()
-        .1
-        .unwrap_or(MOST_FIRST)
-        .clamp(1, MOST_FIRST);
+    let expected = exports.pointer_count();
     let mut records = Vec::new(alloc);
     'exports: while let Some(export) = exports.next() {
         push_export(&mut records, bytes, &export, expected)?;

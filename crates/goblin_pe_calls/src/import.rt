@@ -107,9 +107,8 @@ pub fn put_import<'a>(place: &mut PeImport<'a>, bytes: &'a [u8], import: &Walked
     }
 }
 
-// For how many records room is made first: 1,024 bytes, which an allocator has at hand. So a usual
-// file's table is seldom moved.
-const FIRST_ROOM: usize = 16;
+// The index of the directory that all address tables are in.
+const IMPORT_ADDRESS_TABLE: usize = 12;
 
 // Adds the record of an import, for which there is room.
 #[inline(always)]
@@ -132,23 +131,24 @@ fn push_within<'a>(records: &mut Vec<PeImport<'a>>, bytes: &'a [u8], import: &Wa
     }
 }
 
-// Adds the record of an import.
+// Adds the record of an import, of which so many are expected at first.
 #[inline(always)]
 fn push_import<'a, 'e>(
     records: &mut Vec<PeImport<'a>>,
     bytes: &'a [u8],
     import: &WalkedImport<'a>,
+    expected: usize,
 ) -> ResultOf<'e, ()>
     ensures value { let made = import_said (walked_value import.now) ∷ [] in
         GivesOrMemory (λ _. map import_view records.new.items) result
         (map import_view records.old.items ++ made) }
     ensures room { OnOk result (HasLittleRoom records.old → HasLittleRoom records.new) }
     ensures more { OnOk result (vec_capacity records.old ≡ vec_len records.old
-        → vec_capacity records.new ≡ vec_len records.old + more_room 16 (vec_len records.old)) }
+        → vec_capacity records.new ≡ vec_len records.old + more_room expected (vec_len records.old)) }
     ensures same { OnOk result (vec_len records.old < vec_capacity records.old
         → vec_capacity records.new ≡ vec_capacity records.old) }
 {
-    make_room(records, FIRST_ROOM)?;
+    make_room(records, expected)?;
     push_within(records, bytes, import);
     Ok(())
 }
@@ -177,14 +177,16 @@ fn push_here<'a, 'm, 'e, T: Bitfield<'a>>(
     imports.go_on(&plain);
 }
 
-// The records of the imports that a walk gives. Plain ones after the first of a library, as far as
-// there is room, come by a loop of their own, in which nothing can be refused.
+// The records of the imports that a walk gives: a slot for each, and one for each library, are in
+// address tables, which have so many bytes, if the file says so. Plain imports after the first of a
+// library, as far as there is room, come by a loop of their own, in which nothing can be refused.
 #[inline(always)]
 fn records_of<'a, 'm, 'e, T: Bitfield<'a>>(
     alloc: Global,
     bytes: &'a [u8],
     mut imports: Imports<'a, 'm, 'e, T>,
     finder: &mut Finder<'m>,
+    tables: u32,
 ) -> ResultOf<'e, Vec<PeImport<'a>>>
     ensures value { let items = all_of (imports_left T.format imports.entry) in
         AnswersOrMemory import_views result (option_map (map import_said) items)
@@ -195,9 +197,10 @@ fn records_of<'a, 'm, 'e, T: Bitfield<'a>>(
         (λ e. IsMemory e → IsBegun (imports_left T.format imports.entry)) }
     ensures left { OnOk result (map_of finder.new ≡ imports_map imports.entry) }
 {
+    let expected = tables as usize / T::size_of();
     let mut records = Vec::new(alloc);
     'libraries: while let Some(import) = imports.next() {
-        push_import(&mut records, bytes, &import?)?;
+        push_import(&mut records, bytes, &import?, expected)?;
         push_here(&mut records, bytes, &mut imports);
     }
     *finder = imports.finder();
@@ -210,6 +213,7 @@ fn file_records_of<'a, 'm, 'e>(
     bytes: &'a [u8],
     imports: FileImports<'a, 'm, 'e>,
     finder: &mut Finder<'m>,
+    tables: u32,
 ) -> ResultOf<'e, Vec<PeImport<'a>>>
     ensures value { let items = all_of (file_imports_left imports.entry) in
         AnswersOrMemory import_views result (option_map (map import_said) items)
@@ -220,8 +224,8 @@ fn file_records_of<'a, 'm, 'e>(
     ensures left { OnOk result (map_of finder.new ≡ file_map imports.entry) }
 {
     match imports {
-        FileImports::Narrow(imports) => records_of(alloc, bytes, imports, finder),
-        FileImports::Wide(imports) => records_of(alloc, bytes, imports, finder),
+        FileImports::Narrow(imports) => records_of(alloc, bytes, imports, finder, tables),
+        FileImports::Wide(imports) => records_of(alloc, bytes, imports, finder, tables),
     }
 }
 
@@ -246,7 +250,8 @@ fn listed_records<'a, 'm>(
     match layout.imports()? {
         Part::Absent => Ok(Part::Absent),
         Part::Read(imports) => {
-            let records = file_records_of(alloc, layout.bytes(), imports, finder)?;
+            let tables = layout.places().directories[IMPORT_ADDRESS_TABLE].size;
+            let records = file_records_of(alloc, layout.bytes(), imports, finder, tables)?;
             Ok(Part::Read(records))
         }
         Part::Refused => Ok(Part::Refused),

@@ -1,6 +1,6 @@
 -- Blocks of memory that a caller frees: none where there is nothing in it, since an empty table's
 -- is not handed over; and how much more than its entries a block has room for.
-use Rattle.std.specs.Prelude.{◌≡◌, ◌≤◌, ◌+◌, ◌/◌, ℕ, Vec, if◌then◌else◌, length, max, nat_eq, vec_capacity, vec_len}
+use Rattle.std.specs.Prelude.{◌≡◌, ◌≤◌, ◌+◌, ◌/◌, ◌&&◌, ℕ, Vec, if◌then◌else◌, length, max, min, nat_eq, nat_lt, vec_capacity, vec_len}
 use Rattle.std.specs.Global.{Global}
 
 -- a list without entries has no block
@@ -11,12 +11,12 @@ HasNoIdleBlock v = length v.items ≡ 0 → vec_capacity v ≡ 0
 abbrev pub HasNoSpareRoom : {A : Type 0} → Vec A Global → Type 0
 HasNoSpareRoom v = vec_capacity v ≤ vec_len v
 
--- a list whose entries are made one by one: it has room for at most 32 more than there are, or for
+-- a list whose entries are made one by one: it has room for at most 512 more than there are, or for
 -- half as many again
 abbrev pub HasLittleRoom : {A : Type 0} → Vec A Global → Type 0
-HasLittleRoom v = HasNoIdleBlock v × (vec_capacity v ≤ vec_len v + max 32 (vec_len v / 2))
+HasLittleRoom v = HasNoIdleBlock v × (vec_capacity v ≤ vec_len v + max 512 (vec_len v / 2))
 
 -- for how many more entries room is made where so many are there, all of it taken: at first for as
--- many as are expected
+-- many as are expected, 0 where that is not known, at most for 512
 abbrev pub more_room : ℕ → ℕ → ℕ
-more_room first count = if nat_eq count 0 then first else max 32 (count / 2)
+more_room expected count = if nat_eq count 0 && nat_lt 0 expected then min expected 512 else max 32 (count / 2)

@@ -51,10 +51,6 @@ pub fn block_record<'a>(block: &RelocationBlock<'a>) -> PeBlock<'a>
     }
 }
 
-// For how many records room is made first: 768 bytes, which an allocator has at hand. So a usual
-// file's table is seldom moved.
-const FIRST_ROOM: usize = 32;
-
 // Adds the record of a block.
 #[inline(always)]
 fn push_block<'a>(records: &mut Vec<PeBlock<'a>>, block: PeBlock<'a>) -> Result<()>
@@ -62,11 +58,11 @@ fn push_block<'a>(records: &mut Vec<PeBlock<'a>>, block: PeBlock<'a>) -> Result<
     ensures items { OnOk result (records.new.items ≡ records.old.items ++ block.entry ∷ []) }
     ensures room { OnOk result (HasLittleRoom records.old → HasLittleRoom records.new) }
     ensures more { OnOk result (vec_capacity records.old ≡ vec_len records.old
-        → vec_capacity records.new ≡ vec_len records.old + more_room 32 (vec_len records.old)) }
+        → vec_capacity records.new ≡ vec_len records.old + more_room 0 (vec_len records.old)) }
     ensures same { OnOk result (vec_len records.old < vec_capacity records.old
         → vec_capacity records.new ≡ vec_capacity records.old) }
 {
-    make_room(records, FIRST_ROOM)?;
+    make_room(records, 0)?;
     records.push_reserved(block);
     Ok(())
 }

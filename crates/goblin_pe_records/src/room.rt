@@ -6,22 +6,25 @@ ghost use Rattle.goblin_pe_records.specs.Blocked.{more_room};
 
 use goblin_base::ResultOf;
 
-// How many more records there is room for at least, once there are some.
+// For how many records room is made first at most, whatever a file says.
+const MOST_FIRST: usize = 512;
+
+// For how many more room is made at least, where no number is known, or it was too small.
 const LEAST_MORE: usize = 32;
 
-/// Makes room for another record where it doesn't fit: for as many as `first` where there are none
-/// yet, and else for 32, or for half as many as there are if that is more. So many records are
-/// seldom moved, and a file asks for at most half as much again as they take, or for 32 of them.
+/// Makes room for another record where it doesn't fit: where there are none yet, for as many as are
+/// expected by what the file says, 0 where it says nothing, but at most for 512; and else for 32, or
+/// for half as many as there are if that is more. So a usual file's records are not moved, and a
+/// file asks for at most half as much again as they take, or for 512 of them.
 ///
 /// # Errors
 /// Only [`Error::Memory`](goblin_base::Error::Memory).
 #[inline]
-pub fn make_room<'e, T: Drop>(records: &mut Vec<T>, first: usize) -> ResultOf<'e, ()>
-    requires { 0 < first }
+pub fn make_room<'e, T: Drop>(records: &mut Vec<T>, expected: usize) -> ResultOf<'e, ()>
     ensures kept { records.new.items ≡ records.old.items }
     ensures refused { IfErr result IsMemory }
     ensures room { OnOk result (vec_capacity records.old ≡ vec_len records.old
-        → vec_capacity records.new ≡ vec_len records.old + more_room first (vec_len records.old)) }
+        → vec_capacity records.new ≡ vec_len records.old + more_room expected (vec_len records.old)) }
     ensures same { OnOk result (vec_len records.old < vec_capacity records.old
         → vec_capacity records.new ≡ vec_capacity records.old) }
     ensures spare { OnOk result (vec_len records.new < vec_capacity records.new) }
@@ -29,8 +32,8 @@ pub fn make_room<'e, T: Drop>(records: &mut Vec<T>, first: usize) -> ResultOf<'e
 {
     let count = records.len();
     if count == records.capacity() {
-        let more = if count == 0 {
-            first
+        let more = if count == 0 && expected > 0 {
+            expected.min(MOST_FIRST)
         } else {
             LEAST_MORE.max(count / 2)
         };
