@@ -105,6 +105,11 @@ int main(int argc, char **argv)
                 with self.subTest(call=call, sample=sample.name):
                     self.assertEqual(refused(call, sample) > 0, takes_memory)
 
+    def test_a_table_that_the_file_counts_is_one_block(self):
+        """Imports by the size of all address tables, exports by the name pointers, beside the sections and export addresses."""
+        file = images.with_directory(images.large_image(1, 300, 300, 0, 0), 12, 0x1000, 8 * 301)
+        self.assertEqual(refused("open", self.written("counted.dll", file)), 4)
+
     def test_memory_for_an_index_is_taken_of_more_than_96_sections(self):
         for count in (96, 97):
             file = self.written("some.dll", images.image_headers(0x2000, count, 0x2000, ()))

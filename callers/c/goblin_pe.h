@@ -92,7 +92,7 @@
    open                              its tables, which no n bounds (see    the same, and a name for each section
                                      below), half as much room again for
                                      imports, exports and blocks, or for
-                                     32 of them, and such an index
+                                     512 of them, and such an index
    footprint                         n / 8 and 8 * n bytes, and such an    the same
                                      index
 
