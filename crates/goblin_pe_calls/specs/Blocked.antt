@@ -10,7 +10,7 @@ use Rattle.goblin_pe_calls.specs.declared.export.ExportRecords.{ExportRecords}
 -- a table, where it was read, has little more room than entries
 abbrev pub HasLittleRoomIn : {A : Type 0} → Part (Vec A Global) → Type 0
 HasLittleRoomIn Absent = Unit {0}
-HasLittleRoomIn (part.Read v) = HasLittleRoom v
+HasLittleRoomIn (part.Read v) = HasLittleRoom 512 v
 HasLittleRoomIn Refused = Unit {0}
 
 -- the same of the records of a file's exports; their addresses have no more room than entries

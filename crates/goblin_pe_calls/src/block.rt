@@ -31,7 +31,7 @@ pub fn block_records<'a>(
         map block_view made.0.items ≡ blocks_in (part_map relocation_bytes relocations.now)) }
     ensures said { IfOk result
         (λ made. made.1 ≡ base_relocations_of (part_map relocation_bytes relocations.now)) }
-    ensures none { IfOk result (λ made. HasLittleRoom made.0) }
+    ensures none { IfOk result (λ made. HasLittleRoom 32 made.0) }
     ensures grown { OnErr result
         (0 < length (blocks_in (part_map relocation_bytes relocations.now))) }
 {

@@ -163,7 +163,7 @@ fn push_plain<'a>(records: &mut Vec<PeExport<'a>>, bytes: &'a [u8], walked: &Wal
     requires plain { (walked_export walked.now).row.reexport ≡ None }
     ensures value { map export_view records.new.items
         ≡ map export_view records.old.items ++ export_said (walked_export walked.now) ∷ [] }
-    ensures room { HasLittleRoom records.old → HasLittleRoom records.new }
+    ensures room { HasLittleRoom 512 records.old → HasLittleRoom 512 records.new }
     ensures counted { vec_len records.new ≡ vec_len records.old + 1 }
     ensures same { vec_capacity records.new ≡ vec_capacity records.old }
 {
@@ -176,7 +176,7 @@ fn push_within<'a>(records: &mut Vec<PeExport<'a>>, bytes: &'a [u8], walked: &Wa
     requires { vec_len records.old < vec_capacity records.old }
     ensures value { map export_view records.new.items
         ≡ map export_view records.old.items ++ export_said (walked_export walked.now) ∷ [] }
-    ensures room { HasLittleRoom records.old → HasLittleRoom records.new }
+    ensures room { HasLittleRoom 512 records.old → HasLittleRoom 512 records.new }
     ensures counted { vec_len records.new ≡ vec_len records.old + 1 }
     ensures same { vec_capacity records.new ≡ vec_capacity records.old }
 {
@@ -196,7 +196,7 @@ fn push_export<'a>(
     ensures value { let made = export_said (walked_export export.now) ∷ [] in
         GivesOrMemory (λ _. map export_view records.new.items) result
         (map export_view records.old.items ++ made) }
-    ensures room { OnOk result (HasLittleRoom records.old → HasLittleRoom records.new) }
+    ensures room { OnOk result (HasLittleRoom 512 records.old → HasLittleRoom 512 records.new) }
     ensures more { OnOk result (vec_capacity records.old ≡ vec_len records.old
         → vec_capacity records.new
         ≡ vec_len records.old + more_room expected (vec_len records.old)) }
@@ -217,7 +217,7 @@ fn records_of<'a, 'm>(
 ) -> Result<Vec<PeExport<'a>>>
     ensures value { GivesOrMemory export_views result
         (map export_said (exports_left exports.entry)) }
-    ensures none { IfOk result HasLittleRoom }
+    ensures none { IfOk result (HasLittleRoom 512) }
     ensures grown { OnErr result (0 < length (exports_left exports.entry)) }
 {
     let expected = exports.pointer_count();

@@ -11,10 +11,10 @@ HasNoIdleBlock v = length v.items ≡ 0 → vec_capacity v ≡ 0
 abbrev pub HasNoSpareRoom : {A : Type 0} → Vec A Global → Type 0
 HasNoSpareRoom v = vec_capacity v ≤ vec_len v
 
--- a list whose entries are made one by one: it has room for at most 512 more than there are, or for
--- half as many again
-abbrev pub HasLittleRoom : {A : Type 0} → Vec A Global → Type 0
-HasLittleRoom v = HasNoIdleBlock v × (vec_capacity v ≤ vec_len v + max 512 (vec_len v / 2))
+-- a list whose entries are made one by one: it has room for at most so many more than there are, or
+-- for half as many again
+abbrev pub HasLittleRoom : {A : Type 0} → ℕ → Vec A Global → Type 0
+HasLittleRoom most v = HasNoIdleBlock v × (vec_capacity v ≤ vec_len v + max most (vec_len v / 2))
 
 -- for how many more entries room is made where so many are there, all of it taken: at first for as
 -- many as are expected, 0 where that is not known, at most for 512

@@ -56,7 +56,7 @@ pub fn block_record<'a>(block: &RelocationBlock<'a>) -> PeBlock<'a>
 fn push_block<'a>(records: &mut Vec<PeBlock<'a>>, block: PeBlock<'a>) -> Result<()>
     ensures refused { IfErr result IsMemory }
     ensures items { OnOk result (records.new.items ≡ records.old.items ++ block.entry ∷ []) }
-    ensures room { OnOk result (HasLittleRoom records.old → HasLittleRoom records.new) }
+    ensures room { OnOk result (HasLittleRoom 32 records.old → HasLittleRoom 32 records.new) }
     ensures more { OnOk result (vec_capacity records.old ≡ vec_len records.old
         → vec_capacity records.new ≡ vec_len records.old + more_room 0 (vec_len records.old)) }
     ensures same { OnOk result (vec_len records.old < vec_capacity records.old
@@ -82,7 +82,7 @@ pub fn item_records<'a>(
         ≡ values_of (block_items (relocation_bytes relocations.now) 0)) }
     ensures rest { IfOk result
         (λ made. made.1 ≡ rest_of (block_items (relocation_bytes relocations.now) 0)) }
-    ensures none { IfOk result (λ made. HasLittleRoom made.0) }
+    ensures none { IfOk result (λ made. HasLittleRoom 32 made.0) }
     ensures grown { OnErr result
         (0 < length (values_of (block_items (relocation_bytes relocations.now) 0))) }
 {

@@ -8,13 +8,13 @@ abbrev pub invariant-exports : goal.invariant-exports
 invariant-exports l =
     (map export_view l.records.items ++ map export_said (exports_left l.exports)
     ≡ map export_said (exports_left l.fn.exports))
-    × HasLittleRoom l.records
+    × HasLittleRoom 512 l.records
 
 abbrev pub invariant-room : goal.invariant-room
 invariant-room l =
     (map export_view l.records.items ++ map export_said (exports_left l.exports)
     ≡ map export_said (exports_left l.fn.exports))
-    × HasLittleRoom l.records
+    × HasLittleRoom 512 l.records
     × (length (exports_left l.exports) ≤ length (exports_left l.initial.exports))
 
 abbrev pub decreases-room : goal.decreases-room

@@ -8,7 +8,7 @@ use Rattle.goblin_pe_calls.proofs.import.push_here.Given as goal
 abbrev pub invariant-plain : goal.invariant-plain
 invariant-plain g l =
     GivesHere g.T.Bitfield.format l.initial.imports (plain_at l.plain) (Pushes (map import_view l.initial.records.items) (map import_view l.records.items))
-    × (HasLittleRoom l.initial.records → HasLittleRoom l.records)
+    × (HasLittleRoom 512 l.initial.records → HasLittleRoom 512 l.records)
     × (l.plain.imports ≡ l.initial.imports)
 
 abbrev pub decreases-plain : goal.decreases-plain

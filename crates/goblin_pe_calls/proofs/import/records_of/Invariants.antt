@@ -8,7 +8,7 @@ use Rattle.goblin_pe_calls.proofs.import.records_of.Given as goal
 abbrev pub invariant-libraries : goal.invariant-libraries
 invariant-libraries g l =
     AtMade (imports_left g.T.Bitfield.format) (IsImportsCause g.T.Bitfield.format) import_said l.fn.imports l.imports (map import_view l.records.items)
-    × HasLittleRoom l.records
+    × HasLittleRoom 512 l.records
     × (imports_map l.imports ≡ imports_map l.fn.imports)
 
 abbrev pub decreases-libraries : goal.decreases-libraries

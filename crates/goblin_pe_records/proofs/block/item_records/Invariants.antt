@@ -6,4 +6,4 @@ use Rattle.goblin_pe_records.proofs.Making.{IsMakingItems}
 use Rattle.goblin_pe_records.proofs.block.item_records.Given as goal
 
 abbrev pub invariant-blocks-2 : goal.invariant-blocks-2
-invariant-blocks-2 l = (IsMakingItems block_view (block_items (relocation_bytes l.relocations) 0) (blocks_left l.block-iterator) l.records.items) × HasLittleRoom l.records
+invariant-blocks-2 l = (IsMakingItems block_view (block_items (relocation_bytes l.relocations) 0) (blocks_left l.block-iterator) l.records.items) × HasLittleRoom 32 l.records
