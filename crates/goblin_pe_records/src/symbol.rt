@@ -106,17 +106,26 @@ fn any_name_in_piece(strings: &[u8], offset: usize, longest: Option<u32>) -> Opt
     }
 }
 
+// The same where there is no limit, of a name that is ASCII and ends before the last bytes; else `None`, which says nothing
+// of it.
+#[inline(always)]
+fn plain_name_in_piece(strings: &[u8], offset: usize, longest: Option<u32>) -> Option<&str>
+    ensures { IfSome result (λ s. name_in_piece longest strings.now offset ≡ Some s.now) }
+{
+    match longest {
+        None => pread_plain_str(strings, offset),
+        Some(_) => None,
+    }
+}
+
 // The name at an offset of the bytes of a string table.
 #[inline(always)]
 fn name_in_piece(strings: &[u8], offset: usize, longest: Option<u32>) -> Option<&str>
     ensures { option_map (λ s. s.now) result ≡ name_in_piece longest strings.now offset }
 {
-    if longest.is_some() {
-        return any_name_in_piece(strings, offset, longest);
-    }
-    match pread_plain_str(strings, offset) {
+    match plain_name_in_piece(strings, offset, longest) {
         Some(name) => Some(name),
-        None => any_name_in_piece(strings, offset, None),
+        None => any_name_in_piece(strings, offset, longest),
     }
 }
 
