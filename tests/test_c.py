@@ -107,8 +107,11 @@ int main(int argc, char **argv)
 
     def test_a_table_that_the_file_counts_is_one_block(self):
         """Imports by the size of all address tables, exports by the name pointers, beside the sections and export addresses."""
-        file = images.with_directory(images.large_image(1, 300, 300, 0, 0), 12, 0x1000, 8 * 301)
-        self.assertEqual(refused("open", self.written("counted.dll", file)), 4)
+        image = images.large_image(1, 300, 300, 0, 0)
+        # (room for 1 of 300 imports, and for 32, 32, 32, 48, 72 and 108 more)
+        for size, wanted in ((8 * 301, 4), (8, 10)):
+            file = images.with_directory(image, 12, 0x1000, size)
+            self.assertEqual(refused("open", self.written("counted.dll", file)), wanted)
 
     def test_memory_for_an_index_is_taken_of_more_than_96_sections(self):
         for count in (96, 97):

@@ -345,6 +345,8 @@ class LongNames(Read):
         for it in (*self.layouts(of_image), package().ObjectFile(of_object, self.strict)):
             self.assertEqual([it.section_by_name(name) for name in ("12345678", "123456789", "123456789A")], [None, None, None])
         self.assertIsNotNone(package().Pe(of_image, self.strict).section_by_name("123456789A"))
+        of_object, _ = self.named(b"/4x")
+        self.assertIsNone(package().ObjectFile(of_object, package().Options(longest_name=1)).section_by_name("/4"))
 
     def test_an_export_is_found_by_its_whole_name(self):
         for layout in self.layouts(images.library(b"a.dll", [(b"123456789A", 0x9000)])):

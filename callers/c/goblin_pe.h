@@ -92,7 +92,8 @@
    open                              its tables, which no n bounds (see    the same, and a name for each section
                                      below), half as much room again for
                                      imports, exports and blocks, or for
-                                     512 of them, and such an index
+                                     512 imports, 512 exports and 32
+                                     blocks, and such an index
    footprint                         n / 8 and 8 * n bytes, and such an    the same
                                      index
 
@@ -203,12 +204,13 @@ static inline void goblin_pe_free(struct goblin_pe_tables *tables)
     memset(tables, 0, sizeof *tables);
 }
 
-/* Reads an image without its tables: says in `layout` what it is, its data directories in layout->places, and how many
-   sections it has, and fills the records of these as far as there is room, their names up to the `longest_name` of the
-   options. A first call without room tells how much is needed. Refused are a header or sections that goblin_pe_open refuses, but no section for its name where the
-   options have `raw_section_names`: no name is looked up then. No other call looks at that option but
-   goblin_pe_read_parts, for its `refusal`. So of such a file goblin_pe_open and goblin_pe_read_damage may be refused,
-   and goblin_pe_footprint tells of the refusal alone. No memory is taken, however much the tables of the file list. */
+/* Reads an image without its tables: says in `layout` what it is, its data directories in layout->places, and how
+   many sections it has, and fills the records of these as far as there is room, their names up to the `longest_name`
+   of the options. A first call without room tells how much is needed. Refused are a header or sections that
+   goblin_pe_open refuses, but no section for its name where the options have `raw_section_names`: no name is looked
+   up then. No other call looks at that option but goblin_pe_read_parts, for its `refusal`. So of such a file
+   goblin_pe_open and goblin_pe_read_damage may be refused, and goblin_pe_footprint tells of the refusal alone. No
+   memory is taken, however much the tables of the file list. */
 static inline struct goblin_pe_fault goblin_pe_read_layout(
     const uint8_t *bytes, size_t length, const struct goblin_pe_options *options, struct goblin_pe_layout *layout,
     struct goblin_pe_section *sections, size_t section_room)
@@ -406,9 +408,10 @@ static inline struct goblin_pe_fault goblin_pe_read_symbol_table(
 }
 
 /* Says in `table` where the symbol table and the string table of an image or an object lie, as
-   goblin_pe_read_symbol_table does, but whatever the texts are: so the symbols of a file can be read of which one name
-   is not UTF-8, and that one has no name; nor has a name a limit. Refused is a file that is too short for its symbol table or the string table
-   after it, and a string table that says a length below 4. No memory is taken, and no text is read. */
+   goblin_pe_read_symbol_table does, but whatever the texts are: so the symbols of a file can be read of which one
+   name is not UTF-8, and that one has no name. Names have no limit then. Refused is a file that is too short for its
+   symbol table or the string table after it, and a string table that says a length below 4. No memory is taken, and
+   no text is read. */
 static inline struct goblin_pe_fault goblin_pe_find_symbol_table(
     const uint8_t *bytes, size_t length, const struct goblin_pe_coff_header *header,
     struct goblin_pe_symbol_table *table)

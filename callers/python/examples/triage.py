@@ -158,7 +158,8 @@ def image(data: Any) -> Dict[str, Any]:
     with Layout(data, Options(is_permissive=True, parse_imports=False, longest_name=LONGEST)) as layout:
         told = contents(layout, data)
         is_counted = told["imphash"] is not None
-        damage = (Layout(data, Options(is_permissive=True, longest_name=LONGEST)) if is_counted else layout).damage  # (else not of the imports)
+        whole = Layout(data, Options(is_permissive=True, longest_name=LONGEST)) if is_counted else layout  # (else without imports)
+        damage = whole.damage
         return {
             **told, "rich_hash": rich_hash(layout, data),
             "damage": {part: str(why) for part, why in damage.parts()},

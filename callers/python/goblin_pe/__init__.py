@@ -352,9 +352,9 @@ class _File:
     def section_by_name(self, name: _t.Union[bytes, str]) -> _t.Optional[Section]:
         """The first section of this name; None where there is none, and where the options cut this name."""
         wanted = _in_bytes(name)
-        is_cut = 0 < self._longest_name < len(wanted)
+        is_long = 0 < self._longest_name < len(wanted)  # (whole only where it stands in a record, not after a slash there)
         return next((s for s in self._made.get("sections") or self._each("sections")
-                     if s.name == wanted and (not is_cut or s.raw_name.startswith(wanted))), None)
+                     if s.name == wanted and not (is_long and (wanted[:1] == b"/" or not s.raw_name.startswith(wanted)))), None)
 
     def section_by_number(self, number: int) -> _t.Optional[Section]:
         """The section of this number, counted from 1, as a symbol's section_number has it; None where there is none, as where a

@@ -23,7 +23,7 @@
 //!
 //! | Call | Time | Memory |
 //! |---|---|---|
-//! | [`Pe::read`] | as long as the file and what it lists, some microseconds for a small one | a kilobyte, and a record for each row, of 8 to 96 bytes, and room for half as many more imports, exports and blocks, or for 512 of them; an index of more than 96 sections |
+//! | [`Pe::read`] | as long as the file and what it lists, some microseconds for a small one | a kilobyte, and a record for each row, of 8 to 96 bytes, and room for half as many more imports, exports and blocks, or for 512, 512 and 32 of them; an index of more than 96 sections |
 //! | [`Layout::read`] | as long as the file, and the names of the sections, which end at [`Options::with_longest_name`] | a kilobyte, and a record for each section |
 //! | [`Parts::read`] | as long as the file | a kilobyte, and a record for each section |
 //! | [`Layout::walk_imports`], [`Layout::walk_exports`], [`Layout::walk_blocks`] | as they go on, at most as many steps as [`WalkImports::within`] says; names end at [`Options::with_longest_name`]; for each batch the name of the library that it is in, and of exports the image's own name once more | room for at most 256 rows; of more than 96 sections for 4,096 and up to 65,536, and an index |

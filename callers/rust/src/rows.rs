@@ -245,10 +245,11 @@ pub struct Section<'a> {
 
 impl<'a> Section<'a> {
     // Whether it has this name, where names have a limit, if that is not 0: of a longer one only a front is known, but one
-    // that stands in its record is whole.
+    // that stands in its record (where a slash leads to another) is whole.
     pub(crate) fn is_named(&self, name: &[u8], longest: u32) -> bool {
-        let is_cut = longest != 0 && name.len() > longest as usize;
-        self.name == *name && (!is_cut || self.raw_name.starts_with(name))
+        let is_long = longest != 0 && name.len() > longest as usize;
+        let is_cut = is_long && (name[0] == b'/' || !self.raw_name.starts_with(name));
+        self.name == *name && !is_cut
     }
 
     // The row of a record, and of its bytes in the file, which begin with the short name.

@@ -34,9 +34,9 @@ use std::alloc::Global;
 
 /// Reads an object, which begins with a COFF header: says in `object` what it is, and fills the
 /// records of its sections as far as there is room, each with its name, up to the `longest_name` of
-/// the options. No machine is tested, so a file that is no
-/// object may be read as one with sections that make no sense. Its symbols are a call of their own.
-/// It takes no memory. After a refusal nothing is changed.
+/// the options. No machine is tested, so a file that is no object may be read as one with sections
+/// that make no sense. Its symbols are a call of their own. It takes no memory. After a refusal
+/// nothing is changed.
 #[unsafe(no_mangle)]
 pub extern "C" fn goblin_pe_raw_read_object<'a>(
     bytes: &'a [u8],
@@ -104,10 +104,10 @@ pub extern "C" fn goblin_pe_raw_find_symbol_table(
 }
 
 /// Puts the text at an offset of a string table into `text`, and answers whether there is one: what
-/// stands there up to a NUL, the table's end or its `longest_name`. The offset counts from the table's length of four
-/// bytes, as the numbers do that stand in place of names. Where the table does not lie in the file,
-/// the offset does not lie in its texts, or the bytes are not UTF-8, there is none, and nothing is
-/// changed.
+/// stands there up to a NUL, the table's end or its `longest_name`. The offset counts from the
+/// table's length of four bytes, as the numbers do that stand in place of names. Where the table
+/// does not lie in the file, the offset does not lie in its texts, or the bytes are not UTF-8,
+/// there is none, and nothing is changed.
 #[unsafe(no_mangle)]
 #[tactic(auto, using(goblin_pe_records::proofs::Puts::puts_view))]
 pub extern "C" fn goblin_pe_raw_string_at<'a>(

@@ -82,13 +82,12 @@ pub extern "C" fn goblin_pe_raw_open<'a>(
 }
 
 /// Reads an image without its tables: says in `layout` what it is, and fills the records of its
-/// sections as far as there is room, each with its name, up to the `longest_name` of the options. It
-/// takes no memory, however much
-/// the tables list: these are walked over, or looked up, by other calls. It is refused where
-/// [`goblin_pe_raw_open`](crate::whole_file::goblin_pe_raw_open) refuses the header or the sections,
-/// whichever the refusal's `part` says; nothing is then changed. With `raw_section_names` no name of
-/// a section is tested, and none looked up: the sections have their raw names, and none is refused
-/// for its name.
+/// sections as far as there is room, each with its name, up to the `longest_name` of the options.
+/// It takes no memory, however much the tables list: these are walked over, or looked up, by other
+/// calls. It is refused where [`goblin_pe_raw_open`](crate::whole_file::goblin_pe_raw_open) refuses
+/// the header or the sections, whichever the refusal's `part` says; nothing is then changed. With
+/// `raw_section_names` no name of a section is tested, and none looked up: the sections have their
+/// raw names, and none is refused for its name.
 #[unsafe(no_mangle)]
 pub extern "C" fn goblin_pe_raw_read_layout<'a>(
     bytes: &'a [u8],

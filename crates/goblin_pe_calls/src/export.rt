@@ -186,7 +186,7 @@ fn push_within<'a>(records: &mut Vec<PeExport<'a>>, bytes: &'a [u8], walked: &Wa
     }
 }
 
-// Adds the record of an export, of which so many are expected at first.
+// Adds the record of an export. Room is made first for as many as are expected.
 fn push_export<'a>(
     records: &mut Vec<PeExport<'a>>,
     bytes: &'a [u8],

@@ -131,7 +131,7 @@ fn push_within<'a>(records: &mut Vec<PeImport<'a>>, bytes: &'a [u8], import: &Wa
     }
 }
 
-// Adds the record of an import, of which so many are expected at first.
+// Adds the record of an import. Room is made first for as many as are expected.
 #[inline(always)]
 fn push_import<'a, 'e>(
     records: &mut Vec<PeImport<'a>>,
@@ -177,8 +177,8 @@ fn push_here<'a, 'm, 'e, T: Bitfield<'a>>(
     imports.go_on(&plain);
 }
 
-// The records of the imports that a walk gives: a slot for each, and one for each library, are in
-// address tables, which have so many bytes, if the file says so. Plain imports after the first of a
+// The records of the imports that a walk gives. The address tables, of `tables` bytes if the file says
+// so, have a slot for each import, and one more for each library. Plain imports after the first of a
 // library, as far as there is room, come by a loop of their own, in which nothing can be refused.
 #[inline(always)]
 fn records_of<'a, 'm, 'e, T: Bitfield<'a>>(

@@ -23,7 +23,7 @@ pub fn fill_onward<W: Copy, F: Fn(usize) -> Option<W>>(
             return count;
         };
         records[count] = found;
-        // (an index at which an item is has one after it)
+        // (an item is there, so the index is not the greatest)
         index = index.wrapping_add(1);
     }
     *position = index;

@@ -9,13 +9,14 @@ use goblin_base::ResultOf;
 // For how many records room is made first at most, whatever a file says.
 const MOST_FIRST: usize = 512;
 
-// For how many more room is made at least, where no number is known, or it was too small.
+// For at least how many more records room is made, where no number is known, or it was too small.
 const LEAST_MORE: usize = 32;
 
-/// Makes room for another record where it doesn't fit: where there are none yet, for as many as are
-/// expected by what the file says, 0 where it says nothing, but at most for 512; and else for 32, or
-/// for half as many as there are if that is more. So a usual file's records are not moved, and a
-/// file asks for at most half as much again as they take, or for 512 of them.
+/// Makes room for another record where it doesn't fit. Where there are none yet, and the file says
+/// how many to expect, it is for so many, but at most for 512; else (0 are expected, or there are
+/// some) for 32, or for half as many as there are if that is more. So the records of a usual file
+/// that says their number are seldom moved, and a file asks for at most half as much again as they
+/// take, or for 512 of them.
 ///
 /// # Errors
 /// Only [`Error::Memory`](goblin_base::Error::Memory).
