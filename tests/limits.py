@@ -204,12 +204,21 @@ def open_without_imports(file):
 def next_imports(file, options=STRICT, batches=1, steps=0, rows=256):
     layout = records.Layout()
     LIB.goblin_pe_raw_read_layout(file, len(file), c.byref(options), c.byref(layout), (records.Section * 1)(), 0)
-    position, room, count, found = records.ImportCursor(), (records.Import * rows)(), c.c_size_t(), 0
+    cursor, room, count, found = records.ImportCursor(), (records.Import * rows)(), c.c_size_t(), 0
     for _ in range(batches):
         fault = LIB.goblin_pe_raw_next_imports(
-            file, len(file), c.byref(options), c.byref(layout.places), c.byref(position), room, rows, steps, c.byref(count))
+            file, len(file), c.byref(options), c.byref(layout.places), c.byref(cursor), room, rows, steps, c.byref(count))
         found += count.value
     return fault.status, found
+
+
+def libraries_within_steps(file):
+    layout = records.Layout()
+    LIB.goblin_pe_raw_read_layout(file, len(file), c.byref(PERMISSIVE), c.byref(layout), (records.Section * 1)(), 0)
+    cursor, room, count = records.ImportCursor(), (records.Library * 100)(), c.c_size_t()
+    fault = LIB.goblin_pe_raw_next_libraries(
+        file, len(file), c.byref(PERMISSIVE), c.byref(layout.places), c.byref(cursor), room, 100, 20, c.byref(count))
+    return fault.status, count.value
 
 
 def exports_within_steps(file, options=STRICT, rows=256):
@@ -270,6 +279,8 @@ ROWS = {
         imports_within_steps, lambda: in_one_section((0, 0, 0x1000, 40), libraries_of_left_out_entries, MIB)),
     "libraries that are all left out, within steps": (
         imports_within_steps, lambda: in_one_section((0, 0, 0x1000, 40), libraries_of_no_address_table, MIB)),
+    "twenty libraries of left out entries, within steps": (
+        libraries_within_steps, lambda: in_one_section((0, 0, 0x1000, 40), libraries_of_left_out_entries, MIB)),
     "name pointers without an export, within steps": (
         exports_within_steps, lambda: in_one_section((0x1000, 40, 0, 0), dead_name_pointers, MIB)),
     "imports in one text, within steps, of names that are cut": (

@@ -1,7 +1,10 @@
 """Imports and exports: as lists and as walks, what permissive mode leaves out of them, damage, and sections that overlap.
 
 Each table has files whose every byte is known, and what is read of them."""
+import ctypes
+import importlib
 import pickle
+import random
 import struct
 import unittest
 from unittest import mock
@@ -385,6 +388,64 @@ class LongNames(Read):
             self.assertRaises(ValueError, package().Options, longest_name=wrong)
         for wrong in True, 8.0, "8":
             self.assertRaises(TypeError, package().Options, longest_name=wrong)
+
+
+class Forged(Read):
+    """Cursors, positions and places of no walk: numbers at random."""
+
+    def setUp(self):
+        package()
+        self.records, self.library = (importlib.import_module("goblin_pe." + it) for it in ("records", "_library"))
+        self.random = random.Random(88)
+
+    def number(self, size, bits=64):
+        most = (1 << bits) - 1
+        of = self.random.randrange
+        return self.random.choice((of(size + 2), self.random.getrandbits(bits), most - of(40), max(size - of(64), 0), 0x1000 + of(0x3000), of(8)))
+
+    def forged(self, kind, size):
+        if kind is ctypes.c_size_t:
+            return kind(self.number(size))
+        made = kind()
+        for name, field in kind._fields_:
+            setattr(made, name, self.random.random() < 0.6 if field is ctypes.c_bool else self.number(size, 8 * ctypes.sizeof(field)))
+        made.is_begun = self.random.random() < 0.9
+        return made
+
+    def walked(self, call, kind, layout, data, position, rooms):
+        """The bytes of the first rows, and how the walk ended, in calls with room and steps as one pleases."""
+        rows, room, count = [], (kind * 40)(), ctypes.c_size_t()
+        for size, steps in rooms:
+            before = bytes(position), bytes(room)
+            fault = call(data, len(data), ctypes.byref(layout._with_imports), ctypes.byref(layout._places), ctypes.byref(position),
+                         room, size, steps, ctypes.byref(count))
+            if fault.status:
+                self.assertEqual((bytes(position), bytes(room)), before)
+                return rows, fault.status
+            self.assertLessEqual(count.value, min(size, steps or size))
+            rows += map(bytes, room[:count.value])
+            if len(rows) >= 100 or not (count.value or steps):
+                return rows[:100], 0
+        return rows, None
+
+    def test_a_walk_is_the_same_by_any_room_and_steps(self):
+        records, library = self.records, self.library.LIB
+        walks = [(library.goblin_pe_raw_next_imports, records.Import, records.ImportCursor),
+                 (library.goblin_pe_raw_next_libraries, records.Library, records.ImportCursor),
+                 (library.goblin_pe_raw_next_exports, records.Export, ctypes.c_size_t),
+                 (library.goblin_pe_raw_next_export_addresses, records.ExportAddress, ctypes.c_size_t),
+                 (library.goblin_pe_raw_next_blocks, records.Block, ctypes.c_size_t)]
+        files = [bytes(it) for it in (sample(), wide_sample(), images.own_tables(30), images.shared_image(5, 20), images.hostile_image(1 << 12))]
+        for _ in range(3000):
+            data, is_permissive = self.random.choice(files), self.random.random() < 0.5
+            layout = package().Layout(data, package().Options(is_permissive=is_permissive))
+            call, kind, position = self.random.choice(walks)
+            begin = self.forged(position, len(data))
+            whole = self.walked(call, kind, layout, data, position.from_buffer_copy(begin), [(40, 0)] * 4)
+            parts = self.walked(call, kind, layout, data, position.from_buffer_copy(begin),
+                                [(self.random.randrange(1, 40), self.random.choice((0, 0, 7, 300))) for _ in range(300)])
+            with self.subTest(call=call.__name__, begin=bytes(begin).hex(), size=len(data), is_permissive=is_permissive):
+                self.assertEqual(parts if parts[1] is not None else parts[0], whole if parts[1] is not None else whole[0][:len(parts[0])])
 
 
 class Damage(Read):

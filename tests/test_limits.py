@@ -25,6 +25,7 @@ ROWS = [
     ("imports that are all left out", 10000, 0),
     ("imports that are all left out, within steps", 50, 0),
     ("libraries that are all left out, within steps", 50, 0),
+    ("twenty libraries of left out entries, within steps", 500, 20),
     ("name pointers without an export, within steps", 50, 100000),
     ("imports in one text, within steps, of names that are cut", 500, 99999),
     ("exports in one text, within steps, of names that are cut", 500, 100000),

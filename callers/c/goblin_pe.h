@@ -40,16 +40,17 @@
    What a file of n bytes may take, beside the caller's records. A name is a text of the file, which nothing
    bounds but the file's end, and which is read once for each who has it: m names take n * m steps at most. A step
    of a long text takes some 0.15 nanoseconds where it is ASCII, else up to three. Where the options say a
-   `longest_name`, next_imports, next_libraries, next_exports, read_export_directory, forwarder_at, read_layout and
-   read_object read no more of a name than that and four bytes; nor do next_symbols, symbol_at and string_at, where their
+   `longest_name`, next_imports, next_libraries, next_exports, next_export_addresses, read_export_directory, forwarder_at,
+   read_layout and read_object read no more of a name than that and four bytes; nor do next_symbols, symbol_at and string_at, where their
    symbol table says one. A walk is stopped after any batch, and a batch by its `steps`; no other call is stopped.
 
    The `steps` of a call are how many records of its table it may look at: of imports the records of libraries and the
    slots of their tables, of exports the name pointers, whether or not these give something; of all else each gives a
    record. 0 is no limit. The call ends after so many, and the next one goes on from where it was left. A name may be
-   read in each step, and the slots of an address table are looked at in one go, so that up to n more are. Each library
-   of next_libraries is one step, whatever its tables have: where many share a long table of dead entries, these are
-   looked at once for each. There may be more steps than room, so that few calls pass over what gives nothing: each reads
+   read in each step, and the slots of an address table are looked at in one go, so that in each call up to n more are:
+   how many imports come within a number of steps depends on the calls, and few large ones cost least. Each library of
+   next_libraries is one step, whatever its tables have: where many share a long table of dead entries, these are
+   looked at once for each, so some hundred steps there take as long as 100,000 of others. There may be more steps than room, so that few calls pass over what gives nothing: each reads
    the name of its library again.
 
    call                              memory at most                        time at most
@@ -106,8 +107,8 @@
 
    Time is for the caller to limit, too. What is passed over for one record are libraries without an import, entries
    that permissive mode leaves out, and name pointers that give no export, with their forwarders' texts: where
-   libraries share a table of such entries, 128 KiB may take a second, and 1 MiB a minute, so give steps: 100,000 take
-   some tens of milliseconds where names are short, or the limit is at most 200. Of half a mebibyte whose
+   libraries share a table of such entries, 128 KiB may take a second, and 1 MiB a minute, so give steps: 100,000, or
+   some tens of libraries, take some tens of milliseconds where names are short, or the limit is at most 200. Of half a mebibyte whose
    imports begin two bytes apart in one text read_damage takes some twelve seconds.
 
    goblin_pe_records.h has the records, the numbers in them and the default options, as the proved library
@@ -276,7 +277,7 @@ static inline bool goblin_pe_is_end(const struct goblin_pe_import_cursor *cursor
 /* Goes on with the walk over the imports of an image from `cursor`, zeros at the beginning: fills as many records as
    there is room for, says in `count` how many, and leaves in `cursor` where the next call goes on. The count 0
    without a refusal is the end, where there is room and no limit of steps; so it is of a file without imports, where
-   these are not asked for, and in permissive mode where their directory is an empty list there. The call ends after
+   these are not asked for when the walk begins, and in permissive mode where their directory is an empty list there. The call ends after
    so many `steps`, 0 for no limit, perhaps with the count 0: it is the end only where goblin_pe_is_end says so of
    the cursor. With room for as many records as steps, a call takes all of them, but at the end. What gives no import
    goblin_pe_read_damage counts: `unmapped_entries` in either mode, `left_out_libraries` and `left_out_entries` in

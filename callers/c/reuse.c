@@ -90,11 +90,11 @@ static bool is_import(const struct goblin_pe_import *x, const struct goblin_pe_i
 
 static bool walks_over_imports(const struct goblin_pe_places *places, const struct goblin_pe_tables *tables)
 {
-    struct goblin_pe_import_cursor position = { 0 };
+    struct goblin_pe_import_cursor cursor = { 0 };
     struct goblin_pe_import imports[2];
     size_t found = 0, count = 0;
     do {
-        if (goblin_pe_next_imports(bytes, length, NULL, places, &position, imports, 2, 0, &count).status !=
+        if (goblin_pe_next_imports(bytes, length, NULL, places, &cursor, imports, 2, 0, &count).status !=
             GOBLIN_PE_STATUS_OK)
             return false;
         for (size_t i = 0; i < count; i++, found++)
@@ -108,11 +108,11 @@ static bool walks_over_imports(const struct goblin_pe_places *places, const stru
 static bool has_imports(const struct goblin_pe_places *places, const struct goblin_pe_tables *tables,
                         const struct goblin_pe_library *library, size_t *first)
 {
-    struct goblin_pe_import_cursor position = library->cursor;
+    struct goblin_pe_import_cursor cursor = library->cursor;
     struct goblin_pe_import import;
     size_t count = 0, begin = *first;
     for (;; (*first)++) {
-        if (goblin_pe_next_imports(bytes, length, NULL, places, &position, &import, 1, 0, &count).status !=
+        if (goblin_pe_next_imports(bytes, length, NULL, places, &cursor, &import, 1, 0, &count).status !=
             GOBLIN_PE_STATUS_OK)
             return false;
         if (!count || import.library != library->index)
@@ -125,11 +125,11 @@ static bool has_imports(const struct goblin_pe_places *places, const struct gobl
 
 static bool walks_over_libraries(const struct goblin_pe_places *places, const struct goblin_pe_tables *tables)
 {
-    struct goblin_pe_import_cursor position = { 0 };
+    struct goblin_pe_import_cursor cursor = { 0 };
     struct goblin_pe_library libraries[2];
     size_t found = 0, count = 0, index = 0;
     do {
-        if (goblin_pe_next_libraries(bytes, length, NULL, places, &position, libraries, 2, 0, &count).status !=
+        if (goblin_pe_next_libraries(bytes, length, NULL, places, &cursor, libraries, 2, 0, &count).status !=
             GOBLIN_PE_STATUS_OK)
             return false;
         for (size_t i = 0; i < count; i++, index++)

@@ -19,7 +19,7 @@ static bool makes_the_other_calls(void)
     struct goblin_pe_layout layout;
     struct goblin_pe_damage damage;
     struct goblin_pe_ranges ranges = { 0 };
-    struct goblin_pe_import_cursor position = { 0 };
+    struct goblin_pe_import_cursor cursor = { 0 };
     struct goblin_pe_import import;
     struct goblin_pe_export export;
     struct goblin_pe_object parts;
@@ -31,7 +31,7 @@ static bool makes_the_other_calls(void)
     goblin_pe_free_ranges(&ranges);
     is_granted &= goblin_pe_read_layout(image.bytes, image.length, NULL, &layout, NULL, 0).status ==
                   GOBLIN_PE_STATUS_OK;
-    is_granted &= goblin_pe_next_imports(image.bytes, image.length, NULL, &layout.places, &position, &import, 1, 0, &count)
+    is_granted &= goblin_pe_next_imports(image.bytes, image.length, NULL, &layout.places, &cursor, &import, 1, 0, &count)
                       .status == GOBLIN_PE_STATUS_OK;
     is_granted &= goblin_pe_next_exports(image.bytes, image.length, NULL, &layout.places, &place, &export, 1, 0, &count)
                       .status == GOBLIN_PE_STATUS_OK;

@@ -723,7 +723,8 @@ class Layout(_File):
     def walk_imports(self, library: _t.Optional[Library] = None, *, steps: _t.Optional[int] = None) -> _t.Iterator[Import]:
         """The imports one by one, of which none is kept: also where the options left them out; from the first one of a library
         on, where one is given, which walk_libraries of this file gave. With `steps` it raises OutOfSteps once it has looked at so
-        many slots and records of its tables, whether or not these gave an import. In strict mode Refused is raised where it would
+        many slots and records of its tables, whether or not these gave an import; an address table is looked at in one go, for
+        each batch of rows, however long it is. The walk is an iterator, and not copied: begin again, or at a library. In strict mode Refused is raised where it would
         be of the list, after what comes before; no law says on which bytes that depends. What gives no import is counted by
         `damage`: `unmapped_entries` in either mode, the other two in permissive mode."""
         return self._walked(DirectoryType.IMPORT_TABLE, "imported", steps, library.cursor if library else ())
@@ -731,8 +732,8 @@ class Layout(_File):
     def walk_libraries(self, *, steps: _t.Optional[int] = None) -> _t.Iterator[Library]:
         """The libraries one by one, as walk_imports gives imports: one for each record of the import directory, in order, up to
         the first that has no name or no address table. Those that permissive mode leaves out of the imports come, too. With
-        `steps` it raises OutOfSteps after so many. In strict mode Refused is raised where the directory reaches the end of the
-        file; what else is refused of a library walk_imports tells, where it is given that."""
+        `steps` it raises OutOfSteps after so many: each library is one, whatever its tables have, so some tens are enough of a
+        file that is hostile. In strict mode Refused is raised where the directory reaches the end of the file; what else is refused of a library walk_imports tells, where it is given that."""
         call, asked = _LIB.goblin_pe_raw_next_libraries, self._with_imports
         return _walk(self._bytes(), records.Library, "library", lambda address, length, *to: call(
             address, length, _c.byref(asked), _c.byref(self._places), *to), records.ImportCursor(), self._batch(), _limit(steps),

@@ -526,7 +526,9 @@ macro_rules! walks {
             /// The walk from here on within so many steps: each looks at a record of its table, or at a slot, whether
             /// or not that gives something. Where more would be taken, it ends with an error of the kind
             /// [`ErrorKind::OutOfSteps`](crate::ErrorKind::OutOfSteps). Of a walk that has begun, some of what comes next
-            /// was read before: of that each row is one step.
+            /// was read before: of that each row is one step. The address table of a library is looked at in one go, for
+            /// each batch of rows, however long it is; of a walk over libraries each of these is one step, whatever its
+            /// tables have.
             #[must_use]
             pub fn within(self, steps: usize) -> Self {
                 let batches = self.batches.within(steps);

@@ -448,7 +448,7 @@ impl<'a> Layout<'a> {
     /// ```no_run
     /// # let bytes = [];
     /// # let layout = goblin_pe::Layout::read(&bytes, &goblin_pe::Options::permissive())?;
-    /// for import in layout.walk_imports().take(1_000_000) {
+    /// for import in layout.walk_imports().within(1_000_000) {
     ///     println!("{}", import?.name);
     /// }
     /// # Ok::<(), goblin_pe::Error>(())
@@ -468,8 +468,11 @@ impl<'a> Layout<'a> {
     /// ```no_run
     /// # let bytes = [];
     /// # let layout = goblin_pe::Layout::read(&bytes, &goblin_pe::Options::permissive())?;
-    /// for library in layout.walk_libraries() {
+    /// for library in layout.walk_libraries().within(1_000) {
     ///     let library = library?;
+    ///     if !library.has_imports {
+    ///         continue; // (the walk from it would begin with the imports of a later one)
+    ///     }
     ///     let walk = layout.walk_imports_from(&library);
     ///     for import in walk.map_while(Result::ok).take_while(|it| it.library == library.index) {
     ///         println!("{} {}", import.dll, import.name);

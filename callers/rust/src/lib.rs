@@ -27,15 +27,16 @@
 //! | [`Layout::read`] | as long as the file, and the names of the sections, which end at [`Options::with_longest_name`] | a kilobyte, and a record for each section |
 //! | [`Parts::read`] | as long as the file | a kilobyte, and a record for each section |
 //! | [`Layout::walk_imports`], [`Layout::walk_exports`], [`Layout::walk_blocks`] | as they go on, at most as many steps as [`WalkImports::within`] says; names end at [`Options::with_longest_name`]; for each batch the name of the library that it is in, and of exports the image's own name once more | room for at most 256 rows; of more than 96 sections for 4,096 and up to 65,536, and an index |
-//! | [`Layout::walk_libraries`] | as it goes on; for each library its address table, and its lookup table up to the first import | as the walks above |
-//! | [`Layout::walk_export_addresses`] | as it goes on, at most as many steps as [`WalkExportAddresses::within`] says; a walk over the sections for each forwarder, and for the first a [`Layout::read`] | as the walks above, and of forwarders a record for each section |
+//! | [`Layout::walk_libraries`] | as it goes on, each library a step; for each its name, its address table, and its lookup table up to the first import | as the walks above |
+//! | [`Layout::walk_export_addresses`] | as it goes on, at most as many steps as [`WalkExportAddresses::within`] says; for each batch the image's own name once more; a walk over the sections and a text for each forwarder, and for the first a [`Parts::read`]; names end at [`Options::with_longest_name`] | as the walks above, and of forwarders a record for each section |
 //! | [`Layout::export_directory`], [`Layout::name`] | a walk over the sections, and a text | an index of more than 96 sections |
-//! | [`Layout::find_export_by_ordinal`] | twice that | room for a row, and the same |
+//! | [`Layout::find_export`] | a walk over the exports | as that |
+//! | [`Layout::find_export_by_ordinal`] | twice [`Layout::export_directory`] | room for a row, and the same |
 //! | [`Layout::symbols`], [`Object::symbols`] | at first as long as the string table, then as they go on, at most as many steps as [`Symbols::within`] says; names end at [`Options::with_longest_name`]; `untested_symbols` as they go on, [`Symbols::symbol_at`] and [`Symbols::text_at`] as long as a name | room for 256 rows |
 //! | [`Section::walk_relocations`] | as it goes on, at most as many steps as [`WalkRelocations::within`] says | room for at most 256 rows |
 //! | [`Layout::damage`] | as a read | an index of more than 96 sections |
 //! | [`Layout::footprint`], [`Layout::write_fingerprint_text`] | as two reads | a bit for each byte of the file, and the ranges; an index of more than 96 sections |
-//! | [`Layout::find_offset`] and what is at an address | a walk over the sections | none |
+//! | [`Layout::find_offset`] and what is at an address | a walk over the sections, and the text there, if it is one | none |
 //! | [`Layout::rich_header`], [`Layout::rich_entries`] | as long as what stands before the PE signature | a copy of that, and a record for each entry |
 //! | [`Layout::patched`] | as long as the file | a copy of the file, and of its header |
 //! | [`Layout::find_rva`] | a walk over the sections, and one more for each whose data holds the offset | none |

@@ -951,6 +951,45 @@ fn one_after_the_other_and_at_once() {
     });
 }
 
+// A walk that has begun is copied, and the copy goes on in another thread.
+#[test]
+fn begun_walks_go_on_elsewhere() {
+    fn goes_on<T: PartialEq + std::fmt::Debug + Send>(
+        walk: impl Iterator<Item = Result<T, Error>> + Clone + Send,
+    ) -> usize {
+        let all: Vec<_> = walk.clone().collect();
+        let mut walk = walk;
+        for begun in 0..all.len() {
+            let copy = walk.clone();
+            let rest = std::thread::scope(|threads| {
+                let rest = threads.spawn(|| copy.collect::<Vec<_>>());
+                rest.join().unwrap()
+            });
+            assert_eq!(rest, all[begun..]);
+            assert_eq!(walk.next().as_ref(), all.get(begun));
+        }
+        all.len()
+    }
+    let mut counts = [0; 5];
+    for name in ["imports_by_name_x64.dll", "forwarders_x64.dll"] {
+        let bytes = sample(name);
+        let layout = Layout::parse(&bytes).unwrap();
+        counts[0] += goes_on(layout.walk_imports());
+        counts[1] += goes_on(layout.walk_libraries());
+        counts[2] += goes_on(layout.walk_exports());
+        counts[3] += goes_on(layout.walk_export_addresses());
+        counts[4] += goes_on(layout.walk_blocks());
+    }
+    assert!(counts.iter().all(|it| *it > 0), "{counts:?}");
+    let bytes = sample("object_x64.obj");
+    let object = Object::parse(&bytes).unwrap();
+    assert!(goes_on(object.symbols().unwrap().within(1000)) > 1);
+    let found = object
+        .sections()
+        .map(|s| goes_on(object.walk_relocations(&s)));
+    assert!(found.sum::<usize>() > 1);
+}
+
 #[test]
 fn addresses_are_looked_up_both_ways() {
     let bytes = sample("forwarders_x64.dll");
