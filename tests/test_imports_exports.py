@@ -444,8 +444,10 @@ class Forged(Read):
             whole = self.walked(call, kind, layout, data, position.from_buffer_copy(begin), [(40, 0)] * 4)
             parts = self.walked(call, kind, layout, data, position.from_buffer_copy(begin),
                                 [(self.random.randrange(1, 40), self.random.choice((0, 0, 7, 300))) for _ in range(300)])
-            with self.subTest(call=call.__name__, begin=bytes(begin).hex(), size=len(data), is_permissive=is_permissive):
-                self.assertEqual(parts if parts[1] is not None else parts[0], whole if parts[1] is not None else whole[0][:len(parts[0])])
+            walk = (call.__name__, bytes(begin).hex(), len(data), is_permissive)
+            if parts[1] is None:  # (its calls were not enough)
+                parts, whole = parts[0], whole[0][:len(parts[0])]
+            self.assertEqual(parts, whole, walk)
 
 
 class Damage(Read):
