@@ -37,21 +37,22 @@
    section's data, of which available_section_data gives what there is. So read_parts fills what there is of a file that
    is refused as a whole, and answers false.
 
-   What a file of n bytes may take, beside the caller's records. A name is a text of the file, which nothing
-   bounds but the file's end, and which is read once for each who has it: m names take n * m steps at most. A step
-   of a long text takes some 0.15 nanoseconds where it is ASCII, else up to three. Where the options say a
-   `longest_name`, next_imports, next_libraries, next_exports, next_export_addresses, read_export_directory, forwarder_at,
-   read_layout and read_object read no more of a name than that and four bytes; nor do next_symbols, symbol_at and string_at, where their
-   symbol table says one. A walk is stopped after any batch, and a batch by its `steps`; no other call is stopped.
+   What a file of n bytes may take, beside the caller's records. A name is a text of the file, which nothing bounds
+   but the file's end, and which is read once for each who has it: m names take n * m steps at most. A step of a long
+   text takes some 0.15 nanoseconds where it is ASCII, else up to three. Where the options say a `longest_name`,
+   next_imports, next_libraries, next_exports, next_export_addresses, read_export_directory, forwarder_at, read_layout
+   and read_object read no more of a name than that and four bytes; nor do next_symbols, symbol_at and string_at,
+   where their symbol table says one. A walk is stopped after any batch, and a batch by its `steps`; no other call is
+   stopped.
 
    The `steps` of a call are how many records of its table it may look at: of imports the records of libraries and the
    slots of their tables, of exports the name pointers, whether or not these give something; of all else each gives a
    record. 0 is no limit. The call ends after so many, and the next one goes on from where it was left. A name may be
-   read in each step, and the slots of an address table are looked at in one go, so that in each call up to n more are:
-   how many imports come within a number of steps depends on the calls, and few large ones cost least. Each library of
-   next_libraries is one step, whatever its tables have: where many share a long table of dead entries, these are
-   looked at once for each, so some hundred steps there take as long as 100,000 of others. There may be more steps than room, so that few calls pass over what gives nothing: each reads
-   the name of its library again.
+   read in each step, and the slots of an address table are looked at in one go, so that in each call up to n more
+   are: how many imports come within a number of steps depends on the calls, and few large ones cost least. Each
+   library of next_libraries is one step, whatever its tables have: where many share a long table of dead entries,
+   these are looked at once for each, so some hundred steps there take as long as 100,000 of others. There may be more
+   steps than room, so that few calls pass over what gives nothing: each reads the name of its library again.
 
    call                              memory at most                        time at most
    kind_of, read_section_data,
@@ -108,8 +109,8 @@
    Time is for the caller to limit, too. What is passed over for one record are libraries without an import, entries
    that permissive mode leaves out, and name pointers that give no export, with their forwarders' texts: where
    libraries share a table of such entries, 128 KiB may take a second, and 1 MiB a minute, so give steps: 100,000, or
-   some tens of libraries, take some tens of milliseconds where names are short, or the limit is at most 200. Of half a mebibyte whose
-   imports begin two bytes apart in one text read_damage takes some twelve seconds.
+   some tens of libraries, take some tens of milliseconds where names are short, or the limit is at most 200. Of half
+   a mebibyte whose imports begin two bytes apart in one text read_damage takes some twelve seconds.
 
    goblin_pe_records.h has the records, the numbers in them and the default options, as the proved library
    declares them. What a later version adds to a record stands at its end. */
@@ -277,17 +278,18 @@ static inline bool goblin_pe_is_end(const struct goblin_pe_import_cursor *cursor
 /* Goes on with the walk over the imports of an image from `cursor`, zeros at the beginning: fills as many records as
    there is room for, says in `count` how many, and leaves in `cursor` where the next call goes on. The count 0
    without a refusal is the end, where there is room and no limit of steps; so it is of a file without imports, where
-   these are not asked for when the walk begins, and in permissive mode where their directory is an empty list there. The call ends after
-   so many `steps`, 0 for no limit, perhaps with the count 0: it is the end only where goblin_pe_is_end says so of
-   the cursor. With room for as many records as steps, a call takes all of them, but at the end. What gives no import
-   goblin_pe_read_damage counts: `unmapped_entries` in either mode, `left_out_libraries` and `left_out_entries` in
-   permissive mode. In strict mode the walk ends with a refusal where goblin_pe_open has one for its imports; what
-   comes before it is given first, and no law says on which bytes that depends. The cursor is the walk in numbers: it
-   may be kept, copied and sent. The sections and the tables lie at `places`, which goblin_pe_read_layout and
-   goblin_pe_open say, so no call reads the header again; other numbers there or in the cursor lead to other tables,
-   and harm nothing; flags are false or true. Refused is also a file that is too short for the records of its
-   sections. Memory is taken only for an index of more than 96 sections, which Windows does not load, and given back:
-   each call makes it anew, of 65,535 sections in some 25 milliseconds, so give room for thousands then. */
+   these are not asked for when the walk begins, and in permissive mode where their directory is an empty list there.
+   The call ends after so many `steps`, 0 for no limit, perhaps with the count 0: it is the end only where
+   goblin_pe_is_end says so of the cursor. With room for as many records as steps, a call takes all of them, but at
+   the end. What gives no import goblin_pe_read_damage counts: `unmapped_entries` in either mode, `left_out_libraries`
+   and `left_out_entries` in permissive mode. In strict mode the walk ends with a refusal where goblin_pe_open has one
+   for its imports; what comes before it is given first, and no law says on which bytes that depends. The cursor is
+   the walk in numbers: it may be kept, copied and sent. The sections and the tables lie at `places`, which
+   goblin_pe_read_layout and goblin_pe_open say, so no call reads the header again; other numbers there or in the
+   cursor lead to other tables, and harm nothing; flags are false or true. Refused is also a file that is too short
+   for the records of its sections. Memory is taken only for an index of more than 96 sections, which Windows does not
+   load, and given back: each call makes it anew, of 65,535 sections in some 25 milliseconds, so give room for
+   thousands then. */
 static inline struct goblin_pe_fault goblin_pe_next_imports(
     const uint8_t *bytes, size_t length, const struct goblin_pe_options *options, const struct goblin_pe_places *places,
     struct goblin_pe_import_cursor *cursor, struct goblin_pe_import *imports, size_t room, size_t steps, size_t *count)

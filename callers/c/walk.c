@@ -1,6 +1,6 @@
-/* Counts the imports and the exports of an image, in no more memory than the file's, and stops where there are too many,
-   or too many entries that give none: walk MOST FILE. It says how many of each there are, and whether there are more; the status is 1 where a refusal ends a
-   walk, as that of a read would, and 2 where the file can't be read. */
+/* Counts the imports and the exports of an image, in no more memory than the file's, and stops where there are too
+   many, or too many entries that give none: walk MOST FILE. It says how many of each there are, and whether there are
+   more; the status is 1 where a refusal ends a walk, as that of a read would, and 2 where the file can't be read. */
 #include "goblin_pe.h"
 
 #include <stdio.h>
