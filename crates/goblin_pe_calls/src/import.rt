@@ -26,6 +26,7 @@ use goblin_pe::import::{Bitfield, Imports, SyntheticImportLookupTableEntry, Walk
 use goblin_pe::{FileImports, Layout, Part, Result, ResultOf};
 use goblin_pe_records::room::make_room;
 use goblin_pe_sect::address_map::Finder;
+use goblin_pe_sect::data_directories::DataDirectoryType;
 use std::alloc::Global;
 
 /// An import.
@@ -106,9 +107,6 @@ pub fn put_import<'a>(place: &mut PeImport<'a>, bytes: &'a [u8], import: &Walked
         }
     }
 }
-
-// The index of the directory that all address tables are in.
-const IMPORT_ADDRESS_TABLE: usize = 12;
 
 // Adds the record of an import, for which there is room.
 #[inline(always)]
@@ -250,7 +248,8 @@ fn listed_records<'a, 'm>(
     match layout.imports()? {
         Part::Absent => Ok(Part::Absent),
         Part::Read(imports) => {
-            let tables = layout.places().directories[IMPORT_ADDRESS_TABLE].size;
+            let index = DataDirectoryType::ImportAddressTable as usize;
+            let tables = layout.places().directories[index].size;
             let records = file_records_of(alloc, layout.bytes(), imports, finder, tables)?;
             Ok(Part::Read(records))
         }
