@@ -12,7 +12,7 @@ ghost use Rattle.goblin_pe_records.specs.Relocations.{relocations_of};
 ghost use Rattle.goblin_pe_records.specs.Sections.{cut_names, section_view};
 ghost use Rattle.goblin_pe_records.specs.Images.{text_view};
 ghost use Rattle.goblin_pe_records.specs.Symbols.{FindsTables, NamesOfText, SaysSymbols};
-ghost use Rattle.goblin_pe_records.specs.Symbols.{SaysTable, SymbolRecords, found_table};
+ghost use Rattle.goblin_pe_records.specs.Symbols.{SaysTable, SymbolBatch, found_table};
 ghost use Rattle.goblin_pe_records.specs.Symbols.{named_symbol_view, symbol_said, symbol_tables};
 ghost use Rattle.goblin_pe_records.specs.Symbols.{tables_said, text_said};
 
@@ -144,13 +144,13 @@ pub extern "C" fn goblin_pe_raw_next_symbols<'a>(
     count: &mut usize,
 ) -> PeFault
     ensures given { let room = room_within steps (length records.old) in
-        let old : SymbolRecords =
-        record { position = position.old; records = take room records.old; count = count.old } in
-        let new : SymbolRecords =
-        record { position = position.new; records = take room records.new; count = count.new } in
+        let old : SymbolBatch =
+        record { position = position.old; records = take room records.old } in
+        let new : SymbolBatch =
+        record { position = position.new; records = take room records.new } in
         Reported result
-        (ReadsWithout (tables_said table.now) bytes.now (λ x. SaysSymbols table.now x old new)
-        (new ≡ old)) }
+        (ReadsWithout (tables_said table.now) bytes.now
+        (λ x. SaysSymbols table.now x old new count.new) ((new ≡ old) × (count.new ≡ count.old))) }
     ensures rest { let room = room_within steps (length records.old) in
         drop room records.new ≡ drop room records.old }
 {

@@ -13,9 +13,9 @@ ghost use Rattle.goblin_pe_calls.specs.Batches.{room_within};
 ghost use Rattle.goblin_pe_calls.specs.ExportDirectories.{directory_view};
 ghost use Rattle.goblin_pe_records.specs.Calls.{ReadsWithout, Reported};
 ghost use Rattle.goblin_pe_records.specs.Onward.{GivesOnward};
-ghost use Rattle.goblin_pe_records.specs.Relocations.{all_relocations};
+ghost use Rattle.goblin_pe_records.specs.Relocations.{RelocationBatch, all_relocations};
 ghost use Rattle.goblin_pe_records.specs.Sections.{section_view};
-ghost use Rattle.goblin_pe_records.specs.Words.{block_words};
+ghost use Rattle.goblin_pe_records.specs.Words.{WordBatch, block_words};
 
 use goblin_pe_calls::batch::{give, room_within};
 use goblin_pe_calls::export::PeExport;
@@ -219,11 +219,13 @@ pub extern "C" fn goblin_pe_raw_next_relocations(
     count: &mut usize,
 ) -> PeFault
     ensures given { let room = room_within steps (length records.old) in
+        let old : RelocationBatch =
+        record { position = position.old; records = take room records.old } in
+        let new : RelocationBatch =
+        record { position = position.new; records = take room records.new } in
         Reported result
         (ReadsWithout (all_relocations (section_view section.now)) bytes.now
-        (λ all. GivesOnward all position.old (take room records.old) position.new
-        (take room records.new) count.new)
-        ((position.new ≡ position.old) × (records.new ≡ records.old) × (count.new ≡ count.old))) }
+        (λ all. GivesOnward all old new count.new) ((new ≡ old) × (count.new ≡ count.old))) }
     ensures rest { let room = room_within steps (length records.old) in
         drop room records.new ≡ drop room records.old }
 {
@@ -243,8 +245,9 @@ pub extern "C" fn goblin_pe_raw_next_words(
     steps: usize,
 ) -> usize
     ensures given { let room = room_within steps (length words.old) in
-        GivesOnward (block_words block.now) position.old (take room words.old) position.new
-        (take room words.new) result }
+        let old : WordBatch = record { position = position.old; records = take room words.old } in
+        let new : WordBatch = record { position = position.new; records = take room words.new } in
+        GivesOnward (block_words block.now) old new result }
     ensures rest { let room = room_within steps (length words.old) in
         drop room words.new ≡ drop room words.old }
 {

@@ -1,7 +1,5 @@
 -- A loop that fills records with the blocks of a directory from an offset on.
-use Rattle.std.proofs.Common.{◌≡◌, ◌⊎◌, ℕ, ◌+◌, ◌-◌, ◌<◌, Bool, true, false, cond, nat_lt, IfErr, ◌≤◌, List, [], ◌∷◌, ◌++◌, length, map, set, take, ap, refl, subst, sym, arith, ◌∙◌, inl, inr, zero, suc, MatchResult, sum_by, Option, None, Some, Result, Ok, Err}
-use Rattle.std.proofs.Math.Seq.{take-append_seam}
-use Rattle.std.proofs.lemmas.List.{append_assoc, length-map, map-append}
+use Rattle.std.proofs.Common.{◌≡◌, ◌≢◌, ◌⊎◌, ℕ, ◌+◌, ◌-◌, ◌<◌, Bool, true, false, cond, nat_lt, IfErr, ◌≤◌, List, [], ◌∷◌, ◌++◌, length, set, take, ap, refl, subst, sym, arith, ◌∙◌, inl, inr, zero, suc, MatchResult, sum_by, Option, None, Some, Result, Ok, Err}
 use Rattle.std.proofs.lemmas.List.Sums.{sum_by_push}
 use Rattle.goblin_base.specs.declared.error.ErrorOf.{ErrorOf}
 use Rattle.goblin_base.specs.declared.endian.Endian.TheVariants.{Little}
@@ -11,7 +9,7 @@ use Rattle.goblin_base.specs.Answers.{IsMemory}
 use Rattle.goblin_base.specs.Bytes.{number, slice_at}
 use Rattle.goblin_pe_sect.specs.declared.relocation.base.RelocationBlock.{RelocationBlock}
 use Rattle.goblin_pe_sect.specs.declared.relocation.base.RelocationData.{RelocationData}
-use Rattle.goblin_pe_sect.specs.BaseRelocations.{Block, FindsItem, block_at, block_items, block_value, first_items, relocation_bytes, then_items, with_head, with_words}
+use Rattle.goblin_pe_sect.specs.BaseRelocations.{Block, FindsItem, block_at, block_value, first_items, relocation_bytes, then_items, with_head, with_words}
 use Rattle.goblin_pe.specs.Addresses.{MapOfAddresses}
 use Rattle.goblin_pe.specs.Whole.{TablePlaces, part_map, relocation_part}
 use Rattle.goblin_pe.specs.declared.whole.Part.{Part}
@@ -19,37 +17,10 @@ use Rattle.goblin_pe.specs.declared.whole.Part.TheVariants.{Absent, Refused}
 use Rattle.goblin_pe.specs.declared.whole.Part.TheVariants as part
 use Rattle.goblin_pe_records.specs.declared.block.PeBlock.{PeBlock}
 use Rattle.goblin_pe_records.specs.Blocks.{block_view}
-use Rattle.goblin_pe_records.specs.Items.{values_of}
-use Rattle.goblin_pe_calls.specs.Batches.{AtBatch, BlockBatch, FillsBlocks, GivesBlocks, IsBlocksFault, IsNextRefusal, items_from}
-use Rattle.goblin_pe_calls.proofs.Batches.{batch-end, batch-more, batch-start, left-after}
-
--- ---- blocks before a refusal
-
-values-all : {A : Type 0} (xs : List A) (items : List (Result A ErrorOf))
-    → values_of (map (λ x. Ok x) xs ++ items) ≡ xs ++ values_of items
-unfolding values_of
-values-all [] items = refl
-values-all {A} (x ∷ xs) items = ap (λ (ys : List A). x ∷ ys) (values-all xs items)
-
-values-end : {A : Type 0} (items : List (Result A ErrorOf)) → items ≡ [] → values_of items ≡ []
-unfolding values_of
-values-end items is = rw is refl
-
-values-refused : {A : Type 0} (items : List (Result A ErrorOf)) (e : ErrorOf) → items ≡ Err e ∷ []
-    → values_of items ≡ []
-unfolding values_of
-values-refused items e is = rw is refl
-
--- the very next is no refusal where a block came, or nothing comes
-none-next : {A : Type 0} (xs : List A) (items all : List (Result A ErrorOf)) (e : ErrorOf)
-    → all ≡ map (λ x. Ok x) xs ++ items → 0 < length xs → IsNextRefusal all e → ⊥
-none-next [] items all e is some h = omega (arith, some)
-none-next {A} (x ∷ xs) items all e is some h =
-    subst (λ (items : List (Result A ErrorOf)). IsNextRefusal items e) is h
-
-none-left : {A : Type 0} (items : List (Result A ErrorOf)) (e : ErrorOf) → items ≡ []
-    → IsNextRefusal items e → ⊥
-none-left {A} items e is h = subst (λ (items : List (Result A ErrorOf)). IsNextRefusal items e) is h
+use Rattle.goblin_pe_records.specs.Items.{without_causes}
+use Rattle.goblin_pe_records.specs.Onward.{IsRefusedNext, Table, values_before}
+use Rattle.goblin_pe_calls.specs.Batches.{BlockBatch, FillsBlocks, GivesBlocks, IsBlockCause, IsBlocksFault, block_table, blocks_from}
+use Rattle.goblin_pe_records.proofs.Batches.{AtItems, items-end, items-fault, items-full, items-more, items-refused, items-start, items-stay, items-taken, items-then}
 
 -- ---- a refusal is never Memory
 
@@ -75,26 +46,24 @@ block-other : (directory : List ℕ) (p : ℕ) → IsOther (block_at directory p
 unfolding block_at
 block-other directory p = head-other directory (p + 8) (slice_at directory p 8)
 
--- the first of these items is no refusal by Memory
-abbrev IsFirstOther : List (Result Block ErrorOf) → Type 0
-IsFirstOther [] = Unit {0}
-IsFirstOther (r ∷ items) = IsOther r
+-- why no block comes
+tested-cause : (t : Bool) (items : ℕ → List (Result Block ErrorOf)) (p : ℕ) (r : Result Block ErrorOf) (e : ErrorOf)
+    → cond t (then_items items p r) [] ≡ Err e ∷ [] → r ≡ Err e
+tested-cause false items p r e is = absurd (cc is)
+tested-cause true items p (Ok b) e is = absurd (cc is)
+tested-cause true items p (Err f) e is = cc is
 
-tested-other : (t : Bool) (items : ℕ → List (Result Block ErrorOf)) (p : ℕ) (r : Result Block ErrorOf)
-    → IsOther r → IsFirstOther (cond t (then_items items p r) [])
-tested-other false items p r other = tt
-tested-other true items p (Ok b) other = tt
-tested-other true items p (Err e) other = other
-
-first-other : (n : ℕ) (directory : List ℕ) (p : ℕ) → IsFirstOther (first_items n directory p)
+first-cause : (n : ℕ) (directory : List ℕ) (p : ℕ) (e : ErrorOf) → first_items n directory p ≡ Err e ∷ [] → block_at directory p ≡ Err e
 unfolding first_items
-first-other zero directory p = tt
-first-other (suc n) directory p =
-    tested-other (nat_lt p (length directory)) (first_items n directory) p (block_at directory p) (block-other directory p)
+first-cause zero directory p e is = absurd (cc is)
+first-cause (suc n) directory p e is =
+    tested-cause (nat_lt p (length directory)) (first_items n directory) p (block_at directory p) e is
+
+block-cause : (directory : List ℕ) (p : ℕ) (e : ErrorOf) → FindsItem directory p (Some (Err e)) → block_at directory p ≡ Err e
+block-cause directory p e is = first-cause (length directory - p) directory p e is
 
 pub item-other : (directory : List ℕ) (p : ℕ) (e : ErrorOf) → FindsItem directory p (Some (Err e)) → ¬ IsMemory e
-item-other directory p e is =
-    subst (λ (items : List (Result Block ErrorOf)). IsFirstOther items) is (first-other (length directory - p) directory p)
+item-other directory p e is = subst IsOther (block-cause directory p e is) (block-other directory p)
 
 -- ---- the loop
 
@@ -103,134 +72,94 @@ abbrev size_of : List Block → ℕ
 size_of blocks = sum_by (λ (b : Block). b.size) blocks
 
 module _ (directory : List ℕ) (from : ℕ) (old : List PeBlock) where
-  abbrev start : BlockBatch
-  start = record { position = from; records = old }
+  abbrev blocks : ℕ → List (Option Block)
+  blocks = blocks_from (part.Read directory)
 
-  -- The records hold the blocks that have come so far, and at the position come the others.
-  pub record AtBlocks (position : ℕ) (records : List PeBlock) (count : ℕ) : Type 0 where
-    pub values : List Block
-    pub at : AtBatch block_view (λ b. b) old values records count
-    pub left : block_items directory from ≡ map (λ b. Ok b) values ++ block_items directory position
-    pub moved : position ≡ from + size_of values
+  abbrev table : Table ℕ PeBlock Block Block
+  table = block_table (part.Read directory)
+
+  -- the records hold the blocks up to an offset
+  pub record AtBlocks (offset : ℕ) (records : List PeBlock) (count : ℕ) : Type 0 where
+    pub at : AtItems table blocks from from old offset offset records count
+    pub moved : offset ≡ from + size_of at.values
 
   pub blocks-start : AtBlocks from old 0
-  blocks-start = record {
-    values = [];
-    at = batch-start block_view (λ b. b) old;
-    left = refl;
-    moved = omega arith;
-  }
+  unfolding items-start
+  blocks-start = record { at = items-start table blocks from from old refl; moved = omega arith }
 
-  module _ (position : ℕ) (records : List PeBlock) (count : ℕ) (h : AtBlocks position records count)
-    where
-      pub blocks-more : (block : RelocationBlock) (r : PeBlock) (next : ℕ)
-          → FindsItem directory position (Some (Ok block)) → block_view r ≡ block_value block
-          → count < length records → next ≡ position + block.size
-          → AtBlocks next (set records count r) (count + 1)
-      blocks-more block r next found says within is =
-          let pushed : size_of (h.values ++ block_value block ∷ []) ≡ size_of h.values + block.size =
-          sum_by_push (λ (b : Block). b.size) h.values (block_value block) in
-          let moved = h.moved in
-          record {
-            values = h.values ++ block_value block ∷ [];
-            at = batch-more block_view (λ b. b) old h.values records count (block_value block) r h.at within says;
-            left = h.left ∙ ap (λ (items : List (Result Block ErrorOf)). map (λ b. Ok b) h.values ++ items) found
-                ∙ sym (append_assoc (map (λ b. Ok b) h.values) (Ok (block_value block) ∷ []) (block_items directory (position + block.size)))
-                ∙ ap (λ (items : List (Result Block ErrorOf)). items ++ block_items directory (position + block.size)) (sym (map-append (λ b. Ok b) h.values (block_value block ∷ [])))
-                ∙ ap (λ (p : ℕ). map (λ b. Ok b) (h.values ++ block_value block ∷ []) ++ block_items directory p) (sym is);
-            moved = omega (arith, is, pushed, moved);
-          }
+  module _ (offset : ℕ) (records : List PeBlock) (count : ℕ) (h : AtBlocks offset records count) where
+    pub blocks-more : (block : RelocationBlock) (r : PeBlock) (next : ℕ) → FindsItem directory offset (Some (Ok block)) → block_view r ≡ block_value block
+        → count < length records → next ≡ offset + block.size → AtBlocks next (set records count r) (count + 1)
+    unfolding items-more items-then
+    blocks-more block r next found says within is =
+        let pushed : size_of (h.at.values ++ block_value block ∷ []) ≡ size_of h.at.values + block.size =
+        sum_by_push (λ (b : Block). b.size) h.at.values (block_value block) in
+        let moved = h.moved in
+        rw is (record {
+          at = items-more table blocks from from old offset offset records count h.at (block_value block) (offset + block.size) (offset + block.size) r (ap without_causes found) within says refl;
+          moved = omega (arith, pushed, moved);
+        })
 
-      -- nothing is left, or no room
-      ended : values_of (block_items directory position) ≡ [] ⊎ (length old ≤ count)
-          → ((e : ErrorOf) → IsNextRefusal (block_items directory from) e → length old ≡ 0)
-          → FillsBlocks (block_items directory from) (block_items directory position) start (record { position = position; records = records }) count
-      ended end next =
-          let more = values_of (block_items directory position) in
-          let values = ap values_of h.left ∙ values-all h.values (block_items directory position) in
-          let front : take count (values_of (block_items directory from)) ≡ h.values =
-          ap (λ (blocks : List Block). take count blocks) values
-          ∙ ap (λ (n : ℕ). take n (h.values ++ more)) (sym h.at.counted) ∙ take-append_seam h.values more in
-          record {
-            batch = batch-end block_view (λ b. b) old h.values more (values_of (block_items directory from)) records count h.at values
-                (elim end [ inl none ↦ inr none | inr full ↦ inl full ]);
-            rest = left-after (map (λ b. Ok b) h.values) (block_items directory position) (block_items directory from) count (length-map h.values (λ b. Ok b) ∙ h.at.counted) h.left;
-            next = next;
-            position = h.moved ∙ ap (λ (blocks : List Block). from + size_of blocks) (sym front);
-          }
+    -- how far the position has moved
+    moves : offset ≡ from + size_of (take count (values_before (blocks from)))
+    moves = h.moved ∙ ap (λ (values : List Block). from + size_of values) (sym (items-taken table blocks from from old offset offset records count h.at))
 
-      pub blocks-end : FindsItem directory position None
-          → FillsBlocks (block_items directory from) (block_items directory position) start (record { position = position; records = records }) count
-      blocks-end none = ended (inl (values-end _ none)) (λ e refused. absurd (never h.values refl e refused))
-        where
-          never : (values : List Block) → h.values ≡ values → (e : ErrorOf) → IsNextRefusal (block_items directory from) e → ⊥
-          never [] is e refused = none-left (block_items directory from) e (h.left ∙ ap (λ (xs : List Block). map (λ b. Ok b) xs ++ block_items directory position) is ∙ none) refused
-          never (x ∷ xs) is e refused = none-next h.values (block_items directory position) (block_items directory from) e h.left (let counted = ap length is in omega (arith, counted)) refused
+    abbrev Given : Type 0
+    Given = FillsBlocks (part.Read directory) (record { position = from; records = old }) (record { position = offset; records = records }) count
 
-      pub blocks-refused : (e : ErrorOf) → FindsItem directory position (Some (Err e)) → 0 < count
-          → FillsBlocks (block_items directory from) (block_items directory position) start (record { position = position; records = records }) count
-      blocks-refused e is some =
-          let counted = h.at.counted in
-          ended (inl (values-refused _ e is))
-          (λ f refused. absurd (none-next h.values (block_items directory position) (block_items directory from) f h.left (omega (arith, some, counted)) refused))
+    pub blocks-end : FindsItem directory offset None → Given
+    blocks-end none = (
+      items-end table blocks from from old offset offset records count h.at ⊥ offset (ap without_causes none)
+          (ap (λ (items : List (Result Block ErrorOf)). Some (without_causes items)) none) (items-stay table blocks from from old offset offset records count h.at),
+      moves,
+    )
 
-      pub blocks-full : length records ≤ count
-          → FillsBlocks (block_items directory from) (block_items directory position) start (record { position = position; records = records }) count
-      blocks-full full =
-          let counted = h.at.counted in
-          let same = h.at.same in
-          ended (inr (omega (arith, full, same))) (empty count refl)
-        where
-          empty : (n : ℕ) → count ≡ n → (e : ErrorOf) → IsNextRefusal (block_items directory from) e → length old ≡ 0
-          empty zero is e refused = let same = h.at.same in omega (arith, full, same, is)
-          empty (suc n) is e refused = let counted = h.at.counted in absurd (none-next h.values (block_items directory position) (block_items directory from) e h.left (omega (arith, is, counted)) refused)
+    pub blocks-full : length records ≤ count → Given
+    blocks-full full = (items-full table blocks from from old offset offset records count h.at ⊥ full, moves)
+
+    module _ (e : ErrorOf) (is : FindsItem directory offset (Some (Err e))) where
+      pub blocks-refused : count ≢ 0 → Given
+      blocks-refused some = (items-refused table blocks from from old offset offset records count h.at ⊥ (ap without_causes is) some, moves)
+
+      pub blocks-fault : count ≡ 0 → count < length records → (p : ℕ) → p ≡ from
+          → IsRefusedNext (blocks from) × IsBlockCause from (part.Read directory) e × (0 < length old)
+          × (◌≡◌ {A = BlockBatch} (record { position = p; records = records }) (record { position = from; records = old }))
+      blocks-fault none within p same =
+          let fault = items-fault table blocks from from old offset offset records count h.at (ap without_causes is) none within in (
+            fault.0,
+            subst (λ (x : ℕ). IsBlockCause x (part.Read directory) e) fault.2 (block-cause directory offset e is),
+            fault.1,
+            rw (same, fault.4) refl,
+          )
 
 -- ---- in a file
 
 module _ (m : MapOfAddresses) (places : TablePlaces) (bytes : List ℕ) (found : Part RelocationData)
-    (read : (relocation_part m.opts m.addressing places).value bytes ≡ Some (part_map relocation_bytes found)) where
-  module _ (x y : ℕ) (old new : List PeBlock) (count : ℕ) where
-    -- where the directory was read
-    pub blocks-given : (relocations : RelocationData) → found ≡ part.Read relocations
-        → FillsBlocks (block_items (relocation_bytes relocations) x) (block_items (relocation_bytes relocations) y) (record { position = x; records = old }) (record { position = y; records = new }) count
-        → GivesBlocks m places bytes 0 (record { position = x; records = old }) (record { position = y; records = new }) count
-    blocks-given relocations is fills =
-        rw (read ∙ ap (λ (p : Part RelocationData). Some (part_map relocation_bytes p)) is) fills
+    (read : (relocation_part m.opts m.addressing places).value bytes ≡ Some (part_map relocation_bytes found)) (old new : BlockBatch) where
+  -- where the directory was read
+  pub blocks-answered : (relocations : RelocationData) → found ≡ part.Read relocations → (result : Result ℕ ErrorOf)
+      → MatchResult result (FillsBlocks (part.Read (relocation_bytes relocations)) old new)
+      (λ e. IsRefusedNext (blocks_from (part.Read (relocation_bytes relocations)) old.position) × IsBlockCause old.position (part.Read (relocation_bytes relocations)) e
+      × (0 < length old.records) × (new ≡ old))
+      → MatchResult result (GivesBlocks m places bytes 0 old new) (λ e. IsBlocksFault m places bytes old e × (new ≡ old))
+  blocks-answered relocations is (Ok count) fills = rw (read ∙ ap (λ (p : Part RelocationData). Some (part_map relocation_bytes p)) is) fills
+  blocks-answered relocations is (Err e) fault =
+      (rw (read ∙ ap (λ (p : Part RelocationData). Some (part_map relocation_bytes p)) is) (fault.2, fault.0, fault.1), fault.3)
 
-  module _ (x : ℕ) (old : List PeBlock) where
-    nothing : (p : Part (List ℕ)) → items_from x p ≡ [] → (relocation_part m.opts m.addressing places).value bytes ≡ Some p
-        → GivesBlocks m places bytes 0 (record { position = x; records = old }) (record { position = x; records = old }) 0
-    nothing p none is =
-        let values = values-end (items_from x p) none in
-        rw is (record {
-          batch = batch-end block_view (λ b. b) old [] [] (values_of (items_from x p)) old 0 (batch-start block_view (λ b. b) old) values (inr refl);
-          rest = refl;
-          next = λ e refused. absurd (none-left (items_from x p) e none refused);
-          position = omega arith;
-        })
-
-    pub blocks-none : (found ≡ Absent) ⊎ (found ≡ Refused)
-        → GivesBlocks m places bytes 0 (record { position = x; records = old }) (record { position = x; records = old }) 0
-    blocks-none (inl none) = nothing Absent refl (read ∙ ap (λ (p : Part RelocationData). Some (part_map relocation_bytes p)) none)
-    blocks-none (inr none) = nothing Refused refl (read ∙ ap (λ (p : Part RelocationData). Some (part_map relocation_bytes p)) none)
-
-    -- where it is refused right there
-    pub blocks-fault : (relocations : RelocationData) → found ≡ part.Read relocations → (e : ErrorOf) → 0 < length old
-        → IsNextRefusal (block_items (relocation_bytes relocations) x) e
-        → IsBlocksFault m places bytes (record { position = x; records = old }) e
-    blocks-fault relocations is e some refused =
-        rw (read ∙ ap (λ (p : Part RelocationData). Some (part_map relocation_bytes p)) is) (some, refused)
-
--- what is answered where the directory was read
-pub blocks-answered : (m : MapOfAddresses) (places : TablePlaces) (bytes : List ℕ) (found : Part RelocationData)
-    → (relocation_part m.opts m.addressing places).value bytes ≡ Some (part_map relocation_bytes found)
-    → (x y : ℕ) (old new : List PeBlock) (relocations : RelocationData) → found ≡ part.Read relocations
-    → (result : Result ℕ ErrorOf)
-    → MatchResult result (FillsBlocks (block_items (relocation_bytes relocations) x) (block_items (relocation_bytes relocations) y) (record { position = x; records = old }) (record { position = y; records = new }))
-    (λ e. (0 < length old) × IsNextRefusal (block_items (relocation_bytes relocations) x) e × (◌≡◌ {A = BlockBatch} (record { position = y; records = new }) (record { position = x; records = old })))
-    → MatchResult result (GivesBlocks m places bytes 0 (record { position = x; records = old }) (record { position = y; records = new }))
-    (λ e. IsBlocksFault m places bytes (record { position = x; records = old }) e × (◌≡◌ {A = BlockBatch} (record { position = y; records = new }) (record { position = x; records = old })))
-blocks-answered m places bytes found read x y old new relocations is (Ok count) fills =
-    blocks-given m places bytes found read x y old new count relocations is fills
-blocks-answered m places bytes found read x y old new relocations is (Err e) refused =
-    (blocks-fault m places bytes found read x old relocations is e refused.0 refused.1, refused.2)
+-- where there are none
+pub blocks-none : (m : MapOfAddresses) (places : TablePlaces) (bytes : List ℕ) (found : Part RelocationData)
+    → (relocation_part m.opts m.addressing places).value bytes ≡ Some (part_map relocation_bytes found) → (found ≡ Absent) ⊎ (found ≡ Refused)
+    → (x : ℕ) (old : List PeBlock) → GivesBlocks m places bytes 0 (record { position = x; records = old }) (record { position = x; records = old }) 0
+blocks-none m places bytes found read none x old =
+    elim none [
+      | inl is ↦ rw (read ∙ ap (λ (p : Part RelocationData). Some (part_map relocation_bytes p)) is) (nothing Absent (λ y. refl) x old)
+      | inr is ↦ rw (read ∙ ap (λ (p : Part RelocationData). Some (part_map relocation_bytes p)) is) (nothing Refused (λ y. refl) x old)
+    ]
+  where
+    nothing : (p : Part (List ℕ)) → ((y : ℕ) → blocks_from p y ≡ []) → (x : ℕ) (old : List PeBlock)
+        → FillsBlocks p (record { position = x; records = old }) (record { position = x; records = old }) 0
+    nothing p none x old = (
+      items-end (block_table p) (blocks_from p) x x old x x old 0 (items-start (block_table p) (blocks_from p) x x old refl) ⊥ x (none x)
+          (ap (λ (items : List (Option Block)). Some items) (none x)) (λ room. refl),
+      omega arith,
+    )

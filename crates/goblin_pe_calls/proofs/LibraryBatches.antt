@@ -1,5 +1,5 @@
 -- A loop that fills records with the libraries of a file from a position on.
-use Rattle.std.proofs.Common.{◌≡◌, ℕ, List, [], ap, sym, subst, refl, ◌∙◌, ◌<◌, length, Option, Some, IsSomeAnd, MatchResult, Result, Ok, Err, option_map}
+use Rattle.std.proofs.Common.{◌≡◌, ◌≢◌, ℕ, ◌+◌, List, [], ap, arith, inl, inr, sym, subst, refl, ◌∙◌, ◌<◌, ◌≤◌, length, set, Option, None, Some, Ok, Err, option_map}
 use Rattle.goblin_pe_import.specs.declared.import.imports.ImportCursor.{ImportCursor}
 use Rattle.goblin_pe_import.specs.declared.import.library_walk.Libraries.{Libraries}
 use Rattle.goblin_pe_import.specs.ImportEntries.{EntryValue}
@@ -7,14 +7,15 @@ use Rattle.goblin_base.specs.Tables.{Format}
 use Rattle.goblin_base.specs.declared.error.ErrorOf.{ErrorOf}
 use Rattle.goblin_pe.specs.Addresses.{MapOfAddresses}
 use Rattle.goblin_pe.specs.ImportWalks.{no_imports}
-use Rattle.goblin_pe.specs.Libraries.{AreLibrariesOver, IsCursorEndCause, IsLibrariesCause, LibraryValue, cursor_libraries, libraries_bytes, libraries_cursor, libraries_format, libraries_left, libraries_map, libraries_next}
+use Rattle.goblin_pe.specs.Libraries.{AreLibrariesOver, GivesNextLibrary, IsCursorEndCause, IsLibrariesCause, LibraryValue, cursor_libraries, libraries_bytes, libraries_cursor, libraries_format, libraries_left, libraries_map, libraries_next, library_value}
 use Rattle.goblin_pe.specs.Whole.{TablePlaces, entry_format}
 use Rattle.goblin_pe_calls.specs.declared.next.PeImportCursor.{PeImportCursor}
-use Rattle.goblin_pe_calls.specs.Batches.{IsRefusedNext, cursor_numbers, import_cursor}
-use Rattle.goblin_pe_calls.specs.CursorBatches.{FillsFrom}
-use Rattle.goblin_pe_calls.specs.Libraries.{FillsLibraries, IsLibrariesFault, LibraryBatch, libraries_from_position, library_said, library_view}
+use Rattle.goblin_pe_calls.specs.Batches.{cursor_numbers, import_cursor}
+use Rattle.goblin_pe_calls.specs.Libraries.{FillsLibraries, LibraryBatch, library_said, library_table, library_view}
+use Rattle.goblin_pe_records.specs.Onward.{EndsAt, FillsFrom, IsRefusedNext}
+use Rattle.goblin_pe_import.specs.declared.import.library_walk.WalkedLibrary.{WalkedLibrary}
 use Rattle.goblin_pe_calls.specs.declared.library.PeLibrary.{PeLibrary}
-use Rattle.goblin_pe_calls.proofs.CursorBatches.{AtCursor}
+use Rattle.goblin_pe_records.proofs.Batches.{AtItems, gives-from, items-end, items-fault, items-full, items-more, items-refused, items-start, items-unended}
 use Rattle.goblin_pe_calls.proofs.ImportBatches.{said-again}
 
 module _ (m : MapOfAddresses) (places : TablePlaces) (bytes : List ℕ) where
@@ -32,26 +33,26 @@ module _ (m : MapOfAddresses) (places : TablePlaces) (bytes : List ℕ) where
 
   -- at the numbers of a cursor
   at-numbers : (p : PeImportCursor) (c : ImportCursor) → p ≡ cursor_numbers c
-      → libraries_from_position m places bytes p ≡ Some (comes c)
+      → (library_table m places bytes).from p ≡ Some (comes c)
   at-numbers p c numbers =
-      ap (libraries_from_position m places bytes) numbers
+      ap (library_table m places bytes).from numbers
       ∙ ap (λ (at : ImportCursor). Some (comes at)) (said-again c)
 
   pub goes-on : (p : PeImportCursor) (it : Libraries) → AreLibrariesOver m (entry_format places.magic) bytes it
-      → p ≡ cursor_numbers (libraries_cursor it) → libraries_from_position m places bytes p ≡ Some (libraries_left it)
+      → p ≡ cursor_numbers (libraries_cursor it) → (library_table m places bytes).from p ≡ Some (libraries_left it)
   goes-on p it over numbers =
       at-numbers p (libraries_cursor it) numbers
       ∙ ap (λ (items : List (Option LibraryValue)). Some items) (sym (left-at it (libraries_cursor it) over refl))
 
   -- nothing comes at the end
-  pub none-at_end : (p : PeImportCursor) → p ≡ cursor_numbers no_imports → libraries_from_position m places bytes p ≡ Some []
+  pub none-at_end : (p : PeImportCursor) → p ≡ cursor_numbers no_imports → (library_table m places bytes).from p ≡ Some []
   unfolding libraries_next
   none-at_end p numbers = at-numbers p no_imports numbers
 
   -- where a batch begins
   pub begins-at : (p : PeImportCursor) (c : ImportCursor) (it : Libraries) → (import_cursor m places p).value bytes ≡ Some c
       → AreLibrariesOver m (entry_format places.magic) bytes it → libraries_cursor it ≡ c
-      → libraries_from_position m places bytes p ≡ Some (libraries_left it)
+      → (library_table m places bytes).from p ≡ Some (libraries_left it)
   begins-at p c it is over at =
       ap (option_map comes) is ∙ ap (λ (items : List (Option LibraryValue)). Some items) (sym (left-at it c over at))
 
@@ -71,44 +72,61 @@ module _ (m : MapOfAddresses) (places : TablePlaces) (bytes : List ℕ) (start :
   -- the records hold the libraries that have come so far
   abbrev pub AtLibraries : Libraries → PeImportCursor → List PeLibrary → ℕ → Type 0
   AtLibraries now p records count =
-      AtCursor library_view library_said (libraries_from_position m places bytes) (cursor_numbers no_imports) libraries_left IsLibrariesCause
-      start at old now p records count
-      × AreLibrariesOver m (entry_format places.magic) bytes now
+      AtItems (library_table m places bytes) libraries_left start at old now p records count × AreLibrariesOver m (entry_format places.magic) bytes now
 
-  -- what is filled from the walk is filled from there
-  pub gives-left : (new : LibraryBatch) (count : ℕ) → libraries_from_position m places bytes at ≡ Some (libraries_left start)
-      → FillsFrom library_view library_said (libraries_from_position m places bytes) (cursor_numbers no_imports) (libraries_left start)
-      (record { position = at; records = old }) new count
-      → FillsLibraries m places bytes (record { position = at; records = old }) new count
-  gives-left new count left fills =
-      subst
-      (λ (all : Option (List (Option LibraryValue))). IsSomeAnd all (λ left.
-      FillsFrom library_view library_said (libraries_from_position m places bytes) (cursor_numbers no_imports) left
-      (record { position = at; records = old }) new count))
-      (sym left) fills
+  module _ (begins : (library_table m places bytes).from at ≡ Some (libraries_left start)) where
+    pub libraries-start : AreLibrariesOver m (entry_format places.magic) bytes start → AtLibraries start at old 0
+    libraries-start over = (items-start (library_table m places bytes) libraries_left start at old begins, over)
 
--- ---- a batch
+    module _ (now : Libraries) (p : PeImportCursor) (records : List PeLibrary) (count : ℕ) (h : AtLibraries now p records count) where
+      pub libraries-more : (x : WalkedLibrary) (next : Libraries) (q : PeImportCursor) (r : PeLibrary) → GivesNextLibrary now (Some (Ok x)) next
+          → q ≡ cursor_numbers (libraries_cursor next) → count < length records → library_view r ≡ library_said (library_value x)
+          → AtLibraries next q (set records count r) (count + 1)
+      libraries-more x next q r given numbers within says =
+          let over = over-next m (entry_format places.magic) bytes now next h.1 given.2 in (
+            items-more (library_table m places bytes) libraries_left start at old now p records count h.0 (library_value x) next q r given.0.0 within says
+                (goes-on m places bytes q next over numbers),
+            over,
+          )
 
-module _ (m : MapOfAddresses) (places : TablePlaces) (bytes : List ℕ) (old new : LibraryBatch) (start : Libraries) (c : ImportCursor)
-    (at : (import_cursor m places old.position).value bytes ≡ Some c)
-    (over : AreLibrariesOver m (entry_format places.magic) bytes start) (there : libraries_cursor start ≡ c) where
-  -- a cause of the walk is one of what comes at its cursor
-  end-cause : (e : ErrorOf) → IsLibrariesCause start e → IsCursorEndCause m bytes c e
-  end-cause e fault =
-      subst (λ (k : MapOfAddresses). IsCursorEndCause k bytes c e) over.map_is
-      (subst (λ (b : List ℕ). IsCursorEndCause (libraries_map start) b c e) over.bytes_are
-      (subst (λ (c : ImportCursor). IsCursorEndCause (libraries_map start) (libraries_bytes start) c e) there fault))
+      -- what a batch has given that ends now
+      given-now : (q : PeImportCursor) → FillsFrom (library_table m places bytes) ⊥ (libraries_left start) (record { position = at; records = old }) (record { position = q; records = records }) count
+          → EndsAt (cursor_numbers no_imports) (record { position = at; records = old }) (record { position = q; records = records }) count (libraries_left start)
+          → FillsLibraries m places bytes (record { position = at; records = old }) (record { position = q; records = records }) count
+      given-now q fills ends =
+          gives-from (library_table m places bytes) ⊥ (EndsAt (cursor_numbers no_imports) (record { position = at; records = old }) (record { position = q; records = records }) count)
+          (libraries_left start) (record { position = at; records = old }) (record { position = q; records = records }) count begins fills ends
 
-  pub filled-from : (r : Result ℕ ErrorOf)
-      → MatchResult r (FillsLibraries m places bytes old new)
-      (λ e. IsRefusedNext (libraries_left start) × IsLibrariesCause start e × (0 < length old.records) × (new ≡ old))
-      → MatchResult r (FillsLibraries m places bytes old new) (λ e. IsLibrariesFault m places bytes old e × (new ≡ old))
-  filled-from (Ok count) given = given
-  filled-from (Err e) given = (
-    rw at (
-      given.2,
-      subst (λ (items : List (Option LibraryValue)). IsRefusedNext items) (left-at m places bytes start c over there) given.0,
-      end-cause e given.1,
-    ),
-    given.3,
-  )
+      pub libraries-full : length records ≤ count → FillsLibraries m places bytes (record { position = at; records = old }) (record { position = p; records = records }) count
+      libraries-full full =
+          given-now p (items-full (library_table m places bytes) libraries_left start at old now p records count h.0 ⊥ full)
+          (items-unended (library_table m places bytes) libraries_left start at old now p records count h.0 (cursor_numbers no_imports) p (inl full))
+
+      pub libraries-end : (next : Libraries) (q : PeImportCursor) → GivesNextLibrary now None next → q ≡ cursor_numbers no_imports → count < length records
+          → FillsLibraries m places bytes (record { position = at; records = old }) (record { position = q; records = records }) count
+      libraries-end next q given numbers within =
+          given-now q
+          (items-end (library_table m places bytes) libraries_left start at old now p records count h.0 ⊥ q given.0.0 (none-at_end m places bytes q numbers)
+          (λ none. absurd (let same = h.0.held.same in omega (arith, none, same, within))))
+          (λ is. numbers)
+
+      module _ (e : ErrorOf) (next : Libraries) (given : GivesNextLibrary now (Some (Err e)) next) where
+        pub libraries-refused : count ≢ 0 → FillsLibraries m places bytes (record { position = at; records = old }) (record { position = p; records = records }) count
+        libraries-refused some =
+            given-now p (items-refused (library_table m places bytes) libraries_left start at old now p records count h.0 ⊥ given.0.0 some)
+            (items-unended (library_table m places bytes) libraries_left start at old now p records count h.0 (cursor_numbers no_imports) p (inr given.0.0))
+
+        pub libraries-fault : count ≡ 0 → count < length records
+            → IsRefusedNext (libraries_left start) × IsLibrariesCause start e × (0 < length old)
+            × (◌≡◌ {A = LibraryBatch} (record { position = p; records = records }) (record { position = at; records = old }))
+        libraries-fault none within =
+            let fault = items-fault (library_table m places bytes) libraries_left start at old now p records count h.0 given.0.0 none within in
+            (fault.0, subst (λ (w : Libraries). IsLibrariesCause w e) fault.2 given.0.2, fault.1, rw (fault.3, fault.4) refl)
+
+-- a cause of the walk is one of what comes at its cursor
+pub end-cause : (m : MapOfAddresses) (format : Format EntryValue) (bytes : List ℕ) (start : Libraries) (c : ImportCursor) → AreLibrariesOver m format bytes start
+    → libraries_cursor start ≡ c → (e : ErrorOf) → IsLibrariesCause start e → IsCursorEndCause m bytes c e
+end-cause m format bytes start c over there e fault =
+    subst (λ (k : MapOfAddresses). IsCursorEndCause k bytes c e) over.map_is
+    (subst (λ (b : List ℕ). IsCursorEndCause (libraries_map start) b c e) over.bytes_are
+    (subst (λ (c : ImportCursor). IsCursorEndCause (libraries_map start) (libraries_bytes start) c e) there fault))

@@ -1,17 +1,18 @@
--- Batches: as many records of what comes from a position on as there is room for.
-use Rattle.std.specs.Prelude.{◌≡◌, ◌≢◌, ◌⊎◌, ℕ, zero, suc, ◌<◌, ◌≤◌, ⊤, true, if◌then◌else◌, List}
-use Rattle.std.specs.Prelude.{[], ◌∷◌}
+-- What comes in batches of each table of a file.
+use Rattle.std.specs.Prelude.{◌≡◌, ◌≢◌, ◌⊎◌, ℕ, zero, suc, ◌≤◌, true, if◌then◌else◌, List}
+use Rattle.std.specs.Prelude.{[]}
 use Rattle.std.specs.Prelude.{◌+◌, ◌++◌, map, drop, take, length, max, min, Option, Some, None}
 use Rattle.std.specs.Prelude.{Bool, is_some, option_map, Result, Ok, Err, IsSomeAnd, sum_by, unwrap_or}
 use Rattle.goblin_base.specs.declared.error.ErrorOf.{ErrorOf}
 use Rattle.goblin_base.specs.Answers.{FirstFault, IsMemory}
 use Rattle.goblin_base.specs.Reading.{IsRefused, Reading}
-use Rattle.goblin_pe_sect.specs.BaseRelocations.{Block, block_items}
+use Rattle.goblin_pe_sect.specs.BaseRelocations.{Block, block_at, block_items}
 use Rattle.goblin_pe_import.specs.ImportLookup.{entries_32, entries_64}
 use Rattle.goblin_pe_import.specs.declared.import.imports.ImportCursor.{ImportCursor}
 use Rattle.goblin_pe.specs.Addresses.{MapOfAddresses}
 use Rattle.goblin_pe.specs.ExportRecords.{ExportTables}
-use Rattle.goblin_pe.specs.ExportWalks.{NumberedExport, numbered_from}
+use Rattle.goblin_pe.specs.ExportWalks.{NumberedExport, exports_left, numbered_from}
+use Rattle.goblin_pe_export.specs.declared.export.exports.Exports.{Exports}
 use Rattle.goblin_pe.specs.Imports.{NumberedImport}
 use Rattle.goblin_pe.specs.ImportWalks.{no_imports}
 use Rattle.goblin_pe.specs.LayoutCursors.{IsFileCursorCause, IsImportWalk, file_cursor_left}
@@ -31,53 +32,16 @@ use Rattle.goblin_pe_calls.specs.declared.import.PeImport.{PeImport}
 use Rattle.goblin_pe_calls.specs.declared.next.PeImportCursor.{PeImportCursor}
 use Rattle.goblin_pe_calls.specs.ExportDirectories.{DirectorySaid, address_said, directory_said}
 use Rattle.goblin_pe_calls.specs.ExportDirectories.{no_export_directory}
-use Rattle.goblin_pe_calls.specs.Exports.{export_said, export_view}
-use Rattle.goblin_pe_calls.specs.Imports.{GivesHere, import_said, import_view}
+use Rattle.goblin_pe_calls.specs.Exports.{ExportSaid, export_said, export_view}
+use Rattle.goblin_pe_calls.specs.Imports.{GivesHere, ImportSaid, import_said, import_view}
 use Rattle.goblin_pe_calls.specs.Places.{TakesIndexAt, map_at, placed_sections, places_said}
 use Rattle.goblin_pe_records.specs.Blocks.{block_view}
-use Rattle.goblin_pe_records.specs.Filled.{Filled}
-use Rattle.goblin_pe_records.specs.Items.{values_of}
-use Rattle.goblin_pe_records.specs.Onward.{GivesOnward}
+use Rattle.goblin_pe_records.specs.Items.{without_causes}
+use Rattle.goblin_pe_records.specs.Onward.{AtBatch, Batch, EndsAt, GivesFrom, GivesOnward}
+use Rattle.goblin_pe_records.specs.Onward.{IsNextFault, Table, unrefused, values_before}
 use Rattle.goblin_pe_records.specs.declared.block.PeBlock.{PeBlock}
 use Rattle.goblin_pe_records.specs.declared.options.PeOptions.{PeOptions}
 use Rattle.goblin_pe_records.specs.declared.places.PePlaces.{PePlaces}
-
--- ---- what a batch holds
-
--- what a caller passes, to be gone on with
-pub record Batch (P R : Type 0) : Type 0 where
-  pub position : P
-  pub records : List R
-
--- the values up to the first refusal
-unfoldable pub values_before : {A : Type 0} → List (Option A) → List A
-values_before [] = []
-values_before (Some x ∷ items) = x ∷ values_before items
-values_before (None ∷ items) = []
-
--- the very next is a refusal
-abbrev pub IsRefusedNext : {A : Type 0} → List (Option A) → Type 0
-IsRefusedNext [] = ⊥
-IsRefusedNext (Some x ∷ items) = ⊥
-IsRefusedNext (None ∷ items) = ⊤
-
--- nothing is left, and there is room for more
-abbrev pub IsEnd : {A R : Type 0} → List A → List R → ℕ → Type 0
-IsEnd left records count = (drop count left ≡ []) × (count < length records)
-
--- The records hold what comes next, as far as there is room, and the others are the caller's own.
-pub record IsBatch {R A B : Type 0} (view : R → B) (said : A → B) (next : List A)
-    (old new : List R) (count : ℕ) : Type 0 where
-  pub counted : count ≡ min (length old) (length next)
-  pub filled : Filled view (map said (take count next)) old new
-
--- The records hold these values so far.
-pub record AtBatch {R A B : Type 0} (view : R → B) (said : A → B) (old : List R) (values : List A)
-    (records : List R) (count : ℕ) : Type 0 where
-  pub counted : length values ≡ count
-  pub filled : Filled view (map said values) old records
-  pub same : length records ≡ length old
-  pub fits : count ≤ length old
 
 -- ---- a limit of steps
 
@@ -144,11 +108,14 @@ abbrev pub import_cursor : MapOfAddresses → TablePlaces → PeImportCursor →
 import_cursor m places p =
     pick p.is_begun (given (cursor_said p)) (import_begin m.opts m.addressing places)
 
--- the imports of a file from a position on
-abbrev pub imports_from_position : MapOfAddresses → TablePlaces → List ℕ → PeImportCursor
-    → Option (List (Option NumberedImport))
-imports_from_position m places bytes p =
-    option_map (file_cursor_left m places.magic bytes) ((import_cursor m places p).value bytes)
+-- the imports of a file
+abbrev pub import_table : MapOfAddresses → TablePlaces → List ℕ
+    → Table PeImportCursor PeImport NumberedImport ImportSaid
+import_table m places bytes = record {
+  view = import_view;
+  said = import_said;
+  from = λ p. option_map (file_cursor_left m places.magic bytes) ((import_cursor m places p).value bytes);
+}
 
 abbrev pub ImportBatch : Type 0
 ImportBatch = Batch PeImportCursor PeImport
@@ -158,43 +125,21 @@ abbrev pub position_ahead : MapOfAddresses → TablePlaces → List ℕ → PeIm
 position_ahead m places bytes p =
     amount_of (file_cursor_ahead m places.magic bytes) ((import_cursor m places p).value bytes)
 
--- There is room for nothing more, or all is given up to a refusal; the very next is no refusal, if
--- there is room for any. Where nothing is left, and there is room for more, the new position is the
--- end.
-abbrev pub IsWhole : List (Option NumberedImport) → ImportBatch → ImportBatch → ℕ → Type 0
-IsWhole left old new count =
-    (count ≡ min (length old.records) (length (values_before left)))
-    × (IsRefusedNext left → length old.records ≡ 0)
-    × (IsEnd left old.records count → new.position ≡ cursor_numbers no_imports)
-
--- Of these that are left the records hold those that come first, and from the new position on come
--- the others; without room the position stays. If more would come, the steps have run out.
-pub record FillsImports (m : MapOfAddresses) (places : TablePlaces) (bytes : List ℕ) (steps : ℕ)
-    (left : List (Option NumberedImport)) (old new : ImportBatch) (count : ℕ) : Type 0 where
-  pub batch : IsBatch import_view import_said (take count (values_before left)) old.records
-      new.records count
-  pub later : imports_from_position m places bytes new.position ≡ Some (drop count left)
-  pub whole : IsOutOfSteps steps (position_ahead m places bytes old.position)
-      (position_ahead m places bytes new.position)
-      ⊎ IsWhole left old new count
-  pub stays : length old.records ≡ 0 → new.position ≡ old.position
-  pub looked : KeepsSteps (length bytes) steps (position_ahead m places bytes old.position)
-      (position_ahead m places bytes new.position)
-
+-- A batch ends where the steps have run out, or is told to be the end.
 abbrev pub GivesImports : MapOfAddresses → TablePlaces → List ℕ → ℕ → ImportBatch → ImportBatch → ℕ
     → Type 0
 GivesImports m places bytes steps old new count =
-    IsSomeAnd (imports_from_position m places bytes old.position) (λ left.
-    FillsImports m places bytes steps left old new count)
+    let before = position_ahead m places bytes old.position in
+    let after = position_ahead m places bytes new.position in
+    GivesFrom (import_table m places bytes) (IsOutOfSteps steps before after)
+    (λ left. KeepsSteps (length bytes) steps before after
+    × (IsOutOfSteps steps before after ⊎ EndsAt (cursor_numbers no_imports) old new count left)) old new
+    count
 
--- Where the imports begin is refused, or else the very next import, and there is room for it.
 abbrev pub IsImportsFault : MapOfAddresses → TablePlaces → List ℕ → ImportBatch → ErrorOf → Type 0
 IsImportsFault m places bytes old e =
-    let at = import_cursor m places old.position in
-    FirstFault (at.value bytes) (at.IsCause bytes)
-    (λ c e. (0 < length old.records)
-    × IsRefusedNext (file_cursor_left m places.magic bytes c)
-    × IsFileCursorCause m places.magic bytes c e) e
+    IsNextFault (import_cursor m places old.position) bytes (file_cursor_left m places.magic bytes)
+    (IsFileCursorCause m places.magic bytes) old e
 
 -- Whatever the records held up to `first`, they hold these imports after it, up to `last`.
 abbrev pub Fills : List PeImport → List PeImport → ℕ → ℕ → List NumberedImport → Type 0
@@ -214,7 +159,7 @@ GivesInFile s t Holds = ⊥
 pub record GoesOn (m : MapOfAddresses) (places : TablePlaces) (bytes : List ℕ)
     (p : PeImportCursor) (imports : FileImports) : Type 0 where
   pub walk : IsImportWalk m places.magic bytes imports
-  pub left : imports_from_position m places bytes p ≡ Some (file_imports_left imports)
+  pub left : (import_table m places bytes).from p ≡ Some (file_imports_left imports)
   pub ahead : position_ahead m places bytes p ≡ file_ahead imports
 
 -- ---- exports
@@ -232,29 +177,41 @@ pointers_in Absent = 0
 pointers_in (part.Read read) = length read.0.export_name_pointer_table
 pointers_in Refused = 0
 
+-- the exports of tables
+abbrev pub export_table : MapOfAddresses → List ℕ → Part (ExportTables × List NumberedExport)
+    → Table ℕ PeExport NumberedExport ExportSaid
+export_table m bytes p = record {
+  view = export_view;
+  said = export_said;
+  from = λ x. Some (unrefused (exports_in m bytes x p));
+}
+
 abbrev pub ExportBatch : Type 0
 ExportBatch = Batch ℕ PeExport
 
--- Of these that are left the records hold those that come first, and those come later that come from
--- the new position on. If more would come, the steps have run out. A step looks at one of so many
--- name pointers, from the old position up to the new one; without room none is looked at.
-pub record FillsExports (steps pointers : ℕ) (left later : List NumberedExport)
-    (old new : ExportBatch) (count : ℕ) : Type 0 where
-  pub batch : IsBatch export_view export_said (take count left) old.records new.records count
-  pub rest : later ≡ drop count left
-  pub whole : IsOutOfSteps steps new.position old.position
-      ⊎ (count ≡ min (length old.records) (length left))
-  pub further : old.position ≤ new.position
-  pub within : new.position ≤ max old.position pointers
-  pub looked : steps ≢ 0 → new.position ≤ old.position + steps
-  pub stays : length old.records ≡ 0 → new.position ≡ old.position
+-- A step looks at one of so many name pointers, from the old position up to the new one.
+pub record LooksAtPointers (steps pointers old new : ℕ) : Type 0 where
+  pub further : old ≤ new
+  pub within : new ≤ max old pointers
+  pub looked : steps ≢ 0 → new ≤ old + steps
 
 abbrev pub GivesExports : MapOfAddresses → TablePlaces → List ℕ → ℕ → ExportBatch → ExportBatch → ℕ
     → Type 0
 GivesExports m places bytes steps old new count =
     IsSomeAnd ((export_part m.opts m.addressing places).value bytes) (λ p.
-    FillsExports steps (pointers_in p) (exports_in m bytes old.position p)
-    (exports_in m bytes new.position p) old new count)
+    GivesFrom (export_table m bytes p) (IsOutOfSteps steps new.position old.position)
+    (λ left. LooksAtPointers steps (pointers_in p) old.position new.position) old new count)
+
+-- the exports that a walk gives, of which each is its own position
+abbrev pub export_walk : Table Exports PeExport NumberedExport ExportSaid
+export_walk = record {
+  view = export_view;
+  said = export_said;
+  from = λ walk. Some (unrefused (exports_left walk));
+}
+
+abbrev pub ExportWalkBatch : Type 0
+ExportWalkBatch = Batch Exports PeExport
 
 -- the export directory is refused
 abbrev pub IsExportsFault : MapOfAddresses → TablePlaces → List ℕ → ErrorOf → Type 0
@@ -304,48 +261,46 @@ abbrev pub GivesAddresses : MapOfAddresses → TablePlaces → List ℕ → ℕ 
     → ℕ → Type 0
 GivesAddresses m places bytes steps old new count =
     IsSomeAnd ((address_part m.opts m.addressing places).value bytes) (λ p.
-    GivesOnward (addresses_in p) old.position old.records new.position new.records count)
+    GivesOnward (addresses_in p) old new count)
 
 -- ---- blocks of base relocations
 
 -- what a directory has from an offset on: blocks, and at last perhaps a refusal
-abbrev pub items_from : ℕ → Part (List ℕ) → List (Result Block ErrorOf)
-items_from x Absent = []
-items_from x (part.Read directory) = block_items directory x
-items_from x Refused = []
+abbrev pub blocks_from : Part (List ℕ) → ℕ → List (Option Block)
+blocks_from Absent x = []
+blocks_from (part.Read directory) x = without_causes (block_items directory x)
+blocks_from Refused x = []
 
--- the very next is this refusal
-abbrev pub IsNextRefusal : {A : Type 0} → List (Result A ErrorOf) → ErrorOf → Type 0
-IsNextRefusal [] e = ⊥
-IsNextRefusal (Ok a ∷ items) e = ⊥
-IsNextRefusal (Err f ∷ items) e = e ≡ f
+-- why no block comes at an offset
+abbrev pub IsBlockCause : ℕ → Part (List ℕ) → ErrorOf → Type 0
+IsBlockCause x Absent e = ⊥
+IsBlockCause x (part.Read directory) e = block_at directory x ≡ Err e
+IsBlockCause x Refused e = ⊥
+
+-- the blocks of a directory
+abbrev pub block_table : Part (List ℕ) → Table ℕ PeBlock Block Block
+block_table p = record { view = block_view; said = λ b. b; from = λ x. Some (blocks_from p x) }
 
 abbrev pub BlockBatch : Type 0
 BlockBatch = Batch ℕ PeBlock
 
--- Of what comes next, the records hold the blocks up to a refusal, and from the new position on
--- come the others; the very next is no refusal, if there is room for any. The new position is the
--- old one and the sizes of the blocks given; without a block it stays.
-pub record FillsBlocks (left later : List (Result Block ErrorOf)) (old new : BlockBatch) (count : ℕ)
-    : Type 0 where
-  pub batch : IsBatch block_view (λ b. b) (values_of left) old.records new.records count
-  pub rest : later ≡ drop count left
-  pub next : (e : ErrorOf) → IsNextRefusal left e → length old.records ≡ 0
-  pub position : new.position
-      ≡ old.position + sum_by (λ (b : Block). b.size) (take count (values_of left))
+-- The position moves by the sizes of the blocks that are given.
+abbrev pub FillsBlocks : Part (List ℕ) → BlockBatch → BlockBatch → ℕ → Type 0
+FillsBlocks p old new count =
+    GivesFrom (block_table p) ⊥
+    (λ left. new.position
+    ≡ old.position + sum_by (λ (b : Block). b.size) (take count (values_before left))) old new count
 
 abbrev pub GivesBlocks : MapOfAddresses → TablePlaces → List ℕ → ℕ → BlockBatch → BlockBatch → ℕ
     → Type 0
 GivesBlocks m places bytes steps old new count =
-    IsSomeAnd ((relocation_part m.opts m.addressing places).value bytes) (λ p.
-    FillsBlocks (items_from old.position p) (items_from new.position p) old new count)
+    IsSomeAnd ((relocation_part m.opts m.addressing places).value bytes)
+    (λ p. FillsBlocks p old new count)
 
--- The directory is refused, or else the very next item, and there is room for it.
 abbrev pub IsBlocksFault : MapOfAddresses → TablePlaces → List ℕ → BlockBatch → ErrorOf → Type 0
 IsBlocksFault m places bytes old e =
-    let read = relocation_part m.opts m.addressing places in
-    FirstFault (read.value bytes) (read.IsCause bytes)
-    (λ p e. (0 < length old.records) × IsNextRefusal (items_from old.position p) e) e
+    IsNextFault (relocation_part m.opts m.addressing places) bytes (λ p. blocks_from p old.position)
+    (IsBlockCause old.position) old e
 
 -- ---- a call
 

@@ -1,7 +1,6 @@
 pub mod Batches
 pub mod Blocked
 pub mod Blocks
-pub mod CursorBatches
 pub mod Damages
 pub mod ExportDirectories
 pub mod Exports

@@ -1,8 +1,6 @@
 -- The records of libraries, and batches of them.
-use Rattle.std.specs.Prelude.{◌<◌, ℕ, Bool, List, [], length, Option, option_map, Result, Ok, Err}
-use Rattle.std.specs.Prelude.{IsSomeAnd}
+use Rattle.std.specs.Prelude.{ℕ, Bool, List, [], option_map, Result, Ok, Err}
 use Rattle.goblin_base.specs.declared.error.ErrorOf.{ErrorOf}
-use Rattle.goblin_base.specs.Answers.{FirstFault}
 use Rattle.goblin_pe_import.specs.declared.import.directory_entry.ImportDirectoryEntry.{ImportDirectoryEntry}
 use Rattle.goblin_pe.specs.Addresses.{MapOfAddresses}
 use Rattle.goblin_pe.specs.ImportWalks.{no_imports}
@@ -10,8 +8,8 @@ use Rattle.goblin_pe.specs.Libraries.{IsCursorEndCause, LibraryValue, cursor_lib
 use Rattle.goblin_pe.specs.Whole.{TablePlaces, entry_format}
 use Rattle.goblin_pe_calls.specs.declared.library.PeLibrary.{PeLibrary}
 use Rattle.goblin_pe_calls.specs.declared.next.PeImportCursor.{PeImportCursor}
-use Rattle.goblin_pe_calls.specs.Batches.{Batch, IsRefusedNext, cursor_numbers, import_cursor}
-use Rattle.goblin_pe_calls.specs.CursorBatches.{FillsFrom}
+use Rattle.goblin_pe_calls.specs.Batches.{cursor_numbers, import_cursor}
+use Rattle.goblin_pe_records.specs.Onward.{Batch, EndsAt, GivesFrom, IsNextFault, Table}
 use Rattle.goblin_pe_records.specs.Faults.{status_of}
 use Rattle.goblin_pe_records.specs.declared.fault.PeFault.{PeFault}
 
@@ -60,36 +58,32 @@ library_view x = record {
   reserved = x.reserved;
 }
 
--- the libraries of a file whose records come at a position
-abbrev pub libraries_from_position : MapOfAddresses → TablePlaces → List ℕ → PeImportCursor
-    → Option (List (Option LibraryValue))
-libraries_from_position m places bytes p =
-    option_map (cursor_libraries m (entry_format places.magic) bytes)
-    ((import_cursor m places p).value bytes)
+-- the libraries of a file, from any cursor of its imports on
+abbrev pub library_table : MapOfAddresses → TablePlaces → List ℕ
+    → Table PeImportCursor PeLibrary LibraryValue LibrarySaid
+library_table m places bytes = record {
+  view = library_view;
+  said = library_said;
+  from = λ p. option_map (cursor_libraries m (entry_format places.magic) bytes)
+      ((import_cursor m places p).value bytes);
+}
 
 abbrev pub LibraryBatch : Type 0
 LibraryBatch = Batch PeImportCursor PeLibrary
 
--- The records hold the libraries whose records come at the old position, and at the new one come the
--- others.
 abbrev pub FillsLibraries : MapOfAddresses → TablePlaces → List ℕ → LibraryBatch → LibraryBatch → ℕ
     → Type 0
 FillsLibraries m places bytes old new count =
-    IsSomeAnd (libraries_from_position m places bytes old.position) (λ left.
-    FillsFrom library_view library_said (libraries_from_position m places bytes)
-    (cursor_numbers no_imports) left old new count)
+    GivesFrom (library_table m places bytes) ⊥ (EndsAt (cursor_numbers no_imports) old new count) old
+    new count
 
 -- each library is a step, so that there is room for no more
 abbrev pub GivesLibraries : MapOfAddresses → TablePlaces → List ℕ → ℕ → LibraryBatch → LibraryBatch
     → ℕ → Type 0
 GivesLibraries m places bytes steps old new count = FillsLibraries m places bytes old new count
 
--- Where the imports begin is refused, or else no library comes next, since the directory reaches the
--- end of the file, and there is room for one.
+-- No library is refused but that the directory reaches the end of the file.
 abbrev pub IsLibrariesFault : MapOfAddresses → TablePlaces → List ℕ → LibraryBatch → ErrorOf → Type 0
 IsLibrariesFault m places bytes old e =
-    let at = import_cursor m places old.position in
-    FirstFault (at.value bytes) (at.IsCause bytes)
-    (λ c e. (0 < length old.records)
-    × IsRefusedNext (cursor_libraries m (entry_format places.magic) bytes c)
-    × IsCursorEndCause m bytes c e) e
+    IsNextFault (import_cursor m places old.position) bytes
+    (cursor_libraries m (entry_format places.magic) bytes) (IsCursorEndCause m bytes) old e

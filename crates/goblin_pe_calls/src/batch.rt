@@ -6,7 +6,8 @@ ghost use Rattle.goblin_base.specs.Answers.{IsMemory};
 ghost use Rattle.goblin_pe.specs.Addresses.{MapOfAddresses};
 ghost use Rattle.goblin_pe.specs.Layouts.{layout_bytes, layout_map, layout_places};
 ghost use Rattle.goblin_pe.specs.Whole.{TablePlaces};
-ghost use Rattle.goblin_pe_calls.specs.Batches.{Batch, GivesRecords, front, room_within};
+ghost use Rattle.goblin_pe_calls.specs.Batches.{GivesRecords, front, room_within};
+ghost use Rattle.goblin_pe_records.specs.Onward.{Batch};
 
 use crate::places::layout_at;
 use goblin_pe::{Layout, ResultOf};

@@ -3,10 +3,12 @@
 
 ghost use Rattle.std.specs.Prelude.{◌≡◌, ◌<◌, IfErr, IfOk, MatchResult, OnErr, length, map};
 ghost use Rattle.goblin_base.specs.Answers.{IsMemory};
-ghost use Rattle.goblin_pe_sect.specs.BaseRelocations.{block_items, relocation_bytes};
+ghost use Rattle.goblin_pe_sect.specs.BaseRelocations.{relocation_bytes};
 ghost use Rattle.goblin_pe.specs.Whole.{part_map};
+ghost use Rattle.goblin_pe.specs.declared.whole.Part.TheVariants.{Read};
 ghost use Rattle.goblin_pe_calls.specs.Batches.{BlockBatch, FillsBlocks, GivesBlocks};
-ghost use Rattle.goblin_pe_calls.specs.Batches.{IsBlocksFault, IsNextRefusal};
+ghost use Rattle.goblin_pe_calls.specs.Batches.{IsBlockCause, IsBlocksFault, blocks_from};
+ghost use Rattle.goblin_pe_records.specs.Onward.{IsRefusedNext};
 ghost use Rattle.goblin_pe_records.specs.Blocked.{HasLittleRoom};
 ghost use Rattle.goblin_pe_records.specs.Blocks.{block_view};
 ghost use Rattle.goblin_pe_calls.specs.Blocks.{base_relocations_of, blocks_in};
@@ -54,12 +56,12 @@ fn fill_blocks<'a, 'e>(
     position: &mut usize,
     records: &mut [PeBlock<'a>],
 ) -> ResultOf<'e, usize>
-    ensures filled { let directory = relocation_bytes relocations.now in
-        let left = block_items directory position.old in
+    ensures filled { let p = Read (relocation_bytes relocations.now) in
         let old : BlockBatch = record { position = position.old; records = records.old } in
         let new : BlockBatch = record { position = position.new; records = records.new } in
-        MatchResult result (FillsBlocks left (block_items directory position.new) old new)
-        (λ e. (0 < length old.records) × IsNextRefusal left e × (new ≡ old)) }
+        MatchResult result (FillsBlocks p old new)
+        (λ e. IsRefusedNext (blocks_from p position.old) × IsBlockCause position.old p e
+        × (0 < length old.records) × (new ≡ old)) }
     ensures refused { IfErr result (λ e. ¬ IsMemory e) }
 {
     let mut count = 0;

@@ -6,7 +6,7 @@ ghost use Rattle.std.specs.Prelude.{slice_get};
 ghost use Rattle.goblin_base.specs.Answers.{GivesOrMemory};
 ghost use Rattle.goblin_pe_export.specs.ExportWalks.{walked_tables};
 ghost use Rattle.goblin_pe.specs.Layouts.{layout_bytes, layout_map, layout_places};
-ghost use Rattle.goblin_pe_calls.specs.Batches.{GivesAddresses, GivesBatch};
+ghost use Rattle.goblin_pe_calls.specs.Batches.{AddressBatch, GivesAddresses, GivesBatch};
 ghost use Rattle.goblin_pe_calls.specs.Batches.{IsAddressBatchFault, IsAddressesFault, SaysDirectory};
 ghost use Rattle.goblin_pe_records.specs.Blocked.{HasNoSpareRoom};
 ghost use Rattle.goblin_pe_records.specs.Onward.{GivesOnward};
@@ -162,8 +162,9 @@ fn address_at(exports: &Exports, index: usize) -> Option<PeExportAddress>
 // index past them, and answers how many these are.
 fn fill_addresses(exports: &Exports, position: &mut usize, records: &mut [PeExportAddress]) -> usize
     ensures { let table = (walked_tables exports.now).export_address_table in
-        GivesOnward (map address_said table) position.old records.old position.new records.new
-        result }
+        let old : AddressBatch = record { position = position.old; records = records.old } in
+        let new : AddressBatch = record { position = position.new; records = records.new } in
+        GivesOnward (map address_said table) old new result }
 {
     if exports.address_count() <= *position {
         return 0;

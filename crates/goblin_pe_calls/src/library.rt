@@ -6,11 +6,10 @@ ghost use Rattle.goblin_pe.specs.Layouts.{layout_bytes, layout_map, layout_place
 ghost use Rattle.goblin_pe.specs.Libraries.{AreLibrariesOver, IsLibrariesCause, libraries_left};
 ghost use Rattle.goblin_pe.specs.Libraries.{library_value};
 ghost use Rattle.goblin_pe.specs.Whole.{entry_format};
-ghost use Rattle.goblin_pe_calls.specs.Batches.{IsRefusedNext};
 ghost use Rattle.goblin_pe_calls.specs.Libraries.{FillsLibraries, GivesLibraries};
 ghost use Rattle.goblin_pe_calls.specs.Libraries.{IsLibrariesFault, LibraryBatch};
-ghost use Rattle.goblin_pe_calls.specs.Libraries.{libraries_from_position, library_said};
-ghost use Rattle.goblin_pe_calls.specs.Libraries.{library_view};
+ghost use Rattle.goblin_pe_calls.specs.Libraries.{library_said, library_table, library_view};
+ghost use Rattle.goblin_pe_records.specs.Onward.{IsRefusedNext};
 
 use crate::batch::Batched;
 use crate::next::{PeImportCursor, cursor_at, cursor_numbers};
@@ -78,7 +77,7 @@ fn fill_libraries<'a>(
         AreLibrariesOver m (entry_format (layout_places layout.now).magic) (layout_bytes layout.now)
         libraries }
     requires left { let m = layout_map layout.now in
-        libraries_from_position m (layout_places layout.now) (layout_bytes layout.now) position.old
+        (library_table m (layout_places layout.now) (layout_bytes layout.now)).from position.old
         ≡ Some (libraries_left libraries) }
     ensures filled { let m = layout_map layout.now in
         let old : LibraryBatch = record { position = position.old; records = records.old } in

@@ -1,7 +1,7 @@
 //! Imports and exports in batches.
 
-ghost use Rattle.std.specs.Prelude.{◌≡◌, ◌≢◌, ◌⊎◌, ◌+◌, ◌<◌, ◌≤◌, IfErr, IfSome, MatchResult, drop};
-ghost use Rattle.std.specs.Prelude.{◌-◌, length, max, min, take};
+ghost use Rattle.std.specs.Prelude.{◌≡◌, ◌≢◌, ◌⊎◌, ◌+◌, ◌<◌, ◌≤◌, IfErr, IfSome, MatchResult};
+ghost use Rattle.std.specs.Prelude.{◌-◌, length, max};
 ghost use Rattle.goblin_base.specs.Answers.{IsMemory};
 ghost use Rattle.goblin_base.specs.Reading.{Reads};
 ghost use Rattle.goblin_pe.specs.LayoutCursors.{file_ahead};
@@ -10,13 +10,13 @@ ghost use Rattle.goblin_pe_export.specs.ExportWalks.{KeepsOver, exports_left, ex
 ghost use Rattle.goblin_pe_export.specs.ExportWalks.{pointer_count};
 ghost use Rattle.goblin_pe.specs.Layouts.{IsFileImportsCause, file_imports_left, layout_map};
 ghost use Rattle.goblin_pe.specs.Layouts.{layout_bytes, layout_places};
-ghost use Rattle.goblin_pe_calls.specs.Batches.{Fills, FillsImports, GivesExports, GivesImports};
-ghost use Rattle.goblin_pe_calls.specs.Batches.{GivesInFile, GoesOn, ImportBatch, IsBatch};
-ghost use Rattle.goblin_pe_calls.specs.Batches.{IsExportBatchFault, IsImportsFault, IsRefusedNext};
+ghost use Rattle.goblin_pe_calls.specs.Batches.{ExportWalkBatch, Fills, GivesExports, GivesImports};
+ghost use Rattle.goblin_pe_calls.specs.Batches.{GivesInFile, GoesOn, ImportBatch, export_walk};
+ghost use Rattle.goblin_pe_calls.specs.Batches.{IsExportBatchFault, IsImportsFault};
 ghost use Rattle.goblin_pe_calls.specs.Batches.{cursor_numbers, cursor_said, import_cursor};
 ghost use Rattle.goblin_pe_calls.specs.Batches.{limit_of};
-ghost use Rattle.goblin_pe_calls.specs.Exports.{export_said, export_view};
-ghost use Rattle.goblin_pe_calls.specs.Imports.{GivesHere, import_said, import_view};
+ghost use Rattle.goblin_pe_calls.specs.Imports.{GivesHere};
+ghost use Rattle.goblin_pe_records.specs.Onward.{FillsFrom, IsRefusedNext, unrefused};
 
 use crate::batch::Batched;
 use crate::export::{PeExport, plain_record, put_export};
@@ -211,12 +211,11 @@ fn fill_imports<'a, 'm, 'e>(
     ensures filled { let m = layout_map layout.now in
         let places = layout_places layout.now in
         let bytes = layout_bytes layout.now in
-        let left = file_imports_left imports.entry in
         let old : ImportBatch = record { position = position.old; records = records.old } in
         let new : ImportBatch = record { position = position.new; records = records.new } in
-        MatchResult result (FillsImports m places bytes steps left old new)
-        (λ e. IsRefusedNext left × IsFileImportsCause imports.entry e × (0 < length records.old)
-        × (new ≡ old)) }
+        MatchResult result (GivesImports m places bytes steps old new)
+        (λ e. IsRefusedNext (file_imports_left imports.entry)
+        × IsFileImportsCause imports.entry e × (0 < length old.records) × (new ≡ old)) }
     ensures refused { IfErr result (λ e. ¬ IsMemory e) }
 {
     let mut limit = limit_of(steps);
@@ -305,15 +304,15 @@ fn fill_exports<'a, 'm>(
     end: usize,
     records: &mut [PeExport<'a>],
 ) -> usize
-    ensures filled { IsBatch export_view export_said (take result (exports_left exports.old))
-        records.old records.new result }
-    ensures later { exports_left exports.new ≡ drop result (exports_left exports.old) }
+    ensures filled { let old : ExportWalkBatch =
+        record { position = exports.old; records = records.old } in
+        let new : ExportWalkBatch = record { position = exports.new; records = records.new } in
+        FillsFrom export_walk
+        ((end < pointer_count exports.old) × (end ≤ exports_position exports.new))
+        (unrefused (exports_left exports.old)) old new result }
     ensures over { KeepsOver exports.old exports.new }
     ensures further { exports_position exports.old ≤ exports_position exports.new }
     ensures within { exports_position exports.new ≤ max (exports_position exports.old) end }
-    ensures whole { ((end < pointer_count exports.old) × (end ≤ exports_position exports.new))
-        ⊎ (result ≡ min (length records.old) (length (exports_left exports.old))) }
-    ensures stays { length records.old ≡ 0 → exports.new ≡ exports.old }
 {
     let mut count = 0;
     'exports: while count < records.len() {

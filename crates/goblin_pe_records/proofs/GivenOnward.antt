@@ -1,82 +1,66 @@
 -- A list whose items fill records from an index on.
-use Rattle.std.proofs.Common.{◌≡◌, ◌<◌, ◌≤◌, ◌^◌, ◌*◌, ◌/◌, ◌%◌, ℕ, ◌+◌, ◌-◌, List, length, map, drop, set, take, Some, None, slice_get, get_or, [], ap, sym, subst, refl, arith, ◌∙◌, inl, inr, slice_range, get_or-drop, length-drop, map-id, take_all, drop_of_length-le}
+use Rattle.std.proofs.Common.{◌≡◌, ◌<◌, ◌≤◌, ◌^◌, ◌*◌, ◌/◌, ◌%◌, ℕ, ◌+◌, List, length, map, drop, set, Option, Some, None, slice_get, ◌∷◌, [], ap, refl, arith, ◌∙◌, inl, inr, slice_range, drop_of_length-le}
 use Rattle.std.specs.List.{range_with_len}
+use Rattle.std.proofs.lemmas.List.{drop_more}
 use Rattle.std.proofs.lemmas.List.FromFn.{get_or-map-range_with_len, length-map-range_with_len}
 use Rattle.std.proofs.lemmas.Option.{get_or_from_slice_get, slice_get_cases, slice_get-get_or, slice_get_past, slice_get_within}
 use Rattle.goblin_base.specs.Tables.{records_in}
 use Rattle.goblin_base.proofs.RecordItems.{length-records_in}
-use Rattle.goblin_pe_records.specs.Filled.{Filled}
-use Rattle.goblin_pe_records.specs.Onward.{GivesOnward}
-use Rattle.goblin_pe_records.proofs.Filling.{IsFilling, filling-end, filling-next, filling-start}
+use Rattle.goblin_pe_records.specs.Onward.{GivesOnward, list_table, unrefused}
+use Rattle.goblin_pe_records.proofs.Batches.{AtItems, items-end, items-full, items-more, items-start, items-stay}
 
 -- ---- a loop that fills records
 
--- the first i records hold the items from an index on, of which there are so many
-pub record IsOnward {W : Type 0} (items : List W) (from : ℕ) (old : List W) (i : ℕ) (records : List W) : Type 0 where
-  pub filling : IsFilling (λ (w : W). w) (λ (w : W). w) (drop from items) old i records
-  pub few : i ≤ length items - from
+module _ {W : Type 0} (items : List W) (from : ℕ) (old : List W) where
+  -- the items at an index, and those that come next
+  abbrev pub onward : ℕ → List (Option W)
+  onward i = unrefused (drop i items)
 
-pub onward-start : {W : Type 0} (items : List W) (from : ℕ) (old : List W) → IsOnward items from old 0 old
-onward-start items from old = record { filling = filling-start _ _ _ _; few = omega arith }
+  -- the records hold the items up to an index
+  abbrev pub AtIndex : ℕ → List W → ℕ → Type 0
+  AtIndex index records count =
+      AtItems (list_table items) onward from from old index index records count × (index ≡ from + count)
 
--- the index after that of an item, in 64 bits
-pub index-next : {W : Type 0} (items : List W) (at next : ℕ) (r : W) → length items < 2 ^ 64 → slice_get items at ≡ Some r → next ≡ (at + 1) % 2 ^ 64 → next ≡ at + 1
-index-next items at next r short there place = let within = slice_get_within items at r there in omega (arith, within, short, place)
+  pub onward-start : AtIndex from old 0
+  onward-start = (items-start (list_table items) onward from from old refl, omega arith)
 
-module _ {W : Type 0} (items : List W) (from : ℕ) (old : List W) (i : ℕ) (records : List W) (is : IsOnward items from old i records) where
-  pub onward-next : (at : ℕ) (r : W) → at ≡ from + i → slice_get items at ≡ Some r → i < length records → IsOnward items from old (i + 1) (set records i r)
-  onward-next at r here there room =
-      let within = slice_get_within items at r there in
-      let left = length-drop from items in
-      let own : r ≡ get_or (drop from items) i r = sym (get_or-drop from items i r ∙ ap (λ (k : ℕ). get_or items k r) (sym here) ∙ get_or_from_slice_get items at r r there) in
-      record {
-        filling = filling-next (λ (w : W). w) (λ (w : W). w) (drop from items) old i records r r is.filling (omega (arith, within, here, left)) room own refl;
-        few = omega (arith, within, here);
-      }
+  module _ (index : ℕ) (records : List W) (count : ℕ) (is : AtIndex index records count) where
+    -- the index after that of an item is one in 64 bits
+    pub onward-next : (next : ℕ) (r : W) → length items < 2 ^ 64 → slice_get items index ≡ Some r → next ≡ (index + 1) % 2 ^ 64
+        → count < length records → AtIndex next (set records count r) (count + 1)
+    onward-next next r short there place room =
+        let within = slice_get_within items index r there in
+        let after : next ≡ index + 1 = omega (arith, within, short, place) in
+        let here : drop index items ≡ r ∷ drop (index + 1) items =
+        drop_more items index r within ∙ ap (λ (x : W). x ∷ drop (index + 1) items) (get_or_from_slice_get items index r r there) in
+        let moved = is.1 in
+        rw after (
+          items-more (list_table items) onward from from old index index records count is.0 r (index + 1) (index + 1) r (ap unrefused here) room refl refl,
+          omega (arith, moved),
+        )
 
-  missing : (at : ℕ) → at ≡ from + i → slice_get items at ≡ None → length items ≤ from + i
-  missing at here none =
-      elim (slice_get_cases items at).1 [
-        | inl there ↦ absurd (cc (there.2, none))
-        | inr past ↦ let end = past.0 in omega (arith, end, here)
-      ]
+    -- where no item is left
+    pub onward-all : slice_get items index ≡ None
+        → GivesOnward items (record { position = from; records = old }) (record { position = index; records = records }) count
+    onward-all none =
+        let no : drop index items ≡ [] = elim (slice_get_cases items index).1 [
+          | inl there ↦ absurd (cc (there.2, none))
+          | inr past ↦ drop_of_length-le items past.0
+        ] in (
+          items-end (list_table items) onward from from old index index records count is.0 ⊥ index (ap unrefused no)
+              (ap (λ (xs : List W). Some (unrefused xs)) no) (items-stay (list_table items) onward from from old index index records count is.0),
+          is.1,
+        )
 
-  -- where no item is left
-  pub onward-all : (at : ℕ) → at ≡ from + i → slice_get items at ≡ None → i < length records → length records ≡ length old → GivesOnward items from old at records i
-  onward-all at here none room same =
-      let past = missing at here none in
-      let few = is.few in
-      let left = length-drop from items in
-      record {
-        filled = subst (λ (made : List W). Filled (λ (w : W). w) made old records) (map-id (drop from items))
-            (filling-end (λ (w : W). w) (λ (w : W). w) (drop from items) old records i is.filling same (omega (arith, few, left)) (omega (arith, room, same)) (inl (omega (arith, past, left))));
-        counted = omega (arith, past, few, room, same);
-        position = here;
-      }
+    -- and where no room is
+    pub onward-full : (n : ℕ) → n ≡ count → length records ≤ count
+        → GivesOnward items (record { position = from; records = old }) (record { position = index; records = records }) n
+    onward-full n all full =
+        rw all (items-full (list_table items) onward from from old index index records count is.0 ⊥ full, is.1)
 
-  -- and where no room is
-  pub onward-full : (at n : ℕ) → n ≡ i → at ≡ from + i → i ≡ length records → length records ≡ length old → GivesOnward items from old at records n
-  onward-full at n all here full same =
-      let few = is.few in
-      let left = length-drop from items in
-      record {
-        filled = subst (λ (made : List W). Filled (λ (w : W). w) made old records) (map-id (drop from items))
-            (filling-end (λ (w : W). w) (λ (w : W). w) (drop from items) old records i is.filling same (omega (arith, few, left)) (omega (arith, full, same)) (inr (omega (arith, full, same))));
-        counted = omega (arith, few, full, same, all);
-        position = omega (arith, here, all);
-      }
-
--- where nothing is left
-pub onward-none : {W : Type 0} (items : List W) (from : ℕ) (old : List W) → length items ≤ from → GivesOnward items from old from old 0
-onward-none {W} items from old past =
-    let no : List W = [] in
-    let none : drop from items ≡ no = drop_of_length-le items past in
-    let empty : take (length old) no ≡ no = take_all (length old) no (omega arith) in
-    record {
-      filled = rw none (sym empty, refl);
-      counted = omega (arith, past);
-      position = omega arith;
-    }
+  -- where nothing is left
+  pub onward-none : length items ≤ from → GivesOnward items (record { position = from; records = old }) (record { position = from; records = old }) 0
+  onward-none past = onward-all from old 0 onward-start (slice_get_past items from past)
 
 -- ---- the records in bytes
 

@@ -14,7 +14,12 @@ use Rattle.goblin_pe_head.specs.RichMetadata.{metadata_at, metadata_items}
 use Rattle.goblin_pe_records.specs.declared.fault.PeFault.{PeFault}
 use Rattle.goblin_pe_records.specs.Faults.{fault_of, no_fault}
 use Rattle.goblin_pe_records.specs.Filled.{Filled}
-use Rattle.goblin_pe_records.specs.Items.{rest_of, values_of}
+use Rattle.goblin_pe_records.specs.Items.{rest_of, without_causes}
+use Rattle.goblin_pe_records.specs.Onward.{values_before}
+
+-- the values before the first refusal
+abbrev pub values_of : {A : Type 0} → List (Result A ErrorOf) → List A
+values_of items = values_before (without_causes items)
 
 -- where there is room for one more
 pub room : {R B : Type 0} (view : R → B) (done : List B) (old records : List R) (b : B) (r : R) (n : ℕ) → Filled view done old records → length records ≡ length old → length done ≡ n → view r ≡ b → n < length old → Filled view (done ++ b ∷ []) old (set records n r)
@@ -64,7 +69,7 @@ items-start {R} {B} view items left old is =
     record { done = []; values = ap (λ (xs : List (Result B ErrorOf)). values_of xs) (sym is); rest = ap (λ (xs : List (Result B ErrorOf)). rest_of xs) (sym is); counted = refl; filled = (sym none, refl); same = refl }
 
 pub values-ok : {B : Type 0} (left more : List (Result B ErrorOf)) (b : B) → left ≡ Ok b ∷ more → values_of left ≡ b ∷ values_of more
-unfolding values_of
+unfolding values_before
 values-ok left more b h = rw h refl
 
 pub rest-ok : {B : Type 0} (left more : List (Result B ErrorOf)) (b : B) → left ≡ Ok b ∷ more → rest_of left ≡ rest_of more
@@ -93,11 +98,11 @@ no-more {R} {B} view items left old records count h none =
     record { filled = rw all h.filled; counted = sym h.counted ∙ ap (λ (xs : List B). length xs) (sym all); rest = sym h.rest }
 
 pub nothing : {B : Type 0} (left : List (Result B ErrorOf)) → left ≡ [] → (values_of left ≡ []) × (rest_of left ≡ no_fault)
-unfolding values_of rest_of
+unfolding values_before rest_of
 nothing left h = (rw h refl, rw h refl)
 
 pub refused : {B : Type 0} (left more : List (Result B ErrorOf)) (e : ErrorOf) → left ≡ Err e ∷ more → (values_of left ≡ []) × (rest_of left ≡ fault_of e)
-unfolding values_of rest_of
+unfolding values_before rest_of
 refused left more e h = (rw h refl, rw h refl)
 
 pub items-end : {R B : Type 0} (view : R → B) (items left : List (Result B ErrorOf)) (old records : List R) (count : ℕ) → IsFillingItems view items left old records count → left ≡ [] → AreFilledItems view items old records count no_fault
@@ -107,7 +112,7 @@ items-end view items left old records count h is =
 
 -- there are no more values than items
 pub values-few : {B : Type 0} (items : List (Result B ErrorOf)) → length (values_of items) ≤ length items
-unfolding values_of
+unfolding values_before
 values-few [] = omega arith
 values-few (Ok b ∷ items) = let rest = values-few items in omega (arith, rest)
 values-few (Err e ∷ items) = omega arith
@@ -130,12 +135,12 @@ no-entries key padding bytes h =
 
 -- items of which only a rest after the last value may be a refusal
 values-then : {B : Type 0} (xs : List B) (rest : List (Result B ErrorOf)) → values_of rest ≡ [] → values_of (map (λ x. Ok x) xs ++ rest) ≡ xs
-unfolding values_of
+unfolding values_before
 values-then [] rest none = none
 values-then {B} (x ∷ xs) rest none = ap (λ (ys : List B). x ∷ ys) (values-then xs rest none)
 
 values-rest : (B : Type 0) (n : ℕ) → values_of (rest_item {V = B} n) ≡ []
-unfolding values_of
+unfolding values_before
 values-rest B n =
     elim (cases_lt 0 n) [
       | inl some ↦ let more : (n == 0) ≡ false = ne_eqb n 0 (λ e. omega (arith, e, some)) in rw more refl
@@ -157,7 +162,7 @@ abbrev pub as_items : {A B : Type 0} → (A → B) → List A → List (Result B
 as_items row xs = map (λ x. Ok (row x)) xs
 
 values-all : {A B : Type 0} (row : A → B) (xs : List A) → values_of (as_items row xs) ≡ map row xs
-unfolding values_of
+unfolding values_before
 values-all row [] = refl
 values-all {A} {B} row (x ∷ xs) = ap (λ (ys : List B). row x ∷ ys) (values-all row xs)
 

@@ -1,3 +1,4 @@
+pub mod Batches
 pub mod Filling
 pub mod GivenOnward
 pub mod Items

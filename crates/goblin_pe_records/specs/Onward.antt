@@ -1,11 +1,99 @@
--- What a call gives of a list from one of its items on.
-use Rattle.std.specs.Prelude.{◌≡◌, ℕ, ◌+◌, ◌-◌, List, drop, length, min}
+-- What a call gives of a table from a position on: as many of its records as there is room for.
+use Rattle.std.specs.Prelude.{◌≡◌, ◌⊎◌, ℕ, ◌+◌, ◌<◌, ◌≤◌, ⊤, List, [], ◌∷◌, map, take, drop, length, min}
+use Rattle.std.specs.Prelude.{Option, Some, None, IsSomeAnd}
+use Rattle.goblin_base.specs.declared.error.ErrorOf.{ErrorOf}
+use Rattle.goblin_base.specs.Answers.{FirstFault}
+use Rattle.goblin_base.specs.Reading.{Reading}
 use Rattle.goblin_pe_records.specs.Filled.{Filled}
 
--- The records hold the items from an index on, as far as there is room; these are so many, and the
--- index is then that of the items that come next.
-pub record GivesOnward {W : Type 0} (items : List W) (from : ℕ) (old : List W) (to : ℕ)
-    (new : List W) (count : ℕ) : Type 0 where
-  pub filled : Filled (λ item. item) (drop from items) old new
-  pub counted : count ≡ min (length old) (length items - from)
-  pub position : to ≡ from + count
+-- what a caller passes, to be gone on with
+pub record Batch (P R : Type 0) : Type 0 where
+  pub position : P
+  pub records : List R
+
+-- A table that comes in batches: what contracts see of a record, what is said of an item, and the
+-- items that come from a position on, `None` in place of one that is refused. Nothing is there where
+-- what leads to the items is refused.
+pub record Table (P R A B : Type 0) : Type 0 where
+  pub view : R → B
+  pub said : A → B
+  pub from : P → Option (List (Option A))
+
+-- items, none of them refused
+abbrev pub unrefused : {A : Type 0} → List A → List (Option A)
+unrefused items = map (λ x. Some x) items
+
+-- the values up to the first refusal
+unfoldable pub values_before : {A : Type 0} → List (Option A) → List A
+values_before [] = []
+values_before (Some x ∷ items) = x ∷ values_before items
+values_before (None ∷ items) = []
+
+-- the very next is a refusal
+abbrev pub IsRefusedNext : {A : Type 0} → List (Option A) → Type 0
+IsRefusedNext [] = ⊥
+IsRefusedNext (Some x ∷ items) = ⊥
+IsRefusedNext (None ∷ items) = ⊤
+
+-- where nothing is left, and there is room for more, the new position is the end
+abbrev pub EndsAt : {P R A : Type 0} → P → Batch P R → Batch P R → ℕ → List A → Type 0
+EndsAt end old new count left =
+    (drop count left ≡ []) × (count < length old.records) → new.position ≡ end
+
+-- The records hold what comes next, as far as there is room, and the others are the caller's own.
+pub record IsBatch {R A B : Type 0} (view : R → B) (said : A → B) (next : List A)
+    (old new : List R) (count : ℕ) : Type 0 where
+  pub counted : count ≡ min (length old) (length next)
+  pub filled : Filled view (map said (take count next)) old new
+
+-- The records hold these values so far.
+pub record AtBatch {R A B : Type 0} (view : R → B) (said : A → B) (old : List R) (values : List A)
+    (records : List R) (count : ℕ) : Type 0 where
+  pub counted : length values ≡ count
+  pub filled : Filled view (map said values) old records
+  pub same : length records ≡ length old
+  pub fits : count ≤ length old
+
+-- There is room for nothing more, or all is given up to a refusal; the very next is no refusal, if
+-- there is room for any.
+abbrev pub IsWhole : {A : Type 0} → List (Option A) → ℕ → ℕ → Type 0
+IsWhole left room count =
+    (count ≡ min room (length (values_before left))) × (IsRefusedNext left → room ≡ 0)
+
+-- Of these that are left the records hold those that come first, and from the new position on come
+-- the others; without room it stays. If more would come, the batch was cut.
+pub record FillsFrom {P R A B : Type 0} (table : Table P R A B) (IsCut : Type 0)
+    (left : List (Option A)) (old new : Batch P R) (count : ℕ) : Type 0 where
+  pub batch : IsBatch table.view table.said (take count (values_before left)) old.records
+      new.records count
+  pub later : table.from new.position ≡ Some (drop count left)
+  pub whole : IsCut ⊎ IsWhole left (length old.records) count
+  pub stays : length old.records ≡ 0 → new.position ≡ old.position
+
+-- What every batch gives: what comes from the old position on, as above, and the position moves as
+-- the table says.
+abbrev pub GivesFrom : {P R A B : Type 0} → Table P R A B → Type 0
+    → (List (Option A) → Type 0) → Batch P R → Batch P R → ℕ → Type 0
+GivesFrom table IsCut Moves old new count =
+    IsSomeAnd (table.from old.position)
+    (λ left. FillsFrom table IsCut left old new count × Moves left)
+
+-- Why every batch is refused: what leads to the items is, or else the very next of them, and there
+-- is room for it.
+abbrev pub IsNextFault : {P R S A : Type 0} → Reading S → List ℕ → (S → List (Option A))
+    → (S → ErrorOf → Type 0) → Batch P R → ErrorOf → Type 0
+IsNextFault read bytes left IsCause old e =
+    FirstFault (read.value bytes) (read.IsCause bytes)
+    (λ s e. (0 < length old.records) × IsRefusedNext (left s) × IsCause s e) e
+
+-- ---- lists
+
+-- a list, of which an item has its index as its position
+abbrev pub list_table : {W : Type 0} → List W → Table ℕ W W W
+list_table items =
+    record { view = λ w. w; said = λ w. w; from = λ i. Some (unrefused (drop i items)) }
+
+-- its items from an index on, and the index of those that come next
+abbrev pub GivesOnward : {W : Type 0} → List W → Batch ℕ W → Batch ℕ W → ℕ → Type 0
+GivesOnward items old new count =
+    GivesFrom (list_table items) ⊥ (λ left. new.position ≡ old.position + count) old new count

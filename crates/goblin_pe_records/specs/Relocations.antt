@@ -7,6 +7,7 @@ use Rattle.goblin_pe_sect.specs.declared.relocation.Relocation.{Relocation}
 use Rattle.goblin_pe_sect.specs.Relocations.{relocation_record, relocations_in}
 use Rattle.goblin_pe_sect.specs.SectionTable.{Section}
 use Rattle.goblin_pe_records.specs.Filled.{Filled}
+use Rattle.goblin_pe_records.specs.Onward.{Batch}
 
 -- the relocations of a section: as many as its record says, where it says
 abbrev pub relocations_of : Section → Reading (List Relocation)
@@ -39,3 +40,6 @@ relocations_after p =
 abbrev pub all_relocations : Section → Reading (List Relocation)
 all_relocations s =
     pick (counts_in_first s) (relocations_after s.pointer_to_relocations) (relocations_of s)
+
+abbrev pub RelocationBatch : Type 0
+RelocationBatch = Batch ℕ Relocation

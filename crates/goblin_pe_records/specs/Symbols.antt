@@ -1,6 +1,6 @@
 -- The symbols of a table from one of its records on, and what a call gives of them.
-use Rattle.std.specs.Prelude.{◌≡◌, ℕ, zero, suc, ◌+◌, ◌-◌, ◌*◌, ◌/◌, ◌==◌, min, if◌then◌else◌}
-use Rattle.std.specs.Prelude.{List, [], length, map, nat_lt, take, drop, slice_index, true}
+use Rattle.std.specs.Prelude.{◌≡◌, ℕ, zero, suc, ◌+◌, ◌-◌, ◌*◌, ◌/◌, ◌==◌, if◌then◌else◌}
+use Rattle.std.specs.Prelude.{List, [], length, nat_lt, take, drop, slice_index, true}
 use Rattle.std.specs.Prelude.{Option, Some, None, option_map}
 use Rattle.std.specs.Str.{is_utf8}
 use Rattle.goblin_base.specs.declared.endian.Endian.TheVariants.{Little}
@@ -20,7 +20,8 @@ use Rattle.goblin_pe_head.specs.CoffHeader.{string_table_offset, symbols_end}
 use Rattle.goblin_pe_head.specs.CoffReadings.{strings_of, symbols_of}
 use Rattle.goblin_pe_records.specs.declared.symbol.PeNamedSymbol.{PeNamedSymbol}
 use Rattle.goblin_pe_records.specs.declared.symbol.PeSymbolTable.{PeSymbolTable}
-use Rattle.goblin_pe_records.specs.Filled.{Filled, without_text}
+use Rattle.goblin_pe_records.specs.Filled.{without_text}
+use Rattle.goblin_pe_records.specs.Onward.{Batch, GivesFrom, Table, unrefused}
 use Rattle.goblin_pe_records.specs.Options.{name_limit}
 
 -- the name at the end of the bytes of a string table: an empty one, if a piece ends there
@@ -98,22 +99,24 @@ unfoldable pub index_after : List ℕ → ℕ → ℕ → ℕ
 index_after table zero i = i
 index_after table (suc n) i = next_index table (index_after table n i)
 
--- what a caller passes in to be filled
-pub record SymbolRecords : Type 0 where
-  pub position : ℕ
-  pub records : List PeNamedSymbol
-  pub count : ℕ
+abbrev pub SymbolBatch : Type 0
+SymbolBatch = Batch ℕ PeNamedSymbol
+
+-- the symbols of a table with their names, from any record on
+abbrev pub symbol_table : List ℕ → (ℕ → Option (List ℕ))
+    → Table ℕ PeNamedSymbol SymbolItem (NamedSymbol × List ℕ)
+symbol_table table names = record {
+  view = named_symbol_view;
+  said = named_symbol table names;
+  from = λ i. Some (unrefused (symbols_onward table i));
+}
 
 -- The records hold the symbols from the position on, as far as there is room. The position is then
 -- that of the symbols that come next.
-pub record GivesSymbols (table : List ℕ) (names : ℕ → Option (List ℕ)) (old new : SymbolRecords)
-    : Type 0 where
-  pub filled : Filled named_symbol_view
-      (map (named_symbol table names) (symbols_onward table old.position)) old.records new.records
-  pub count : new.count ≡ min (length old.records) (length (symbols_onward table old.position))
-  pub position : new.position ≡ index_after table new.count old.position
-  pub left : symbols_onward table new.position
-      ≡ drop new.count (symbols_onward table old.position)
+abbrev pub GivesSymbols : List ℕ → (ℕ → Option (List ℕ)) → SymbolBatch → SymbolBatch → ℕ → Type 0
+GivesSymbols table names old new count =
+    GivesFrom (symbol_table table names) ⊥
+    (λ left. new.position ≡ index_after table count old.position) old new count
 
 -- the symbol at index i of a table, if it has so many records
 abbrev pub symbol_in : List ℕ → (ℕ → Option (List ℕ)) → ℕ → Option (NamedSymbol × List ℕ)
@@ -201,10 +204,11 @@ abbrev pub names_said : PeSymbolTable → List ℕ → ℕ → Option (List ℕ)
 names_said table = name_in_piece (name_limit table.longest_name)
 
 -- what a call gives of these tables; where there are none, only that there are no symbols
-abbrev pub SaysSymbols : PeSymbolTable → Option (List ℕ × List ℕ) → SymbolRecords → SymbolRecords
+abbrev pub SaysSymbols : PeSymbolTable → Option (List ℕ × List ℕ) → SymbolBatch → SymbolBatch → ℕ
     → Type 0
-SaysSymbols table (Some tables) old new = GivesSymbols tables.0 (names_said table tables.1) old new
-SaysSymbols table None old new = new ≡ record old { count = 0 }
+SaysSymbols table (Some tables) old new count =
+    GivesSymbols tables.0 (names_said table tables.1) old new count
+SaysSymbols table None old new count = (new ≡ old) × (count ≡ 0)
 
 -- the symbol at index i of the table that a record says; none where there is no such table
 abbrev pub symbol_said : PeSymbolTable → List ℕ → ℕ → Option (NamedSymbol × List ℕ)

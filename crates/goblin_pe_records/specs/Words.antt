@@ -6,6 +6,7 @@ use Rattle.goblin_pe_sect.specs.BaseRelocations.{word_record}
 use Rattle.goblin_pe_sect.specs.declared.relocation.base.RelocationWord.{RelocationWord}
 use Rattle.goblin_pe_records.specs.declared.block.PeBlock.{PeBlock}
 use Rattle.goblin_pe_records.specs.declared.word.PeWord.{PeWord}
+use Rattle.goblin_pe_records.specs.Onward.{Batch}
 
 -- a word of a block for the page at this address: its type in the high four bits, and in the low
 -- twelve the offset in the page
@@ -23,3 +24,6 @@ words_said rva words = records_in 2 (λ bytes. word_said rva (word_record Little
 -- the words of a block
 abbrev pub block_words : PeBlock → List PeWord
 block_words b = words_said b.rva b.words.now
+
+abbrev pub WordBatch : Type 0
+WordBatch = Batch ℕ PeWord

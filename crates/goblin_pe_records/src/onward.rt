@@ -1,7 +1,7 @@
 //! A list from a position on, as far as there is room.
 
-ghost use Rattle.std.specs.Prelude.{◌≡◌, ◌<◌, ◌^◌, List, length, slice_get};
-ghost use Rattle.goblin_pe_records.specs.Onward.{GivesOnward};
+ghost use Rattle.std.specs.Prelude.{◌≡◌, ◌<◌, ◌^◌, List, length, slice_get, ℕ};
+ghost use Rattle.goblin_pe_records.specs.Onward.{Batch, GivesOnward};
 
 /// Fills records with the items of a list from the index `position` on, as far as there is room,
 /// moves the index past them, and answers how many these are. `item` answers the item at an index,
@@ -14,7 +14,9 @@ pub fn fill_onward<W: Copy, F: Fn(usize) -> Option<W>>(
     requires { (index : _) → F.pre item index }
     ensures { (items : List W) → length items < 2 ^ 64
         → ((index : _) (found : _) → F.post item index found → found ≡ slice_get items index)
-        → GivesOnward items position.old records.old position.new records.new result }
+        → let old : Batch ℕ W = record { position = position.old; records = records.old } in
+        let new : Batch ℕ W = record { position = position.new; records = records.new } in
+        GivesOnward items old new result }
 {
     let mut index = *position;
     'records: for count in 0..records.len() {

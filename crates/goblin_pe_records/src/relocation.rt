@@ -5,10 +5,10 @@ ghost use Rattle.goblin_base.specs.Reading.{Reads};
 ghost use Rattle.goblin_pe_sect.specs.Relocations.{relocations_in, relocations_left};
 ghost use Rattle.goblin_pe_records.specs.Calls.{ReadsWithout};
 ghost use Rattle.goblin_pe_records.specs.Filled.{Filled};
-ghost use Rattle.goblin_pe_records.specs.Relocations.{RelocationRecords, SaysRelocations};
+ghost use Rattle.goblin_pe_records.specs.Relocations.{RelocationBatch, RelocationRecords};
 ghost use Rattle.goblin_pe_records.specs.Onward.{GivesOnward};
-ghost use Rattle.goblin_pe_records.specs.Relocations.{all_relocations, counts_in_first};
-ghost use Rattle.goblin_pe_records.specs.Relocations.{relocations_of};
+ghost use Rattle.goblin_pe_records.specs.Relocations.{SaysRelocations, all_relocations};
+ghost use Rattle.goblin_pe_records.specs.Relocations.{counts_in_first, relocations_of};
 ghost use Rattle.goblin_pe_records.specs.Sections.{section_view};
 
 use crate::filled::put;
@@ -109,10 +109,11 @@ pub fn next_relocations(
     records: &mut [Relocation],
     count: &mut usize,
 ) -> Result<()>
-    ensures { ReadsWithout (all_relocations (section_view section.now)) bytes.now
-        (λ all. GivesOnward all position.old records.old position.new records.new count.new)
-        ((position.new ≡ position.old) × (records.new ≡ records.old) × (count.new ≡ count.old))
-        result }
+    ensures { let old : RelocationBatch =
+        record { position = position.old; records = records.old } in
+        let new : RelocationBatch = record { position = position.new; records = records.new } in
+        ReadsWithout (all_relocations (section_view section.now)) bytes.now
+        (λ all. GivesOnward all old new count.new) ((new ≡ old) × (count.new ≡ count.old)) result }
 {
     let table = all_records(bytes, section)?;
     *count = fill_onward(|index| relocation_at(table, index), position, records);

@@ -7,7 +7,7 @@ ghost use Rattle.goblin_pe_symbol.specs.Symbols.{name_and_symbol, named_value, r
 ghost use Rattle.goblin_pe_symbol.specs.Symbols.{symbol_of};
 ghost use Rattle.goblin_pe_records.specs.Calls.{ReadsWithout};
 ghost use Rattle.goblin_pe_records.specs.Found.{Puts};
-ghost use Rattle.goblin_pe_records.specs.Symbols.{named_symbol_view, SymbolRecords, name_in_piece};
+ghost use Rattle.goblin_pe_records.specs.Symbols.{named_symbol_view, SymbolBatch, name_in_piece};
 ghost use Rattle.goblin_pe_records.specs.Options.{name_limit};
 ghost use Rattle.goblin_pe_records.specs.Symbols.{name_at_end};
 ghost use Rattle.goblin_pe_records.specs.Symbols.{symbol_tables, GivesSymbols, auxiliary_of};
@@ -228,12 +228,10 @@ fn fill_symbols_at<'a>(
     position: &mut usize,
     records: &mut [PeNamedSymbol<'a>],
 ) -> usize
-    ensures { let old : SymbolRecords =
-        record { position = position.old; records = records.old; count = 0 } in
-        let new : SymbolRecords =
-        record { position = position.new; records = records.new; count = result } in
+    ensures { let old : SymbolBatch = record { position = position.old; records = records.old } in
+        let new : SymbolBatch = record { position = position.new; records = records.new } in
         GivesSymbols tables.entry.records.now
-        (name_in_piece tables.entry.longest tables.entry.strings.now) old new }
+        (name_in_piece tables.entry.longest tables.entry.strings.now) old new result }
 {
     let mut index = *position; // (a place behind a pointer is stored for each symbol)
     'symbols: for count in 0..records.len() {
@@ -381,11 +379,10 @@ pub fn read_symbols<'a>(
     records: &mut [PeNamedSymbol<'a>],
     count: &mut usize,
 ) -> Result<()>
-    ensures { let old : SymbolRecords =
-        record { position = position.old; records = records.old; count = count.old } in
-        let new : SymbolRecords =
-        record { position = position.new; records = records.new; count = count.new } in
-        ReadsWithout (tables_said table.now) bytes.now (λ x. SaysSymbols table.now x old new) (new ≡ old)
+    ensures { let old : SymbolBatch = record { position = position.old; records = records.old } in
+        let new : SymbolBatch = record { position = position.new; records = records.new } in
+        ReadsWithout (tables_said table.now) bytes.now
+        (λ x. SaysSymbols table.now x old new count.new) ((new ≡ old) × (count.new ≡ count.old))
         result }
 {
     *count = match tables_said(bytes, table)? {

@@ -2,7 +2,7 @@
 
 ghost use Rattle.std.specs.Prelude.{◌≡◌, ◌<◌, ◌^◌, length, slice_get};
 ghost use Rattle.goblin_pe_records.specs.Onward.{GivesOnward};
-ghost use Rattle.goblin_pe_records.specs.Words.{block_words, word_said, words_said};
+ghost use Rattle.goblin_pe_records.specs.Words.{WordBatch, block_words, word_said, words_said};
 
 use crate::block::PeBlock;
 use crate::onward::fill_onward;
@@ -62,8 +62,9 @@ fn bytes_of<'a>(block: &PeBlock<'a>) -> &'a [u8]
 /// is room, moves `position` past them, and answers how many these are. A byte that is left after
 /// the words is no word.
 pub fn next_words(block: &PeBlock, position: &mut usize, records: &mut [PeWord]) -> usize
-    ensures { GivesOnward (block_words block.now) position.old records.old position.new records.new
-        result }
+    ensures { let old : WordBatch = record { position = position.old; records = records.old } in
+        let new : WordBatch = record { position = position.new; records = records.new } in
+        GivesOnward (block_words block.now) old new result }
 {
     let (rva, words) = (block.rva, bytes_of(block));
     fill_onward(|index| word_at(rva, words, index), position, records)

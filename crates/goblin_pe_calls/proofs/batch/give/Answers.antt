@@ -1,6 +1,7 @@
 use Rattle.std.proofs.Common.{length, refl}
 use Rattle.std.proofs.lemmas.Result.{err_from_is_err_and}
-use Rattle.goblin_pe_calls.specs.Batches.{Batch, front, room_within}
+use Rattle.goblin_pe_calls.specs.Batches.{front, room_within}
+use Rattle.goblin_pe_records.specs.Onward.{Batch}
 use Rattle.goblin_pe_calls.proofs.InPlaces.{IsAt, fault-at, given-at, nothing-at}
 use Rattle.goblin_pe_calls.proofs.batch.give.Goals as goal
 

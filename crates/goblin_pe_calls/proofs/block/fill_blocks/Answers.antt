@@ -2,7 +2,7 @@ use Rattle.std.proofs.Common.{arith, refl, subst, Result, Some}
 use Rattle.goblin_base.specs.declared.error.ErrorOf.{ErrorOf}
 use Rattle.goblin_pe_sect.specs.declared.relocation.base.RelocationBlock.{RelocationBlock}
 use Rattle.goblin_pe_sect.specs.BaseRelocations.{FindsItem, relocation_bytes}
-use Rattle.goblin_pe_calls.proofs.BlockBatches.{blocks-end, blocks-full, blocks-more, blocks-refused, blocks-start, item-other}
+use Rattle.goblin_pe_calls.proofs.BlockBatches.{blocks-end, blocks-fault, blocks-full, blocks-more, blocks-refused, blocks-start, item-other}
 use Rattle.goblin_pe_calls.proofs.block.fill_blocks.Goals as goal
 
 pub items-init : goal.items-init
@@ -14,11 +14,17 @@ items-preserved c =
     let found = subst (λ (r : Result RelocationBlock ErrorOf). FindsItem directory c.items.offset (Some r)) c.in-Some-Ok.field-0-is c.in-Some-Ok.ensures.found in
     (blocks-more directory c.args.position.now c.args.records.now c.items.offset c.items.records c.items.count c.items.invariant.0 c.in-Some-Ok.block c.block_record.result _ found c.block_record.ensures c.items-test.true (omega arith), c.items.invariant.1)
 
+pub returns-in-Some-Err-clause-filled : goal.returns-in-Some-Err-clause-filled
+returns-in-Some-Err-clause-filled c =
+    let directory = relocation_bytes c.args.relocations.now in
+    let found = subst (λ (r : Result RelocationBlock ErrorOf). FindsItem directory c.items.offset (Some r)) c.in-Some-Err.field-0-is c.in-Some-Err.ensures.found in
+    blocks-fault directory c.args.position.now c.args.records.now c.items.offset c.items.records c.items.count c.items.invariant.0 c.in-Some-Err.error found c.if-count-eq0.true c.items-test.true _ c.items.invariant.1
+
 pub returns-in-Some-Err-2-clause-filled : goal.returns-in-Some-Err-2-clause-filled
 returns-in-Some-Err-2-clause-filled c =
     let directory = relocation_bytes c.args.relocations.now in
     let found = subst (λ (r : Result RelocationBlock ErrorOf). FindsItem directory c.items.offset (Some r)) c.in-Some-Err.field-0-is c.in-Some-Err.ensures.found in
-    blocks-refused directory c.args.position.now c.args.records.now c.items.offset c.items.records c.items.count c.items.invariant.0 c.in-Some-Err.error found (omega (arith, c.if-count-eq0.false))
+    blocks-refused directory c.args.position.now c.args.records.now c.items.offset c.items.records c.items.count c.items.invariant.0 c.in-Some-Err.error found c.if-count-eq0.false
 
 pub returns-in-None-clause-filled : goal.returns-in-None-clause-filled
 returns-in-None-clause-filled c =

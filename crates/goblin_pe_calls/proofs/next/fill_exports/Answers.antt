@@ -1,15 +1,15 @@
-use Rattle.std.proofs.Common.{arith, inr, refl, subst, sym}
+use Rattle.std.proofs.Common.{arith, subst, sym}
 use Rattle.std.proofs.lemmas.List.{length-set}
 use Rattle.goblin_pe_export.specs.declared.export.exports.Exports.{Exports}
-use Rattle.goblin_pe_calls.proofs.ExportBatches.{AtExports, exports-ended, exports-filled, exports-full, exports-later, exports-more, exports-start}
+use Rattle.goblin_pe_calls.proofs.ExportBatches.{AtExports, exports-ended, exports-full, exports-more, exports-start}
 use Rattle.goblin_pe_calls.proofs.next.fill_exports.Goals as goal
 
 pub exports-init : goal.exports-init
-exports-init c = (exports-start c.args.exports.now c.args.records.now c.args.end, λ none. refl)
+exports-init c = exports-start c.args.exports.now c.args.records.now c.args.end
 
 pub plain-init : goal.plain-init
 plain-init c =
-    let before = c.exports.invariant.0 in
+    let before = c.exports.invariant in
     let given = c.in-Some.ensures in
     let r = c.put_export.new.place in (
       exports-more c.args.exports.now c.args.records.now c.args.end c.exports.exports c.exports.records c.exports.count before
@@ -36,36 +36,19 @@ plain-preserved c =
 
 pub exports-preserved : goal.exports-preserved
 exports-preserved c =
-    let before = c.plain.invariant in (
-      subst (λ (w : Exports). AtExports c.args.exports.now c.args.records.now c.args.end w c.plain.records c.plain.count) (sym c.in_default-next_plain.ensures.steps) before.0,
-      λ none. absurd (omega (arith, none, before.1, before.0.at.fits, before.0.at.same)),
-    )
+    subst (λ (w : Exports). AtExports c.args.exports.now c.args.records.now c.args.end w c.plain.records c.plain.count)
+    (sym c.in_default-next_plain.ensures.steps) c.plain.invariant.0
 
 pub returns-in_default-clause-filled : goal.returns-in_default-clause-filled
 returns-in_default-clause-filled c =
-    exports-filled c.args.exports.now c.args.records.now c.args.end c.exports.exports c.exports.records c.exports.count c.exports.invariant.0
-
-pub returns-in_default-clause-later : goal.returns-in_default-clause-later
-returns-in_default-clause-later c =
-    exports-later c.args.exports.now c.args.records.now c.args.end c.exports.exports c.exports.records c.exports.count c.exports.invariant.0 c.next_before.new.self c.in_default.ensures.1
-
-pub returns-in_default-clause-whole : goal.returns-in_default-clause-whole
-returns-in_default-clause-whole c =
-    exports-ended c.args.exports.now c.args.records.now c.args.end c.exports.exports c.exports.records c.exports.count c.exports.invariant.0 c.next_before.new.self c.in_default.ensures
-
-pub returns-in_default-clause-stays : goal.returns-in_default-clause-stays
-returns-in_default-clause-stays c =
-    λ none. absurd (omega (arith, none, c.exports-test.true, c.exports.invariant.0.at.same))
+    exports-ended c.args.exports.now c.args.records.now c.args.end c.exports.exports c.exports.records c.exports.count c.exports.invariant c.next_before.new.self c.exports-test.true c.in_default.ensures
 
 pub returns : goal.returns
 returns c =
-    let before = c.exports.invariant.0 in
+    let before = c.exports.invariant in
     record {
-      filled = exports-filled c.args.exports.now c.args.records.now c.args.end c.exports.exports c.exports.records c.exports.count before;
-      later = exports-later c.args.exports.now c.args.records.now c.args.end c.exports.exports c.exports.records c.exports.count before c.exports.exports refl;
+      filled = exports-full c.args.exports.now c.args.records.now c.args.end c.exports.exports c.exports.records c.exports.count before c.exports-test.false;
       over = before.over;
       further = before.further;
       within = before.within;
-      whole = inr (exports-full c.args.exports.now c.args.records.now c.args.end c.exports.exports c.exports.records c.exports.count before c.exports-test.false);
-      stays = λ none. c.exports.invariant.1 (omega (arith, none, before.at.same));
     }

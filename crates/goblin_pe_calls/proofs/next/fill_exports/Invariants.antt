@@ -1,5 +1,5 @@
 -- The records hold the exports that have come so far.
-use Rattle.std.proofs.Common.{◌+◌, ◌-◌, ◌<◌, ◌≡◌, ◌≤◌, length}
+use Rattle.std.proofs.Common.{◌+◌, ◌-◌, ◌<◌, ◌≤◌, length}
 use Rattle.goblin_pe_export.specs.ExportWalks.{exports_position}
 use Rattle.goblin_pe_calls.proofs.ExportBatches.{AtExports}
 use Rattle.goblin_pe_calls.proofs.next.fill_exports.Given as goal
@@ -7,7 +7,6 @@ use Rattle.goblin_pe_calls.proofs.next.fill_exports.Given as goal
 abbrev pub invariant-exports : goal.invariant-exports
 invariant-exports l =
     AtExports l.fn.exports l.fn.records l.end l.exports l.records l.count
-    × (length l.records ≡ 0 → l.exports ≡ l.fn.exports)
 
 abbrev pub decreases-exports : goal.decreases-exports
 decreases-exports l = length l.records - l.count

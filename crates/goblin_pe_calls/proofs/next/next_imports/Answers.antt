@@ -1,6 +1,8 @@
-use Rattle.goblin_pe.specs.Layouts.{layout_map, layout_places}
-use Rattle.goblin_pe_calls.specs.Batches.{ImportBatch}
-use Rattle.goblin_pe_calls.proofs.ImportBatches.{batch-answered, goes-start}
+use Rattle.goblin_pe.specs.LayoutCursors.{IsFileCursorCause, file_cursor_left}
+use Rattle.goblin_pe.specs.Layouts.{IsFileImportsCause, file_imports_left, layout_map, layout_places}
+use Rattle.goblin_pe_calls.specs.Batches.{GivesImports, ImportBatch, import_cursor}
+use Rattle.goblin_pe_records.proofs.Batches.{answered}
+use Rattle.goblin_pe_calls.proofs.ImportBatches.{goes-start}
 use Rattle.goblin_pe_calls.proofs.next.next_imports.Goals as goal
 
 pub fill_imports-requires : goal.fill_imports-requires
@@ -12,7 +14,10 @@ fill_imports-requires c =
 pub returns-clause-filled : goal.returns-clause-filled
 returns-clause-filled c =
     let l = c.args.layout.now in
+    let m = layout_map l in
+    let places = layout_places l in
     let old : ImportBatch = record { position = c.args.position.now; records = c.args.records.now } in
     let new : ImportBatch = record { position = c.fill_imports.new.position; records = c.fill_imports.new.records } in
     let walk = c.imports_at.ensures in
-    batch-answered (layout_map l) (layout_places l) l.bytes.now old new c.imports_at.result c.in_ok-at.at c.in_ok-at.ensures walk.left walk.cause c.args.steps c.fill_imports.result c.fill_imports.ensures.filled
+    answered (import_cursor m places old.position) l.bytes.now (file_cursor_left m places.magic l.bytes.now) (IsFileCursorCause m places.magic l.bytes.now) old new (GivesImports m places l.bytes.now c.args.steps old new)
+    c.in_ok-at.at (file_imports_left c.imports_at.result) (IsFileImportsCause c.imports_at.result) c.in_ok-at.ensures walk.left walk.cause c.fill_imports.result c.fill_imports.ensures.filled

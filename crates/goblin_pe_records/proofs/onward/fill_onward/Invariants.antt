@@ -1,6 +1,6 @@
 -- The items so far fill the records, and the index is that of the next one.
-use Rattle.std.proofs.Common.{◌≡◌, ◌<◌, ◌^◌, ◌+◌, ℕ, List, Option, length, slice_get}
-use Rattle.goblin_pe_records.proofs.GivenOnward.{IsOnward}
+use Rattle.std.proofs.Common.{◌≡◌, ◌<◌, ◌^◌, ℕ, List, Option, length, slice_get}
+use Rattle.goblin_pe_records.proofs.GivenOnward.{AtIndex}
 use Rattle.goblin_pe_records.proofs.onward.fill_onward.Given as goal
 
 abbrev pub invariant-records : goal.invariant-records
@@ -8,4 +8,4 @@ invariant-records g l =
     (items : List g.row.W.Denot) → length items < 2 ^ 64
     → ((index : ℕ) (found : Option g.row.W.Denot) → g.F.Fn.post l.fn.item (index, tt) found
     → found ≡ slice_get items index)
-    → IsOnward items l.initial.position l.initial.records l.count l.records × (l.index ≡ l.initial.position + l.count)
+    → AtIndex items l.initial.position l.initial.records l.index l.records l.count

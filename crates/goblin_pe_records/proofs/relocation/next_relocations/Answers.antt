@@ -9,6 +9,6 @@ pub returns : goal.returns
 returns c =
     let table = c.in_ok-table.table.now in
     let count = length-records_in 10 (relocation_record Little) table in
-    subst (λ read. IsSomeAnd read (λ all. GivesOnward all c.args.position.now c.args.records.now c.fill_onward.new.position c.fill_onward.new.records c.fill_onward.result))
+    subst (λ read. IsSomeAnd read (λ all. GivesOnward all (record { position = c.args.position.now; records = c.args.records.now }) (record { position = c.fill_onward.new.position; records = c.fill_onward.new.records }) c.fill_onward.result))
     (sym c.in_ok-table.ensures.value)
     (c.fill_onward.ensures (relocations_in table) (omega (arith, count, c.in_ok-table.ensures.short)) (search rules))

@@ -11,5 +11,5 @@ returns c =
     let rva = c.args.block.now.rva in
     let words = c.bytes_of-words.result.now in
     let count = length-records_in 2 (λ bytes. word_said rva (word_record Little bytes)) words in
-    subst (λ bytes. GivesOnward (words_said rva bytes) c.args.position.now c.args.records.now c.fill_onward.new.position c.fill_onward.new.records c.fill_onward.result) c.bytes_of-words.ensures.value
+    subst (λ bytes. GivesOnward (words_said rva bytes) (record { position = c.args.position.now; records = c.args.records.now }) (record { position = c.fill_onward.new.position; records = c.fill_onward.new.records }) c.fill_onward.result) c.bytes_of-words.ensures.value
     (c.fill_onward.ensures (words_said rva words) (omega (arith, count, c.bytes_of-words.ensures.short)) (search rules))

@@ -15,7 +15,7 @@ returns-in-Read-clause-filled c =
     c.in-Read.exports c.in-Read.is walk c.args.steps c.from_position-exports.result c.fill_exports-count.new.exports c.end_after-end.result c.fill_exports-count.result c.fill_exports-count.new.records
     from.left from.over from.at end.limit (omega (arith, end.within, c.pointer_count.ensures))
     (subst (λ (n : ℕ). (c.end_after-end.result ≡ n) ⊎ ((c.args.steps ≢ 0) × (c.end_after-end.result ≡ c.args.position.now + c.args.steps))) c.pointer_count.ensures end.whole)
-    filled.filled filled.later filled.over filled.further filled.within filled.whole filled.stays)
+    filled.filled filled.over filled.further filled.within)
 
 pub returns-in-Absent : goal.returns-in-Absent
 returns-in-Absent c =
