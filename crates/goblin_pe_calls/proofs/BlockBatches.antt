@@ -18,7 +18,7 @@ use Rattle.goblin_pe.specs.declared.whole.Part.TheVariants as part
 use Rattle.goblin_pe_records.specs.declared.block.PeBlock.{PeBlock}
 use Rattle.goblin_pe_records.specs.Blocks.{block_view}
 use Rattle.goblin_pe_records.specs.Items.{without_causes}
-use Rattle.goblin_pe_records.specs.Onward.{IsRefusedNext, Table, values_before}
+use Rattle.goblin_pe_records.specs.Onward.{IsRefusedNext, values_before}
 use Rattle.goblin_pe_calls.specs.Batches.{BlockBatch, FillsBlocks, GivesBlocks, IsBlockCause, IsBlocksFault, block_table, blocks_from}
 use Rattle.goblin_pe_records.proofs.Batches.{AtItems, items-end, items-fault, items-full, items-more, items-refused, items-start, items-stay, items-taken, items-then}
 
@@ -71,66 +71,59 @@ item-other directory p e is = subst IsOther (block-cause directory p e is) (bloc
 abbrev size_of : List Block → ℕ
 size_of blocks = sum_by (λ (b : Block). b.size) blocks
 
-module _ (directory : List ℕ) (from : ℕ) (old : List PeBlock) where
-  abbrev blocks : ℕ → List (Option Block)
-  blocks = blocks_from (part.Read directory)
+-- the records hold the blocks up to an offset
+pub record AtBlocks (directory : List ℕ) (from : ℕ) (old : List PeBlock) (offset : ℕ) (records : List PeBlock) (count : ℕ) : Type 0 where
+  pub at : AtItems (block_table (part.Read directory)) (blocks_from (part.Read directory)) from from old offset offset records count
+  pub moved : offset ≡ from + size_of at.values
 
-  abbrev table : Table ℕ PeBlock Block Block
-  table = block_table (part.Read directory)
+pub blocks-start : (directory : List ℕ) (from : ℕ) (old : List PeBlock) → AtBlocks directory from old from old 0
+unfolding items-start
+blocks-start directory from old =
+    record { at = items-start (block_table (part.Read directory)) (blocks_from (part.Read directory)) from from old refl; moved = omega arith }
 
-  -- the records hold the blocks up to an offset
-  pub record AtBlocks (offset : ℕ) (records : List PeBlock) (count : ℕ) : Type 0 where
-    pub at : AtItems table blocks from from old offset offset records count
-    pub moved : offset ≡ from + size_of at.values
+module _ {directory : List ℕ} {from : ℕ} {old : List PeBlock} {offset : ℕ} {records : List PeBlock} {count : ℕ} (h : AtBlocks directory from old offset records count) where
+  pub blocks-more : (block : RelocationBlock) (r : PeBlock) (next : ℕ) → FindsItem directory offset (Some (Ok block)) → block_view r ≡ block_value block
+      → count < length records → next ≡ offset + block.size → AtBlocks directory from old next (set records count r) (count + 1)
+  unfolding items-more items-then
+  blocks-more block r next found says within is =
+      let pushed : size_of (h.at.values ++ block_value block ∷ []) ≡ size_of h.at.values + block.size =
+      sum_by_push (λ (b : Block). b.size) h.at.values (block_value block) in
+      let moved = h.moved in
+      rw is (record {
+        at = items-more h.at (block_value block) (offset + block.size) (offset + block.size) r (ap without_causes found) within says refl;
+        moved = omega (arith, pushed, moved);
+      })
 
-  pub blocks-start : AtBlocks from old 0
-  unfolding items-start
-  blocks-start = record { at = items-start table blocks from from old refl; moved = omega arith }
+  -- how far the position has moved
+  moves : offset ≡ from + size_of (take count (values_before (blocks_from (part.Read directory) from)))
+  moves = h.moved ∙ ap (λ (values : List Block). from + size_of values) (sym (items-taken h.at))
 
-  module _ (offset : ℕ) (records : List PeBlock) (count : ℕ) (h : AtBlocks offset records count) where
-    pub blocks-more : (block : RelocationBlock) (r : PeBlock) (next : ℕ) → FindsItem directory offset (Some (Ok block)) → block_view r ≡ block_value block
-        → count < length records → next ≡ offset + block.size → AtBlocks next (set records count r) (count + 1)
-    unfolding items-more items-then
-    blocks-more block r next found says within is =
-        let pushed : size_of (h.at.values ++ block_value block ∷ []) ≡ size_of h.at.values + block.size =
-        sum_by_push (λ (b : Block). b.size) h.at.values (block_value block) in
-        let moved = h.moved in
-        rw is (record {
-          at = items-more table blocks from from old offset offset records count h.at (block_value block) (offset + block.size) (offset + block.size) r (ap without_causes found) within says refl;
-          moved = omega (arith, pushed, moved);
-        })
+  abbrev AreGiven : Type 0
+  AreGiven = FillsBlocks (part.Read directory) (record { position = from; records = old }) (record { position = offset; records = records }) count
 
-    -- how far the position has moved
-    moves : offset ≡ from + size_of (take count (values_before (blocks from)))
-    moves = h.moved ∙ ap (λ (values : List Block). from + size_of values) (sym (items-taken table blocks from from old offset offset records count h.at))
+  pub blocks-end : FindsItem directory offset None → AreGiven
+  blocks-end none = (
+    items-end h.at offset (ap without_causes none) (ap (λ (items : List (Result Block ErrorOf)). Some (without_causes items)) none) (items-stay h.at),
+    moves,
+  )
 
-    abbrev Given : Type 0
-    Given = FillsBlocks (part.Read directory) (record { position = from; records = old }) (record { position = offset; records = records }) count
+  pub blocks-full : length records ≤ count → AreGiven
+  blocks-full full = (items-full h.at full, moves)
 
-    pub blocks-end : FindsItem directory offset None → Given
-    blocks-end none = (
-      items-end table blocks from from old offset offset records count h.at ⊥ offset (ap without_causes none)
-          (ap (λ (items : List (Result Block ErrorOf)). Some (without_causes items)) none) (items-stay table blocks from from old offset offset records count h.at),
-      moves,
-    )
+  module _ (e : ErrorOf) (is : FindsItem directory offset (Some (Err e))) where
+    pub blocks-refused : count ≢ 0 → AreGiven
+    blocks-refused some = (items-refused h.at (ap without_causes is) some, moves)
 
-    pub blocks-full : length records ≤ count → Given
-    blocks-full full = (items-full table blocks from from old offset offset records count h.at ⊥ full, moves)
-
-    module _ (e : ErrorOf) (is : FindsItem directory offset (Some (Err e))) where
-      pub blocks-refused : count ≢ 0 → Given
-      blocks-refused some = (items-refused table blocks from from old offset offset records count h.at ⊥ (ap without_causes is) some, moves)
-
-      pub blocks-fault : count ≡ 0 → count < length records → (p : ℕ) → p ≡ from
-          → IsRefusedNext (blocks from) × IsBlockCause from (part.Read directory) e × (0 < length old)
-          × (◌≡◌ {A = BlockBatch} (record { position = p; records = records }) (record { position = from; records = old }))
-      blocks-fault none within p same =
-          let fault = items-fault table blocks from from old offset offset records count h.at (ap without_causes is) none within in (
-            fault.0,
-            subst (λ (x : ℕ). IsBlockCause x (part.Read directory) e) fault.2 (block-cause directory offset e is),
-            fault.1,
-            rw (same, fault.4) refl,
-          )
+    pub blocks-fault : count ≡ 0 → count < length records → (p : ℕ) → p ≡ from
+        → IsRefusedNext (blocks_from (part.Read directory) from) × IsBlockCause from (part.Read directory) e × (0 < length old)
+        × (◌≡◌ {A = BlockBatch} (record { position = p; records = records }) (record { position = from; records = old }))
+    blocks-fault none within p same =
+        let fault = items-fault h.at (ap without_causes is) none within in (
+          fault.0,
+          subst (λ (x : ℕ). IsBlockCause x (part.Read directory) e) fault.2 (block-cause directory offset e is),
+          fault.1,
+          rw (same, fault.4) refl,
+        )
 
 -- ---- in a file
 
@@ -159,7 +152,7 @@ blocks-none m places bytes found read none x old =
     nothing : (p : Part (List ℕ)) → ((y : ℕ) → blocks_from p y ≡ []) → (x : ℕ) (old : List PeBlock)
         → FillsBlocks p (record { position = x; records = old }) (record { position = x; records = old }) 0
     nothing p none x old = (
-      items-end (block_table p) (blocks_from p) x x old x x old 0 (items-start (block_table p) (blocks_from p) x x old refl) ⊥ x (none x)
+      items-end (items-start (block_table p) (blocks_from p) x x old refl) x (none x)
           (ap (λ (items : List (Option Block)). Some items) (none x)) (λ room. refl),
       omega arith,
     )

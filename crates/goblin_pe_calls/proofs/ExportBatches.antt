@@ -38,63 +38,60 @@ same-pointers s t over =
 abbrev to_come : Exports → List (Option NumberedExport)
 to_come walk = unrefused (exports_left walk)
 
-module _ (start : Exports) (old : List PeExport) (end : ℕ) where
-  -- the records hold what has come so far, and the walk goes on
-  pub record AtExports (now : Exports) (records : List PeExport) (count : ℕ) : Type 0 where
-    pub at : AtItems export_walk to_come start start old now now records count
-    pub over : KeepsOver start now
-    pub further : exports_position start ≤ exports_position now
-    pub within : exports_position now ≤ max (exports_position start) end
+-- the records hold what has come so far, and the walk goes on
+pub record AtExports (start : Exports) (old : List PeExport) (end : ℕ) (now : Exports) (records : List PeExport) (count : ℕ) : Type 0 where
+  pub at : AtItems export_walk to_come start start old now now records count
+  pub over : KeepsOver start now
+  pub further : exports_position start ≤ exports_position now
+  pub within : exports_position now ≤ max (exports_position start) end
 
-  pub exports-start : AtExports start old 0
-  exports-start = record {
-    at = items-start export_walk to_come start start old refl;
-    over = ((refl, refl), refl);
-    further = omega arith;
-    within = omega arith;
+pub exports-start : (start : Exports) (old : List PeExport) (end : ℕ) → AtExports start old end start old 0
+exports-start start old end = record {
+  at = items-start export_walk to_come start start old refl;
+  over = ((refl, refl), refl);
+  further = omega arith;
+  within = omega arith;
+}
+
+over-next : (start now next : Exports) → KeepsOver start now → KeepsOver now next → KeepsOver start next
+over-next start now next h k = ((k.0.0 ∙ h.0.0, k.0.1 ∙ h.0.1), k.1 ∙ h.1)
+
+module _ {start : Exports} {old : List PeExport} {end : ℕ} {now : Exports} {records : List PeExport} {count : ℕ} (h : AtExports start old end now records count) where
+  pub exports-more : (x : WalkedExport) (next : Exports) (r : PeExport)
+      → YieldsFirstBy walked_export exports_left now (Some x) next → KeepsOver now next
+      → exports_position now ≤ exports_position next → exports_position next ≤ max (exports_position start) end
+      → count < length records → export_view r ≡ export_said (walked_export x)
+      → AtExports start old end next (set records count r) (count + 1)
+  exports-more x next r given over further below within says = record {
+    at = items-more h.at (walked_export x) next next r (ap unrefused given) within says refl;
+    over = over-next start now next h.over over;
+    further = omega (arith, h.further, further);
+    within = below;
   }
 
-  over-next : (now next : Exports) → KeepsOver start now → KeepsOver now next → KeepsOver start next
-  over-next now next h k = ((k.0.0 ∙ h.0.0, k.0.1 ∙ h.0.1), k.1 ∙ h.1)
-
   -- what a batch has given that ends here
-  abbrev pub IsGiven : Exports → List PeExport → ℕ → Type 0
-  IsGiven next records count =
+  abbrev pub AreGiven : Exports → Type 0
+  AreGiven next =
       FillsFrom export_walk ((end < pointer_count start) × (end ≤ exports_position next)) (to_come start)
       (record { position = start; records = old }) (record { position = next; records = records }) count
 
-  module _ (now : Exports) (records : List PeExport) (count : ℕ) (h : AtExports now records count) where
-    pub exports-more : (x : WalkedExport) (next : Exports) (r : PeExport)
-        → YieldsFirstBy walked_export exports_left now (Some x) next → KeepsOver now next
-        → exports_position now ≤ exports_position next → exports_position next ≤ max (exports_position start) end
-        → count < length records → export_view r ≡ export_said (walked_export x)
-        → AtExports next (set records count r) (count + 1)
-    exports-more x next r given over further below within says = record {
-      at = items-more export_walk to_come start start old now now records count h.at (walked_export x) next next r (ap unrefused given) within says refl;
-      over = over-next now next h.over over;
-      further = omega (arith, h.further, further);
-      within = below;
-    }
+  -- there is no more room
+  pub exports-full : length records ≤ count → AreGiven now
+  exports-full full = items-full h.at full
 
-    -- there is no more room
-    pub exports-full : length records ≤ count → IsGiven now records count
-    exports-full full =
-        items-full export_walk to_come start start old now now records count h.at ((end < pointer_count start) × (end ≤ exports_position now)) full
-
-    -- nothing more comes before the end
-    pub exports-ended : (next : Exports) → count < length records → GivesExportBefore end now None next → IsGiven next records count
-    exports-ended next within given =
-        let pointers = same-pointers start now h.over in
-        let kept = same-pointers now next given.0 in
-        let stays : length old ≡ 0 → next ≡ start = λ none. absurd (let same = h.at.held.same in omega (arith, none, same, within)) in
-        elim (cases_lt end (pointer_count start)) [
-          | inl below ↦ items-cut export_walk to_come start start old now now records count h.at ((end < pointer_count start) × (end ≤ exports_position next)) next
-              (below, omega (arith, given.2, pointers, below)) (ap (λ (items : List NumberedExport). Some (unrefused items)) given.1) stays
-          | inr past ↦
-              let none = none-left next (omega (arith, given.2, pointers, kept, past)) in
-              items-end export_walk to_come start start old now now records count h.at ((end < pointer_count start) × (end ≤ exports_position next)) next
-              (ap unrefused (sym given.1 ∙ none)) (ap (λ (items : List NumberedExport). Some (unrefused items)) none) stays
-        ]
+  -- nothing more comes before the end
+  pub exports-ended : (next : Exports) → count < length records → GivesExportBefore end now None next → AreGiven next
+  exports-ended next within given =
+      let pointers = same-pointers start now h.over in
+      let kept = same-pointers now next given.0 in
+      let stays : length old ≡ 0 → next ≡ start = λ none. absurd (let same = h.at.held.same in omega (arith, none, same, within)) in
+      elim (cases_lt end (pointer_count start)) [
+        | inl below ↦
+            items-cut h.at next (below, omega (arith, given.2, pointers, below)) (ap (λ (items : List NumberedExport). Some (unrefused items)) given.1) stays
+        | inr past ↦
+            let none = none-left next (omega (arith, given.2, pointers, kept, past)) in
+            items-end h.at next (ap unrefused (sym given.1 ∙ none)) (ap (λ (items : List NumberedExport). Some (unrefused items)) none) stays
+      ]
 
 -- ---- in a file
 
@@ -154,7 +151,7 @@ module _ (m : MapOfAddresses) (places : TablePlaces) (bytes : List ℕ) (found :
   nothing steps p none is =
       let left : ℕ → List (Option NumberedExport) = λ y. unrefused (exports_in m bytes y p) in
       rw is (
-        items-end (export_table m bytes p) left x x old x x old 0 (items-start (export_table m bytes p) left x x old refl) (IsOutOfSteps steps x x) x (ap unrefused (none x))
+        items-end (items-start (export_table m bytes p) left x x old refl) x (ap unrefused (none x))
             (ap (λ (items : List NumberedExport). Some (unrefused items)) (none x)) (λ room. refl),
         record { further = omega arith; within = omega arith; looked = λ some. omega arith },
       )

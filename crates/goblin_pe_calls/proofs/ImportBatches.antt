@@ -21,8 +21,8 @@ use Rattle.goblin_pe_calls.specs.declared.next.PeImportCursor.{PeImportCursor}
 use Rattle.goblin_pe_calls.specs.Batches.{Fills, GivesImports, GivesInFile, GoesOn, ImportBatch, IsOutOfSteps, KeepsSteps, cursor_numbers, cursor_said}
 use Rattle.goblin_pe_calls.specs.Batches.{import_cursor, import_table, limit_of, option_said, position_ahead}
 use Rattle.goblin_pe_calls.specs.Imports.{import_said, import_view}
-use Rattle.goblin_pe_records.specs.Onward.{AtBatch, EndsAt, FillsFrom, IsRefusedNext, unrefused}
-use Rattle.goblin_pe_records.proofs.Batches.{AtItems, batch-more, gives-from, items-cut, items-end, items-fault, items-full, items-refused, items-start, items-then, items-unended}
+use Rattle.goblin_pe_records.specs.Onward.{AtBatch, EndsAt, IsRefusedNext, unrefused}
+use Rattle.goblin_pe_records.proofs.Batches.{AtItems, batch-more, items-cut, items-end, items-fault, items-full, items-gives, items-refused, items-start, items-then, items-unended}
 
 -- ---- the numbers of a cursor
 
@@ -169,117 +169,108 @@ over-bytes m magic bytes (Wide imports) walk = walk.1.0
 
 -- ---- the loop
 
-module _ (m : MapOfAddresses) (places : TablePlaces) (bytes : List ℕ) (steps : ℕ) (start : FileImports) (from : PeImportCursor) (old : List PeImport) where
-  -- the records hold what has come so far, and the walk goes on
-  pub record AtImports (now : FileImports) (p : PeImportCursor) (limit : Option ℕ) (records : List PeImport) (count : ℕ) : Type 0 where
-    pub at : AtItems (import_table m places bytes) file_imports_left start from old now p records count
-    pub goes : GoesOn m places bytes p now
-    pub counted : AreCounted (limit_of steps) limit (position_ahead m places bytes from) (file_ahead now)
+-- the records hold what has come so far, and the walk goes on
+pub record AtImports (m : MapOfAddresses) (places : TablePlaces) (bytes : List ℕ) (steps : ℕ) (start : FileImports) (from : PeImportCursor) (old : List PeImport)
+    (now : FileImports) (p : PeImportCursor) (limit : Option ℕ) (records : List PeImport) (count : ℕ) : Type 0 where
+  pub at : AtItems (import_table m places bytes) file_imports_left start from old now p records count
+  pub goes : GoesOn m places bytes p now
+  pub counted : AreCounted (limit_of steps) limit (position_ahead m places bytes from) (file_ahead now)
 
-  module _ (begins : GoesOn m places bytes from start) where
-    pub imports-start : (limit : Option ℕ) → limit ≡ limit_of steps → AtImports start from limit old 0
-    imports-start limit is = record {
-      at = items-start (import_table m places bytes) file_imports_left start from old begins.left;
-      goes = begins;
-      counted = rw (is, begins.ahead) (counted-start (limit_of steps) (file_ahead start));
-    }
+pub imports-start : (m : MapOfAddresses) (places : TablePlaces) (bytes : List ℕ) (steps : ℕ) (start : FileImports) (from : PeImportCursor) (old : List PeImport)
+    → GoesOn m places bytes from start → (limit : Option ℕ) → limit ≡ limit_of steps → AtImports m places bytes steps start from old start from limit old 0
+imports-start m places bytes steps start from old goes limit is = record {
+  at = items-start (import_table m places bytes) file_imports_left start from old goes.left;
+  goes = goes;
+  counted = rw (is, goes.ahead) (counted-start (limit_of steps) (file_ahead start));
+}
 
-    -- what a batch has given that ends now
-    abbrev pub AreGiven : PeImportCursor → List PeImport → ℕ → Type 0
-    AreGiven p records count = GivesImports m places bytes steps (record { position = from; records = old }) (record { position = p; records = records }) count
+module _ {m : MapOfAddresses} {places : TablePlaces} {bytes : List ℕ} {steps : ℕ} {start : FileImports} {from : PeImportCursor} {old : List PeImport}
+    {now : FileImports} {p : PeImportCursor} {limit : Option ℕ} {records : List PeImport} {count : ℕ}
+    (h : AtImports m places bytes steps start from old now p limit records count) where
+  -- an import has come, and those of its library that there is room for
+  pub library-more : (x : WalkedImport) (next last : FileImports) (q : PeImportCursor) (limit1 limit2 : Option ℕ) (r : PeImport) (new : List PeImport) (end : ℕ)
+      → GivesFileWithin now limit (Some (Ok x)) next limit1 → count < length records → import_view r ≡ import_said (walked_value x)
+      → GivesInFile next last (Fills (set records count r) new (count + 1) end)
+      → AreCounted limit1 limit2 (file_ahead next) (file_ahead last) → GoesOn m places bytes q last
+      → AtImports m places bytes steps start from old last q limit2 new end
+  library-more x next last q limit1 limit2 r new end gives within says fills spent goes =
+      let at = batch-more import_view import_said old h.at.values records count (walked_value x) r h.at.held within says in
+      let filled = library-given next last (Fills (set records count r) new (count + 1) end) fills in
+      let one = counted-then (limit_of steps) limit limit1 (position_ahead m places bytes from) (file_ahead now) (file_ahead next) h.counted gives.looked in
+      let last_is = filled.held.0 in
+      record {
+        at = items-then h.at (walked_value x ∷ filled.values) last q new end
+            (gives.steps.0 ∙ ap (λ (items : List (Option NumberedImport)). Some (walked_value x) ∷ items) filled.yielded)
+            (subst (λ (values : List NumberedImport). AtBatch import_view import_said old values new end) (append_assoc h.at.values (walked_value x ∷ []) filled.values)
+            (filled.held.1 old (h.at.values ++ walked_value x ∷ []) at))
+            (omega (arith, last_is)) goes.left;
+        goes = goes;
+        counted = counted-then (limit_of steps) limit1 limit2 (position_ahead m places bytes from) (file_ahead next) (file_ahead last) one spent;
+      }
 
-    module _ (now : FileImports) (p : PeImportCursor) (limit : Option ℕ) (records : List PeImport) (count : ℕ) (h : AtImports now p limit records count) where
-      -- an import has come, and those of its library that there is room for
-      pub library-more : (x : WalkedImport) (next last : FileImports) (q : PeImportCursor) (limit1 limit2 : Option ℕ) (r : PeImport) (new : List PeImport) (end : ℕ)
-          → GivesFileWithin now limit (Some (Ok x)) next limit1 → count < length records → import_view r ≡ import_said (walked_value x)
-          → GivesInFile next last (Fills (set records count r) new (count + 1) end)
-          → AreCounted limit1 limit2 (file_ahead next) (file_ahead last) → GoesOn m places bytes q last
-          → AtImports last q limit2 new end
-      library-more x next last q limit1 limit2 r new end gives within says fills spent goes =
-          let at = batch-more import_view import_said old h.at.values records count (walked_value x) r h.at.held within says in
-          let filled = library-given next last (Fills (set records count r) new (count + 1) end) fills in
-          let one = counted-then (limit_of steps) limit limit1 (position_ahead m places bytes from) (file_ahead now) (file_ahead next) h.counted gives.looked in
-          let last_is = filled.held.0 in
-          record {
-            at = items-then (import_table m places bytes) file_imports_left start from old now p records count h.at (walked_value x ∷ filled.values) last q new end
-                (gives.steps.0 ∙ ap (λ (items : List (Option NumberedImport)). Some (walked_value x) ∷ items) filled.yielded)
-                (subst (λ (values : List NumberedImport). AtBatch import_view import_said old values new end) (append_assoc h.at.values (walked_value x ∷ []) filled.values)
-                (filled.held.1 old (h.at.values ++ walked_value x ∷ []) at))
-                (omega (arith, last_is)) goes.left;
-            goes = goes;
-            counted = counted-then (limit_of steps) limit1 limit2 (position_ahead m places bytes from) (file_ahead next) (file_ahead last) one spent;
-          }
+  -- what was looked at up to the last import
+  kept : KeepsSteps (length bytes) steps (position_ahead m places bytes from) (position_ahead m places bytes p)
+  kept = rw h.goes.ahead (counted-kept (length bytes) steps (position_ahead m places bytes from) (file_ahead now) limit h.counted)
 
-      -- what was looked at up to the last import
-      kept : KeepsSteps (length bytes) steps (position_ahead m places bytes from) (position_ahead m places bytes p)
-      kept = rw h.goes.ahead (counted-kept (length bytes) steps (position_ahead m places bytes from) (file_ahead now) limit h.counted)
+  -- what a batch has given that ends at these numbers
+  abbrev AreGiven : PeImportCursor → Type 0
+  AreGiven q = GivesImports m places bytes steps (record { position = from; records = old }) (record { position = q; records = records }) count
 
-      -- a batch ends at these numbers
-      given-now : (q : PeImportCursor) → KeepsSteps (length bytes) steps (position_ahead m places bytes from) (position_ahead m places bytes q)
-          → FillsFrom (import_table m places bytes) (IsOutOfSteps steps (position_ahead m places bytes from) (position_ahead m places bytes q)) (file_imports_left start)
-          (record { position = from; records = old }) (record { position = q; records = records }) count
-          → IsOutOfSteps steps (position_ahead m places bytes from) (position_ahead m places bytes q)
-          ⊎ EndsAt (cursor_numbers no_imports) (record { position = from; records = old }) (record { position = q; records = records }) count (file_imports_left start)
-          → AreGiven q records count
-      given-now q keeps fills ends =
-          let before = position_ahead m places bytes from in
-          let after = position_ahead m places bytes q in
-          gives-from (import_table m places bytes) (IsOutOfSteps steps before after)
-          (λ left. KeepsSteps (length bytes) steps before after
-          × (IsOutOfSteps steps before after ⊎ EndsAt (cursor_numbers no_imports) (record { position = from; records = old }) (record { position = q; records = records }) count left))
-          (file_imports_left start) (record { position = from; records = old }) (record { position = q; records = records }) count begins.left fills (keeps, ends)
+  abbrev IsOut : PeImportCursor → Type 0
+  IsOut q = IsOutOfSteps steps (position_ahead m places bytes from) (position_ahead m places bytes q)
 
-      -- there is no more room
-      pub imports-full : length records ≤ count → AreGiven p records count
-      imports-full full =
-          given-now p kept (items-full (import_table m places bytes) file_imports_left start from old now p records count h.at _ full)
-          (inr (items-unended (import_table m places bytes) file_imports_left start from old now p records count h.at (cursor_numbers no_imports) p (inl full)))
+  abbrev Moves : PeImportCursor → List (Option NumberedImport) → Type 0
+  Moves q left =
+      KeepsSteps (length bytes) steps (position_ahead m places bytes from) (position_ahead m places bytes q)
+      × (IsOut q ⊎ EndsAt (cursor_numbers no_imports) (record { position = from; records = old }) (record { position = q; records = records }) count left)
 
-      module _ (next : FileImports) (limit1 : Option ℕ) (given : GivesFileWithin now limit None next limit1) (q : PeImportCursor)
-          (goes : GoesOn m places bytes q next) (numbers : q ≡ cursor_numbers (file_cursor next)) (within : count < length records) where
-        over : file_bytes now ≡ bytes
-        over = over-bytes m places.magic bytes now h.goes.walk
+  -- there is no more room
+  pub imports-full : length records ≤ count → AreGiven p
+  imports-full full =
+      items-gives h.at (Moves p) p (items-full h.at full) (kept, inr (items-unended h.at (cursor_numbers no_imports) p (inl full)))
 
-        keeps : KeepsSteps (length bytes) steps (position_ahead m places bytes from) (position_ahead m places bytes q)
-        keeps =
-            rw goes.ahead (counted-keeps (length bytes) steps (position_ahead m places bytes from) (file_ahead now) (file_ahead next) limit limit1 h.counted
-            (subst (λ (b : List ℕ). AreBounded (length b) limit limit1 (file_ahead now) (file_ahead next)) over given.looked))
+  module _ (next : FileImports) (limit1 : Option ℕ) (given : GivesFileWithin now limit None next limit1) (q : PeImportCursor)
+      (goes : GoesOn m places bytes q next) (numbers : q ≡ cursor_numbers (file_cursor next)) (within : count < length records) where
+    over : file_bytes now ≡ bytes
+    over = over-bytes m places.magic bytes now h.goes.walk
 
-        stays : length old ≡ 0 → q ≡ from
-        stays none = absurd (let same = h.at.held.same in omega (arith, same, within, none))
+    keeps : KeepsSteps (length bytes) steps (position_ahead m places bytes from) (position_ahead m places bytes q)
+    keeps =
+        rw goes.ahead (counted-keeps (length bytes) steps (position_ahead m places bytes from) (file_ahead now) (file_ahead next) limit limit1 h.counted
+        (subst (λ (b : List ℕ). AreBounded (length b) limit limit1 (file_ahead now) (file_ahead next)) over given.looked))
 
-        -- nothing more comes, or the steps have run out
-        pub imports-end : AreGiven q records count
-        imports-end = elim given.ended [
-          | inl ended ↦
-              let none : file_imports_left next ≡ [] =
-              walk-left m places.magic bytes (file_cursor next) next (goes.walk, refl)
-              ∙ ap (file_cursor_left m places.magic bytes) ended ∙ end-left m places bytes in
-              given-now q keeps
-              (items-end (import_table m places bytes) file_imports_left start from old now p records count h.at _ q (given.steps.0 ∙ none)
-              (goes.left ∙ ap (λ (items : List (Option NumberedImport)). Some items) none) stays)
-              (inr (λ is. numbers ∙ ap cursor_numbers ended))
-          | inr run ↦
-              let out : IsOutOfSteps steps (position_ahead m places bytes from) (position_ahead m places bytes q) =
-              rw goes.ahead (counted-out (length bytes) steps (position_ahead m places bytes from) (file_ahead now) (file_ahead next) limit limit1 h.counted
-              (subst (λ (b : List ℕ). HaveRunOut (length b) limit limit1 (file_ahead now) (file_ahead next)) over run)) in
-              given-now q keeps
-              (items-cut (import_table m places bytes) file_imports_left start from old now p records count h.at _ q out
-              (goes.left ∙ ap (λ (items : List (Option NumberedImport)). Some items) (sym given.steps.0)) stays)
-              (inl out)
-        ]
+    stays : length old ≡ 0 → q ≡ from
+    stays none = absurd (let same = h.at.held.same in omega (arith, same, within, none))
 
-      module _ (e : ErrorOf) (next : FileImports) (limit1 : Option ℕ) (given : GivesFileWithin now limit (Some (Err e)) next limit1) where
-        -- a refusal comes after something
-        pub imports-refused : count ≢ 0 → AreGiven p records count
-        imports-refused some =
-            given-now p kept (items-refused (import_table m places bytes) file_imports_left start from old now p records count h.at _ given.steps.0 some)
-            (inr (items-unended (import_table m places bytes) file_imports_left start from old now p records count h.at (cursor_numbers no_imports) p (inr given.steps.0)))
+    -- nothing more comes, or the steps have run out
+    pub imports-end : AreGiven q
+    imports-end = elim given.ended [
+      | inl ended ↦
+          let none : file_imports_left next ≡ [] =
+          walk-left m places.magic bytes (file_cursor next) next (goes.walk, refl)
+          ∙ ap (file_cursor_left m places.magic bytes) ended ∙ end-left m places bytes in
+          items-gives h.at (Moves q) q
+          (items-end h.at q (given.steps.0 ∙ none) (goes.left ∙ ap (λ (items : List (Option NumberedImport)). Some items) none) stays)
+          (keeps, inr (λ is. numbers ∙ ap cursor_numbers ended))
+      | inr run ↦
+          let out : IsOut q =
+          rw goes.ahead (counted-out (length bytes) steps (position_ahead m places bytes from) (file_ahead now) (file_ahead next) limit limit1 h.counted
+          (subst (λ (b : List ℕ). HaveRunOut (length b) limit limit1 (file_ahead now) (file_ahead next)) over run)) in
+          items-gives h.at (Moves q) q
+          (items-cut h.at q out (goes.left ∙ ap (λ (items : List (Option NumberedImport)). Some items) (sym given.steps.0)) stays)
+          (keeps, inl out)
+    ]
 
-        -- or at once
-        pub imports-fault : count ≡ 0 → count < length records
-            → IsRefusedNext (file_imports_left start) × IsFileImportsCause start e × (0 < length old)
-            × (◌≡◌ {A = ImportBatch} (record { position = p; records = records }) (record { position = from; records = old }))
-        imports-fault none within =
-            let fault = items-fault (import_table m places bytes) file_imports_left start from old now p records count h.at given.steps.0 none within in
-            (fault.0, subst (λ (w : FileImports). IsFileImportsCause w e) fault.2 given.steps.2, fault.1, rw (fault.3, fault.4) refl)
+  module _ (e : ErrorOf) (next : FileImports) (limit1 : Option ℕ) (given : GivesFileWithin now limit (Some (Err e)) next limit1) where
+    -- a refusal comes after something
+    pub imports-refused : count ≢ 0 → AreGiven p
+    imports-refused some =
+        items-gives h.at (Moves p) p (items-refused h.at given.steps.0 some) (kept, inr (items-unended h.at (cursor_numbers no_imports) p (inr given.steps.0)))
+
+    -- or at once
+    pub imports-fault : count ≡ 0 → count < length records
+        → IsRefusedNext (file_imports_left start) × IsFileImportsCause start e × (0 < length old)
+        × (◌≡◌ {A = ImportBatch} (record { position = p; records = records }) (record { position = from; records = old }))
+    imports-fault none within =
+        let fault = items-fault h.at given.steps.0 none within in
+        (fault.0, subst (λ (w : FileImports). IsFileImportsCause w e) fault.2 given.steps.2, fault.1, rw (fault.3, fault.4) refl)

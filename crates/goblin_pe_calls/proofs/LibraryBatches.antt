@@ -12,10 +12,10 @@ use Rattle.goblin_pe.specs.Whole.{TablePlaces, entry_format}
 use Rattle.goblin_pe_calls.specs.declared.next.PeImportCursor.{PeImportCursor}
 use Rattle.goblin_pe_calls.specs.Batches.{cursor_numbers, import_cursor}
 use Rattle.goblin_pe_calls.specs.Libraries.{FillsLibraries, LibraryBatch, library_said, library_table, library_view}
-use Rattle.goblin_pe_records.specs.Onward.{EndsAt, FillsFrom, IsRefusedNext}
+use Rattle.goblin_pe_records.specs.Onward.{EndsAt, IsRefusedNext}
 use Rattle.goblin_pe_import.specs.declared.import.library_walk.WalkedLibrary.{WalkedLibrary}
 use Rattle.goblin_pe_calls.specs.declared.library.PeLibrary.{PeLibrary}
-use Rattle.goblin_pe_records.proofs.Batches.{AtItems, gives-from, items-end, items-fault, items-full, items-more, items-refused, items-start, items-unended}
+use Rattle.goblin_pe_records.proofs.Batches.{AtItems, items-end, items-fault, items-full, items-gives, items-more, items-refused, items-start, items-unended}
 use Rattle.goblin_pe_calls.proofs.ImportBatches.{said-again}
 
 module _ (m : MapOfAddresses) (places : TablePlaces) (bytes : List ℕ) where
@@ -68,60 +68,52 @@ over-next m format bytes s t over again = record {
   format_is = again.format_is ∙ over.format_is;
 }
 
-module _ (m : MapOfAddresses) (places : TablePlaces) (bytes : List ℕ) (start : Libraries) (at : PeImportCursor) (old : List PeLibrary) where
-  -- the records hold the libraries that have come so far
-  abbrev pub AtLibraries : Libraries → PeImportCursor → List PeLibrary → ℕ → Type 0
-  AtLibraries now p records count =
-      AtItems (library_table m places bytes) libraries_left start at old now p records count × AreLibrariesOver m (entry_format places.magic) bytes now
+-- the records hold the libraries that have come so far
+pub record AtLibraries (m : MapOfAddresses) (places : TablePlaces) (bytes : List ℕ) (start : Libraries) (from : PeImportCursor) (old : List PeLibrary)
+    (now : Libraries) (p : PeImportCursor) (records : List PeLibrary) (count : ℕ) : Type 0 where
+  pub at : AtItems (library_table m places bytes) libraries_left start from old now p records count
+  pub over : AreLibrariesOver m (entry_format places.magic) bytes now
 
-  module _ (begins : (library_table m places bytes).from at ≡ Some (libraries_left start)) where
-    pub libraries-start : AreLibrariesOver m (entry_format places.magic) bytes start → AtLibraries start at old 0
-    libraries-start over = (items-start (library_table m places bytes) libraries_left start at old begins, over)
+pub libraries-start : (m : MapOfAddresses) (places : TablePlaces) (bytes : List ℕ) (start : Libraries) (from : PeImportCursor) (old : List PeLibrary)
+    → (library_table m places bytes).from from ≡ Some (libraries_left start) → AreLibrariesOver m (entry_format places.magic) bytes start
+    → AtLibraries m places bytes start from old start from old 0
+libraries-start m places bytes start from old begins over =
+    record { at = items-start (library_table m places bytes) libraries_left start from old begins; over = over }
 
-    module _ (now : Libraries) (p : PeImportCursor) (records : List PeLibrary) (count : ℕ) (h : AtLibraries now p records count) where
-      pub libraries-more : (x : WalkedLibrary) (next : Libraries) (q : PeImportCursor) (r : PeLibrary) → GivesNextLibrary now (Some (Ok x)) next
-          → q ≡ cursor_numbers (libraries_cursor next) → count < length records → library_view r ≡ library_said (library_value x)
-          → AtLibraries next q (set records count r) (count + 1)
-      libraries-more x next q r given numbers within says =
-          let over = over-next m (entry_format places.magic) bytes now next h.1 given.2 in (
-            items-more (library_table m places bytes) libraries_left start at old now p records count h.0 (library_value x) next q r given.0.0 within says
-                (goes-on m places bytes q next over numbers),
-            over,
-          )
+module _ {m : MapOfAddresses} {places : TablePlaces} {bytes : List ℕ} {start : Libraries} {from : PeImportCursor} {old : List PeLibrary}
+    {now : Libraries} {p : PeImportCursor} {records : List PeLibrary} {count : ℕ} (h : AtLibraries m places bytes start from old now p records count) where
+  abbrev Given : PeImportCursor → Type 0
+  Given q = FillsLibraries m places bytes (record { position = from; records = old }) (record { position = q; records = records }) count
 
-      -- what a batch has given that ends now
-      given-now : (q : PeImportCursor) → FillsFrom (library_table m places bytes) ⊥ (libraries_left start) (record { position = at; records = old }) (record { position = q; records = records }) count
-          → EndsAt (cursor_numbers no_imports) (record { position = at; records = old }) (record { position = q; records = records }) count (libraries_left start)
-          → FillsLibraries m places bytes (record { position = at; records = old }) (record { position = q; records = records }) count
-      given-now q fills ends =
-          gives-from (library_table m places bytes) ⊥ (EndsAt (cursor_numbers no_imports) (record { position = at; records = old }) (record { position = q; records = records }) count)
-          (libraries_left start) (record { position = at; records = old }) (record { position = q; records = records }) count begins fills ends
+  abbrev Ends : PeImportCursor → List (Option LibraryValue) → Type 0
+  Ends q = EndsAt (cursor_numbers no_imports) (record { position = from; records = old }) (record { position = q; records = records }) count
 
-      pub libraries-full : length records ≤ count → FillsLibraries m places bytes (record { position = at; records = old }) (record { position = p; records = records }) count
-      libraries-full full =
-          given-now p (items-full (library_table m places bytes) libraries_left start at old now p records count h.0 ⊥ full)
-          (items-unended (library_table m places bytes) libraries_left start at old now p records count h.0 (cursor_numbers no_imports) p (inl full))
+  pub libraries-more : (x : WalkedLibrary) (next : Libraries) (q : PeImportCursor) (r : PeLibrary) → GivesNextLibrary now (Some (Ok x)) next
+      → q ≡ cursor_numbers (libraries_cursor next) → count < length records → library_view r ≡ library_said (library_value x)
+      → AtLibraries m places bytes start from old next q (set records count r) (count + 1)
+  libraries-more x next q r given numbers within says =
+      let over = over-next m (entry_format places.magic) bytes now next h.over given.2 in
+      record { at = items-more h.at (library_value x) next q r given.0.0 within says (goes-on m places bytes q next over numbers); over = over }
 
-      pub libraries-end : (next : Libraries) (q : PeImportCursor) → GivesNextLibrary now None next → q ≡ cursor_numbers no_imports → count < length records
-          → FillsLibraries m places bytes (record { position = at; records = old }) (record { position = q; records = records }) count
-      libraries-end next q given numbers within =
-          given-now q
-          (items-end (library_table m places bytes) libraries_left start at old now p records count h.0 ⊥ q given.0.0 (none-at_end m places bytes q numbers)
-          (λ none. absurd (let same = h.0.held.same in omega (arith, none, same, within))))
-          (λ is. numbers)
+  pub libraries-full : length records ≤ count → Given p
+  libraries-full full = items-gives h.at (Ends p) p (items-full h.at full) (items-unended h.at (cursor_numbers no_imports) p (inl full))
 
-      module _ (e : ErrorOf) (next : Libraries) (given : GivesNextLibrary now (Some (Err e)) next) where
-        pub libraries-refused : count ≢ 0 → FillsLibraries m places bytes (record { position = at; records = old }) (record { position = p; records = records }) count
-        libraries-refused some =
-            given-now p (items-refused (library_table m places bytes) libraries_left start at old now p records count h.0 ⊥ given.0.0 some)
-            (items-unended (library_table m places bytes) libraries_left start at old now p records count h.0 (cursor_numbers no_imports) p (inr given.0.0))
+  pub libraries-end : (next : Libraries) (q : PeImportCursor) → GivesNextLibrary now None next → q ≡ cursor_numbers no_imports → count < length records → Given q
+  libraries-end next q given numbers within =
+      let stays : length old ≡ 0 → q ≡ from = λ none. absurd (let same = h.at.held.same in omega (arith, none, same, within)) in
+      items-gives h.at (Ends q) q (items-end h.at q given.0.0 (none-at_end m places bytes q numbers) stays) (λ is. numbers)
 
-        pub libraries-fault : count ≡ 0 → count < length records
-            → IsRefusedNext (libraries_left start) × IsLibrariesCause start e × (0 < length old)
-            × (◌≡◌ {A = LibraryBatch} (record { position = p; records = records }) (record { position = at; records = old }))
-        libraries-fault none within =
-            let fault = items-fault (library_table m places bytes) libraries_left start at old now p records count h.0 given.0.0 none within in
-            (fault.0, subst (λ (w : Libraries). IsLibrariesCause w e) fault.2 given.0.2, fault.1, rw (fault.3, fault.4) refl)
+  module _ (e : ErrorOf) (next : Libraries) (given : GivesNextLibrary now (Some (Err e)) next) where
+    pub libraries-refused : count ≢ 0 → Given p
+    libraries-refused some =
+        items-gives h.at (Ends p) p (items-refused h.at given.0.0 some) (items-unended h.at (cursor_numbers no_imports) p (inr given.0.0))
+
+    pub libraries-fault : count ≡ 0 → count < length records
+        → IsRefusedNext (libraries_left start) × IsLibrariesCause start e × (0 < length old)
+        × (◌≡◌ {A = LibraryBatch} (record { position = p; records = records }) (record { position = from; records = old }))
+    libraries-fault none within =
+        let fault = items-fault h.at given.0.0 none within in
+        (fault.0, subst (λ (w : Libraries). IsLibrariesCause w e) fault.2 given.0.2, fault.1, rw (fault.3, fault.4) refl)
 
 -- a cause of the walk is one of what comes at its cursor
 pub end-cause : (m : MapOfAddresses) (format : Format EntryValue) (bytes : List ℕ) (start : Libraries) (c : ImportCursor) → AreLibrariesOver m format bytes start

@@ -71,6 +71,7 @@ module _ {R A B : Type 0} (view : R → B) (said : A → B) (old : List R) where
 module _ {P R A B S : Type 0} (table : Table P R A B) (left : S → List (Option A)) (start : S) (at : P) (old : List R) where
   -- The records hold what has come so far; `left` says what is to come where the loop is now, and that comes from the position.
   pub record AtItems (now : S) (p : P) (records : List R) (count : ℕ) : Type 0 where
+    pub begins : table.from at ≡ Some (left start)
     pub values : List A
     pub held : AtBatch table.view table.said old values records count
     pub yielded : left start ≡ unrefused values ++ left now
@@ -78,130 +79,135 @@ module _ {P R A B S : Type 0} (table : Table P R A B) (left : S → List (Option
     pub first : count ≡ 0 → (now ≡ start) × (p ≡ at)
 
   unfoldable pub items-start : table.from at ≡ Some (left start) → AtItems start at old 0
-  items-start goes = record {
+  items-start begins = record {
+    begins = begins;
     values = [];
     held = batch-start table.view table.said old;
     yielded = refl;
-    goes = goes;
+    goes = begins;
     first = λ none. (refl, refl);
   }
 
-  module _ (now : S) (p : P) (records : List R) (count : ℕ) (h : AtItems now p records count) where
-    -- several have come
-    unfoldable pub items-then : (more : List A) (next : S) (q : P) (new : List R) (end : ℕ) → left now ≡ unrefused more ++ left next
-        → AtBatch table.view table.said old (h.values ++ more) new end → 0 < end → table.from q ≡ Some (left next) → AtItems next q new end
-    items-then more next q new end given held some goes = record {
-      values = h.values ++ more;
-      held = held;
-      yielded = h.yielded ∙ ap (λ (items : List (Option A)). unrefused h.values ++ items) given ∙ sym (append_assoc (unrefused h.values) (unrefused more) (left next))
-          ∙ ap (λ (items : List (Option A)). items ++ left next) (sym (map-append (λ (x : A). Some x) h.values more));
-      goes = goes;
-      first = λ none. absurd (omega (arith, none, some));
-    }
+module _ {P R A B S : Type 0} {table : Table P R A B} {left : S → List (Option A)} {start : S} {at : P} {old : List R}
+    {now : S} {p : P} {records : List R} {count : ℕ} (h : AtItems table left start at old now p records count) where
+  -- several have come
+  unfoldable pub items-then : (more : List A) (next : S) (q : P) (new : List R) (end : ℕ) → left now ≡ unrefused more ++ left next
+      → AtBatch table.view table.said old (h.values ++ more) new end → 0 < end → table.from q ≡ Some (left next) → AtItems table left start at old next q new end
+  items-then more next q new end given held some goes = record {
+    begins = h.begins;
+    values = h.values ++ more;
+    held = held;
+    yielded = h.yielded ∙ ap (λ (items : List (Option A)). unrefused h.values ++ items) given ∙ sym (append_assoc (unrefused h.values) (unrefused more) (left next))
+        ∙ ap (λ (items : List (Option A)). items ++ left next) (sym (map-append (λ (x : A). Some x) h.values more));
+    goes = goes;
+    first = λ none. absurd (omega (arith, none, some));
+  }
 
-    -- one more has come
-    unfoldable pub items-more : (x : A) (next : S) (q : P) (r : R) → left now ≡ Some x ∷ left next → count < length records → table.view r ≡ table.said x
-        → table.from q ≡ Some (left next) → AtItems next q (set records count r) (count + 1)
-    items-more x next q r given within says goes =
-        items-then (x ∷ []) next q (set records count r) (count + 1) given (batch-more table.view table.said old h.values records count x r h.held within says) (omega arith) goes
+  -- one more has come
+  unfoldable pub items-more : (x : A) (next : S) (q : P) (r : R) → left now ≡ Some x ∷ left next → count < length records → table.view r ≡ table.said x
+      → table.from q ≡ Some (left next) → AtItems table left start at old next q (set records count r) (count + 1)
+  items-more x next q r given within says goes =
+      items-then (x ∷ []) next q (set records count r) (count + 1) given (batch-more table.view table.said old h.values records count x r h.held within says) (omega arith) goes
 
-    -- what has come is the front of all, and the rest is left
-    pub items-taken : take count (values_before (left start)) ≡ h.values
-    items-taken =
-        ap (λ (items : List (Option A)). take count (values_before items)) h.yielded ∙ ap (λ (xs : List A). take count xs) (before-all h.values (left now))
-        ∙ ap (λ (n : ℕ). take n (h.values ++ values_before (left now))) (sym h.held.counted) ∙ take-append_seam h.values (values_before (left now))
+  -- what has come is the front of all, and the rest is left
+  pub items-taken : take count (values_before (left start)) ≡ h.values
+  items-taken =
+      ap (λ (items : List (Option A)). take count (values_before items)) h.yielded ∙ ap (λ (xs : List A). take count xs) (before-all h.values (left now))
+      ∙ ap (λ (n : ℕ). take n (h.values ++ values_before (left now))) (sym h.held.counted) ∙ take-append_seam h.values (values_before (left now))
 
-    pub items-left : drop count (left start) ≡ left now
-    items-left =
-        ap (λ (items : List (Option A)). drop count items) h.yielded
-        ∙ ap (λ (n : ℕ). drop n (unrefused h.values ++ left now)) (sym (length-map h.values (λ (x : A). Some x) ∙ h.held.counted)) ∙ drop-append_seam (unrefused h.values) (left now)
+  pub items-left : drop count (left start) ≡ left now
+  items-left =
+      ap (λ (items : List (Option A)). drop count items) h.yielded
+      ∙ ap (λ (n : ℕ). drop n (unrefused h.values ++ left now)) (sym (length-map h.values (λ (x : A). Some x) ∙ h.held.counted)) ∙ drop-append_seam (unrefused h.values) (left now)
 
-    -- without room nothing has come
-    pub items-stay : length old ≡ 0 → p ≡ at
-    items-stay none = (h.first (let fits = h.held.fits in omega (arith, fits, none))).1
+  -- without room nothing has come
+  pub items-stay : length old ≡ 0 → p ≡ at
+  items-stay none = (h.first (let fits = h.held.fits in omega (arith, fits, none))).1
 
-    -- what a batch has given that ends now
-    abbrev pub Given : Type 0 → P → Type 0
-    Given IsCut q = FillsFrom table IsCut (left start) (record { position = at; records = old }) (record { position = q; records = records }) count
+  -- what a batch has given that ends now
+  abbrev pub Given : Type 0 → P → Type 0
+  Given IsCut q = FillsFrom table IsCut (left start) (record { position = at; records = old }) (record { position = q; records = records }) count
 
-    -- it was cut
-    pub items-cut : (IsCut : Type 0) (q : P) → IsCut → table.from q ≡ Some (left now) → (length old ≡ 0 → q ≡ at) → Given IsCut q
-    items-cut IsCut q cut goes stays = record {
-      batch = batch-end table.view table.said old h.values [] (take count (values_before (left start))) records count h.held (items-taken ∙ sym (append-nil h.values)) (inr refl);
-      later = goes ∙ ap (λ (items : List (Option A)). Some items) (sym items-left);
-      whole = inl cut;
-      stays = stays;
-    }
+  -- it was cut
+  pub items-cut : {IsCut : Type 0} (q : P) → IsCut → table.from q ≡ Some (left now) → (length old ≡ 0 → q ≡ at) → Given IsCut q
+  items-cut q cut goes stays = record {
+    batch = batch-end table.view table.said old h.values [] (take count (values_before (left start))) records count h.held (items-taken ∙ sym (append-nil h.values)) (inr refl);
+    later = goes ∙ ap (λ (items : List (Option A)). Some items) (sym items-left);
+    whole = inl cut;
+    stays = stays;
+  }
 
-    -- all is given that there is room for, or that comes before a refusal
-    whole : (IsCut : Type 0) (q : P) → (length old ≤ count) ⊎ (values_before (left now) ≡ []) → (count ≡ 0 → IsRefusedNext (left now) → length old ≡ 0)
-        → table.from q ≡ Some (left now) → (length old ≡ 0 → q ≡ at) → Given IsCut q
-    whole IsCut q why begun goes stays =
-        let fills = items-cut (q ≡ q) q refl goes stays in
-        let all = ap (λ (items : List (Option A)). values_before items) h.yielded ∙ before-all h.values (left now) in
-        let batch = batch-end table.view table.said old h.values (values_before (left now)) (values_before (left start)) records count h.held all why in
-        record {
-          batch = fills.batch;
-          later = fills.later;
-          whole = inr (batch.counted, refused h.values refl h.yielded);
-          stays = stays;
-        }
-      where
-        refused : (values : List A) → h.values ≡ values → left start ≡ unrefused h.values ++ left now → IsRefusedNext (left start) → length old ≡ 0
-        refused [] none all first =
-            let here : left start ≡ left now = all ∙ ap (λ (xs : List A). unrefused xs ++ left now) none in
-            begun (sym h.held.counted ∙ ap (λ (xs : List A). length xs) none) (subst (λ (items : List (Option A)). IsRefusedNext items) here first)
-        refused (x ∷ xs) some all first =
-            let here : left start ≡ unrefused (x ∷ xs) ++ left now = all ∙ ap (λ (xs : List A). unrefused xs ++ left now) some in
-            absurd (subst (λ (items : List (Option A)). IsRefusedNext items) here first)
+  -- all is given that there is room for, or that comes before a refusal
+  whole : {IsCut : Type 0} (q : P) → (length old ≤ count) ⊎ (values_before (left now) ≡ []) → (count ≡ 0 → IsRefusedNext (left now) → length old ≡ 0)
+      → table.from q ≡ Some (left now) → (length old ≡ 0 → q ≡ at) → Given IsCut q
+  whole q why begun goes stays =
+      let fills = items-cut {IsCut = q ≡ q} q refl goes stays in
+      let all = ap (λ (items : List (Option A)). values_before items) h.yielded ∙ before-all h.values (left now) in
+      let batch = batch-end table.view table.said old h.values (values_before (left now)) (values_before (left start)) records count h.held all why in
+      record {
+        batch = fills.batch;
+        later = fills.later;
+        whole = inr (batch.counted, refused h.values refl h.yielded);
+        stays = stays;
+      }
+    where
+      refused : (values : List A) → h.values ≡ values → left start ≡ unrefused h.values ++ left now → IsRefusedNext (left start) → length old ≡ 0
+      refused [] none all first =
+          let here : left start ≡ left now = all ∙ ap (λ (xs : List A). unrefused xs ++ left now) none in
+          begun (sym h.held.counted ∙ ap (λ (xs : List A). length xs) none) (subst (λ (items : List (Option A)). IsRefusedNext items) here first)
+      refused (x ∷ xs) some all first =
+          let here : left start ≡ unrefused (x ∷ xs) ++ left now = all ∙ ap (λ (xs : List A). unrefused xs ++ left now) some in
+          absurd (subst (λ (items : List (Option A)). IsRefusedNext items) here first)
 
-    -- there is no more room
-    pub items-full : (IsCut : Type 0) → length records ≤ count → Given IsCut p
-    items-full IsCut full =
-        let same = h.held.same in
-        whole IsCut p (inl (omega (arith, full, same))) (λ none refused. omega (arith, full, same, none)) h.goes items-stay
+  -- there is no more room
+  pub items-full : {IsCut : Type 0} → length records ≤ count → Given IsCut p
+  items-full full =
+      let same = h.held.same in
+      whole p (inl (omega (arith, full, same))) (λ none refused. omega (arith, full, same, none)) h.goes items-stay
 
-    -- nothing more comes
-    pub items-end : (IsCut : Type 0) (q : P) → left now ≡ [] → table.from q ≡ Some [] → (length old ≡ 0 → q ≡ at) → Given IsCut q
-    items-end IsCut q none goes stays =
-        whole IsCut q (inr (before-end (left now) none)) (λ first refused. absurd (subst (λ (items : List (Option A)). IsRefusedNext items) none refused))
-        (goes ∙ ap (λ (items : List (Option A)). Some items) (sym none)) stays
+  -- nothing more comes
+  pub items-end : {IsCut : Type 0} (q : P) → left now ≡ [] → table.from q ≡ Some [] → (length old ≡ 0 → q ≡ at) → Given IsCut q
+  items-end q none goes stays =
+      whole q (inr (before-end (left now) none)) (λ first refused. absurd (subst (λ (items : List (Option A)). IsRefusedNext items) none refused))
+      (goes ∙ ap (λ (items : List (Option A)). Some items) (sym none)) stays
 
-    -- a refusal comes after something
-    pub items-refused : (IsCut : Type 0) → left now ≡ None ∷ [] → count ≢ 0 → Given IsCut p
-    items-refused IsCut is some =
-        whole IsCut p (inr (before-refused (left now) is)) (λ none refused. absurd (some none)) h.goes items-stay
+  -- a refusal comes after something
+  pub items-refused : {IsCut : Type 0} → left now ≡ None ∷ [] → count ≢ 0 → Given IsCut p
+  items-refused is some =
+      whole p (inr (before-refused (left now) is)) (λ none refused. absurd (some none)) h.goes items-stay
 
-    -- or at once
-    pub items-fault : left now ≡ None ∷ [] → count ≡ 0 → count < length records
-        → IsRefusedNext (left start) × (0 < length old) × (now ≡ start) × (p ≡ at) × (records ≡ old)
-    items-fault is none within =
-        let same = h.held.same in
-        let first = h.first none in (
-          subst (λ (items : List (Option A)). IsRefusedNext items) (sym (sym (ap left first.0) ∙ is)) tt,
-          omega (arith, within, same),
-          first.0,
-          first.1,
-          own h.values h.held.counted h.held.filled,
-        )
-      where
-        own : (values : List A) → length values ≡ count → Filled table.view (map table.said values) old records → records ≡ old
-        own [] counted filled = filled.1
-        own (x ∷ xs) counted filled = absurd (omega (arith, counted, none))
+  -- or at once
+  pub items-fault : left now ≡ None ∷ [] → count ≡ 0 → count < length records
+      → IsRefusedNext (left start) × (0 < length old) × (now ≡ start) × (p ≡ at) × (records ≡ old)
+  items-fault is none within =
+      let same = h.held.same in
+      let first = h.first none in (
+        subst (λ (items : List (Option A)). IsRefusedNext items) (sym (sym (ap left first.0) ∙ is)) tt,
+        omega (arith, within, same),
+        first.0,
+        first.1,
+        own h.values h.held.counted h.held.filled,
+      )
+    where
+      own : (values : List A) → length values ≡ count → Filled table.view (map table.said values) old records → records ≡ old
+      own [] counted filled = filled.1
+      own (x ∷ xs) counted filled = absurd (omega (arith, counted, none))
 
-    -- the end is not told where there is no more room, or a refusal comes
-    pub items-unended : (end q : P) → (length records ≤ count) ⊎ (left now ≡ None ∷ [])
-        → EndsAt end (record { position = at; records = old }) (record { position = q; records = records }) count (left start)
-    items-unended end q (inl full) = λ is. absurd (let same = h.held.same in omega (arith, is.1, full, same))
-    items-unended end q (inr refused) = λ is. absurd (cc (sym is.0 ∙ items-left ∙ refused))
+  -- the end is not told where there is no more room, or a refusal comes
+  pub items-unended : (end q : P) → (length records ≤ count) ⊎ (left now ≡ None ∷ [])
+      → EndsAt end (record { position = at; records = old }) (record { position = q; records = records }) count (left start)
+  items-unended end q (inl full) = λ is. absurd (let same = h.held.same in omega (arith, is.1, full, same))
+  items-unended end q (inr refused) = λ is. absurd (cc (sym is.0 ∙ items-left ∙ refused))
+
+  -- what a batch has given of its table, whose position moves so
+  pub items-gives : {IsCut : Type 0} (Moves : List (Option A) → Type 0) (q : P) → Given IsCut q → Moves (left start)
+      → GivesFrom table IsCut Moves (record { position = at; records = old }) (record { position = q; records = records }) count
+  items-gives {IsCut} Moves q fills moved =
+      subst
+      (λ (from : Option (List (Option A))). IsSomeAnd from (λ left. FillsFrom table IsCut left (record { position = at; records = old }) (record { position = q; records = records }) count × Moves left))
+      (sym h.begins) (fills, moved)
 
 -- ---- a batch
-
--- it begins where this is left
-pub gives-from : {P R A B : Type 0} (table : Table P R A B) (IsCut : Type 0) (Moves : List (Option A) → Type 0) (left : List (Option A)) (old new : Batch P R) (count : ℕ)
-    → table.from old.position ≡ Some left → FillsFrom table IsCut left old new count → Moves left → GivesFrom table IsCut Moves old new count
-gives-from {P} {R} {A} table IsCut Moves left old new count begins fills moved =
-    subst (λ (from : Option (List (Option A))). IsSomeAnd from (λ left. FillsFrom table IsCut left old new count × Moves left)) (sym begins) (fills, moved)
 
 -- what is answered of a loop that began there
 pub answered : {P R S A : Type 0} (read : Reading S) (bytes : List ℕ) (left : S → List (Option A)) (IsCause : S → ErrorOf → Type 0) (old new : Batch P R) (Gives : ℕ → Type 0)

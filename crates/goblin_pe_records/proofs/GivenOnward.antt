@@ -11,56 +11,48 @@ use Rattle.goblin_pe_records.proofs.Batches.{AtItems, items-end, items-full, ite
 
 -- ---- a loop that fills records
 
-module _ {W : Type 0} (items : List W) (from : ℕ) (old : List W) where
-  -- the items at an index, and those that come next
-  abbrev pub onward : ℕ → List (Option W)
-  onward i = unrefused (drop i items)
+-- the items at an index, and those that come next
+abbrev pub onward : {W : Type 0} → List W → ℕ → List (Option W)
+onward items i = unrefused (drop i items)
 
-  -- the records hold the items up to an index
-  abbrev pub AtIndex : ℕ → List W → ℕ → Type 0
-  AtIndex index records count =
-      AtItems (list_table items) onward from from old index index records count × (index ≡ from + count)
+-- the records hold the items up to an index
+pub record AtIndex {W : Type 0} (items : List W) (from : ℕ) (old : List W) (index : ℕ) (records : List W) (count : ℕ) : Type 0 where
+  pub at : AtItems (list_table items) (onward items) from from old index index records count
+  pub moved : index ≡ from + count
 
-  pub onward-start : AtIndex from old 0
-  onward-start = (items-start (list_table items) onward from from old refl, omega arith)
+pub onward-start : {W : Type 0} (items : List W) (from : ℕ) (old : List W) → AtIndex items from old from old 0
+onward-start items from old = record { at = items-start (list_table items) (onward items) from from old refl; moved = omega arith }
 
-  module _ (index : ℕ) (records : List W) (count : ℕ) (is : AtIndex index records count) where
-    -- the index after that of an item is one in 64 bits
-    pub onward-next : (next : ℕ) (r : W) → length items < 2 ^ 64 → slice_get items index ≡ Some r → next ≡ (index + 1) % 2 ^ 64
-        → count < length records → AtIndex next (set records count r) (count + 1)
-    onward-next next r short there place room =
-        let within = slice_get_within items index r there in
-        let after : next ≡ index + 1 = omega (arith, within, short, place) in
-        let here : drop index items ≡ r ∷ drop (index + 1) items =
-        drop_more items index r within ∙ ap (λ (x : W). x ∷ drop (index + 1) items) (get_or_from_slice_get items index r r there) in
-        let moved = is.1 in
-        rw after (
-          items-more (list_table items) onward from from old index index records count is.0 r (index + 1) (index + 1) r (ap unrefused here) room refl refl,
-          omega (arith, moved),
-        )
+module _ {W : Type 0} {items : List W} {from : ℕ} {old : List W} {index : ℕ} {records : List W} {count : ℕ} (h : AtIndex items from old index records count) where
+  -- the index after that of an item is one in 64 bits
+  pub onward-next : (next : ℕ) (r : W) → length items < 2 ^ 64 → slice_get items index ≡ Some r → next ≡ (index + 1) % 2 ^ 64
+      → count < length records → AtIndex items from old next (set records count r) (count + 1)
+  onward-next next r short there place room =
+      let within = slice_get_within items index r there in
+      let after : next ≡ index + 1 = omega (arith, within, short, place) in
+      let here : drop index items ≡ r ∷ drop (index + 1) items =
+      drop_more items index r within ∙ ap (λ (x : W). x ∷ drop (index + 1) items) (get_or_from_slice_get items index r r there) in
+      let moved = h.moved in
+      rw after (record { at = items-more h.at r (index + 1) (index + 1) r (ap unrefused here) room refl refl; moved = omega (arith, moved) })
 
-    -- where no item is left
-    pub onward-all : slice_get items index ≡ None
-        → GivesOnward items (record { position = from; records = old }) (record { position = index; records = records }) count
-    onward-all none =
-        let no : drop index items ≡ [] = elim (slice_get_cases items index).1 [
-          | inl there ↦ absurd (cc (there.2, none))
-          | inr past ↦ drop_of_length-le items past.0
-        ] in (
-          items-end (list_table items) onward from from old index index records count is.0 ⊥ index (ap unrefused no)
-              (ap (λ (xs : List W). Some (unrefused xs)) no) (items-stay (list_table items) onward from from old index index records count is.0),
-          is.1,
-        )
+  -- where no item is left
+  pub onward-all : slice_get items index ≡ None → GivesOnward items (record { position = from; records = old }) (record { position = index; records = records }) count
+  onward-all none =
+      let no : drop index items ≡ [] = elim (slice_get_cases items index).1 [
+        | inl there ↦ absurd (cc (there.2, none))
+        | inr past ↦ drop_of_length-le items past.0
+      ] in
+      (items-end h.at index (ap unrefused no) (ap (λ (xs : List W). Some (unrefused xs)) no) (items-stay h.at), h.moved)
 
-    -- and where no room is
-    pub onward-full : (n : ℕ) → n ≡ count → length records ≤ count
-        → GivesOnward items (record { position = from; records = old }) (record { position = index; records = records }) n
-    onward-full n all full =
-        rw all (items-full (list_table items) onward from from old index index records count is.0 ⊥ full, is.1)
+  -- and where no room is
+  pub onward-full : (n : ℕ) → n ≡ count → length records ≤ count
+      → GivesOnward items (record { position = from; records = old }) (record { position = index; records = records }) n
+  onward-full n all full = rw all (items-full h.at full, h.moved)
 
-  -- where nothing is left
-  pub onward-none : length items ≤ from → GivesOnward items (record { position = from; records = old }) (record { position = from; records = old }) 0
-  onward-none past = onward-all from old 0 onward-start (slice_get_past items from past)
+-- where nothing is left
+pub onward-none : {W : Type 0} (items : List W) (from : ℕ) (old : List W) → length items ≤ from
+    → GivesOnward items (record { position = from; records = old }) (record { position = from; records = old }) 0
+onward-none items from old past = onward-all (onward-start items from old) (slice_get_past items from past)
 
 -- ---- the records in bytes
 

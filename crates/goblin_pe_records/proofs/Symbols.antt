@@ -19,44 +19,40 @@ record_there table i inside =
     let ends : nat_le (18 * i + 18) (length table) ≡ true = grind (arith, inside) in
     rw (begins, ends) refl
 
-module _ (table : List ℕ) (names : ℕ → Option (List ℕ)) (from : ℕ) (old : List PeNamedSymbol) where
-  -- the symbols from a record on
-  abbrev symbols : ℕ → List (Option SymbolItem)
-  symbols i = unrefused (symbols_onward table i)
+-- the symbols from a record on
+abbrev symbols : List ℕ → ℕ → List (Option SymbolItem)
+symbols table i = unrefused (symbols_onward table i)
 
-  -- the records hold the symbols up to a position
-  abbrev pub IsGiving : ℕ → List PeNamedSymbol → ℕ → Type 0
-  IsGiving position records count =
-      AtItems (symbol_table table names) symbols from from old position position records count × (position ≡ index_after table count from)
+-- the records hold the symbols up to a position
+pub record IsGiving (table : List ℕ) (names : ℕ → Option (List ℕ)) (from : ℕ) (old : List PeNamedSymbol) (position : ℕ) (records : List PeNamedSymbol) (count : ℕ) : Type 0 where
+  pub at : AtItems (symbol_table table names) (symbols table) from from old position position records count
+  pub moved : position ≡ index_after table count from
 
-  pub giving_start : IsGiving from old 0
+pub giving_start : (table : List ℕ) (names : ℕ → Option (List ℕ)) (from : ℕ) (old : List PeNamedSymbol) → IsGiving table names from old from old 0
+unfolding index_after
+giving_start table names from old = record { at = items-start (symbol_table table names) (symbols table) from from old refl; moved = refl }
+
+module _ {table : List ℕ} {names : ℕ → Option (List ℕ)} {from : ℕ} {old : List PeNamedSymbol} {position : ℕ} {records : List PeNamedSymbol} {count : ℕ}
+    (h : IsGiving table names from old position records count) where
+  pub giving_next : (n : ℕ) (r : PeNamedSymbol) → count < length records → position < length table / 18 → n ≡ aux table position
+      → named_symbol_view r ≡ named_symbol table names (symbol_of table position) → IsGiving table names from old (position + (1 + n)) (set records count r) (count + 1)
   unfolding index_after
-  giving_start = (items-start (symbol_table table names) symbols from from old refl, refl)
+  giving_next n r room inside size is =
+      let next : position + (1 + n) ≡ next_index table position = omega (arith, size) in
+      let step = symbols_next (length table / 18) table position inside in
+      let one : count + 1 ≡ suc count = omega arith in
+      rw next (record {
+        at = items-more h.at (symbol_of table position) (next_index table position) (next_index table position) r (ap unrefused step) room is refl;
+        moved = rw one (ap (next_index table) h.moved);
+      })
 
-  module _ (position : ℕ) (records : List PeNamedSymbol) (count : ℕ) (h : IsGiving position records count) where
-    pub giving_next : (n : ℕ) (r : PeNamedSymbol) → count < length records → position < length table / 18 → n ≡ aux table position
-        → named_symbol_view r ≡ named_symbol table names (symbol_of table position) → IsGiving (position + (1 + n)) (set records count r) (count + 1)
-    unfolding index_after
-    giving_next n r room inside size is =
-        let next : position + (1 + n) ≡ next_index table position = omega (arith, size) in
-        let step = symbols_next (length table / 18) table position inside in
-        let one : count + 1 ≡ suc count = omega arith in
-        rw next (
-          items-more (symbol_table table names) symbols from from old position position records count h.0 (symbol_of table position)
-              (next_index table position) (next_index table position) r (ap unrefused step) room is refl,
-          rw one (ap (next_index table) h.1),
-        )
+  -- where no more symbols come
+  pub giving_all : length table / 18 ≤ position → GivesSymbols table names (record { position = from; records = old }) (record { position = position; records = records }) count
+  giving_all past =
+      let none = symbols_past (length table / 18) table position past in
+      (items-end h.at position (ap unrefused none) (ap (λ (xs : List SymbolItem). Some (unrefused xs)) none) (items-stay h.at), h.moved)
 
-    -- where no more symbols come
-    pub giving_all : length table / 18 ≤ position → GivesSymbols table names (record { position = from; records = old }) (record { position = position; records = records }) count
-    giving_all past =
-        let none = symbols_past (length table / 18) table position past in (
-          items-end (symbol_table table names) symbols from from old position position records count h.0 ⊥ position (ap unrefused none)
-              (ap (λ (xs : List SymbolItem). Some (unrefused xs)) none) (items-stay (symbol_table table names) symbols from from old position position records count h.0),
-          h.1,
-        )
-
-    -- where there is no more room
-    pub giving_full : (n : ℕ) → n ≡ count → length records ≤ count
-        → GivesSymbols table names (record { position = from; records = old }) (record { position = position; records = records }) n
-    giving_full n is full = rw is (items-full (symbol_table table names) symbols from from old position position records count h.0 ⊥ full, h.1)
+  -- where there is no more room
+  pub giving_full : (n : ℕ) → n ≡ count → length records ≤ count
+      → GivesSymbols table names (record { position = from; records = old }) (record { position = position; records = records }) n
+  giving_full n is full = rw is (items-full h.at full, h.moved)

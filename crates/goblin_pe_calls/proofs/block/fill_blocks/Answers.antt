@@ -12,27 +12,27 @@ pub items-preserved : goal.items-preserved
 items-preserved c =
     let directory = relocation_bytes c.args.relocations.now in
     let found = subst (λ (r : Result RelocationBlock ErrorOf). FindsItem directory c.items.offset (Some r)) c.in-Some-Ok.field-0-is c.in-Some-Ok.ensures.found in
-    (blocks-more directory c.args.position.now c.args.records.now c.items.offset c.items.records c.items.count c.items.invariant.0 c.in-Some-Ok.block c.block_record.result _ found c.block_record.ensures c.items-test.true (omega arith), c.items.invariant.1)
+    (blocks-more c.items.invariant.0 c.in-Some-Ok.block c.block_record.result _ found c.block_record.ensures c.items-test.true (omega arith), c.items.invariant.1)
 
 pub returns-in-Some-Err-clause-filled : goal.returns-in-Some-Err-clause-filled
 returns-in-Some-Err-clause-filled c =
     let directory = relocation_bytes c.args.relocations.now in
     let found = subst (λ (r : Result RelocationBlock ErrorOf). FindsItem directory c.items.offset (Some r)) c.in-Some-Err.field-0-is c.in-Some-Err.ensures.found in
-    blocks-fault directory c.args.position.now c.args.records.now c.items.offset c.items.records c.items.count c.items.invariant.0 c.in-Some-Err.error found c.if-count-eq0.true c.items-test.true _ c.items.invariant.1
+    blocks-fault c.items.invariant.0 c.in-Some-Err.error found c.if-count-eq0.true c.items-test.true _ c.items.invariant.1
 
 pub returns-in-Some-Err-2-clause-filled : goal.returns-in-Some-Err-2-clause-filled
 returns-in-Some-Err-2-clause-filled c =
     let directory = relocation_bytes c.args.relocations.now in
     let found = subst (λ (r : Result RelocationBlock ErrorOf). FindsItem directory c.items.offset (Some r)) c.in-Some-Err.field-0-is c.in-Some-Err.ensures.found in
-    blocks-refused directory c.args.position.now c.args.records.now c.items.offset c.items.records c.items.count c.items.invariant.0 c.in-Some-Err.error found c.if-count-eq0.false
+    blocks-refused c.items.invariant.0 c.in-Some-Err.error found c.if-count-eq0.false
 
 pub returns-in-None-clause-filled : goal.returns-in-None-clause-filled
 returns-in-None-clause-filled c =
-    blocks-end (relocation_bytes c.args.relocations.now) c.args.position.now c.args.records.now c.items.offset c.items.records c.items.count c.items.invariant.0 c.in-None.ensures.found
+    blocks-end c.items.invariant.0 c.in-None.ensures.found
 
 pub returns-clause-filled : goal.returns-clause-filled
 returns-clause-filled c =
-    blocks-full (relocation_bytes c.args.relocations.now) c.args.position.now c.args.records.now c.items.offset c.items.records c.items.count c.items.invariant.0 (omega (arith, c.items-test.false))
+    blocks-full c.items.invariant.0 (omega (arith, c.items-test.false))
 
 pub returns-in-Some-Err-clause-refused : goal.returns-in-Some-Err-clause-refused
 returns-in-Some-Err-clause-refused c =

@@ -14,33 +14,23 @@ libraries-init c =
 
 pub libraries-preserved : goal.libraries-preserved
 libraries-preserved c =
-    let l = c.args.layout.now in
     let is = subst (λ (r : Result WalkedLibrary ErrorOf). GivesNextLibrary c.libraries.libraries (Some r) c.next.new.self) c.in-Some-Ok.field-0-is c.in-Some-Ok.ensures.steps in
-    libraries-more (layout_map l) (layout_places l) l.bytes.now c.args.libraries c.args.position.now c.args.records.now c.requires.left c.libraries.libraries c.libraries.position c.libraries.records c.libraries.count c.libraries.invariant
-    c.in-Some-Ok.library c.next.new.self c.cursor_numbers.result c.library_record.result is (c.cursor_numbers.ensures ∙ ap cursor_numbers c.cursor.ensures.is) c.libraries-test.true c.library_record.ensures
+    libraries-more c.libraries.invariant c.in-Some-Ok.library c.next.new.self c.cursor_numbers.result c.library_record.result is (c.cursor_numbers.ensures ∙ ap cursor_numbers c.cursor.ensures.is) c.libraries-test.true c.library_record.ensures
 
 pub returns-in-Some-Err-clause-filled : goal.returns-in-Some-Err-clause-filled
 returns-in-Some-Err-clause-filled c =
-    let l = c.args.layout.now in
     let is = subst (λ (r : Result WalkedLibrary ErrorOf). GivesNextLibrary c.libraries.libraries (Some r) c.next.new.self) c.in-Some-Err.field-0-is c.in-Some-Err.ensures.steps in
-    libraries-fault (layout_map l) (layout_places l) l.bytes.now c.args.libraries c.args.position.now c.args.records.now c.requires.left c.libraries.libraries c.libraries.position c.libraries.records c.libraries.count c.libraries.invariant
-    c.in-Some-Err.error c.next.new.self is c.if-count-eq0.true c.libraries-test.true
+    libraries-fault c.libraries.invariant c.in-Some-Err.error c.next.new.self is c.if-count-eq0.true c.libraries-test.true
 
 pub returns-in-Some-Err-2-clause-filled : goal.returns-in-Some-Err-2-clause-filled
 returns-in-Some-Err-2-clause-filled c =
-    let l = c.args.layout.now in
     let is = subst (λ (r : Result WalkedLibrary ErrorOf). GivesNextLibrary c.libraries.libraries (Some r) c.next.new.self) c.in-Some-Err.field-0-is c.in-Some-Err.ensures.steps in
-    libraries-refused (layout_map l) (layout_places l) l.bytes.now c.args.libraries c.args.position.now c.args.records.now c.requires.left c.libraries.libraries c.libraries.position c.libraries.records c.libraries.count c.libraries.invariant
-    c.in-Some-Err.error c.next.new.self is c.if-count-eq0.false
+    libraries-refused c.libraries.invariant c.in-Some-Err.error c.next.new.self is c.if-count-eq0.false
 
 pub returns-in-None-clause-filled : goal.returns-in-None-clause-filled
 returns-in-None-clause-filled c =
-    let l = c.args.layout.now in
-    libraries-end (layout_map l) (layout_places l) l.bytes.now c.args.libraries c.args.position.now c.args.records.now c.requires.left c.libraries.libraries c.libraries.position c.libraries.records c.libraries.count c.libraries.invariant
-    c.next.new.self c.cursor_numbers-in-None.result c.in-None.ensures.steps (c.cursor_numbers-in-None.ensures ∙ ap cursor_numbers c.end.ensures) c.libraries-test.true
+    libraries-end c.libraries.invariant c.next.new.self c.cursor_numbers-in-None.result c.in-None.ensures.steps (c.cursor_numbers-in-None.ensures ∙ ap cursor_numbers c.end.ensures) c.libraries-test.true
 
 pub returns-clause-filled : goal.returns-clause-filled
 returns-clause-filled c =
-    let l = c.args.layout.now in
-    libraries-full (layout_map l) (layout_places l) l.bytes.now c.args.libraries c.args.position.now c.args.records.now c.requires.left c.libraries.libraries c.libraries.position c.libraries.records c.libraries.count c.libraries.invariant
-    c.libraries-test.false
+    libraries-full c.libraries.invariant c.libraries-test.false

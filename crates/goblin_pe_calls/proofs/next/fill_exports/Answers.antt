@@ -12,8 +12,7 @@ plain-init c =
     let before = c.exports.invariant in
     let given = c.in-Some.ensures in
     let r = c.put_export.new.place in (
-      exports-more c.args.exports.now c.args.records.now c.args.end c.exports.exports c.exports.records c.exports.count before
-          c.in-Some.export c.next_before.new.self r given.0.0 given.0.1 (omega (arith, given.1)) (omega (arith, given.2)) c.exports-test.true c.put_export.ensures,
+      exports-more before c.in-Some.export c.next_before.new.self r given.0.0 given.0.1 (omega (arith, given.1)) (omega (arith, given.2)) c.exports-test.true c.put_export.ensures,
       omega arith,
       λ below. omega (arith, below, c.end_within-stop.ensures.steps, c.pointers_before-left.ensures),
       c.end_within-stop.ensures.room,
@@ -26,8 +25,7 @@ plain-preserved c =
     let r = c.plain_record.result in
     let long = length-set c.plain.records c.plain.count r in
     let room = before.2 c.plain-test.true in (
-      exports-more c.args.exports.now c.args.records.now c.args.end c.plain.exports c.plain.records c.plain.count before.0
-          c.in-Some-next_plain.export c.next_plain.new.self r given.steps.0 given.steps.1 (omega (arith, given.further)) (omega (arith, given.further, room, c.plain-test.true))
+      exports-more before.0 c.in-Some-next_plain.export c.next_plain.new.self r given.steps.0 given.steps.1 (omega (arith, given.further)) (omega (arith, given.further, room, c.plain-test.true))
           (omega (arith, c.plain-test.true, before.3)) (c.plain_record.ensures.plain given.plain),
       omega (arith, before.1),
       λ below. omega (arith, below, room, given.further),
@@ -41,13 +39,13 @@ exports-preserved c =
 
 pub returns-in_default-clause-filled : goal.returns-in_default-clause-filled
 returns-in_default-clause-filled c =
-    exports-ended c.args.exports.now c.args.records.now c.args.end c.exports.exports c.exports.records c.exports.count c.exports.invariant c.next_before.new.self c.exports-test.true c.in_default.ensures
+    exports-ended c.exports.invariant c.next_before.new.self c.exports-test.true c.in_default.ensures
 
 pub returns : goal.returns
 returns c =
     let before = c.exports.invariant in
     record {
-      filled = exports-full c.args.exports.now c.args.records.now c.args.end c.exports.exports c.exports.records c.exports.count before c.exports-test.false;
+      filled = exports-full before c.exports-test.false;
       over = before.over;
       further = before.further;
       within = before.within;

@@ -29,27 +29,22 @@ imports-preserved c =
     let filled = c.fill_library-count.ensures in
     let there = library-kept m places.magic bytes next last _ filled.filled kept in
     let goes = goes-at m places bytes c.cursor_numbers.result c.cursor.result last there (c.cursor.ensures.left m places.magic bytes there) (sym c.cursor.ensures.is) c.cursor_numbers.ensures in
-    library-more m places bytes c.args.steps c.args.imports c.args.position.now c.args.records.now c.requires now c.imports.position c.imports.limit c.imports.records c.imports.count c.imports.invariant
-    x next last c.cursor_numbers.result c.next_within.new.steps c.fill_library-count.new.steps c.put_import.new.place c.fill_library-count.new.records c.fill_library-count.result
+    library-more c.imports.invariant x next last c.cursor_numbers.result c.next_within.new.steps c.fill_library-count.new.steps c.put_import.new.place c.fill_library-count.new.records c.fill_library-count.result
     is c.imports-test.true c.put_import.ensures filled.filled filled.counted goes
 
 pub returns-in-Some-Err-2-clause-filled : goal.returns-in-Some-Err-2-clause-filled
 returns-in-Some-Err-2-clause-filled c =
-    let l = c.args.layout.now in
     let now = c.imports.imports in
     let next = c.next_within.new.self in
     let is = subst (λ (r : Result WalkedImport ErrorOf). GivesFileWithin now c.imports.limit (Some r) next c.next_within.new.steps) c.in-Some-Err.field-0-is c.in-Some-Err.ensures in
-    imports-refused (layout_map l) (layout_places l) l.bytes.now c.args.steps c.args.imports c.args.position.now c.args.records.now c.requires now c.imports.position c.imports.limit c.imports.records c.imports.count c.imports.invariant
-    c.in-Some-Err.error next c.next_within.new.steps is c.if-count-eq0.false
+    imports-refused c.imports.invariant c.in-Some-Err.error next c.next_within.new.steps is c.if-count-eq0.false
 
 pub returns-in-Some-Err-clause-filled : goal.returns-in-Some-Err-clause-filled
 returns-in-Some-Err-clause-filled c =
-    let l = c.args.layout.now in
     let now = c.imports.imports in
     let next = c.next_within.new.self in
     let is = subst (λ (r : Result WalkedImport ErrorOf). GivesFileWithin now c.imports.limit (Some r) next c.next_within.new.steps) c.in-Some-Err.field-0-is c.in-Some-Err.ensures in
-    imports-fault (layout_map l) (layout_places l) l.bytes.now c.args.steps c.args.imports c.args.position.now c.args.records.now c.requires now c.imports.position c.imports.limit c.imports.records c.imports.count c.imports.invariant
-    c.in-Some-Err.error next c.next_within.new.steps is c.if-count-eq0.true c.imports-test.true
+    imports-fault c.imports.invariant c.in-Some-Err.error next c.next_within.new.steps is c.if-count-eq0.true c.imports-test.true
 
 pub returns-in-None-clause-filled : goal.returns-in-None-clause-filled
 returns-in-None-clause-filled c =
@@ -63,11 +58,8 @@ returns-in-None-clause-filled c =
     let cursor = c.cursor-in-None in
     let numbers = c.cursor_numbers-in-None in
     let goes = goes-at m places l.bytes.now numbers.result cursor.result next kept (cursor.ensures.left m places.magic l.bytes.now kept) (sym cursor.ensures.is) numbers.ensures in
-    imports-end m places l.bytes.now c.args.steps c.args.imports c.args.position.now c.args.records.now c.requires now c.imports.position c.imports.limit c.imports.records c.imports.count c.imports.invariant
-    next c.next_within.new.steps given numbers.result goes (numbers.ensures ∙ ap cursor_numbers cursor.ensures.is) c.imports-test.true
+    imports-end c.imports.invariant next c.next_within.new.steps given numbers.result goes (numbers.ensures ∙ ap cursor_numbers cursor.ensures.is) c.imports-test.true
 
 pub returns-clause-filled : goal.returns-clause-filled
 returns-clause-filled c =
-    let l = c.args.layout.now in
-    imports-full (layout_map l) (layout_places l) l.bytes.now c.args.steps c.args.imports c.args.position.now c.args.records.now c.requires c.imports.imports c.imports.position c.imports.limit c.imports.records c.imports.count c.imports.invariant
-    c.imports-test.false
+    imports-full c.imports.invariant c.imports-test.false

@@ -7,15 +7,15 @@ records-init g c = λ items short says. onward-start items c.args.position.now c
 
 pub records-preserved : goal.records-preserved
 records-preserved g c = λ items short says.
-    onward-next items c.args.position.now c.args.records.now _ _ _ (c.records.invariant items short says) _ _ short (sym (says _ _ c.in-Some.ensures)) refl
+    onward-next (c.records.invariant items short says) _ _ short (sym (says _ _ c.in-Some.ensures)) refl
     (omega (arith, c.records-test.true, c.records.auto.records))
 
 pub returns-in_default : goal.returns-in_default
 returns-in_default g c = λ items short says.
-    onward-all items c.args.position.now c.args.records.now _ _ _ (c.records.invariant items short says) (sym (says _ _ c.in_default.ensures))
+    onward-all (c.records.invariant items short says) (sym (says _ _ c.in_default.ensures))
 
 pub returns : goal.returns
 returns g c = λ items short says.
-    onward-full items c.args.position.now c.args.records.now _ _ _ (c.records.invariant items short says) _
+    onward-full (c.records.invariant items short says) _
     (omega (arith, c.records-test.false, c.records.auto.count-end, c.records.auto.records))
     (omega (arith, c.records-test.false, c.records.auto.count-end, c.records.auto.records))
