@@ -4,13 +4,13 @@ use Rattle.std.specs.Global.{Global}
 use Rattle.goblin_pe.specs.declared.whole.Part.{Part}
 use Rattle.goblin_pe.specs.declared.whole.Part.TheVariants.{Absent, Refused}
 use Rattle.goblin_pe.specs.declared.whole.Part.TheVariants as part
-use Rattle.goblin_pe_records.specs.Blocked.{HasLittleRoom, HasNoSpareRoom}
+use Rattle.goblin_pe_records.specs.Blocked.{HasLittleRoom, HasNoSpareRoom, most_first}
 use Rattle.goblin_pe_calls.specs.declared.export.ExportRecords.{ExportRecords}
 
 -- a table, where it was read, has little more room than entries
 abbrev pub HasLittleRoomIn : {A : Type 0} → Part (Vec A Global) → Type 0
 HasLittleRoomIn Absent = Unit {0}
-HasLittleRoomIn (part.Read v) = HasLittleRoom 512 v
+HasLittleRoomIn (part.Read v) = HasLittleRoom most_first v
 HasLittleRoomIn Refused = Unit {0}
 
 -- the same of the records of a file's exports; their addresses have no more room than entries

@@ -9,7 +9,7 @@ ghost use Rattle.goblin_pe.specs.declared.whole.Part.TheVariants.{Read};
 ghost use Rattle.goblin_pe_calls.specs.Batches.{BlockBatch, FillsBlocks, GivesBlocks};
 ghost use Rattle.goblin_pe_calls.specs.Batches.{IsBlockCause, IsBlocksFault, blocks_from};
 ghost use Rattle.goblin_pe_records.specs.Onward.{IsRefusedNext};
-ghost use Rattle.goblin_pe_records.specs.Blocked.{HasLittleRoom};
+ghost use Rattle.goblin_pe_records.specs.Blocked.{HasLittleRoom, least_more};
 ghost use Rattle.goblin_pe_records.specs.Blocks.{block_view};
 ghost use Rattle.goblin_pe_calls.specs.Blocks.{base_relocations_of, blocks_in};
 
@@ -33,7 +33,7 @@ pub fn block_records<'a>(
         map block_view made.0.items ≡ blocks_in (part_map relocation_bytes relocations.now)) }
     ensures said { IfOk result
         (λ made. made.1 ≡ base_relocations_of (part_map relocation_bytes relocations.now)) }
-    ensures none { IfOk result (λ made. HasLittleRoom 32 made.0) }
+    ensures none { IfOk result (λ made. HasLittleRoom least_more made.0) }
     ensures grown { OnErr result
         (0 < length (blocks_in (part_map relocation_bytes relocations.now))) }
 {

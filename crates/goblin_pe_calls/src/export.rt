@@ -12,7 +12,7 @@ ghost use Rattle.goblin_pe_export.specs.Forwarders.{forwarder_value};
 ghost use Rattle.goblin_pe.specs.Callers.{layout_table};
 ghost use Rattle.goblin_pe.specs.Layouts.{layout_bytes, layout_map};
 ghost use Rattle.goblin_pe.specs.Whole.{export_part, part_map};
-ghost use Rattle.goblin_pe_records.specs.Blocked.{HasLittleRoom, more_room};
+ghost use Rattle.goblin_pe_records.specs.Blocked.{HasLittleRoom, more_room, most_first};
 ghost use Rattle.goblin_pe_calls.specs.Blocked.{HasLittleRoomIn, HaveLittleRoom};
 ghost use Rattle.goblin_pe_calls.specs.Exports.{export_said, export_view, export_views};
 ghost use Rattle.goblin_pe_calls.specs.Exports.{exports_said, exports_view, read_said};
@@ -163,7 +163,7 @@ fn push_plain<'a>(records: &mut Vec<PeExport<'a>>, bytes: &'a [u8], walked: &Wal
     requires plain { (walked_export walked.now).row.reexport ≡ None }
     ensures value { map export_view records.new.items
         ≡ map export_view records.old.items ++ export_said (walked_export walked.now) ∷ [] }
-    ensures room { HasLittleRoom 512 records.old → HasLittleRoom 512 records.new }
+    ensures room { HasLittleRoom most_first records.old → HasLittleRoom most_first records.new }
     ensures counted { vec_len records.new ≡ vec_len records.old + 1 }
     ensures same { vec_capacity records.new ≡ vec_capacity records.old }
 {
@@ -176,7 +176,7 @@ fn push_within<'a>(records: &mut Vec<PeExport<'a>>, bytes: &'a [u8], walked: &Wa
     requires { vec_len records.old < vec_capacity records.old }
     ensures value { map export_view records.new.items
         ≡ map export_view records.old.items ++ export_said (walked_export walked.now) ∷ [] }
-    ensures room { HasLittleRoom 512 records.old → HasLittleRoom 512 records.new }
+    ensures room { HasLittleRoom most_first records.old → HasLittleRoom most_first records.new }
     ensures counted { vec_len records.new ≡ vec_len records.old + 1 }
     ensures same { vec_capacity records.new ≡ vec_capacity records.old }
 {
@@ -196,7 +196,7 @@ fn push_export<'a>(
     ensures value { let made = export_said (walked_export export.now) ∷ [] in
         GivesOrMemory (λ _. map export_view records.new.items) result
         (map export_view records.old.items ++ made) }
-    ensures room { OnOk result (HasLittleRoom 512 records.old → HasLittleRoom 512 records.new) }
+    ensures room { OnOk result (HasLittleRoom most_first records.old → HasLittleRoom most_first records.new) }
     ensures more { OnOk result (vec_capacity records.old ≡ vec_len records.old
         → vec_capacity records.new
         ≡ vec_len records.old + more_room expected (vec_len records.old)) }
@@ -217,7 +217,7 @@ fn records_of<'a, 'm>(
 ) -> Result<Vec<PeExport<'a>>>
     ensures value { GivesOrMemory export_views result
         (map export_said (exports_left exports.entry)) }
-    ensures none { IfOk result (HasLittleRoom 512) }
+    ensures none { IfOk result (HasLittleRoom most_first) }
     ensures grown { OnErr result (0 < length (exports_left exports.entry)) }
 {
     let expected = exports.pointer_count();

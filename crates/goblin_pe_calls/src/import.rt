@@ -15,7 +15,7 @@ ghost use Rattle.goblin_pe.specs.Layouts.{IsFileImportsCause, file_imports_left,
 ghost use Rattle.goblin_pe.specs.Layouts.{layout_bytes, layout_places};
 ghost use Rattle.goblin_pe.specs.LayoutCursors.{file_map};
 ghost use Rattle.goblin_pe.specs.Whole.{import_list, imports_in, numbered_data_part, part_map};
-ghost use Rattle.goblin_pe_records.specs.Blocked.{HasLittleRoom, more_room};
+ghost use Rattle.goblin_pe_records.specs.Blocked.{HasLittleRoom, more_room, most_first};
 ghost use Rattle.goblin_pe_calls.specs.Blocked.{HasLittleRoomIn};
 ghost use Rattle.readings.specs.Walks.{IsBegun};
 ghost use Rattle.goblin_pe_calls.specs.Growth.{HasEntries, ImportsBegin};
@@ -114,7 +114,7 @@ fn push_within<'a>(records: &mut Vec<PeImport<'a>>, bytes: &'a [u8], import: &Wa
     requires { vec_len records.old < vec_capacity records.old }
     ensures value { map import_view records.new.items
         ≡ map import_view records.old.items ++ import_said (walked_value import.now) ∷ [] }
-    ensures room { HasLittleRoom 512 records.old → HasLittleRoom 512 records.new }
+    ensures room { HasLittleRoom most_first records.old → HasLittleRoom most_first records.new }
     ensures counted { vec_len records.new ≡ vec_len records.old + 1 }
     ensures same { vec_capacity records.new ≡ vec_capacity records.old }
 {
@@ -140,7 +140,7 @@ fn push_import<'a, 'e>(
     ensures value { let made = import_said (walked_value import.now) ∷ [] in
         GivesOrMemory (λ _. map import_view records.new.items) result
         (map import_view records.old.items ++ made) }
-    ensures room { OnOk result (HasLittleRoom 512 records.old → HasLittleRoom 512 records.new) }
+    ensures room { OnOk result (HasLittleRoom most_first records.old → HasLittleRoom most_first records.new) }
     ensures more { OnOk result (vec_capacity records.old ≡ vec_len records.old
         → vec_capacity records.new ≡ vec_len records.old + more_room expected (vec_len records.old)) }
     ensures same { OnOk result (vec_len records.old < vec_capacity records.old
@@ -161,7 +161,7 @@ fn push_here<'a, 'm, 'e, T: Bitfield<'a>>(
 )
     ensures pushed { GivesHere T.format imports.old imports.new
         (Pushes (map import_view records.old.items) (map import_view records.new.items)) }
-    ensures room { HasLittleRoom 512 records.old → HasLittleRoom 512 records.new }
+    ensures room { HasLittleRoom most_first records.old → HasLittleRoom most_first records.new }
 {
     let Some(mut plain) = imports.plain() else {
         return;
@@ -189,7 +189,7 @@ fn records_of<'a, 'm, 'e, T: Bitfield<'a>>(
     ensures value { let items = all_of (imports_left T.format imports.entry) in
         AnswersOrMemory import_views result (option_map (map import_said) items)
         (IsImportsCause T.format imports.entry) }
-    ensures none { IfOk result (HasLittleRoom 512) }
+    ensures none { IfOk result (HasLittleRoom most_first) }
     ensures grown { OnErr result (0 < length (imports_left T.format imports.entry)) }
     ensures begun { IfErr result
         (λ e. IsMemory e → IsBegun (imports_left T.format imports.entry)) }
@@ -216,7 +216,7 @@ fn file_records_of<'a, 'm, 'e>(
     ensures value { let items = all_of (file_imports_left imports.entry) in
         AnswersOrMemory import_views result (option_map (map import_said) items)
         (IsFileImportsCause imports.entry) }
-    ensures none { IfOk result (HasLittleRoom 512) }
+    ensures none { IfOk result (HasLittleRoom most_first) }
     ensures grown { OnErr result (0 < length (file_imports_left imports.entry)) }
     ensures begun { IfErr result (λ e. IsMemory e → IsBegun (file_imports_left imports.entry)) }
     ensures left { OnOk result (map_of finder.new ≡ file_map imports.entry) }

@@ -10,7 +10,7 @@ ghost use Rattle.goblin_pe.specs.RefusedParts.{refused_part};
 ghost use Rattle.goblin_pe.specs.Whole.{WholeFile, part_map, whole_in};
 ghost use Rattle.goblin_pe_records.specs.Blocks.{block_view};
 ghost use Rattle.goblin_pe_calls.specs.Blocks.{base_relocations_of, blocks_in};
-ghost use Rattle.goblin_pe_records.specs.Blocked.{HasLittleRoom, HasNoSpareRoom};
+ghost use Rattle.goblin_pe_records.specs.Blocked.{HasLittleRoom, HasNoSpareRoom, least_more};
 ghost use Rattle.goblin_pe_calls.specs.Blocked.{HasLittleRoomIn, HaveLittleRoom};
 ghost use Rattle.goblin_pe_records.specs.Calls.{IsRefusedFor, ReadsInto};
 ghost use Rattle.goblin_pe_calls.specs.Exports.{export_view, export_views, exports_view};
@@ -97,7 +97,7 @@ fn made_of<'a>(
     ensures blocks { let v = records_view header.now layout.now records.now in
         IfOk result (λ m. map block_view m.blocks.items ≡ blocks_in v.tables.relocations) }
     ensures none { IfOk result
-        (λ m. HasNoSpareRoom m.rich_entries × HasNoSpareRoom m.sections × HasLittleRoom 32 m.blocks) }
+        (λ m. HasNoSpareRoom m.rich_entries × HasNoSpareRoom m.sections × HasLittleRoom least_more m.blocks) }
     ensures grown { let v = records_view header.now layout.now records.now in
         OnErr result (0 < length v.sections + length (entries_of_rich v.header.rich_header)
         + length (blocks_in v.tables.relocations)) }
@@ -145,7 +145,7 @@ fn handed_over<'a>(
     dos_stub: &'a [u8],
 ) -> PeTables<'a>
     requires none { HasNoSpareRoom made.rich_entries × HasNoSpareRoom made.sections
-        × HasLittleRoom 32 made.blocks }
+        × HasLittleRoom least_more made.blocks }
     requires no_imports { HasLittleRoomIn imports }
     requires no_exports { HaveLittleRoom exports }
     ensures rich_entries { result.rich_entries.now ≡ made.entry.rich_entries.items }

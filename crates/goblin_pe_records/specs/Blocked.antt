@@ -16,7 +16,18 @@ HasNoSpareRoom v = vec_capacity v ≤ vec_len v
 abbrev pub HasLittleRoom : {A : Type 0} → ℕ → Vec A Global → Type 0
 HasLittleRoom most v = HasNoIdleBlock v × (vec_capacity v ≤ vec_len v + max most (vec_len v / 2))
 
+-- for how many entries room is made first at most, and for how many more at least where it is not known
+-- how many to expect
+abbrev pub most_first : ℕ
+most_first = 512
+
+abbrev pub least_more : ℕ
+least_more = 32
+
 -- for how many more entries room is made where so many are there, all of it taken: at first for as
--- many as are expected, at most for 512; else, also where 0 are, for 32 or for half as many as there are
+-- many as are expected; else, also where 0 are, for half as many as there are
 abbrev pub more_room : ℕ → ℕ → ℕ
-more_room expected count = if nat_eq count 0 && nat_lt 0 expected then min expected 512 else max 32 (count / 2)
+more_room expected count =
+    if nat_eq count 0 && nat_lt 0 expected
+    then min expected most_first
+    else max least_more (count / 2)

@@ -4,7 +4,7 @@ ghost use Rattle.std.specs.Prelude.{◌≡◌, ◌<◌, ◌+◌, ◌++◌, ◌�
 ghost use Rattle.std.specs.Prelude.{length, map, vec_capacity, vec_len};
 ghost use Rattle.goblin_base.specs.Answers.{IsMemory};
 ghost use Rattle.goblin_pe_sect.specs.BaseRelocations.{block_items, block_value, relocation_bytes};
-ghost use Rattle.goblin_pe_records.specs.Blocked.{HasLittleRoom, more_room};
+ghost use Rattle.goblin_pe_records.specs.Blocked.{HasLittleRoom, least_more, more_room};
 ghost use Rattle.goblin_pe_records.specs.Blocks.{block_view};
 ghost use Rattle.goblin_pe_records.specs.Items.{rest_of, without_causes};
 ghost use Rattle.goblin_pe_records.specs.Onward.{values_before};
@@ -57,7 +57,7 @@ pub fn block_record<'a>(block: &RelocationBlock<'a>) -> PeBlock<'a>
 fn push_block<'a>(records: &mut Vec<PeBlock<'a>>, block: PeBlock<'a>) -> Result<()>
     ensures refused { IfErr result IsMemory }
     ensures items { OnOk result (records.new.items ≡ records.old.items ++ block.entry ∷ []) }
-    ensures room { OnOk result (HasLittleRoom 32 records.old → HasLittleRoom 32 records.new) }
+    ensures room { OnOk result (HasLittleRoom least_more records.old → HasLittleRoom least_more records.new) }
     ensures more { OnOk result (vec_capacity records.old ≡ vec_len records.old
         → vec_capacity records.new ≡ vec_len records.old + more_room 0 (vec_len records.old)) }
     ensures same { OnOk result (vec_len records.old < vec_capacity records.old
@@ -83,7 +83,7 @@ pub fn item_records<'a>(
         ≡ values_before (without_causes (block_items (relocation_bytes relocations.now) 0))) }
     ensures rest { IfOk result
         (λ made. made.1 ≡ rest_of (block_items (relocation_bytes relocations.now) 0)) }
-    ensures none { IfOk result (λ made. HasLittleRoom 32 made.0) }
+    ensures none { IfOk result (λ made. HasLittleRoom least_more made.0) }
     ensures grown { OnErr result
         (0 < length (values_before (without_causes (block_items (relocation_bytes relocations.now) 0)))) }
 {
