@@ -38,7 +38,7 @@
    is refused as a whole, and answers false.
 
    What a file of n bytes may take, beside the caller's records. A name is a text of the file, which nothing bounds
-   but the file's end, and which is read once for each who has it: m names take n * m steps at most. A step of a long
+   but the file's end, and which is read once for each who has it: m names are n * m bytes at most. A byte of a long
    text takes some 0.15 nanoseconds where it is ASCII, else up to three. Where the options say a `longest_name`,
    next_imports, next_libraries, next_exports, next_export_addresses, read_export_directory, forwarder_at, read_layout
    and read_object read no more of a name than that and four bytes; nor do next_symbols, symbol_at and string_at,
@@ -46,13 +46,14 @@
    stopped.
 
    The `steps` of a call are how many records of its table it may look at: of imports the records of libraries and the
-   slots of their tables, of exports the name pointers, whether or not these give something; of all else each gives a
-   record. 0 is no limit. The call ends after so many, and the next one goes on from where it was left. A name may be
-   read in each step, and the slots of an address table are looked at in one go, so that in each call up to n more
-   are: how many imports come within a number of steps depends on the calls, and few large ones cost least. Each
-   library of next_libraries is one step, whatever its tables have: where many share a long table of dead entries,
-   these are looked at once for each, so some hundred steps there take as long as 100,000 of others. There may be more
-   steps than room, so that few calls pass over what gives nothing: each reads the name of its library again.
+   slots of their tables (that at which a table ends goes with the record after it), of exports the name pointers,
+   whether or not these give something; of all else each gives a record. 0 is no limit. The call ends after so many,
+   and the next one goes on from where it was left. A name may be read in each step, and the slots of an address table
+   are looked at in one go, so that in each call up to n more are: steps are a bound and no measure, since how many
+   imports come within a number of them depends on the calls; few large ones cost least. There may be more steps than
+   room, so that few calls pass over what gives nothing: each reads the name of its library again. A library of
+   next_libraries is one step, whatever its tables have: where many share a long table of dead entries, it is looked at
+   once for each. Of 1 MiB one such step may take a millisecond, and 20 where each entry is sought in 96 sections.
 
    call                              memory at most                        time at most
    kind_of, read_section_data,
@@ -108,9 +109,10 @@
 
    Time is for the caller to limit, too. What is passed over for one record are libraries without an import, entries
    that permissive mode leaves out, and name pointers that give no export, with their forwarders' texts: where
-   libraries share a table of such entries, 128 KiB may take a second, and 1 MiB a minute, so give steps: 100,000, or
-   some tens of libraries, take some tens of milliseconds where names are short, or the limit is at most 200. Of half
-   a mebibyte whose imports begin two bytes apart in one text read_damage takes some twelve seconds.
+   libraries share a table of such entries, 128 KiB may take a second, and 1 MiB a minute, so give steps: 100,000 take
+   some tens of milliseconds where names are short, and up to 200 where their limit is 200 and they are forwarders, or
+   lie in one text that is not ASCII. Of half a mebibyte whose imports begin two bytes apart in one text read_damage
+   takes some twelve seconds.
 
    goblin_pe_records.h has the records, the numbers in them and the default options, as the proved library
    declares them. What a later version adds to a record stands at its end. */
@@ -269,7 +271,8 @@ static inline void goblin_pe_free_ranges(struct goblin_pe_ranges *ranges)
     memset(ranges, 0, sizeof *ranges);
 }
 
-/* Whether nothing comes from a cursor on that a call has left. */
+/* Whether a cursor says that nothing comes from there on. Of one that a call has left that is true; where it says
+   nothing, something may come or not. */
 static inline bool goblin_pe_is_end(const struct goblin_pe_import_cursor *cursor)
 {
     return cursor->is_begun && !cursor->has_next && !cursor->has_place && !cursor->is_untested;
@@ -281,15 +284,15 @@ static inline bool goblin_pe_is_end(const struct goblin_pe_import_cursor *cursor
    these are not asked for when the walk begins, and in permissive mode where their directory is an empty list there.
    The call ends after so many `steps`, 0 for no limit, perhaps with the count 0: it is the end only where
    goblin_pe_is_end says so of the cursor. With room for as many records as steps, a call takes all of them, but at
-   the end. What gives no import goblin_pe_read_damage counts: `unmapped_entries` in either mode, `left_out_libraries`
-   and `left_out_entries` in permissive mode. In strict mode the walk ends with a refusal where goblin_pe_open has one
-   for its imports; what comes before it is given first, and no law says on which bytes that depends. The cursor is
-   the walk in numbers: it may be kept, copied and sent. The sections and the tables lie at `places`, which
-   goblin_pe_read_layout and goblin_pe_open say, so no call reads the header again; other numbers there or in the
-   cursor lead to other tables, and harm nothing; flags are false or true. Refused is also a file that is too short
-   for the records of its sections. Memory is taken only for an index of more than 96 sections, which Windows does not
-   load, and given back: each call makes it anew, of 65,535 sections in some 25 milliseconds, so give room for
-   thousands then. */
+   the end or before a refusal. What gives no import goblin_pe_read_damage counts: `unmapped_entries` in either mode,
+   `left_out_libraries` and `left_out_entries` in permissive mode. In strict mode the walk ends with a refusal where
+   goblin_pe_open has one for its imports; what comes before it is given first, and no law says on which bytes that
+   depends. The cursor is the walk in numbers: it may be kept, copied and sent. The sections and the tables lie at
+   `places`, which goblin_pe_read_layout and goblin_pe_open say, so no call reads the header again; other numbers
+   there or in the cursor lead to other tables, and harm nothing; flags are false or true. Refused is also a file
+   that is too short for the records of its sections. Memory is taken only for an index of more than 96 sections,
+   which Windows does not load, and given back: each call makes it anew, of 65,535 sections in some 25 milliseconds,
+   so give room for thousands then. */
 static inline struct goblin_pe_fault goblin_pe_next_imports(
     const uint8_t *bytes, size_t length, const struct goblin_pe_options *options, const struct goblin_pe_places *places,
     struct goblin_pe_import_cursor *cursor, struct goblin_pe_import *imports, size_t room, size_t steps, size_t *count)
@@ -301,10 +304,12 @@ static inline struct goblin_pe_fault goblin_pe_next_imports(
 
 /* Goes on with the walk over the libraries of an image from `cursor`, zeros at the beginning, as
    goblin_pe_next_imports does over imports: gives one for each record of the import directory, up to the first that
-   has no name or no address table, also where permissive mode leaves the library out of the imports. Each has a cursor
-   of its own, at which goblin_pe_next_imports gives its imports, and then those of later ones; from such a cursor
-   this walk goes on with that library. In strict mode the walk ends with a refusal where the directory reaches the end
-   of the file; what else it refuses of a library goblin_pe_next_imports tells, and of its name the record. */
+   has no name or no address table, also where permissive mode leaves the library out of the imports, but for a
+   directory that is an empty list there. Each has a cursor of its own, at which goblin_pe_next_imports gives its
+   imports, unless it is left out, and then those of later ones; from such a cursor this walk goes on with that
+   library. Each is a step, so with room the count 0 without a refusal is the end. In strict mode the walk ends with
+   a refusal where the directory reaches the end of the file; what else it refuses of a library
+   goblin_pe_next_imports tells, and of its name the record. */
 static inline struct goblin_pe_fault goblin_pe_next_libraries(
     const uint8_t *bytes, size_t length, const struct goblin_pe_options *options, const struct goblin_pe_places *places,
     struct goblin_pe_import_cursor *cursor, struct goblin_pe_library *libraries, size_t room, size_t steps, size_t *count)
@@ -355,11 +360,11 @@ static inline struct goblin_pe_fault goblin_pe_next_export_addresses(
         GOBLIN_PE_SOME(struct goblin_pe_export_address, addresses, room), room, steps, count);
 }
 
-/* Goes on with the walk over the blocks of base relocations of an image, as goblin_pe_next_exports does over exports;
-   goblin_pe_next_words walks over the words of one. The position is the offset in the directory at which the next block
-   begins, 0 at the beginning. There are none where permissive mode passes over a refused directory; strict mode refuses
-   it at once. In both modes the walk ends with a refusal where a rest of the directory is no block: with the one that
-   goblin_pe_open says of the rest. */
+/* Goes on with the walk over the blocks of base relocations of an image; goblin_pe_next_words walks over the words
+   of one. The position is the offset in the directory at which the next block begins, 0 at the beginning. Each block
+   is a step, so with room the count 0 without a refusal is the end. There are none where permissive mode passes over
+   a refused directory; strict mode refuses it at once. In both modes the walk ends with a refusal where a rest of
+   the directory is no block: with the one that goblin_pe_open says of the rest. */
 static inline struct goblin_pe_fault goblin_pe_next_blocks(
     const uint8_t *bytes, size_t length, const struct goblin_pe_options *options, const struct goblin_pe_places *places,
     size_t *position, struct goblin_pe_block *blocks, size_t room, size_t steps, size_t *count)

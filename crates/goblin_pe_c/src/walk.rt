@@ -43,7 +43,7 @@ use std::alloc::Global;
 /// record of the directory, whether or not it gives an import. So with a limit a `count` of 0 is
 /// the end only where the cursor is at the end; else the next call goes on from there. The slots of
 /// an address table are looked at in one go, the last time also beyond the limit. With room for as
-/// many records as steps, a call that does not reach the end takes all of them.
+/// many records as steps, a call that comes to no end and no refusal takes all of them.
 ///
 /// The sections and the import directory lie where `places` says, as
 /// [`goblin_pe_raw_read_layout`](crate::whole_file::goblin_pe_raw_read_layout) and
