@@ -1,6 +1,6 @@
 -- The walk over the libraries of an import directory: what is still to come.
 use Rattle.std.specs.Prelude.{◌≡◌, ℕ, Bool, true, false, if◌then◌else◌, List, [], ◌∷◌, Option}
-use Rattle.std.specs.Prelude.{Some, None, unwrap_or, Result, Err, IfErr, IfSome}
+use Rattle.std.specs.Prelude.{Some, None, unwrap_or, Result, Err, IfErr, IfOk, IfSome, ◌+◌}
 use Rattle.std.specs.Option.{ok_or}
 use Rattle.std.specs.Result.{result_map_both}
 use Rattle.goblin_base.specs.declared.error.ErrorOf.{ErrorOf}
@@ -170,10 +170,15 @@ abbrev pub AreLibrariesAt : MapOfAddresses → Format EntryValue → List ℕ �
 AreLibrariesAt m format bytes c it =
     AreLibrariesOver m format bytes it × (libraries_cursor it ≡ c)
 
--- A call of `next` gives the next library, or has ended the walk, or is refused since the directory
--- reaches the end of the file, in strict mode; it keeps what is walked over.
+-- the cursor after a library: before the record that follows its own
+abbrev pub after_library : LibraryValue → ImportCursor
+after_library library = at_record library.cursor.first_record (library.offset + 20)
+
+-- A call of `next` gives the next library, and is then after it, or has ended the walk, or is refused
+-- since the directory reaches the end of the file, in strict mode; it keeps what is walked over.
 abbrev pub GivesNextLibrary : Libraries → Option (Result WalkedLibrary ErrorOf) → Libraries → Type 0
 GivesNextLibrary s result t =
     GivesNext library_value libraries_left IsLibrariesCause s result t
     × IfSome result (λ r. IfErr r (λ e. ¬ IsMemory e))
     × AreLibrariesOver (libraries_map s) (libraries_format s) (libraries_bytes s) t
+    × IfSome result (λ r. IfOk r (λ x. libraries_cursor t ≡ after_library (library_value x)))

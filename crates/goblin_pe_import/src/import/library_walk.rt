@@ -1,6 +1,6 @@
 //! A walk over the libraries of an image: the records of its import directory.
 
-ghost use Rattle.std.specs.Prelude.{◌≡◌, ◌<◌, IfErr, IfSome, List, Some, ℕ};
+ghost use Rattle.std.specs.Prelude.{◌≡◌, ◌<◌, IfErr, IfOk, IfSome, List, Some, ℕ};
 ghost use Rattle.std.specs.Iterator.{UpTo, at_most};
 ghost use Rattle.std.specs.Iterator.SizeHint.{IsWithinCount};
 ghost use Rattle.std.specs.Result.{result_map_both};
@@ -14,6 +14,7 @@ ghost use Rattle.goblin_pe_import.specs.ImportWalks.{cursor_left, imports_from_r
 ghost use Rattle.goblin_pe_import.specs.LeftOut.{leads_to_none};
 ghost use Rattle.goblin_pe_import.specs.Libraries.{AreLibrariesAt, AreLibrariesOver};
 ghost use Rattle.goblin_pe_import.specs.Libraries.{GivesNextLibrary, IsLibrariesCause, at_record};
+ghost use Rattle.goblin_pe_import.specs.Libraries.{after_library};
 ghost use Rattle.goblin_pe_import.specs.Libraries.{cursor_libraries, entries_by, has_imports};
 ghost use Rattle.goblin_pe_import.specs.Libraries.{libraries_bound, libraries_bytes};
 ghost use Rattle.goblin_pe_import.specs.Libraries.{libraries_cursor, libraries_format};
@@ -200,6 +201,8 @@ impl<'a, 'm> Libraries<'a, 'm> {
         ensures refused { IfSome result (λ r. IfErr r (λ e. ¬ IsMemory e)) }
         ensures over { AreLibrariesOver (libraries_map self.old) (libraries_format self.old)
             (libraries_bytes self.old) self.new }
+        ensures after { IfSome result
+            (λ r. IfOk r (λ x. libraries_cursor self.new ≡ after_library (library_value x))) }
         ensures fewer { IfSome result (λ r. libraries_bound self.new < libraries_bound self.old) }
     {
         let Some(offset) = self.at.next_record else {
