@@ -19,7 +19,7 @@ use Rattle.goblin_pe_records.specs.declared.block.PeBlock.{PeBlock}
 use Rattle.goblin_pe_records.specs.Blocks.{block_view}
 use Rattle.goblin_pe_records.specs.Items.{without_causes}
 use Rattle.goblin_pe_records.specs.Onward.{IsRefusedNext, values_before}
-use Rattle.goblin_pe_calls.specs.Batches.{BlockBatch, FillsBlocks, GivesBlocks, IsBlockCause, IsBlocksFault, block_table, blocks_from}
+use Rattle.goblin_pe_calls.specs.Batches.{BlockBatch, GivesBlocksIn, GivesBlocks, IsBlockCause, IsBlocksFault, block_table, blocks_from}
 use Rattle.goblin_pe_records.proofs.Batches.{AtItems, items-end, items-fault, items-full, items-more, items-refused, items-start, items-stay, items-taken, items-then}
 
 -- ---- a refusal is never Memory
@@ -99,7 +99,7 @@ module _ {directory : List ℕ} {from : ℕ} {old : List PeBlock} {offset : ℕ}
   moves = h.moved ∙ ap (λ (values : List Block). from + size_of values) (sym (items-taken h.at))
 
   abbrev AreGiven : Type 0
-  AreGiven = FillsBlocks (part.Read directory) (record { position = from; records = old }) (record { position = offset; records = records }) count
+  AreGiven = GivesBlocksIn (part.Read directory) (record { position = from; records = old }) (record { position = offset; records = records }) count
 
   pub blocks-end : FindsItem directory offset None → AreGiven
   blocks-end none = (
@@ -131,7 +131,7 @@ module _ (m : MapOfAddresses) (places : TablePlaces) (bytes : List ℕ) (found :
     (read : (relocation_part m.opts m.addressing places).value bytes ≡ Some (part_map relocation_bytes found)) (old new : BlockBatch) where
   -- where the directory was read
   pub blocks-answered : (relocations : RelocationData) → found ≡ part.Read relocations → (result : Result ℕ ErrorOf)
-      → MatchResult result (FillsBlocks (part.Read (relocation_bytes relocations)) old new)
+      → MatchResult result (GivesBlocksIn (part.Read (relocation_bytes relocations)) old new)
       (λ e. IsRefusedNext (blocks_from (part.Read (relocation_bytes relocations)) old.position) × IsBlockCause old.position (part.Read (relocation_bytes relocations)) e
       × (0 < length old.records) × (new ≡ old))
       → MatchResult result (GivesBlocks m places bytes 0 old new) (λ e. IsBlocksFault m places bytes old e × (new ≡ old))
@@ -150,7 +150,7 @@ blocks-none m places bytes found read none x old =
     ]
   where
     nothing : (p : Part (List ℕ)) → ((y : ℕ) → blocks_from p y ≡ []) → (x : ℕ) (old : List PeBlock)
-        → FillsBlocks p (record { position = x; records = old }) (record { position = x; records = old }) 0
+        → GivesBlocksIn p (record { position = x; records = old }) (record { position = x; records = old }) 0
     nothing p none x old = (
       items-end (items-start (block_table p) (blocks_from p) x x old refl) x (none x)
           (ap (λ (items : List (Option Block)). Some items) (none x)) (λ room. refl),

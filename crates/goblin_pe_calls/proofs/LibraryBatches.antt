@@ -1,5 +1,5 @@
 -- A loop that fills records with the libraries of a file from a position on.
-use Rattle.std.proofs.Common.{◌≡◌, ◌≢◌, ℕ, ◌+◌, List, [], ap, arith, inl, inr, sym, subst, refl, ◌∙◌, ◌<◌, ◌≤◌, length, set, Option, None, Some, Ok, Err, option_map}
+use Rattle.std.proofs.Common.{◌≡◌, ◌≢◌, ◌⊎◌, ℕ, ◌+◌, List, [], ◌∷◌, ◌++◌, ap, arith, inl, inr, sym, subst, refl, ◌∙◌, ◌<◌, ◌≤◌, length, set, Option, None, Some, Ok, Err, option_map}
 use Rattle.goblin_pe_import.specs.declared.import.imports.ImportCursor.{ImportCursor}
 use Rattle.goblin_pe_import.specs.declared.import.library_walk.Libraries.{Libraries}
 use Rattle.goblin_pe_import.specs.ImportEntries.{EntryValue}
@@ -7,15 +7,15 @@ use Rattle.goblin_base.specs.Tables.{Format}
 use Rattle.goblin_base.specs.declared.error.ErrorOf.{ErrorOf}
 use Rattle.goblin_pe.specs.Addresses.{MapOfAddresses}
 use Rattle.goblin_pe.specs.ImportWalks.{no_imports}
-use Rattle.goblin_pe.specs.Libraries.{AreLibrariesOver, GivesNextLibrary, IsCursorEndCause, IsLibrariesCause, LibraryValue, cursor_libraries, libraries_bytes, libraries_cursor, libraries_format, libraries_left, libraries_map, libraries_next, library_value}
+use Rattle.goblin_pe.specs.Libraries.{AreLibrariesOver, GivesNextLibrary, IsCursorEndCause, IsLibrariesCause, LibraryValue, after_library, cursor_libraries, libraries_bytes, libraries_cursor, libraries_format, libraries_left, libraries_map, libraries_next, library_value}
 use Rattle.goblin_pe.specs.Whole.{TablePlaces, entry_format}
 use Rattle.goblin_pe_calls.specs.declared.next.PeImportCursor.{PeImportCursor}
 use Rattle.goblin_pe_calls.specs.Batches.{cursor_numbers, import_cursor}
-use Rattle.goblin_pe_calls.specs.Libraries.{FillsLibraries, LibraryBatch, library_said, library_table, library_view}
-use Rattle.goblin_pe_records.specs.Onward.{EndsAt, IsRefusedNext}
+use Rattle.goblin_pe_calls.specs.Libraries.{GivesLibrariesIn, LibraryBatch, MovesOver, library_said, library_table, library_view, position_after}
+use Rattle.goblin_pe_records.specs.Onward.{IsRefusedNext}
 use Rattle.goblin_pe_import.specs.declared.import.library_walk.WalkedLibrary.{WalkedLibrary}
 use Rattle.goblin_pe_calls.specs.declared.library.PeLibrary.{PeLibrary}
-use Rattle.goblin_pe_records.proofs.Batches.{AtItems, items-end, items-fault, items-full, items-gives, items-more, items-refused, items-start, items-unended}
+use Rattle.goblin_pe_records.proofs.Batches.{AtItems, items-end, items-fault, items-full, items-gives, items-more, items-refused, items-start, items-taken, items-then, items-unended}
 use Rattle.goblin_pe_calls.proofs.ImportBatches.{said-again}
 
 module _ (m : MapOfAddresses) (places : TablePlaces) (bytes : List ℕ) where
@@ -73,40 +73,64 @@ pub record AtLibraries (m : MapOfAddresses) (places : TablePlaces) (bytes : List
     (now : Libraries) (p : PeImportCursor) (records : List PeLibrary) (count : ℕ) : Type 0 where
   pub at : AtItems (library_table m places bytes) libraries_left start from old now p records count
   pub over : AreLibrariesOver m (entry_format places.magic) bytes now
+  pub moved : p ≡ position_after from at.values
 
 pub libraries-start : (m : MapOfAddresses) (places : TablePlaces) (bytes : List ℕ) (start : Libraries) (from : PeImportCursor) (old : List PeLibrary)
     → (library_table m places bytes).from from ≡ Some (libraries_left start) → AreLibrariesOver m (entry_format places.magic) bytes start
     → AtLibraries m places bytes start from old start from old 0
-libraries-start m places bytes start from old begins over =
-    record { at = items-start (library_table m places bytes) libraries_left start from old begins; over = over }
+unfolding items-start position_after
+libraries-start m places bytes start from old begins over = record {
+  at = items-start (library_table m places bytes) libraries_left start from old begins;
+  over = over;
+  moved = refl;
+}
+
+-- after one more
+after-more : (p : PeImportCursor) (libraries : List LibraryValue) (x : LibraryValue)
+    → position_after p (libraries ++ x ∷ []) ≡ cursor_numbers (after_library x)
+unfolding position_after
+after-more p [] x = refl
+after-more p (y ∷ libraries) x = after-more (cursor_numbers (after_library y)) libraries x
 
 module _ {m : MapOfAddresses} {places : TablePlaces} {bytes : List ℕ} {start : Libraries} {from : PeImportCursor} {old : List PeLibrary}
     {now : Libraries} {p : PeImportCursor} {records : List PeLibrary} {count : ℕ} (h : AtLibraries m places bytes start from old now p records count) where
   abbrev Given : PeImportCursor → Type 0
-  Given q = FillsLibraries m places bytes (record { position = from; records = old }) (record { position = q; records = records }) count
+  Given q = GivesLibrariesIn m places bytes (record { position = from; records = old }) (record { position = q; records = records }) count
 
-  abbrev Ends : PeImportCursor → List (Option LibraryValue) → Type 0
-  Ends q = EndsAt (cursor_numbers no_imports) (record { position = from; records = old }) (record { position = q; records = records }) count
+  abbrev Moves : PeImportCursor → List (Option LibraryValue) → Type 0
+  Moves q = MovesOver (record { position = from; records = old }) (record { position = q; records = records }) count
+
+  -- no more libraries come now
+  moves : (length records ≤ count) ⊎ (libraries_left now ≡ None ∷ []) → Moves p (libraries_left start)
+  moves why = (
+    items-unended h.at (cursor_numbers no_imports) p why,
+    inr (h.moved ∙ ap (position_after from) (sym (items-taken h.at))),
+  )
 
   pub libraries-more : (x : WalkedLibrary) (next : Libraries) (q : PeImportCursor) (r : PeLibrary) → GivesNextLibrary now (Some (Ok x)) next
       → q ≡ cursor_numbers (libraries_cursor next) → count < length records → library_view r ≡ library_said (library_value x)
       → AtLibraries m places bytes start from old next q (set records count r) (count + 1)
+  unfolding items-more items-then
   libraries-more x next q r given numbers within says =
       let over = over-next m (entry_format places.magic) bytes now next h.over given.2 in
-      record { at = items-more h.at (library_value x) next q r given.0.0 within says (goes-on m places bytes q next over numbers); over = over }
+      record {
+        at = items-more h.at (library_value x) next q r given.0.0 within says (goes-on m places bytes q next over numbers);
+        over = over;
+        moved = numbers ∙ ap cursor_numbers given.3 ∙ sym (after-more from h.at.values (library_value x));
+      }
 
   pub libraries-full : length records ≤ count → Given p
-  libraries-full full = items-gives h.at (Ends p) p (items-full h.at full) (items-unended h.at (cursor_numbers no_imports) p (inl full))
+  libraries-full full = items-gives h.at (Moves p) p (items-full h.at full) (moves (inl full))
 
   pub libraries-end : (next : Libraries) (q : PeImportCursor) → GivesNextLibrary now None next → q ≡ cursor_numbers no_imports → count < length records → Given q
   libraries-end next q given numbers within =
       let stays : length old ≡ 0 → q ≡ from = λ none. absurd (let same = h.at.held.same in omega (arith, none, same, within)) in
-      items-gives h.at (Ends q) q (items-end h.at q given.0.0 (none-at_end m places bytes q numbers) stays) (λ is. numbers)
+      items-gives h.at (Moves q) q (items-end h.at q given.0.0 (none-at_end m places bytes q numbers) stays) (λ is. numbers, inl numbers)
 
   module _ (e : ErrorOf) (next : Libraries) (given : GivesNextLibrary now (Some (Err e)) next) where
     pub libraries-refused : count ≢ 0 → Given p
     libraries-refused some =
-        items-gives h.at (Ends p) p (items-refused h.at given.0.0 some) (items-unended h.at (cursor_numbers no_imports) p (inr given.0.0))
+        items-gives h.at (Moves p) p (items-refused h.at given.0.0 some) (moves (inr given.0.0))
 
     pub libraries-fault : count ≡ 0 → count < length records
         → IsRefusedNext (libraries_left start) × IsLibrariesCause start e × (0 < length old)

@@ -1,4 +1,5 @@
--- What comes in batches of each table of a file.
+-- Batches of the tables of a file: their steps; imports, exports, export addresses and blocks; and a
+-- call.
 use Rattle.std.specs.Prelude.{◌≡◌, ◌≢◌, ◌⊎◌, ℕ, zero, suc, ◌≤◌, true, if◌then◌else◌, List}
 use Rattle.std.specs.Prelude.{[]}
 use Rattle.std.specs.Prelude.{◌+◌, ◌++◌, map, drop, take, length, max, min, Option, Some, None}
@@ -125,7 +126,8 @@ abbrev pub position_ahead : MapOfAddresses → TablePlaces → List ℕ → PeIm
 position_ahead m places bytes p =
     amount_of (file_cursor_ahead m places.magic bytes) ((import_cursor m places p).value bytes)
 
--- A batch ends where the steps have run out, or is told to be the end.
+-- A step looks at a slot or a record. Unless the steps have run out, the new position is the end where
+-- nothing is left, and there is room for more.
 abbrev pub GivesImports : MapOfAddresses → TablePlaces → List ℕ → ℕ → ImportBatch → ImportBatch → ℕ
     → Type 0
 GivesImports m places bytes steps old new count =
@@ -136,6 +138,7 @@ GivesImports m places bytes steps old new count =
     × (IsOutOfSteps steps before after ⊎ EndsAt (cursor_numbers no_imports) old new count left)) old new
     count
 
+-- Where the imports begin is refused, or else the very next import, and there is room for it.
 abbrev pub IsImportsFault : MapOfAddresses → TablePlaces → List ℕ → ImportBatch → ErrorOf → Type 0
 IsImportsFault m places bytes old e =
     IsNextFault (import_cursor m places old.position) bytes (file_cursor_left m places.magic bytes)
@@ -202,7 +205,7 @@ GivesExports m places bytes steps old new count =
     GivesFrom (export_table m bytes p) (IsOutOfSteps steps new.position old.position)
     (λ left. LooksAtPointers steps (pointers_in p) old.position new.position) old new count)
 
--- the exports that a walk gives, of which each is its own position
+-- the exports that a walk gives; the walk is the position
 abbrev pub export_walk : Table Exports PeExport NumberedExport ExportSaid
 export_walk = record {
   view = export_view;
@@ -271,7 +274,7 @@ blocks_from Absent x = []
 blocks_from (part.Read directory) x = without_causes (block_items directory x)
 blocks_from Refused x = []
 
--- why no block comes at an offset
+-- which refusal comes at an offset, if one does
 abbrev pub IsBlockCause : ℕ → Part (List ℕ) → ErrorOf → Type 0
 IsBlockCause x Absent e = ⊥
 IsBlockCause x (part.Read directory) e = block_at directory x ≡ Err e
@@ -284,9 +287,9 @@ block_table p = record { view = block_view; said = λ b. b; from = λ x. Some (b
 abbrev pub BlockBatch : Type 0
 BlockBatch = Batch ℕ PeBlock
 
--- The position moves by the sizes of the blocks that are given.
-abbrev pub FillsBlocks : Part (List ℕ) → BlockBatch → BlockBatch → ℕ → Type 0
-FillsBlocks p old new count =
+-- Of a directory that was read, or not. The position moves by the sizes of the blocks that are given.
+abbrev pub GivesBlocksIn : Part (List ℕ) → BlockBatch → BlockBatch → ℕ → Type 0
+GivesBlocksIn p old new count =
     GivesFrom (block_table p) ⊥
     (λ left. new.position
     ≡ old.position + sum_by (λ (b : Block). b.size) (take count (values_before left))) old new count
@@ -295,8 +298,9 @@ abbrev pub GivesBlocks : MapOfAddresses → TablePlaces → List ℕ → ℕ →
     → Type 0
 GivesBlocks m places bytes steps old new count =
     IsSomeAnd ((relocation_part m.opts m.addressing places).value bytes)
-    (λ p. FillsBlocks p old new count)
+    (λ p. GivesBlocksIn p old new count)
 
+-- The directory is refused, or else what comes next of it, and there is room for a block.
 abbrev pub IsBlocksFault : MapOfAddresses → TablePlaces → List ℕ → BlockBatch → ErrorOf → Type 0
 IsBlocksFault m places bytes old e =
     IsNextFault (relocation_part m.opts m.addressing places) bytes (λ p. blocks_from p old.position)

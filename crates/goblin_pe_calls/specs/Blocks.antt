@@ -7,14 +7,13 @@ use Rattle.goblin_pe.specs.declared.whole.Part.TheVariants as part
 use Rattle.goblin_pe_records.specs.declared.block.PeBaseRelocations.{PeBaseRelocations}
 use Rattle.goblin_pe_records.specs.declared.file.State.TheVariants as state
 use Rattle.goblin_pe_records.specs.Faults.{no_fault}
-use Rattle.goblin_pe_records.specs.Items.{rest_of, without_causes}
-use Rattle.goblin_pe_records.specs.Onward.{values_before}
+use Rattle.goblin_pe_records.specs.Items.{rest_of, values_of}
 use Rattle.goblin_pe_records.specs.States.{state_number}
 
 -- the blocks of a directory's bytes, none where it was not read
 abbrev pub blocks_in : Part (List ℕ) → List Block
 blocks_in Absent = []
-blocks_in (part.Read directory) = values_before (without_causes (block_items directory 0))
+blocks_in (part.Read directory) = values_of (block_items directory 0)
 blocks_in Refused = []
 
 -- the summary of the base relocations
@@ -24,7 +23,7 @@ base_relocations_of Absent =
 base_relocations_of (part.Read directory) =
     record {
       blocks = record {
-        count = length (values_before (without_causes (block_items directory 0)));
+        count = length (values_of (block_items directory 0));
         state = state_number state.Read;
       };
       rest = rest_of (block_items directory 0);

@@ -1,15 +1,17 @@
 -- The records of libraries, and batches of them.
-use Rattle.std.specs.Prelude.{ℕ, Bool, List, [], option_map, Result, Ok, Err}
+use Rattle.std.specs.Prelude.{◌≡◌, ◌⊎◌, ℕ, Bool, List, [], ◌∷◌, Option, option_map, take, Result}
+use Rattle.std.specs.Prelude.{Ok, Err}
 use Rattle.goblin_base.specs.declared.error.ErrorOf.{ErrorOf}
 use Rattle.goblin_pe_import.specs.declared.import.directory_entry.ImportDirectoryEntry.{ImportDirectoryEntry}
 use Rattle.goblin_pe.specs.Addresses.{MapOfAddresses}
 use Rattle.goblin_pe.specs.ImportWalks.{no_imports}
-use Rattle.goblin_pe.specs.Libraries.{IsCursorEndCause, LibraryValue, cursor_libraries}
+use Rattle.goblin_pe.specs.Libraries.{IsCursorEndCause, LibraryValue, after_library}
+use Rattle.goblin_pe.specs.Libraries.{cursor_libraries}
 use Rattle.goblin_pe.specs.Whole.{TablePlaces, entry_format}
 use Rattle.goblin_pe_calls.specs.declared.library.PeLibrary.{PeLibrary}
 use Rattle.goblin_pe_calls.specs.declared.next.PeImportCursor.{PeImportCursor}
 use Rattle.goblin_pe_calls.specs.Batches.{cursor_numbers, import_cursor}
-use Rattle.goblin_pe_records.specs.Onward.{Batch, EndsAt, GivesFrom, IsNextFault, Table}
+use Rattle.goblin_pe_records.specs.Onward.{Batch, EndsAt, GivesFrom, IsNextFault, Table, values_before}
 use Rattle.goblin_pe_records.specs.Faults.{status_of}
 use Rattle.goblin_pe_records.specs.declared.fault.PeFault.{PeFault}
 
@@ -71,18 +73,32 @@ library_table m places bytes = record {
 abbrev pub LibraryBatch : Type 0
 LibraryBatch = Batch PeImportCursor PeLibrary
 
-abbrev pub FillsLibraries : MapOfAddresses → TablePlaces → List ℕ → LibraryBatch → LibraryBatch → ℕ
-    → Type 0
-FillsLibraries m places bytes old new count =
-    GivesFrom (library_table m places bytes) ⊥ (EndsAt (cursor_numbers no_imports) old new count) old
-    new count
+-- the position after libraries: before the record that follows the last one's
+unfoldable pub position_after : PeImportCursor → List LibraryValue → PeImportCursor
+position_after p [] = p
+position_after p (library ∷ libraries) =
+    position_after (cursor_numbers (after_library library)) libraries
+
+-- Where nothing is left, and there is room for more, the new position is the end; else it is after the
+-- libraries that are given.
+abbrev pub MovesOver : LibraryBatch → LibraryBatch → ℕ → List (Option LibraryValue) → Type 0
+MovesOver old new count left =
+    EndsAt (cursor_numbers no_imports) old new count left
+    × ((new.position ≡ cursor_numbers no_imports)
+    ⊎ (new.position ≡ position_after old.position (take count (values_before left))))
+
+abbrev pub GivesLibrariesIn : MapOfAddresses → TablePlaces → List ℕ → LibraryBatch → LibraryBatch
+    → ℕ → Type 0
+GivesLibrariesIn m places bytes old new count =
+    GivesFrom (library_table m places bytes) ⊥ (MovesOver old new count) old new count
 
 -- each library is a step, so that there is room for no more
 abbrev pub GivesLibraries : MapOfAddresses → TablePlaces → List ℕ → ℕ → LibraryBatch → LibraryBatch
     → ℕ → Type 0
-GivesLibraries m places bytes steps old new count = FillsLibraries m places bytes old new count
+GivesLibraries m places bytes steps old new count = GivesLibrariesIn m places bytes old new count
 
--- No library is refused but that the directory reaches the end of the file.
+-- Where the imports begin is refused, or else no library comes next, since the directory reaches the
+-- end of the file, and there is room for one.
 abbrev pub IsLibrariesFault : MapOfAddresses → TablePlaces → List ℕ → LibraryBatch → ErrorOf → Type 0
 IsLibrariesFault m places bytes old e =
     IsNextFault (import_cursor m places old.position) bytes

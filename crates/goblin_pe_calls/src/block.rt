@@ -6,7 +6,7 @@ ghost use Rattle.goblin_base.specs.Answers.{IsMemory};
 ghost use Rattle.goblin_pe_sect.specs.BaseRelocations.{relocation_bytes};
 ghost use Rattle.goblin_pe.specs.Whole.{part_map};
 ghost use Rattle.goblin_pe.specs.declared.whole.Part.TheVariants.{Read};
-ghost use Rattle.goblin_pe_calls.specs.Batches.{BlockBatch, FillsBlocks, GivesBlocks};
+ghost use Rattle.goblin_pe_calls.specs.Batches.{BlockBatch, GivesBlocksIn, GivesBlocks};
 ghost use Rattle.goblin_pe_calls.specs.Batches.{IsBlockCause, IsBlocksFault, blocks_from};
 ghost use Rattle.goblin_pe_records.specs.Onward.{IsRefusedNext};
 ghost use Rattle.goblin_pe_records.specs.Blocked.{HasLittleRoom, least_more};
@@ -59,7 +59,7 @@ fn fill_blocks<'a, 'e>(
     ensures filled { let p = Read (relocation_bytes relocations.now) in
         let old : BlockBatch = record { position = position.old; records = records.old } in
         let new : BlockBatch = record { position = position.new; records = records.new } in
-        MatchResult result (FillsBlocks p old new)
+        MatchResult result (GivesBlocksIn p old new)
         (λ e. IsRefusedNext (blocks_from p position.old) × IsBlockCause position.old p e
         × (0 < length old.records) × (new ≡ old)) }
     ensures refused { IfErr result (λ e. ¬ IsMemory e) }

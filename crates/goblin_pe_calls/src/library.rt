@@ -6,7 +6,7 @@ ghost use Rattle.goblin_pe.specs.Layouts.{layout_bytes, layout_map, layout_place
 ghost use Rattle.goblin_pe.specs.Libraries.{AreLibrariesOver, IsLibrariesCause, libraries_left};
 ghost use Rattle.goblin_pe.specs.Libraries.{library_value};
 ghost use Rattle.goblin_pe.specs.Whole.{entry_format};
-ghost use Rattle.goblin_pe_calls.specs.Libraries.{FillsLibraries, GivesLibraries};
+ghost use Rattle.goblin_pe_calls.specs.Libraries.{GivesLibrariesIn, GivesLibraries};
 ghost use Rattle.goblin_pe_calls.specs.Libraries.{IsLibrariesFault, LibraryBatch};
 ghost use Rattle.goblin_pe_calls.specs.Libraries.{library_said, library_table, library_view};
 ghost use Rattle.goblin_pe_records.specs.Onward.{IsRefusedNext};
@@ -83,7 +83,7 @@ fn fill_libraries<'a>(
         let old : LibraryBatch = record { position = position.old; records = records.old } in
         let new : LibraryBatch = record { position = position.new; records = records.new } in
         MatchResult result
-        (FillsLibraries m (layout_places layout.now) (layout_bytes layout.now) old new)
+        (GivesLibrariesIn m (layout_places layout.now) (layout_bytes layout.now) old new)
         (λ e. IsRefusedNext (libraries_left libraries.entry) × IsLibrariesCause libraries.entry e
         × (0 < length old.records) × (new ≡ old)) }
     ensures refused { IfErr result (λ e. ¬ IsMemory e) }
@@ -118,7 +118,7 @@ fn next_libraries<'a>(
         let bytes = layout_bytes layout.now in
         let old : LibraryBatch = record { position = position.old; records = records.old } in
         let new : LibraryBatch = record { position = position.new; records = records.new } in
-        MatchResult result (FillsLibraries m places bytes old new)
+        MatchResult result (GivesLibrariesIn m places bytes old new)
         (λ e. IsLibrariesFault m places bytes old e × (new ≡ old)) }
     ensures refused { IfErr result (λ e. ¬ IsMemory e) }
 {

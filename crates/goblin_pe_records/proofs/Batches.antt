@@ -115,7 +115,7 @@ module _ {P R A B S : Type 0} {table : Table P R A B} {left : S → List (Option
       ap (λ (items : List (Option A)). take count (values_before items)) h.yielded ∙ ap (λ (xs : List A). take count xs) (before-all h.values (left now))
       ∙ ap (λ (n : ℕ). take n (h.values ++ values_before (left now))) (sym h.held.counted) ∙ take-append_seam h.values (values_before (left now))
 
-  pub items-left : drop count (left start) ≡ left now
+  items-left : drop count (left start) ≡ left now
   items-left =
       ap (λ (items : List (Option A)). drop count items) h.yielded
       ∙ ap (λ (n : ℕ). drop n (unrefused h.values ++ left now)) (sym (length-map h.values (λ (x : A). Some x) ∙ h.held.counted)) ∙ drop-append_seam (unrefused h.values) (left now)
@@ -199,13 +199,13 @@ module _ {P R A B S : Type 0} {table : Table P R A B} {left : S → List (Option
   items-unended end q (inl full) = λ is. absurd (let same = h.held.same in omega (arith, is.1, full, same))
   items-unended end q (inr refused) = λ is. absurd (cc (sym is.0 ∙ items-left ∙ refused))
 
-  -- what a batch has given of its table, whose position moves so
-  pub items-gives : {IsCut : Type 0} (Moves : List (Option A) → Type 0) (q : P) → Given IsCut q → Moves (left start)
-      → GivesFrom table IsCut Moves (record { position = at; records = old }) (record { position = q; records = records }) count
-  items-gives {IsCut} Moves q fills moved =
+  -- what a batch has given of its table
+  pub items-gives : {IsCut : Type 0} (Holds : List (Option A) → Type 0) (q : P) → Given IsCut q → Holds (left start)
+      → GivesFrom table IsCut Holds (record { position = at; records = old }) (record { position = q; records = records }) count
+  items-gives {IsCut} Holds q fills holds =
       subst
-      (λ (from : Option (List (Option A))). IsSomeAnd from (λ left. FillsFrom table IsCut left (record { position = at; records = old }) (record { position = q; records = records }) count × Moves left))
-      (sym h.begins) (fills, moved)
+      (λ (from : Option (List (Option A))). IsSomeAnd from (λ left. FillsFrom table IsCut left (record { position = at; records = old }) (record { position = q; records = records }) count × Holds left))
+      (sym h.begins) (fills, holds)
 
 -- ---- a batch
 

@@ -14,12 +14,8 @@ use Rattle.goblin_pe_head.specs.RichMetadata.{metadata_at, metadata_items}
 use Rattle.goblin_pe_records.specs.declared.fault.PeFault.{PeFault}
 use Rattle.goblin_pe_records.specs.Faults.{fault_of, no_fault}
 use Rattle.goblin_pe_records.specs.Filled.{Filled}
-use Rattle.goblin_pe_records.specs.Items.{rest_of, without_causes}
+use Rattle.goblin_pe_records.specs.Items.{rest_of, values_of}
 use Rattle.goblin_pe_records.specs.Onward.{values_before}
-
--- the values before the first refusal
-abbrev pub values_of : {A : Type 0} → List (Result A ErrorOf) → List A
-values_of items = values_before (without_causes items)
 
 -- where there is room for one more
 pub room : {R B : Type 0} (view : R → B) (done : List B) (old records : List R) (b : B) (r : R) (n : ℕ) → Filled view done old records → length records ≡ length old → length done ≡ n → view r ≡ b → n < length old → Filled view (done ++ b ∷ []) old (set records n r)

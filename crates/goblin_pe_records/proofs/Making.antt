@@ -4,8 +4,8 @@ use Rattle.std.proofs.lemmas.List.{append_assoc, append-nil, length-append, map-
 use Rattle.goblin_base.specs.declared.error.ErrorOf.{ErrorOf}
 use Rattle.goblin_pe_records.specs.declared.fault.PeFault.{PeFault}
 use Rattle.goblin_pe_records.specs.Faults.{fault_of, no_fault}
-use Rattle.goblin_pe_records.specs.Items.{rest_of}
-use Rattle.goblin_pe_records.proofs.Items.{nothing, refused, rest-ok, values-ok, values_of}
+use Rattle.goblin_pe_records.specs.Items.{rest_of, values_of}
+use Rattle.goblin_pe_records.proofs.Items.{nothing, refused, rest-ok, values-ok}
 
 -- what holds of every answer
 pub whichever : {A E : Type 0} (P : Type 0) (result : Result A E) → P → OnErr result P

@@ -4,7 +4,7 @@ use Rattle.goblin_base.specs.Bytes.{slice_at}
 use Rattle.goblin_pe_symbol.specs.Symbols.{SymbolItem, aux, record_of, symbol_of}
 use Rattle.goblin_pe_symbol.proofs.SymbolHeads.{symbols_next, symbols_past}
 use Rattle.goblin_pe_records.specs.declared.symbol.PeNamedSymbol.{PeNamedSymbol}
-use Rattle.goblin_pe_records.specs.Symbols.{GivesSymbols, index_after, named_symbol, named_symbol_view, next_index, symbol_table, symbols_onward}
+use Rattle.goblin_pe_records.specs.Symbols.{GivesSymbols, index_after, named_symbol, named_symbol_table, named_symbol_view, next_index, symbols_onward}
 use Rattle.goblin_pe_records.specs.Onward.{unrefused}
 use Rattle.goblin_pe_records.proofs.Batches.{AtItems, items-end, items-full, items-more, items-start, items-stay}
 
@@ -25,12 +25,12 @@ symbols table i = unrefused (symbols_onward table i)
 
 -- the records hold the symbols up to a position
 pub record IsGiving (table : List ℕ) (names : ℕ → Option (List ℕ)) (from : ℕ) (old : List PeNamedSymbol) (position : ℕ) (records : List PeNamedSymbol) (count : ℕ) : Type 0 where
-  pub at : AtItems (symbol_table table names) (symbols table) from from old position position records count
+  pub at : AtItems (named_symbol_table table names) (symbols table) from from old position position records count
   pub moved : position ≡ index_after table count from
 
 pub giving_start : (table : List ℕ) (names : ℕ → Option (List ℕ)) (from : ℕ) (old : List PeNamedSymbol) → IsGiving table names from old from old 0
 unfolding index_after
-giving_start table names from old = record { at = items-start (symbol_table table names) (symbols table) from from old refl; moved = refl }
+giving_start table names from old = record { at = items-start (named_symbol_table table names) (symbols table) from from old refl; moved = refl }
 
 module _ {table : List ℕ} {names : ℕ → Option (List ℕ)} {from : ℕ} {old : List PeNamedSymbol} {position : ℕ} {records : List PeNamedSymbol} {count : ℕ}
     (h : IsGiving table names from old position records count) where

@@ -4,10 +4,15 @@ use Rattle.std.specs.Result.{result_ok}
 use Rattle.goblin_base.specs.declared.error.ErrorOf.{ErrorOf}
 use Rattle.goblin_pe_records.specs.declared.fault.PeFault.{PeFault}
 use Rattle.goblin_pe_records.specs.Faults.{fault_of, no_fault}
+use Rattle.goblin_pe_records.specs.Onward.{values_before}
 
 -- each refusal without its cause
 abbrev pub without_causes : {A : Type 0} → List (Result A ErrorOf) → List (Option A)
 without_causes items = map result_ok items
+
+-- the values before the first one
+abbrev pub values_of : {A : Type 0} → List (Result A ErrorOf) → List A
+values_of items = values_before (without_causes items)
 
 -- the cause beside them: the numbers of the first refusal, where there is one
 unfoldable pub rest_of : {A : Type 0} → List (Result A ErrorOf) → PeFault

@@ -1,4 +1,5 @@
--- What a call gives of a table from a position on: as many of its records as there is room for.
+-- What a call gives of a table from a position on: as many of its items as there is room for, or fewer
+-- where it is cut.
 use Rattle.std.specs.Prelude.{◌≡◌, ◌⊎◌, ℕ, ◌+◌, ◌<◌, ◌≤◌, ⊤, List, [], ◌∷◌, map, take, drop, length, min}
 use Rattle.std.specs.Prelude.{Option, Some, None, IsSomeAnd}
 use Rattle.goblin_base.specs.declared.error.ErrorOf.{ErrorOf}
@@ -61,7 +62,8 @@ IsWhole left room count =
     (count ≡ min room (length (values_before left))) × (IsRefusedNext left → room ≡ 0)
 
 -- Of these that are left the records hold those that come first, and from the new position on come
--- the others; without room it stays. If more would come, the batch was cut.
+-- the others; without room the position stays. Where more would come, and there is room, the batch was
+-- cut.
 pub record FillsFrom {P R A B : Type 0} (table : Table P R A B) (IsCut : Type 0)
     (left : List (Option A)) (old new : Batch P R) (count : ℕ) : Type 0 where
   pub batch : IsBatch table.view table.said (take count (values_before left)) old.records
@@ -70,15 +72,15 @@ pub record FillsFrom {P R A B : Type 0} (table : Table P R A B) (IsCut : Type 0)
   pub whole : IsCut ⊎ IsWhole left (length old.records) count
   pub stays : length old.records ≡ 0 → new.position ≡ old.position
 
--- What every batch gives: what comes from the old position on, as above, and the position moves as
--- the table says.
+-- What every batch gives: what comes from the old position on, as above; and what holds of its table
+-- besides, as how the position moves.
 abbrev pub GivesFrom : {P R A B : Type 0} → Table P R A B → Type 0
     → (List (Option A) → Type 0) → Batch P R → Batch P R → ℕ → Type 0
-GivesFrom table IsCut Moves old new count =
+GivesFrom table IsCut Holds old new count =
     IsSomeAnd (table.from old.position)
-    (λ left. FillsFrom table IsCut left old new count × Moves left)
+    (λ left. FillsFrom table IsCut left old new count × Holds left)
 
--- Why every batch is refused: what leads to the items is, or else the very next of them, and there
+-- Why a batch is refused where items may be: what leads to them is, or else the very next, and there
 -- is room for it.
 abbrev pub IsNextFault : {P R S A : Type 0} → Reading S → List ℕ → (S → List (Option A))
     → (S → ErrorOf → Type 0) → Batch P R → ErrorOf → Type 0

@@ -6,21 +6,16 @@ use Rattle.goblin_pe_head.specs.RichHeader.{Rich}
 use Rattle.goblin_pe_head.specs.RichMetadata.{metadata_items}
 use Rattle.goblin_pe_records.specs.declared.rich.PeRichHeader.{PeRichHeader}
 use Rattle.goblin_pe_records.specs.Faults.{no_fault}
-use Rattle.goblin_pe_records.specs.Items.{rest_of, without_causes}
-use Rattle.goblin_pe_records.specs.Onward.{values_before}
+use Rattle.goblin_pe_records.specs.Items.{rest_of, values_of}
 
 -- what follows the padding of a Rich header: entries, and at last perhaps a refusal
 abbrev pub rich_items : Rich → List (Result RichMetadata ErrorOf)
 rich_items r = metadata_items r.key (drop r.padding_size r.bytes)
 
--- its entries
-abbrev pub entries_in : Rich → List RichMetadata
-entries_in r = values_before (without_causes (rich_items r))
-
 -- the entries, none where there is no Rich header
 abbrev pub entries_of_rich : Option Rich → List RichMetadata
 entries_of_rich None = []
-entries_of_rich (Some r) = entries_in r
+entries_of_rich (Some r) = values_of (rich_items r)
 
 -- the summary of the Rich header
 abbrev pub rich_of : Option Rich → PeRichHeader
@@ -35,7 +30,7 @@ rich_of None =
       is_present = false;
     }
 rich_of (Some r) = record {
-  entries = length (entries_in r);
+  entries = length (values_of (rich_items r));
   padding_size = r.padding_size;
   rest = rest_of (rich_items r);
   key = r.key;

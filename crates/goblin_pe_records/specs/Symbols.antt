@@ -103,9 +103,9 @@ abbrev pub SymbolBatch : Type 0
 SymbolBatch = Batch ℕ PeNamedSymbol
 
 -- the symbols of a table with their names, from any record on
-abbrev pub symbol_table : List ℕ → (ℕ → Option (List ℕ))
+abbrev pub named_symbol_table : List ℕ → (ℕ → Option (List ℕ))
     → Table ℕ PeNamedSymbol SymbolItem (NamedSymbol × List ℕ)
-symbol_table table names = record {
+named_symbol_table table names = record {
   view = named_symbol_view;
   said = named_symbol table names;
   from = λ i. Some (unrefused (symbols_onward table i));
@@ -115,7 +115,7 @@ symbol_table table names = record {
 -- that of the symbols that come next.
 abbrev pub GivesSymbols : List ℕ → (ℕ → Option (List ℕ)) → SymbolBatch → SymbolBatch → ℕ → Type 0
 GivesSymbols table names old new count =
-    GivesFrom (symbol_table table names) ⊥
+    GivesFrom (named_symbol_table table names) ⊥
     (λ left. new.position ≡ index_after table count old.position) old new count
 
 -- the symbol at index i of a table, if it has so many records

@@ -6,8 +6,7 @@ ghost use Rattle.goblin_base.specs.Answers.{IsMemory};
 ghost use Rattle.goblin_pe_sect.specs.BaseRelocations.{block_items, block_value, relocation_bytes};
 ghost use Rattle.goblin_pe_records.specs.Blocked.{HasLittleRoom, least_more, more_room};
 ghost use Rattle.goblin_pe_records.specs.Blocks.{block_view};
-ghost use Rattle.goblin_pe_records.specs.Items.{rest_of, without_causes};
-ghost use Rattle.goblin_pe_records.specs.Onward.{values_before};
+ghost use Rattle.goblin_pe_records.specs.Items.{rest_of, values_of};
 
 use crate::fault::{PeFault, fault_of, no_fault};
 use crate::file::PeTable;
@@ -80,12 +79,12 @@ pub fn item_records<'a>(
     ensures values { IfOk result
         (λ made.
         map block_view made.0.items
-        ≡ values_before (without_causes (block_items (relocation_bytes relocations.now) 0))) }
+        ≡ values_of (block_items (relocation_bytes relocations.now) 0)) }
     ensures rest { IfOk result
         (λ made. made.1 ≡ rest_of (block_items (relocation_bytes relocations.now) 0)) }
     ensures none { IfOk result (λ made. HasLittleRoom least_more made.0) }
     ensures grown { OnErr result
-        (0 < length (values_before (without_causes (block_items (relocation_bytes relocations.now) 0)))) }
+        (0 < length (values_of (block_items (relocation_bytes relocations.now) 0))) }
 {
     let mut records = Vec::new(alloc);
     'blocks: for block in relocations.blocks() {

@@ -4,8 +4,8 @@ ghost use Rattle.std.specs.Prelude.{◌≡◌, ◌<◌, IfErr, IfOk, OnErr, leng
 ghost use Rattle.goblin_base.specs.Answers.{IsMemory};
 ghost use Rattle.goblin_pe_head.specs.RichHeader.{rich_value};
 ghost use Rattle.goblin_pe_records.specs.Blocked.{HasNoSpareRoom};
-ghost use Rattle.goblin_pe_records.specs.Items.{rest_of};
-ghost use Rattle.goblin_pe_records.specs.RichHeaders.{entries_in, entries_of_rich, rich_items, rich_of};
+ghost use Rattle.goblin_pe_records.specs.Items.{rest_of, values_of};
+ghost use Rattle.goblin_pe_records.specs.RichHeaders.{entries_of_rich, rich_items, rich_of};
 
 use crate::fault::{PeFault, fault_of, no_fault};
 use goblin_base::{Record, Result};
@@ -36,10 +36,10 @@ pub struct PeRichHeader {
 fn item_records(alloc: Global, rich: &RichHeader) -> Result<(Vec<RichMetadata>, PeFault)>
     ensures refused { IfErr result IsMemory }
     ensures values { IfOk result
-        (λ made. made.0.items ≡ entries_in (rich_value rich.now)) }
+        (λ made. made.0.items ≡ values_of (rich_items (rich_value rich.now))) }
     ensures rest { IfOk result (λ made. made.1 ≡ rest_of (rich_items (rich_value rich.now))) }
     ensures none { IfOk result (λ made. HasNoSpareRoom made.0) }
-    ensures grown { OnErr result (0 < length (entries_in (rich_value rich.now))) }
+    ensures grown { OnErr result (0 < length (values_of (rich_items (rich_value rich.now)))) }
 {
     // No header that was read has more padding than data.
     if rich.padding_size > rich.bytes.len() {

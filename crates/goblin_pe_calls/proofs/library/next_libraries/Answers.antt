@@ -2,7 +2,7 @@ use Rattle.goblin_pe.specs.Layouts.{layout_map, layout_places}
 use Rattle.goblin_pe.specs.Libraries.{IsCursorEndCause, IsLibrariesCause, cursor_libraries, libraries_left}
 use Rattle.goblin_pe.specs.Whole.{entry_format}
 use Rattle.goblin_pe_calls.specs.Batches.{import_cursor}
-use Rattle.goblin_pe_calls.specs.Libraries.{FillsLibraries, LibraryBatch}
+use Rattle.goblin_pe_calls.specs.Libraries.{GivesLibrariesIn, LibraryBatch}
 use Rattle.goblin_pe_records.proofs.Batches.{answered}
 use Rattle.goblin_pe_calls.proofs.LibraryBatches.{begins-at, end-cause, left-at}
 use Rattle.goblin_pe_calls.proofs.library.next_libraries.Goals as goal
@@ -22,6 +22,6 @@ returns-clause-filled c =
     let walk = c.libraries_at.result in
     let over = c.libraries_at.ensures.0 in
     let there = c.libraries_at.ensures.1 in
-    answered (import_cursor m places old.position) l.bytes.now (cursor_libraries m (entry_format places.magic) l.bytes.now) (IsCursorEndCause m l.bytes.now) old new (FillsLibraries m places l.bytes.now old new)
+    answered (import_cursor m places old.position) l.bytes.now (cursor_libraries m (entry_format places.magic) l.bytes.now) (IsCursorEndCause m l.bytes.now) old new (GivesLibrariesIn m places l.bytes.now old new)
     c.in_ok-at.at (libraries_left walk) (IsLibrariesCause walk) c.in_ok-at.ensures (left-at m places l.bytes.now walk c.in_ok-at.at over there)
     (end-cause m (entry_format places.magic) l.bytes.now walk c.in_ok-at.at over there) c.fill_libraries.result c.fill_libraries.ensures.filled

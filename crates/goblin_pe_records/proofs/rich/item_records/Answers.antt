@@ -5,7 +5,8 @@ use Rattle.goblin_pe_head.specs.declared.header.rich.RichMetadata.{RichMetadata}
 use Rattle.goblin_pe_head.specs.RichHeader.{rich_value}
 use Rattle.goblin_pe_head.specs.RichMetadata.{metadata_left}
 use Rattle.goblin_pe_records.specs.RichHeaders.{rich_items}
-use Rattle.goblin_pe_records.proofs.Items.{count-entries, no-entries, nothing, refused, values-ok, values_of}
+use Rattle.goblin_pe_records.specs.Items.{values_of}
+use Rattle.goblin_pe_records.proofs.Items.{count-entries, no-entries, nothing, refused, values-ok}
 use Rattle.goblin_pe_records.proofs.Making.{items-end, items-next, items-refused, items-start, whichever}
 use Rattle.goblin_pe_records.proofs.rich.item_records.Goals as goal
 

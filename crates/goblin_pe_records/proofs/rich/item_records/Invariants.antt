@@ -3,7 +3,7 @@ use Rattle.std.proofs.Common.{◌≡◌, ◌+◌, length, vec_capacity, vec_len}
 use Rattle.goblin_pe_head.specs.RichHeader.{rich_value}
 use Rattle.goblin_pe_head.specs.RichMetadata.{metadata_left}
 use Rattle.goblin_pe_records.specs.RichHeaders.{rich_items}
-use Rattle.goblin_pe_records.proofs.Items.{values_of}
+use Rattle.goblin_pe_records.specs.Items.{values_of}
 use Rattle.goblin_pe_records.proofs.Making.{IsMakingItems}
 use Rattle.goblin_pe_records.proofs.rich.item_records.Given as goal
 
