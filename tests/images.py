@@ -43,6 +43,16 @@ def directory_in_front():
                   (0x260, addresses), (0x280, b"evil.dll\0"), (0x290, b"\0\0WinExec\0"))
 
 
+def rounded_to_dead_entries(count):
+    """The small image with one import, a.dll #5. Where the raw pointer is rounded down, a library with so many entries that lead
+    nowhere comes before it."""
+    size = 0x90 + 4 * count + 4
+    words = ((0x200, 0x10A0, 0, 0, 0x1060, 0x1040, 0x1040, 0, 0x1060, 0x1080, 0x1040), (0x228, *[0] * 6, 0x80000005, 0, 0, 0, 0x80000005, 0),
+             (0x290, 0x80000005, 0, 0, 0, *[0x70000000] * count, 0))
+    return sample((0xB8, struct.pack("<4I", 0, 0, 0x1000, 40)), (0x140, struct.pack("<4I", size, 0x1000, size, 0x210)),
+                  *((at, struct.pack("<%dI" % len(row), *row)) for at, *row in words), *((at, b"a.dll\0") for at in (0x260, 0x270, 0x280)))
+
+
 def import_from_nowhere(image):
     """The sample that imports by name, with that name at an address that no section maps: both modes list nothing."""
     return with_parts(image, (0x698, struct.pack("<Q", 0x7FFFFFF0)))

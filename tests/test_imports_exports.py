@@ -397,6 +397,7 @@ class Forged(Read):
         package()
         self.records, self.library = (importlib.import_module("goblin_pe." + it) for it in ("records", "_library"))
         self.random = random.Random(88)
+        self.files = [bytes(it) for it in (sample(), wide_sample(), images.own_tables(30), images.shared_image(5, 20), images.hostile_image(1 << 12))]
 
     def number(self, size, bits=64):
         most = (1 << bits) - 1
@@ -435,9 +436,8 @@ class Forged(Read):
                  (library.goblin_pe_raw_next_exports, records.Export, ctypes.c_size_t),
                  (library.goblin_pe_raw_next_export_addresses, records.ExportAddress, ctypes.c_size_t),
                  (library.goblin_pe_raw_next_blocks, records.Block, ctypes.c_size_t)]
-        files = [bytes(it) for it in (sample(), wide_sample(), images.own_tables(30), images.shared_image(5, 20), images.hostile_image(1 << 12))]
         for _ in range(3000):
-            data, is_permissive = self.random.choice(files), self.random.random() < 0.5
+            data, is_permissive = self.random.choice(self.files), self.random.random() < 0.5
             layout = package().Layout(data, package().Options(is_permissive=is_permissive))
             call, kind, position = self.random.choice(walks)
             begin = self.forged(position, len(data))
@@ -448,6 +448,38 @@ class Forged(Read):
             if parts[1] is None:  # (its calls were not enough)
                 parts, whole = parts[0], whole[0][:len(parts[0])]
             self.assertEqual(parts, whole, walk)
+
+    def given(self, walk, steps, at):
+        """The first rows of a walk from there on, which goes on wherever it has taken its steps, and whether it was refused."""
+        rows, goblin_pe = [], package()
+        for _ in range(100):
+            try:
+                for row in walk(steps=steps, at=at):
+                    rows.append(row)
+                    if len(rows) == 100:
+                        return rows, False
+                return rows, False
+            except goblin_pe.OutOfSteps as why:
+                at = why.at
+            except goblin_pe.Refused:
+                return rows, True
+        return rows, None
+
+    def test_walks_of_a_layout_from_anywhere(self):
+        """By the package's own methods: a walk that goes on after each few steps is the same."""
+        for _ in range(1000):
+            data, is_permissive = self.random.choice(self.files), self.random.random() < 0.5
+            layout = package().Layout(data, package().Options(is_permissive=is_permissive))
+            walk, position = self.random.choice((
+                (layout.walk_imports, self.records.ImportCursor), (layout.walk_libraries, self.records.ImportCursor),
+                (layout.walk_exports, ctypes.c_size_t), (layout.walk_export_addresses, ctypes.c_size_t),
+                (layout.walk_blocks, ctypes.c_size_t)))
+            begin = self.forged(position, len(data))
+            at = (begin.value,) if position is ctypes.c_size_t else tuple(getattr(begin, it) for it, _ in begin._fields_)
+            whole, parts = self.given(walk, 1 << 20, at), self.given(walk, self.random.randrange(1, 60), at)
+            if parts[1] is None:  # (it went on too seldom)
+                parts, whole = parts[0], whole[0][:len(parts[0])]
+            self.assertEqual(parts, whole, (walk.__name__, at, len(data), is_permissive))
 
 
 class Damage(Read):

@@ -286,7 +286,7 @@ class Triage(Case):
         self.assertEqual(found["object.obj"], {"kind": "object"})
         self.assertEqual((sum(found["hostile.dll"]["libraries"].values()), found["hostile.dll"]["imphash"]), (100000, None))
         self.assertEqual(found["names.dll"]["exports"], 100000)
-        self.assertEqual([found[it]["cut_off"] for it in ("hostile.dll", "names.dll", "unmapped.dll")], [["imports"], ["exports"], []])
+        self.assertEqual([found[it]["cut_off"] for it in ("hostile.dll", "names.dll", "unmapped.dll")], [["imports", "loaded_imports"], ["exports"], []])
 
         self.assertEqual([found["long.dll"][it] for it in ("cut_off", "imphash", "damage")], [["import_names"], None, {}])
         self.assertEqual([found["exports.dll"][it] for it in ("cut_off", "imphash", "exports")], [["export_names"], "", 2])
@@ -304,7 +304,7 @@ class Triage(Case):
         for name in "imports that are all left out, within steps", "libraries that are all left out, within steps":
             self.written(name, limits.ROWS[name][1]())
         for it in self.triaged().values():
-            self.assertEqual((it["cut_off"], it["imphash"], it["libraries"], it["damage"]), (["imports"], None, {}, {}))
+            self.assertEqual((it["cut_off"], it["imphash"], it["libraries"], it["damage"]), (["imports", "loaded_imports"], None, {}, {}))
 
     def test_what_only_one_view_has_of_the_imports(self):
         """The name of an import lies in the headers, which the loader maps; or the raw pointer is rounded, and the imports lie there."""
@@ -319,6 +319,13 @@ class Triage(Case):
         for name in "name.dll", "seventeen.dll":
             self.assertEqual((found[name]["in_headers"], "only_loaded" in found[name]), (["a.dll VirtualAlloc"], False))
         self.assertEqual(set(found["plain.dll"]) & {"only_loaded", "never_loaded", "in_headers"}, set())
+
+    def test_a_view_that_is_cut_off_is_told(self):
+        """Where raw pointers are rounded, more dead entries than there are steps come before the one import."""
+        self.written("cut.dll", images.rounded_to_dead_entries(1100000))
+        self.written("whole.dll", images.rounded_to_dead_entries(10))
+        told = {name: (it["libraries"], it["cut_off"], "never_loaded" in it) for name, it in self.triaged().items()}
+        self.assertEqual(told, {"cut.dll": ({"a.dll": 1}, ["loaded_imports"], False), "whole.dll": ({"a.dll": 1}, [], False)})
 
 
 def told_of_others(pefile, path):

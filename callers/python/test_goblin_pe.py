@@ -633,6 +633,33 @@ class Files(unittest.TestCase):
             self.assertEqual([it.forwarder for it in entries if it.forwards], [x.forwarder for x in pe.exports if x.forwarder])
             self.assertEqual((unlisted.imports, tuple(unlisted.walk_imports()), unlisted.imphash()), ((), pe.imports, pe.imphash()))
 
+    def test_the_words_of_a_block(self):
+        block = next(Layout(sample("program_x64.exe")).walk_blocks())
+        words = tuple(block.words)
+        stored = struct.pack("<II%dH" % len(words), block.rva, block.size, *words)
+        self.assertIn(stored, sample("program_x64.exe"))
+        self.assertEqual((len(block.words), block.words[0], block.words[-1], block.words[1:]), (len(words), words[0], words[-1], words[1:]))
+        self.assertEqual((block.words, words, repr(block.words)), (words, block.words, repr(words)))
+        self.assertEqual({block, block._replace(words=words), pickle.loads(pickle.dumps(block))}, {block})
+        self.assertNotIn(block.words, [words[1:], list(words), None, goblin_pe.rows.Words(b"")])
+        self.assertEqual(([*reversed(block.words)], block.words.index(words[-1])), ([*reversed(words)], words.index(words[-1])))
+        self.assertRaises(IndexError, lambda: block.words[len(words)])
+        self.assertEqual((len(goblin_pe.rows.Words(b"")), goblin_pe.rows.Words(b"")), (0, ()))
+
+    def test_a_step_makes_no_words(self):
+        """Of a block of 4 MiB, in a file that ends with a byte more."""
+        data = sample("program_x64.exe")
+        place = int.from_bytes(data[0x3C:0x40], "little") + 24 + 112 + 8 * DirectoryType.BASE_RELOCATION_TABLE
+        size = (1 << 22) + 1
+        data = data[:place] + struct.pack("<II", len(data), size) + data[place + 8:] + struct.pack("<II", 0x1000, size) + bytes(size - 8)
+        layout = Layout(data, Options(resolve_rva=False))
+        tracemalloc.start()
+        block = next(layout.walk_blocks(steps=1))
+        most = tracemalloc.get_traced_memory()[1]
+        tracemalloc.stop()
+        self.assertEqual((block.size, len(block.words), block.words[-1]), (size, (size - 8) // 2, 0))
+        self.assertLess(most, 2 * size)
+
     def test_libraries_have_records(self):
         data = bytearray(sample("imports_by_name_x64.dll"))
         record = Pe(data).find_offset(Pe(data).data_directories[DirectoryType.IMPORT_TABLE].virtual_address)
@@ -759,8 +786,35 @@ class Files(unittest.TestCase):
                     for row in left:
                         given.append(row)
                 self.assertEqual(given, rows[:steps])
-            with self.assertRaises(OverflowError):
-                walk(steps=-1)
+            for wrong in {"steps": -1}, {"at": (-1,)}:
+                self.assertRaises(OverflowError, walk, **wrong)
+            self.assertRaises(TypeError, walk, at=(0, 0))
+
+    def walks(self):
+        """Walks over each kind of table, within steps and from where one stopped."""
+        layout, found = Layout(sample("forwarders_x64.dll")), ObjectFile(sample("object_x64.obj"))
+        section = max(found.sections, key=lambda it: it.number_of_relocations)
+        data = with_libraries(with_section_names(3, 200), [b"a.dll", b"b.dll", b"c.dll"], [3, 0, 2])
+        strict, permissive = (Layout(data, Options(resolve_rva=False, is_permissive=it)) for it in (False, True))
+        return (strict.walk_imports, permissive.walk_imports, strict.walk_libraries, layout.walk_exports, layout.walk_export_addresses,
+                Layout(sample("program_x64.exe")).walk_blocks, found.walk_symbols, layout.walk_symbols,
+                lambda **words: found.walk_relocations(section, **words))
+
+    def test_a_walk_goes_on_where_its_steps_were_taken(self):
+        """It says so in numbers, which may be sent."""
+        for walk in self.walks():
+            wanted = list(walk())
+            for steps in range(1, len(wanted) + 2):
+                found, at = [], ()
+                while at is not None:
+                    try:
+                        for row in walk(steps=steps, at=at):
+                            found.append(row)
+                        at = None
+                    except goblin_pe.OutOfSteps as why:
+                        at = pickle.loads(pickle.dumps(why)).at
+                with self.subTest(walk=walk, steps=steps):
+                    self.assertEqual(found, wanted)
 
     def test_a_walk_goes_on_after_each_step(self):
         data = with_libraries(with_section_names(3, 200), [b"a.dll", b"b.dll", b"c.dll"], [3, 0, 2])

@@ -3,8 +3,8 @@ file are more imports or exports counted than a limit says, nor more entries loo
 tells of which there are more, and where these are the imports or their names, `damage` tells nothing of imports, and there is no
 hash of them; but it looks at all exports, and all sections are told. What
 imports only the Windows loader finds, and what only a reader does that takes raw pointers as stored and no names from the headers,
-has a finding of its own: packers hide imports so. What can't be read has a line, too, that says why, and of an image what is there
-of it all the same.
+has a finding of its own: packers hide imports so. Where one of these views is cut off, nothing is said to be only in another. What
+can't be read has a line, too, that says why, and of an image what is there of it all the same.
 Files are read whole, and not mapped: who can write or cut a mapped file changes the bytes during a call, or ends the program."""
 import concurrent.futures
 import hashlib
@@ -119,20 +119,28 @@ def key(it: Import) -> bytes:
     return hashlib.md5(it.dll.lower() + b"\0" + what, usedforsecurity=False).digest()
 
 
-def only_in(one: Layout, other: Layout) -> List[str]:
-    """The imports of one view that the other has not, the first of them; long names are compared as far as they are read."""
-    keys = set(map(key, within(other.walk_imports(steps=STEPS), "imports", set())))
-    lone = (it for it in within(one.walk_imports(steps=STEPS), "imports", set()) if key(it) not in keys)
+def only_in(views: Dict[str, Layout], one: str, other: str, cut_off: Set[str]) -> List[str]:
+    """The imports of one view that another has not, the first of them; none where that is cut off. Long names are compared as far as
+    they are read."""
+    def walked(view: str) -> Iterator[Import]:
+        return within(views[view].walk_imports(steps=STEPS), view, cut_off)
+    keys = set(map(key, walked(other)))
+    if other in cut_off:
+        return []
+    lone = (it for it in walked(one) if key(it) not in keys)
     return [text(it.dll) + " " + (f"#{it.ordinal}" if it.name is None else text(it.name)) for it in itertools.islice(lone, TOLD)]
 
 
-def lone_imports(layout: Layout, data: Any) -> Dict[str, List[str]]:
+def lone_imports(layout: Layout, data: Any, cut_off: Set[str]) -> Dict[str, List[str]]:
     """What of the imports only is there where raw pointers are rounded, as the loader may do, what then is not, and what the headers
     lead to, where these are mapped."""
     def read(rule: RawPointerRule) -> Layout:
         return type(layout)(data, Options(is_permissive=True, parse_imports=False, raw_pointer_rule=rule, longest_name=LONGEST))
     with read(RawPointerRule.BY_FILE_ALIGNMENT) as loaded, read(RawPointerRule.AS_LOADED) as mapped:
-        found = {"only_loaded": only_in(loaded, layout), "never_loaded": only_in(layout, loaded), "in_headers": only_in(mapped, loaded)}
+        views = {"imports": layout, "loaded_imports": loaded, "mapped_imports": mapped}
+        found = {what: only_in(views, one, other, cut_off) for what, one, other in (
+            ("only_loaded", "loaded_imports", "imports"), ("never_loaded", "imports", "loaded_imports"),
+            ("in_headers", "mapped_imports", "loaded_imports"))}
     return {what: names for what, names in found.items() if names}
 
 
@@ -143,14 +151,14 @@ def contents(layout: Layout, data: Any) -> Dict[str, Any]:
     hashed = imphash(counted(within(layout.walk_imports(steps=STEPS), "imports", cut_off), libraries, cut_off))
     exports = count_exports(layout, cut_off)
     found = list(sections(layout, cut_off))
-    header = layout.optional_header
+    lone, header = lone_imports(layout, data, cut_off), layout.optional_header
     return {
         "machine": names_of(layout.coff_header.machine, "machine")[0], "time_date_stamp": layout.coff_header.time_date_stamp,
         "is_64": layout.is_64, "is_lib": layout.is_lib, "entry": layout.entry, "image_base": layout.image_base,
         "subsystem": header and names_of(header.windows_fields.subsystem, "subsystem")[0],
         "libraries": {text(name): count for name, count in sorted(libraries.items())},
         "imphash": None if cut_off & {"imports", "import_names"} else hashed, "exports": exports, "cut_off": sorted(cut_off),
-        **lone_imports(layout, data), "overlay": overlay(layout, data), "sections": found}
+        **lone, "overlay": overlay(layout, data), "sections": found}
 
 
 def image(data: Any) -> Dict[str, Any]:

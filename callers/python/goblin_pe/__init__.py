@@ -76,7 +76,7 @@ from .rows import (
     OutOfSteps as OutOfSteps, RichHeader as RichHeader, Rows as _Rows,
     Section as Section, SectionData as SectionData, SectionView as SectionView, Symbol as Symbol,
     available_of as _available_of, batches as _batches, data_of as _data_of, growing_batches as _growing_batches,
-    in_bytes as _in_bytes, room as _room, size as _size, view_of as _view_of)
+    in_bytes as _in_bytes, position_at as _position_at, room as _room, size as _size, view_of as _view_of)
 
 __version__ = "0.4.0"
 
@@ -131,9 +131,9 @@ def _symbol_table(data: _Kept, header: CoffHeader, longest_name: int, tests_text
     return table
 
 
-def _walk_symbols(data: _Kept, table: records.SymbolTable, steps: _t.Optional[int]) -> _t.Iterator[Symbol]:
+def _walk_symbols(data: _Kept, table: records.SymbolTable, steps: _t.Optional[int], at: _t.Tuple[int, ...]) -> _t.Iterator[Symbol]:
     return _walk(data, records.NamedSymbol, "symbol", lambda address, length, *to: _LIB.goblin_pe_raw_next_symbols(
-        address, length, _c.byref(table), *to), _c.c_size_t(), steps=_limit(steps))
+        address, length, _c.byref(table), *to), _position_at(_c.c_size_t, at), steps=_limit(steps))
 
 
 def _symbol_at(data: _Kept, table: records.SymbolTable, index: int) -> _t.Optional[Symbol]:
@@ -395,9 +395,10 @@ class _File:
         65,535. The base relocations of an image are its blocks."""
         return section.relocations(self._bytes())
 
-    def walk_relocations(self, section: Section, *, steps: _t.Optional[int] = None) -> _t.Iterator[Relocation]:
+    def walk_relocations(
+            self, section: Section, *, steps: _t.Optional[int] = None, at: _t.Tuple[int, ...] = ()) -> _t.Iterator[Relocation]:
         """All relocations of one of its sections, one by one, as by section.walk_relocations."""
-        return section.walk_relocations(self._bytes(), steps=steps)
+        return section.walk_relocations(self._bytes(), steps=steps, at=at)
 
 
 def _whole(path: _t.Union[str, "_os.PathLike[str]"]) -> bytes:
@@ -678,8 +679,8 @@ class Layout(_File):
                 options: _t.Optional[records.Options] = None) -> _t.Iterator[_t.Any]:
         # the rows of a table, from where these numbers say, within so many steps
         _, kind, position = _WALKED[table]
-        return _walk(self._bytes(), kind, row, self._next(table, options), position(*begin), self._batch(), _limit(steps),
-                     self._options.is_permissive)
+        return _walk(self._bytes(), kind, row, self._next(table, options), _position_at(position, begin), self._batch(),
+                     _limit(steps), self._options.is_permissive)
 
     def _with_names_up_to(self, longest: int, table: DirectoryType, row: str) -> _t.Iterator[_t.Any]:
         # the rows of a table, with names up to another limit than the options say; 0 is none
@@ -720,29 +721,32 @@ class Layout(_File):
             return State.READ if table == DirectoryType.IMPORT_TABLE else State.REFUSED
         return State.READ
 
-    def walk_imports(self, library: _t.Optional[Library] = None, *, steps: _t.Optional[int] = None) -> _t.Iterator[Import]:
+    def walk_imports(self, library: _t.Optional[Library] = None, *, steps: _t.Optional[int] = None,
+                     at: _t.Tuple[int, ...] = ()) -> _t.Iterator[Import]:
         """The imports one by one, of which none is kept: also where the options left them out; from the first one of a library
         on, where one is given, which walk_libraries of this file gave. With `steps` it raises OutOfSteps once it has looked at so
         many slots and records of its tables, whether or not these gave an import; an address table is looked at in one go, for
-        each batch of rows, however long it is. The walk is an iterator, and not copied: begin again, or at a library. In strict mode Refused is raised where it would
-        be of the list, after what comes before; no law says on which bytes that depends. What gives no import is counted by
-        `damage`: `unmapped_entries` in either mode, the other two in permissive mode."""
-        return self._walked(DirectoryType.IMPORT_TABLE, "imported", steps, library.cursor if library else ())
+        each batch of rows, however long it is. The walk is an iterator, and not copied: begin again, at a library, or `at` where
+        OutOfSteps says. In strict mode Refused is raised where it would be of the list, after what comes before; no law says on
+        which bytes that depends. What gives no import is counted by `damage`: `unmapped_entries` in either mode, the other two in
+        permissive mode."""
+        return self._walked(DirectoryType.IMPORT_TABLE, "imported", steps, at or (library.cursor if library else ()))
 
-    def walk_libraries(self, *, steps: _t.Optional[int] = None) -> _t.Iterator[Library]:
+    def walk_libraries(self, *, steps: _t.Optional[int] = None, at: _t.Tuple[int, ...] = ()) -> _t.Iterator[Library]:
         """The libraries one by one, as walk_imports gives imports: one for each record of the import directory, in order, up to
         the first that has no name or no address table. Those that permissive mode leaves out of the imports come, too. With
-        `steps` it raises OutOfSteps after so many: each library is one, whatever its tables have, so some tens are enough of a
-        file that is hostile. In strict mode Refused is raised where the directory reaches the end of the file; what else is refused of a library walk_imports tells, where it is given that."""
+        `steps` it raises OutOfSteps after so many, and goes on `at`: each library is one, whatever its tables have, so some tens
+        are enough of a file that is hostile. In strict mode Refused is raised where the directory reaches the end of the file; what
+        else is refused of a library walk_imports tells, where it is given that."""
         call, asked = _LIB.goblin_pe_raw_next_libraries, self._with_imports
         return _walk(self._bytes(), records.Library, "library", lambda address, length, *to: call(
-            address, length, _c.byref(asked), _c.byref(self._places), *to), records.ImportCursor(), self._batch(), _limit(steps),
-            self._options.is_permissive)
+            address, length, _c.byref(asked), _c.byref(self._places), *to), _position_at(records.ImportCursor, at), self._batch(),
+            _limit(steps), self._options.is_permissive)
 
-    def walk_exports(self, *, steps: _t.Optional[int] = None) -> _t.Iterator[Export]:
+    def walk_exports(self, *, steps: _t.Optional[int] = None, at: _t.Tuple[int, ...] = ()) -> _t.Iterator[Export]:
         """The exports one by one, of which none is kept. With `steps` it raises OutOfSteps once it has looked at so many name
-        pointers, whether or not these gave an export."""
-        return self._walked(DirectoryType.EXPORT_TABLE, "exported", steps)
+        pointers, whether or not these gave an export, and goes on `at`."""
+        return self._walked(DirectoryType.EXPORT_TABLE, "exported", steps, at)
 
     def find_export(self, name: _t.Union[bytes, str]) -> _t.Optional[Export]:
         """The first export of this name; None where there is none. It walks over the exports, of which it keeps none. Where the
@@ -759,7 +763,7 @@ class Layout(_File):
         directory = self._read_directory(data)
         if directory is None or ordinal - directory.table.ordinal_base not in range(directory.table.address_table_entries):
             return None
-        found = next(self._export_entries(data, ordinal - directory.table.ordinal_base), None)
+        found = next(self._export_entries(data, _c.c_size_t(ordinal - directory.table.ordinal_base)), None)
         return found if found and found.rva else None
 
     @property
@@ -781,27 +785,29 @@ class Layout(_File):
         directory = self.export_directory
         return directory.name if directory else None
 
-    def walk_export_addresses(self, *, steps: _t.Optional[int] = None) -> _t.Iterator[ExportEntry]:
+    def walk_export_addresses(
+            self, *, steps: _t.Optional[int] = None, at: _t.Tuple[int, ...] = ()) -> _t.Iterator[ExportEntry]:
         """The entries of the export address table one by one, by rising ordinals, also those without a name, each with its
-        forwarder. None is kept. With `steps` it raises OutOfSteps after so many. Refused is raised where the export directory
-        is refused, but not for the number of its name pointers, for which the exports are."""
-        return self._export_entries(self._bytes(), limit=_limit(steps))
+        forwarder. None is kept. With `steps` it raises OutOfSteps after so many, and goes on `at`. Refused is raised where the
+        export directory is refused, but not for the number of its name pointers, for which the exports are."""
+        return self._export_entries(self._bytes(), _position_at(_c.c_size_t, at), _limit(steps))
 
-    def _export_entries(self, data: _Kept, first: int = 0, limit: _t.Optional[int] = None) -> _t.Iterator[ExportEntry]:
+    def _export_entries(self, data: _Kept, index: _c.c_size_t, limit: _t.Optional[int] = None) -> _t.Iterator[ExportEntry]:
         # those from an index on, within so many steps
         directory, most = self._read_directory(data), self._batch()
-        ordinals = _itertools.count(first + directory.table.ordinal_base if directory else 0)
+        ordinals = _itertools.count(index.value + directory.table.ordinal_base if directory else 0)
         batches = _growing_batches(data, _room(records.ExportAddress, most), lambda address, length, *to: (
             _LIB.goblin_pe_raw_next_export_addresses(address, length, _c.byref(self._options), _c.byref(self._places), *to)),
-            _c.c_size_t(first), _LARGEST_BATCH if most > _BATCH else 0, limit)
+            index, _LARGEST_BATCH if most > _BATCH else 0, limit)
         for it in _itertools.chain.from_iterable(_laid_out.first_of(found, count) for _, count, found in batches):
             yield ExportEntry(next(ordinals), it.rva, it.forwards, self.forwarder_at(it.rva) if it.forwards else None)
 
-    def walk_blocks(self, *, steps: _t.Optional[int] = None) -> _t.Iterator[Block]:
-        """The blocks of base relocations one by one, of which none is kept. With `steps` it raises OutOfSteps after so many. Where
-        a rest of their directory is no block, Refused is raised in either mode, after what comes before, as block_rest of a Pe
-        has it; and where strict mode refuses the directory."""
-        return self._walked(DirectoryType.BASE_RELOCATION_TABLE, "block", steps)
+    def walk_blocks(self, *, steps: _t.Optional[int] = None, at: _t.Tuple[int, ...] = ()) -> _t.Iterator[Block]:
+        """The blocks of base relocations one by one, of which none is kept. With `steps` it raises OutOfSteps after so many, and
+        goes on `at`. A step copies the bytes of a block, which may be all that the file has, and makes none of its words. Where a
+        rest of their directory is no block, Refused is raised in either mode, after what comes before, as block_rest of a Pe has it;
+        and where strict mode refuses the directory."""
+        return self._walked(DirectoryType.BASE_RELOCATION_TABLE, "block", steps, at)
 
     @property
     def symbols(self) -> _t.Tuple[Symbol, ...]:
@@ -809,12 +815,13 @@ class Layout(_File):
         table, and where the string table is not UTF-8, or says a length below 4."""
         return self._once("symbols", lambda: tuple(self.walk_symbols()))
 
-    def walk_symbols(self, tests_texts: bool = True, *, steps: _t.Optional[int] = None) -> _t.Iterator[Symbol]:
+    def walk_symbols(
+            self, tests_texts: bool = True, *, steps: _t.Optional[int] = None, at: _t.Tuple[int, ...] = ()) -> _t.Iterator[Symbol]:
         """The symbols one by one, of which none is kept, their names up to the limit of the options. With `steps` it raises
-        OutOfSteps after so many. Refused is raised as by `symbols`; without tests_texts not where the string table is not
-        UTF-8: a symbol whose name is not has none."""
+        OutOfSteps after so many, and goes on `at`. Refused is raised as by `symbols`; without tests_texts not where the string
+        table is not UTF-8: a symbol whose name is not has none."""
         data = self._bytes()
-        return _walk_symbols(data, self._found_symbols(data, tests_texts), steps)
+        return _walk_symbols(data, self._found_symbols(data, tests_texts), steps, at)
 
     def string_at(self, offset: int) -> _t.Optional[bytes]:
         """The text at an offset of the string table, up to a NUL, the table's end or, as a name is, the limit of the options;
@@ -1187,10 +1194,10 @@ class ObjectFile(_File):
         """The symbols."""
         return self._once("symbols", lambda: tuple(self.walk_symbols()))
 
-    def walk_symbols(self, *, steps: _t.Optional[int] = None) -> _t.Iterator[Symbol]:
+    def walk_symbols(self, *, steps: _t.Optional[int] = None, at: _t.Tuple[int, ...] = ()) -> _t.Iterator[Symbol]:
         """The symbols one by one, of which none is kept. Their string table was tested once, so that a second walk costs no more
-        than what it gives. With `steps` it raises OutOfSteps after so many."""
-        return _walk_symbols(self._bytes(), self._symbol_table, steps)
+        than what it gives. With `steps` it raises OutOfSteps after so many, and goes on `at`."""
+        return _walk_symbols(self._bytes(), self._symbol_table, steps, at)
 
     def __getstate__(self) -> _t.Dict[str, _t.Any]:
         if self._data is not None:

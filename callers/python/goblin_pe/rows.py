@@ -2,8 +2,7 @@
 import ctypes as c
 import functools
 import operator
-import struct
-from typing import Any, Callable, Dict, Iterator, List, NamedTuple, Optional, Tuple, Type, TypeVar, Union
+from typing import Any, Callable, Dict, Iterable, Iterator, List, NamedTuple, Optional, Sequence, Tuple, Type, TypeVar, Union, overload
 
 from . import _laid_out, records
 from ._library import LIB, Data, Kept, held, kept, part_kept, viewed
@@ -74,17 +73,17 @@ class Section(NamedTuple):
         with viewed(file) as view:
             return available_of(self, view, records.Options(), 0)
 
-    def walk_relocations(self, file: Data, *, steps: Optional[int] = None) -> Iterator[Relocation]:
+    def walk_relocations(self, file: Data, *, steps: Optional[int] = None, at: Tuple[int, ...] = ()) -> Iterator[Relocation]:
         """All its relocations in the object, one by one, also where there are more than number_of_relocations can say: then
-        without the first record, which has their number. With `steps` it raises OutOfSteps after so many. Refused is raised where
-        the file is too short for them, and where they begin at or past its end, even if there are none."""
+        without the first record, which has their number. With `steps` it raises OutOfSteps after so many, and goes on `at`. Refused
+        is raised where the file is too short for them, and where they begin at or past its end, even if there are none."""
         (record, data), found = self._with_relocations(file), room(_laid_out.laid_out(Relocation), 256)
 
         def call(address: int, length: int, *to: Any) -> records.Fault:
             fault: records.Fault = LIB.goblin_pe_raw_next_relocations(address, length, c.byref(record), *to)
             return fault
 
-        given = batches(data, found, call, c.c_size_t(), None if steps is None else size(steps))
+        given = batches(data, found, call, position_at(c.c_size_t, at), None if steps is None else size(steps))
         return (_laid_out.read(Relocation, it) for _, count in given for it in found[:count])
 
     def relocations(self, file: Data) -> List[Relocation]:
@@ -203,12 +202,52 @@ class ExportDirectory(NamedTuple):
     table: ExportDirectoryTable
 
 
+class Words(Sequence[int]):
+    """The words of a block, each made when it is asked for: equal to a tuple of them, hashed and shown as one."""
+
+    __slots__ = ("_stored",)
+
+    def __init__(self, stored: bytes):
+        self._stored = stored  # (two bytes each)
+
+    def _numbers(self) -> memoryview:
+        return memoryview(self._stored).cast("H")
+
+    def __len__(self) -> int:
+        return len(self._stored) // 2
+
+    @overload
+    def __getitem__(self, index: int) -> int: ...
+
+    @overload
+    def __getitem__(self, index: slice) -> Tuple[int, ...]: ...
+
+    def __getitem__(self, index: Any) -> Any:
+        found = self._numbers()[index]
+        return tuple(found) if isinstance(index, slice) else found
+
+    def __iter__(self) -> Iterator[int]:
+        return iter(self._numbers())
+
+    def __eq__(self, other: object) -> bool:
+        if isinstance(other, Words):
+            return self._stored == other._stored
+        return isinstance(other, tuple) and len(self) == len(other) and all(map(operator.eq, self, other))
+
+    def __hash__(self) -> int:
+        return hash(tuple(self))
+
+    def __repr__(self) -> str:
+        return repr(tuple(self))
+
+
 class Block(NamedTuple):
-    """A block of base relocations. Of a word the type is in the high four bits, the offset in the page in the low twelve."""
+    """A block of base relocations. Of a word the type is in the high four bits, the offset in the page in the low twelve. One block
+    may have words for all bytes of the file: they are a sequence over a copy of its bytes, which makes a word when it is asked for."""
 
     rva: int
     size: int
-    words: Tuple[int, ...]
+    words: Sequence[int]
 
 
 _Kind = TypeVar("_Kind")
@@ -347,16 +386,22 @@ def room(kind: Any, count: int) -> Any:
 
 
 class OutOfSteps(Exception):
-    """A walk has taken all the steps that it was given: `steps` of them."""
+    """A walk has taken all the steps that it was given: `steps` of them. The same method goes on there where it is given `at`, with
+    steps of its own. These are numbers, which may be kept and sent: an index, an offset or, of imports and libraries, a cursor.
+    Others than a walk over this file told lead to other rows, or to none, and harm nothing.
+
+    Steps are a bound of the work, and no measure of it. How many rows come within them depends on how these are fetched, so that
+    of imports even more steps may give fewer rows. An end that only one more step would tell is told so, too: a walk may raise this
+    that has as many rows as steps, and one of 0 steps does, even where there is no table. (In C 0 is no limit; here None is.)"""
 
     __module__ = "goblin_pe"
 
-    def __init__(self, steps: int):
+    def __init__(self, steps: int, at: Tuple[int, ...] = ()):
         super().__init__("the walk has taken its %d steps" % steps)
-        self.steps = steps
+        self.steps, self.at = steps, at
 
     def __reduce__(self) -> Tuple[Any, ...]:
-        return type(self), (self.steps,), self.__dict__
+        return type(self), (self.steps, self.at), self.__dict__
 
 
 def size(number: int) -> int:
@@ -364,6 +409,17 @@ def size(number: int) -> int:
     number = operator.index(number)
     number.to_bytes(c.sizeof(c.c_size_t), "little")
     return number
+
+
+def numbers_of(position: Any) -> Tuple[int, ...]:
+    """Where a walk is, in numbers: those of a cursor, or an index or an offset."""
+    is_cursor = isinstance(position, records.ImportCursor)
+    return tuple(getattr(position, it) for it, _ in position._fields_) if is_cursor else (position.value,)
+
+
+def position_at(kind: Any, at: Iterable[int]) -> Any:
+    """The position that has these numbers; without numbers the beginning."""
+    return kind(*map(size, at))
 
 
 def batches(data: Kept, found: Any, call: Callable[..., records.Fault], position: Any,
@@ -383,7 +439,7 @@ def growing_batches(data: Kept, found: Any, call: Callable[..., records.Fault], 
         before, size_of_room = 0 if is_cursor else position.value, len(found) - 1
         steps = 0 if left is None else min(left, max(size_of_room, least))
         if limit is not None and left == 0:
-            raise OutOfSteps(limit)
+            raise OutOfSteps(limit, numbers_of(position))
         with held(data) as (address, length):
             given = functools.partial(call, address, length, c.byref(position), found, size_of_room)
             steps, has_many = _go_on(given, position, count, size_of_room, steps, left if is_cursor else None, is_permissive)
@@ -474,9 +530,8 @@ class Rows:
     def library(self, x: records.Library) -> Library:
         """The row of a library."""
         record, why = x.import_directory_entry, refusal(x.name_fault)
-        cursor = tuple(getattr(x.cursor, it) for it, _ in x.cursor._fields_)
         return Library(None if why else self.text(x.name), x.record_offset, record.time_date_stamp, record.forwarder_chain,
-                       record.name_rva, x.index, why, x.is_left_out, x.has_imports, cursor)
+                       record.name_rva, x.index, why, x.is_left_out, x.has_imports, numbers_of(x.cursor))
 
     def exported(self, x: records.Export) -> Export:
         """The row of an export."""
@@ -495,9 +550,8 @@ class Rows:
 
     def block(self, b: records.Block) -> Block:
         """The row of a block."""
-        count = b.words.length // 2
-        words = struct.unpack_from("<%dH" % count, self._data, self._begin(b.words)) if count else ()
-        return Block(b.rva, b.size, words)
+        begin, length = self._begin(b.words), b.words.length // 2 * 2
+        return Block(b.rva, b.size, Words(bytes(self._data[begin: begin + length]) if length else b""))
 
     def symbol(self, s: records.NamedSymbol) -> Symbol:
         """The row of a symbol."""
