@@ -539,11 +539,15 @@ macro_rules! walks {
             }
 
             /// The walk from here on within so many steps: each looks at a record of its table, or at a slot, whether
-            /// or not that gives something. Where more would be taken, it ends with an error of the kind
-            /// [`ErrorKind::OutOfSteps`](crate::ErrorKind::OutOfSteps). Of a walk that has begun, some of what comes next
-            /// was read before: of that each row is one step. The address table of a library is looked at in one go, for
-            /// each batch of rows, however long it is; of a walk over libraries each of these is one step, whatever its
-            /// tables have.
+            /// or not that gives something. 0 are none, and not no limit as in C. Where more would be taken, it ends with
+            /// an error of the kind [`ErrorKind::OutOfSteps`](crate::ErrorKind::OutOfSteps): an end that only one more
+            /// step would tell, as that of exports, is told so, too. Within new steps the walk then goes on from there.
+            /// Of a walk that has begun, some of what comes next was read before: of that each row is one step.
+            ///
+            /// The address table of a library is looked at in one go, for each batch of rows, however long it is. So how
+            /// many imports come within so many steps depends on how they are read, and more steps may give fewer: a
+            /// limit is a bound, and no measure. Of a walk over libraries each of these is one step, whatever its tables
+            /// have.
             #[must_use]
             pub fn within(self, steps: usize) -> Self {
                 let batches = self.batches.within(steps);
@@ -657,7 +661,8 @@ impl<'a> WalkExportAddresses<'a> {
     }
 
     /// The walk from here on within so many steps: each reads an entry. Where more would be taken, it ends with an error of
-    /// the kind [`ErrorKind::OutOfSteps`](crate::ErrorKind::OutOfSteps).
+    /// the kind [`ErrorKind::OutOfSteps`](crate::ErrorKind::OutOfSteps), also at the end, which one more step tells; within
+    /// new steps it then goes on, as [`WalkExports::within`] says.
     #[must_use]
     pub fn within(self, steps: usize) -> Self {
         let batches = self.batches.within(steps);
@@ -750,7 +755,8 @@ impl<'a> WalkRelocations<'a> {
 
 impl WalkRelocations<'_> {
     /// The walk from here on within so many steps: each reads a relocation. Where more would be taken, it ends with an
-    /// error of the kind [`ErrorKind::OutOfSteps`](crate::ErrorKind::OutOfSteps).
+    /// error of the kind [`ErrorKind::OutOfSteps`](crate::ErrorKind::OutOfSteps), also at the end of those that their first
+    /// record counts, which one more step tells; within new steps it then goes on, as [`WalkExports::within`] says.
     #[must_use]
     pub fn within(self, steps: usize) -> Self {
         let batches = self.batches.within(steps);
@@ -839,7 +845,9 @@ impl<'a> Symbols<'a> {
         })
     }
 
-    /// The walk from here on within so many steps: each gives a symbol.
+    /// The walk from here on within so many steps: each gives a symbol. Where more would be taken, it ends with an error of
+    /// the kind [`ErrorKind::OutOfSteps`](crate::ErrorKind::OutOfSteps); within new steps it then goes on, as
+    /// [`WalkExports::within`] says.
     ///
     /// ```no_run
     /// # let bytes = [];
@@ -938,8 +946,7 @@ impl<'a> Iterator for Symbols<'a> {
 
 impl FusedIterator for Symbols<'_> {}
 
-/// A walk over symbols that [`Symbols::within`] limits. Where more steps would be taken, it ends with an error of the kind
-/// [`ErrorKind::OutOfSteps`](crate::ErrorKind::OutOfSteps). A copy is as that of [`WalkImports`].
+/// A walk over symbols that [`Symbols::within`] limits. A copy is as that of [`WalkImports`].
 #[derive(Clone)]
 pub struct SymbolsWithin<'a>(Symbols<'a>);
 

@@ -962,6 +962,11 @@ fn more_relocations_than_a_section_counts() {
     // (a walk passes over the record that counts them, and goes on to the last)
     let walked = section.walk_relocations(&bytes).map(Result::unwrap);
     assert!(walked.map(|it| it.virtual_address).eq(1..count));
+    // (whose end it sees by a step)
+    for (steps, is_seen) in [(65_536, false), (65_537, true)] {
+        let last = section.walk_relocations(&bytes).within(steps).last();
+        assert_eq!(last.unwrap().is_ok(), is_seen);
+    }
 }
 
 // A walk reads some hundreds of records at once.
