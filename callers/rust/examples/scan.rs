@@ -1,8 +1,8 @@
 //! Scans files by four threads: scan FILE.. tells of each image, in the order of the words, how many imports and
 //! exports it has, what is damaged and what is left out, or why it was refused. Of an image that lists more of them
-//! than a limit says, only so many are looked at, and so it is of one that gives too few for the steps of a walk. It
-//! takes no memory for them. What is damaged is told of images that are below both limits alone, as `damage` has none,
-//! and reads each name whole.
+//! than a limit says, or has more entries than another one, whether or not they give any, only so many are looked at,
+//! as is told. It takes no memory for them. What is damaged is told of images below both limits alone: `damage` has
+//! none, and reads each name whole.
 use goblin_pe::{Error, ErrorKind, Layout, Options};
 use std::thread;
 
