@@ -1,6 +1,7 @@
 """The crate for callers in Rust, and goblin beside it."""
 import functools
 import hashlib
+import importlib
 import itertools
 import json
 import pathlib
@@ -101,11 +102,13 @@ class Crate(Case):
         """Each has a line, in the order of the words: it counts what stands in the listing beside a sample."""
         data = BY_NAME.read_bytes()
         damaged, lost = self.written("damaged.dll", images.with_directory(data, 0, 0x9000, 40)), self.folder / "lost.dll"
+        package()
+        dead = importlib.import_module("tests.limits").ROWS["imports that are all left out, within steps"][1]()
         hostile = [self.written(f"{name}.dll", image) for name, image in (
             ("own", images.own_tables(1609)), ("shared", images.shared_image(libraries=20000, functions=50000)),
             ("nowhere", images.pointers_to_nowhere(1000000)), ("sections", images.one_long_name(60000, 1 << 16)),
             ("exports", images.pointers_to_one_name(150000)), ("front", images.directory_in_front()),
-            ("unmapped", images.import_from_nowhere(data)))]
+            ("unmapped", images.import_from_nowhere(data)), ("dead", dead))]
         files = [*IMAGES, *IMAGES, *hostile, damaged, CALLERS / "build", lost]
         lines = succeed(with_memory(200000, [example("scan"), *files])).splitlines()
         for sample, line in zip(IMAGES * 2, lines):
@@ -115,11 +118,12 @@ class Crate(Case):
         self.assertEqual(len(lines), len(files))
         told = ("more than 100000 imports$", "more than 100000 imports$", "0 imports, 1 exports, 999999 names of no export$",
                 "0 imports, 0 exports$", "more than 100000 exports$",
-                "0 imports, 0 exports, 1 libraries left out, 1 imports left out$", "0 imports, 2 exports, 1 imports that lead nowhere$")
+                "0 imports, 0 exports, 1 libraries left out, 1 imports left out$", "0 imports, 2 exports, 1 imports that lead nowhere$",
+                "not counted: the walk has taken its 2000000 steps$")
         wanted = (*(f"{it}: {line}" for it, line in zip(hostile, told)),
                   f"{damaged}: 1 imports, 0 exports, exports: .",
                   f"{CALLERS}/build: refused: .", f"{lost}: read failed: .")
-        for line, it in zip(lines[-10:], wanted, strict=True):
+        for line, it in zip(lines[-11:], wanted, strict=True):
             self.assertRegex(line, f"^{it}")
 
     def test_its_texts_have_the_hashes_that_others_tell(self):

@@ -1,12 +1,16 @@
 //! Scans files by four threads: scan FILE.. tells of each image, in the order of the words, how many imports and
 //! exports it has, what is damaged and what is left out, or why it was refused. Of an image that lists more of them
-//! than a limit says, only so many are looked at. It takes no memory for them. What is left out of an image counts
-//! for no limit: a walk passes over as many such entries as there are, and `damage` over all.
-use goblin_pe::{Error, Layout, Options};
+//! than a limit says, or has more entries than another one, whether or not they give any, only so many are looked at,
+//! as is told. It takes no memory for them. What is damaged is told of images below both limits alone: `damage` has
+//! none, and reads each name whole.
+use goblin_pe::{Error, ErrorKind, Layout, Options};
 use std::thread;
 
 const THREADS: usize = 4;
 const MOST: usize = 100_000;
+
+// How many entries of a table are looked at, whether or not they give an import or an export.
+const STEPS: usize = 2_000_000;
 
 // Of a name no more is read than so many bytes, and the rest of a character.
 const LONGEST: u32 = 512;
@@ -20,11 +24,11 @@ fn counted<T>(walk: impl Iterator<Item = Result<T, Error>>) -> Result<usize, Err
 fn found(bytes: &[u8]) -> Result<String, Error> {
     let options = Options::permissive().with_longest_name(LONGEST);
     let layout = Layout::read(bytes, &options)?;
-    let imports = counted(layout.walk_imports())?;
+    let imports = counted(layout.walk_imports().within(STEPS))?;
     if imports > MOST {
         return Ok(format!("more than {MOST} imports"));
     }
-    let exports = counted(layout.walk_exports())?;
+    let exports = counted(layout.walk_exports().within(STEPS))?;
     if exports > MOST {
         return Ok(format!("more than {MOST} exports"));
     }
@@ -48,6 +52,9 @@ fn found(bytes: &[u8]) -> Result<String, Error> {
 fn line(path: &str) -> String {
     match std::fs::read(path).map(|bytes| found(&bytes)) {
         Ok(Ok(found)) => format!("{path}: {found}"),
+        Ok(Err(error)) if error.kind() == ErrorKind::OutOfSteps => {
+            format!("{path}: not counted: {error}")
+        }
         Ok(Err(error)) => format!("{path}: refused: {error}"),
         Err(error) => format!("{path}: read failed: {error}"),
     }

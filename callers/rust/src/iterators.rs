@@ -326,15 +326,24 @@ struct Limit {
     // How many steps may be taken, and how many are left. (usize::MAX is no limit: nothing takes so many.)
     most: usize,
     left: usize,
+    // How many of the records that were read before lie past them.
+    past: usize,
     // Within how many the next call goes on at least, where the last ones gave little.
     next: usize,
+    // Whether it was told that they ran out.
+    is_told: bool,
 }
 
 impl Limit {
-    // Of so many steps.
-    const fn of(most: usize, left: usize) -> Self {
-        let next = 0;
-        Limit { most, left, next }
+    // Of so many steps, where so many records were read before: each of these is one, too.
+    const fn of(most: usize, read: usize) -> Self {
+        Limit {
+            most,
+            left: most.saturating_sub(read),
+            past: read.saturating_sub(most),
+            next: 0,
+            is_told: false,
+        }
     }
 
     // Whether there is one.
@@ -350,7 +359,7 @@ impl<T: Copy, P: Position> Batches<T, P> {
             records: raw::Rows::new(),
             is_indexed: false,
             position,
-            limit: Limit::of(usize::MAX, usize::MAX),
+            limit: Limit::of(usize::MAX, 0),
             had_many: false,
             is_permissive: false,
             is_over: false,
@@ -366,27 +375,23 @@ impl<T: Copy, P: Position> Batches<T, P> {
         }
     }
 
-    // Takes no more steps than these from here on; a record that was read already is one, too.
-    fn within(mut self, steps: usize) -> Self {
-        let read = self.records.len();
-        self.records.truncate(steps);
-        Batches {
-            is_over: self.is_over && read <= steps,
-            limit: Limit::of(steps, steps.saturating_sub(read)),
-            ..self
-        }
+    // Takes no more steps than these from here on; a record that was read already is one, too. Those past them are kept,
+    // as later steps may take them.
+    fn within(self, steps: usize) -> Self {
+        let limit = Limit::of(steps, self.records.len());
+        Batches { limit, ..self }
     }
 
-    // The next record, or the refusal that ends the walk. Where those that were read are taken, and others may
-    // follow, the call reads these, within so many steps; 0 is no limit.
+    // The next record, or the refusal that ends the walk, or once that the steps ran out. Where those that were read are
+    // taken, and others may follow, the call reads these, within so many steps; 0 is no limit.
     #[inline]
     fn next(
         &mut self,
         mut call: impl FnMut(&mut P, usize, &mut raw::Rows<T>) -> Fault,
     ) -> Option<Result<&T, Error>> {
         // (steps that give nothing may take more than one call)
-        while self.records.is_empty() {
-            if self.is_over {
+        while self.is_taken() {
+            if self.limit.is_told || (self.is_over && self.records.is_empty()) {
                 return None;
             }
             if let Err(error) = self.fill(&mut call) {
@@ -396,27 +401,37 @@ impl<T: Copy, P: Position> Batches<T, P> {
         self.records.next().map(Ok)
     }
 
+    // Whether nothing is left of what was read within the limit.
+    #[inline]
+    fn is_taken(&self) -> bool {
+        let past = self.limit.past;
+        self.records.is_empty() || (past != 0 && self.records.len() <= past)
+    }
+
     // Gives no more.
     fn end(&mut self) {
         self.records.clear();
         self.is_over = true;
     }
 
-    // Reads the next records, and answers whether that was refused, which ends the walk.
+    // Reads the next records, and answers whether that was refused, which ends the walk, or no step is left.
     fn fill(
         &mut self,
         call: impl FnMut(&mut P, usize, &mut raw::Rows<T>) -> Fault,
     ) -> Result<(), Error> {
+        if self.limit.left == 0 {
+            self.limit.is_told = true;
+            return Err(Error::out_of_steps(self.limit.most));
+        }
         self.is_over = true;
         self.make_room()?;
         self.had_many = false;
         // (where nothing is expected, there is no room, and the end is told by a step)
         let room = self.records.room().max(1);
-        let Limit { most, left, next } = self.limit;
-        let steps = match left.min(room.max(next)) {
-            _ if !self.limit.is_there() => 0,
-            0 => return Err(Error::out_of_steps(most)),
-            steps => steps,
+        let steps = if self.limit.is_there() {
+            self.limit.left.min(room.max(self.limit.next))
+        } else {
+            0
         };
         self.go_on(steps, call)
     }
@@ -524,11 +539,15 @@ macro_rules! walks {
             }
 
             /// The walk from here on within so many steps: each looks at a record of its table, or at a slot, whether
-            /// or not that gives something. Where more would be taken, it ends with an error of the kind
-            /// [`ErrorKind::OutOfSteps`](crate::ErrorKind::OutOfSteps). Of a walk that has begun, some of what comes next
-            /// was read before: of that each row is one step. The address table of a library is looked at in one go, for
-            /// each batch of rows, however long it is; of a walk over libraries each of these is one step, whatever its
-            /// tables have.
+            /// or not that gives something. 0 are none, and not no limit as in C. Where more would be taken, it ends with
+            /// an error of the kind [`ErrorKind::OutOfSteps`](crate::ErrorKind::OutOfSteps): an end that only one more
+            /// step would tell, as that of exports, is told so, too. Within new steps the walk then goes on from there.
+            /// Of a walk that has begun, some of what comes next was read before: of that each row is one step.
+            ///
+            /// The address table of a library is looked at in one go, for each batch of rows, however long it is. So how
+            /// many imports come within so many steps depends on how they are read, and more steps may give fewer: a
+            /// limit is a bound, and no measure. Of a walk over libraries each of these is one step, whatever its tables
+            /// have.
             #[must_use]
             pub fn within(self, steps: usize) -> Self {
                 let batches = self.batches.within(steps);
@@ -642,7 +661,8 @@ impl<'a> WalkExportAddresses<'a> {
     }
 
     /// The walk from here on within so many steps: each reads an entry. Where more would be taken, it ends with an error of
-    /// the kind [`ErrorKind::OutOfSteps`](crate::ErrorKind::OutOfSteps).
+    /// the kind [`ErrorKind::OutOfSteps`](crate::ErrorKind::OutOfSteps), also at the end, which one more step tells; within
+    /// new steps it then goes on, as [`WalkExports::within`] says.
     #[must_use]
     pub fn within(self, steps: usize) -> Self {
         let batches = self.batches.within(steps);
@@ -735,7 +755,8 @@ impl<'a> WalkRelocations<'a> {
 
 impl WalkRelocations<'_> {
     /// The walk from here on within so many steps: each reads a relocation. Where more would be taken, it ends with an
-    /// error of the kind [`ErrorKind::OutOfSteps`](crate::ErrorKind::OutOfSteps).
+    /// error of the kind [`ErrorKind::OutOfSteps`](crate::ErrorKind::OutOfSteps), also at the end of those that their first
+    /// record counts, which one more step tells; within new steps it then goes on, as [`WalkExports::within`] says.
     #[must_use]
     pub fn within(self, steps: usize) -> Self {
         let batches = self.batches.within(steps);
@@ -824,7 +845,9 @@ impl<'a> Symbols<'a> {
         })
     }
 
-    /// The walk from here on within so many steps: each gives a symbol.
+    /// The walk from here on within so many steps: each gives a symbol. Where more would be taken, it ends with an error of
+    /// the kind [`ErrorKind::OutOfSteps`](crate::ErrorKind::OutOfSteps); within new steps it then goes on, as
+    /// [`WalkExports::within`] says.
     ///
     /// ```no_run
     /// # let bytes = [];
@@ -923,10 +946,17 @@ impl<'a> Iterator for Symbols<'a> {
 
 impl FusedIterator for Symbols<'_> {}
 
-/// A walk over symbols that [`Symbols::within`] limits. Where more steps would be taken, it ends with an error of the kind
-/// [`ErrorKind::OutOfSteps`](crate::ErrorKind::OutOfSteps). A copy is as that of [`WalkImports`].
+/// A walk over symbols that [`Symbols::within`] limits. A copy is as that of [`WalkImports`].
 #[derive(Clone)]
 pub struct SymbolsWithin<'a>(Symbols<'a>);
+
+impl SymbolsWithin<'_> {
+    /// The walk from here on within so many steps instead; see [`Symbols::within`].
+    #[must_use]
+    pub fn within(self, steps: usize) -> Self {
+        self.0.within(steps)
+    }
+}
 
 impl<'a> Iterator for SymbolsWithin<'a> {
     type Item = Result<Symbol<'a>, Error>;
@@ -1121,6 +1151,30 @@ mod tests {
             let last = batches.next(|at, steps, to| look(&table, at, steps, to));
             let last = last.and_then(Result::err).map(|it| it.kind());
             assert_eq!(last, Some(ErrorKind::OutOfSteps));
+        }
+    }
+
+    // It is given so many steps, and as many whenever they ran out.
+    #[test]
+    fn a_walk_goes_on_where_its_steps_ran_out() {
+        let runs = [b".".repeat(300), b"x".repeat(300)].concat();
+        for table in [b"x".repeat(1000), b"..x".repeat(300), runs.repeat(3)] {
+            let table = [table, b"!x".to_vec()].concat();
+            for steps in [1, 2, 3, 7, 500] {
+                let mut batches = Batches::new(raw::ImportCursor::default()).within(steps);
+                let mut found = Vec::new();
+                while found.last().is_none_or(Result::is_ok) {
+                    let it = batches.next(|at, steps, to| look(&table, at, steps, to));
+                    let it = it.unwrap().copied().map_err(|error| error.kind() as u32);
+                    match it {
+                        Err(kind) if kind == ErrorKind::OutOfSteps as u32 => {
+                            batches = batches.within(steps);
+                        }
+                        it => found.push(it),
+                    }
+                }
+                assert_eq!(found, expected(&table, usize::MAX), "{steps}");
+            }
         }
     }
 

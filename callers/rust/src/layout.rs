@@ -34,7 +34,7 @@ use crate::text::Text;
 ///
 /// let bytes = std::fs::read("some.dll")?;
 /// let layout = Layout::read(&bytes, &Options::permissive())?;
-/// for export in layout.walk_exports().take(1_000_000) {
+/// for export in layout.walk_exports().within(1_000_000) {
 ///     println!("{}", export?.name.unwrap_or_default());
 /// }
 /// # Ok::<(), std::io::Error>(())
@@ -463,18 +463,22 @@ impl<'a> Layout<'a> {
     }
 
     /// A walk over the imports from the first one of a library on, which [`walk_libraries`](Self::walk_libraries) of this
-    /// file gave: it goes on with those of the later ones.
+    /// file gave: it goes on with those of the later ones, and begins with these where the library has none, or permissive
+    /// mode leaves it out.
     ///
     /// ```no_run
     /// # let bytes = [];
     /// # let layout = goblin_pe::Layout::read(&bytes, &goblin_pe::Options::permissive())?;
-    /// for library in layout.walk_libraries().within(1_000) {
+    /// for library in layout.walk_libraries().within(50) {
     ///     let library = library?;
-    ///     if !library.has_imports {
+    ///     if library.is_left_out || !library.has_imports {
     ///         continue; // (the walk from it would begin with the imports of a later one)
     ///     }
-    ///     let walk = layout.walk_imports_from(&library);
-    ///     for import in walk.map_while(Result::ok).take_while(|it| it.library == library.index) {
+    ///     for import in layout.walk_imports_from(&library).within(100_000) {
+    ///         let import = import?;
+    ///         if import.library != library.index {
+    ///             break;
+    ///         }
     ///         println!("{} {}", import.dll, import.name);
     ///     }
     /// }
@@ -487,13 +491,17 @@ impl<'a> Layout<'a> {
 
     /// A walk over the libraries, as [`walk_imports`](Self::walk_imports) is over imports: one for each record of the
     /// import directory, in order, up to the first that has no name or no address table. One library may have several.
-    /// Those that permissive mode leaves out of the imports come, too. In strict mode it ends with an error where the
-    /// directory reaches the end of the file; what else is refused of a library the walk over its imports tells.
+    /// Those that permissive mode leaves out of the imports come, too, but those of a directory at file offset 0, which
+    /// it takes as empty: [`damage`](Self::damage) counts both. In strict mode it ends with an error where the directory
+    /// reaches the end of the file; what else is refused of a library the walk over its imports tells.
+    ///
+    /// Each library may take as long as its lookup table and its address table have slots, however many libraries share
+    /// them. So a limit of libraries bounds no time: let some tens be enough of a file that is hostile.
     ///
     /// ```no_run
     /// # let bytes = [];
     /// # let layout = goblin_pe::Layout::read(&bytes, &goblin_pe::Options::permissive())?;
-    /// for library in layout.walk_libraries() {
+    /// for library in layout.walk_libraries().within(50) {
     ///     let library = library?;
     ///     println!("{} {}", library.name?, library.time_date_stamp);
     /// }

@@ -34,7 +34,7 @@ use crate::rows::DOS_HEADER;
 /// if let Some(error) = parts.refusal() {
 ///     println!("refused as a whole: {error}");
 /// }
-/// for import in parts.walk_imports().take(1_000_000) {
+/// for import in parts.walk_imports().within(1_000_000) {
 ///     println!("{}", import?.name);
 /// }
 /// # Ok::<(), std::io::Error>(())

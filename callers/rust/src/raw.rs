@@ -341,13 +341,6 @@ impl<T: Copy> Rows<T> {
         self.end = self.next;
     }
 
-    /// Gives up what is left after so many.
-    pub fn truncate(&mut self, most: usize) {
-        let left = self.len().min(most);
-        // SAFETY: no more than are left.
-        self.end = unsafe { self.next.add(left) };
-    }
-
     /// Makes room for so many records, where there is less, and gives up what is left. Answers whether there is room:
     /// where memory for so many is refused, it is what it was.
     pub fn make_room(&mut self, most: usize) -> bool {

@@ -582,8 +582,8 @@ pub struct Library<'a> {
     /// Whether permissive mode leaves it out of the imports, and strict mode refuses it after its imports: it has no
     /// address table.
     pub is_left_out: bool,
-    /// Whether an import comes first of its lookup table. Else that keeps none, or strict mode refuses what comes
-    /// first.
+    /// Whether an import comes first of its lookup table, also where it is left out. Else that keeps none, or strict mode
+    /// refuses what comes first.
     pub has_imports: bool,
     // Where its imports begin.
     pub(crate) cursor: raw::ImportCursor,

@@ -301,6 +301,91 @@ fn walks_over_export_addresses_relocations_and_symbols_end_after_so_many_steps()
     }
 }
 
+// A walk that has begun gives what it gives without a limit, where it is given so many steps, and as many whenever they
+// ran out. How many items that are is answered.
+fn test_going_on<T, W>(walk: &W, within: impl Fn(W, usize) -> W) -> usize
+where
+    T: PartialEq + std::fmt::Debug,
+    W: Iterator<Item = Result<T, Error>> + Clone,
+{
+    let all: Vec<_> = walk.clone().collect();
+    for begun in 0..=all.len() {
+        for steps in [1, 2, 3, 7] {
+            let mut walk = walk.clone();
+            let mut found: Vec<_> = walk.by_ref().take(begun).collect();
+            let mut is_out = true;
+            while std::mem::take(&mut is_out) {
+                // (a limit of none loses nothing)
+                walk = within(within(walk, 0), steps);
+                for row in walk.by_ref() {
+                    match row {
+                        Err(error) if error.kind() == ErrorKind::OutOfSteps => is_out = true,
+                        row => found.push(row),
+                    }
+                }
+            }
+            assert_eq!(found, all, "{begun} {steps}");
+        }
+    }
+    all.len()
+}
+
+// The sample with four libraries that share a table, the last of them without an address table of its own: of imports by
+// ordinal between entries that lead nowhere.
+fn library_of_shared_imports() -> Vec<u8> {
+    let mut bytes = sample("imports_by_name_x64.dll");
+    let layout = Layout::parse(&bytes).unwrap();
+    let entry = layout.dos_header().pe_pointer as usize + 24 + 112 + 8;
+    let text = layout.sections().next().unwrap();
+    let (rva, begin) = (text.virtual_address, text.pointer_to_raw_data as usize);
+    bytes[entry..entry + 4].copy_from_slice(&rva.to_le_bytes());
+    bytes[begin..begin + 0x200].fill(0);
+    for (index, record) in bytes[begin..].chunks_mut(20).take(4).enumerate() {
+        let addresses = if index == 3 { 0x9000 } else { rva + 0x100 };
+        for (at, number) in [(0, rva + 0x100), (12, rva + 0xF0), (16, addresses)] {
+            record[at..at + 4].copy_from_slice(&number.to_le_bytes());
+        }
+    }
+    bytes[begin + 0xF0..][..5].copy_from_slice(b"a.dll");
+    let (dead, flag) = (0x7FFF_FFF0, 1 << 63);
+    let slots = [dead, flag | 7, flag | 8, dead, dead, dead, flag | 9];
+    for (slot, number) in bytes[begin + 0x100..].chunks_mut(8).zip(slots) {
+        slot.copy_from_slice(&u64::to_le_bytes(number));
+    }
+    bytes
+}
+
+#[test]
+fn walks_go_on_where_their_steps_ran_out() {
+    use goblin_pe::{
+        SymbolsWithin, WalkBlocks, WalkExportAddresses, WalkExports, WalkImports, WalkLibraries,
+        WalkRelocations,
+    };
+    let mut counts = [0; 5];
+    for bytes in [sample("forwarders_x64.dll"), library_of_shared_imports()] {
+        for options in [Options::default(), Options::permissive()] {
+            let layout = Layout::read(&bytes, &options).unwrap();
+            counts[0] += test_going_on(&layout.walk_imports(), WalkImports::within);
+            counts[1] += test_going_on(&layout.walk_libraries(), WalkLibraries::within);
+            counts[2] += test_going_on(&layout.walk_exports(), WalkExports::within);
+            let addresses = layout.walk_export_addresses();
+            counts[3] += test_going_on(&addresses, WalkExportAddresses::within);
+            counts[4] += test_going_on(&layout.walk_blocks(), WalkBlocks::within);
+        }
+    }
+    // (strict mode refuses the last library after its imports)
+    assert_eq!(counts, [13 + 9, 8, 10, 14, 4]);
+    let bytes = sample("object_x64.obj");
+    let object = Object::parse(&bytes).unwrap();
+    let symbols = object.symbols().unwrap().within(usize::MAX);
+    assert!(test_going_on(&symbols, SymbolsWithin::within) > 16);
+    let relocations = object.sections().map(|section| {
+        let walk = section.walk_relocations(&bytes);
+        test_going_on(&walk, WalkRelocations::within)
+    });
+    assert!(relocations.sum::<usize>() > 1);
+}
+
 // Without addresses no name pointer gives an export. The end is seen by one step more.
 #[test]
 fn a_name_pointer_without_an_export_is_a_step() {
@@ -877,6 +962,11 @@ fn more_relocations_than_a_section_counts() {
     // (a walk passes over the record that counts them, and goes on to the last)
     let walked = section.walk_relocations(&bytes).map(Result::unwrap);
     assert!(walked.map(|it| it.virtual_address).eq(1..count));
+    // (whose end it sees by a step)
+    for (steps, is_seen) in [(65_536, false), (65_537, true)] {
+        let last = section.walk_relocations(&bytes).within(steps).last();
+        assert_eq!(last.unwrap().is_ok(), is_seen);
+    }
 }
 
 // A walk reads some hundreds of records at once.
