@@ -734,10 +734,11 @@ class Layout(_File):
 
     def walk_libraries(self, *, steps: _t.Optional[int] = None, at: _t.Tuple[int, ...] = ()) -> _t.Iterator[Library]:
         """The libraries one by one, as walk_imports gives imports: one for each record of the import directory, in order, up to
-        the first that has no name or no address table. Those that permissive mode leaves out of the imports come, too. With
-        `steps` it raises OutOfSteps after so many, and goes on `at`: each library is one, whatever its tables have, so some tens
-        are enough of a file that is hostile. In strict mode Refused is raised where the directory reaches the end of the file; what
-        else is refused of a library walk_imports tells, where it is given that."""
+        the first that has no name or no address table. Those that permissive mode leaves out of the imports come, too, but
+        those of a directory at file offset 0, which it takes as empty. With `steps` it raises OutOfSteps after so many, and goes on
+        `at`: each library is one, whatever its tables have, so some tens are enough of a file that is hostile. In strict mode
+        Refused is raised where the directory reaches the end of the file; what else is refused of a library walk_imports tells,
+        where it is given that."""
         call, asked = _LIB.goblin_pe_raw_next_libraries, self._with_imports
         return _walk(self._bytes(), records.Library, "library", lambda address, length, *to: call(
             address, length, _c.byref(asked), _c.byref(self._places), *to), _position_at(records.ImportCursor, at), self._batch(),
