@@ -510,7 +510,7 @@ def rust_files(it: Interface) -> Dict[str, str]:
     def enum(e: Declared) -> str:
         name, items = name_of(e.name), e.items
         if e.name == "Status":  # (nobody is handed that nothing is refused; the last two are no numbers of the library's)
-            items = [*items[1:], Item("OutOfSteps", Type(""), "A walk has taken all the steps that it was given, `first` of them.", "0xFFFF_FFFE"),
+            items = [*items[1:], Item("OutOfSteps", Type(""), "A walk has taken all the steps that it was given, `first` of them; within new ones it goes on.", "0xFFFF_FFFE"),
                      Item("Unknown", Type(""), "A kind that this crate does not know.", "0xFFFF_FFFF")]
         rows = "".join(comment(v.doc, "    ") + "    %s = %s,\n" % (v.name, v.number) for v in items)
         cases = "".join("            %s => Ok(%s::%s),\n" % (v.number, name, v.name) for v in items)

@@ -240,7 +240,8 @@ pub enum ErrorKind {
     Read = 4,
     /// Memory was asked for and refused.
     Memory = 5,
-    /// A walk has taken all the steps that it was given, `first` of them; within new ones it goes on.
+    /// A walk has taken all the steps that it was given, `first` of them; within new ones it goes
+    /// on.
     OutOfSteps = 0xFFFF_FFFE,
     /// A kind that this crate does not know.
     Unknown = 0xFFFF_FFFF,
