@@ -53,7 +53,7 @@
    imports come within a number of them depends on the calls; few large ones cost least. There may be more steps than
    room, so that few calls pass over what gives nothing: each reads the name of its library again. A library of
    next_libraries is one step, whatever its tables have: where many share a long table of dead entries, it is looked at
-   once for each. Of 1 MiB one such step may take a millisecond, and 20 where each entry is sought in 96 sections.
+   once for each. Of 1 MiB one such step may take some milliseconds, and up to 30 where it is sought in 96 sections.
 
    call                              memory at most                        time at most
    kind_of, read_section_data,
