@@ -202,8 +202,9 @@ class ExportDirectory(NamedTuple):
     table: ExportDirectoryTable
 
 
+@functools.total_ordering
 class Words(Sequence[int]):
-    """The words of a block, each made when it is asked for: equal to a tuple of them, hashed and shown as one."""
+    """The words of a block, each made when it is asked for: equal to a tuple of them, and hashed, ordered and shown as one."""
 
     __slots__ = ("_stored",)
 
@@ -232,7 +233,14 @@ class Words(Sequence[int]):
     def __eq__(self, other: object) -> bool:
         if isinstance(other, Words):
             return self._stored == other._stored
-        return isinstance(other, tuple) and len(self) == len(other) and all(map(operator.eq, self, other))
+        if not isinstance(other, tuple):
+            return NotImplemented
+        return len(self) == len(other) and all(map(operator.eq, self, other))
+
+    def __lt__(self, other: object) -> bool:
+        if not isinstance(other, (Words, tuple)):
+            return NotImplemented
+        return tuple(self) < tuple(other)
 
     def __hash__(self) -> int:
         return hash(tuple(self))
