@@ -640,7 +640,7 @@ class Files(unittest.TestCase):
         self.assertIn(stored, sample("program_x64.exe"))
         self.assertEqual((len(block.words), block.words[0], block.words[-1], block.words[1:]), (len(words), words[0], words[-1], words[1:]))
         self.assertEqual((block.words, words, repr(block.words)), (words, block.words, repr(words)))
-        self.assertEqual({block, block._replace(words=words), pickle.loads(pickle.dumps(block))}, {block})
+        self.assertEqual({block, block._replace(words=words), *(pickle.loads(pickle.dumps(block, it)) for it in (0, 2, 5))}, {block})
         self.assertNotIn(block.words, [words[1:], list(words), None, goblin_pe.rows.Words(b"")])
         self.assertEqual(([*reversed(block.words)], block.words.index(words[-1])), ([*reversed(words)], words.index(words[-1])))
         self.assertRaises(IndexError, lambda: block.words[len(words)])

@@ -245,6 +245,9 @@ class Words(Sequence[int]):
     def __hash__(self) -> int:
         return hash(tuple(self))
 
+    def __reduce__(self) -> Tuple[Any, ...]:
+        return type(self), (self._stored,)  # (also for the first protocols, which know no slots)
+
     def __repr__(self) -> str:
         return repr(tuple(self))
 
