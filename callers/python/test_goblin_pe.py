@@ -814,6 +814,8 @@ class Files(unittest.TestCase):
         """It says so in numbers, which may be sent."""
         for walk in self.walks():
             wanted = list(walk())
+            for wrong in None, 0:  # (and no walk that begins again)
+                self.assertRaises(TypeError, walk, at=wrong)
             for steps in range(1, len(wanted) + 2):
                 found, at = [], ()
                 while at is not None:
