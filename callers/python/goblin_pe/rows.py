@@ -400,6 +400,7 @@ class OutOfSteps(Exception):
     """A walk has taken all the steps that it was given: `steps` of them. The same method goes on there where it is given `at`, with
     steps of its own. These are numbers, which may be kept and sent: an index, an offset or, of imports and libraries, a cursor.
     Others than a walk over this file told lead to other rows, to none or to a refusal, and harm nothing.
+    They follow the rows that were given: take these one by one, since list() of a walk that raises this keeps none of them.
 
     Steps are a bound of the work, and no measure of it. How many rows come within them depends on how these are fetched, so that
     of imports even more steps may give fewer rows. An end that only one more step would tell is told so, too: a walk may raise this
