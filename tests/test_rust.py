@@ -161,7 +161,7 @@ class Crate(Case):
         succeed(["cargo", "add", "-q", "--offline", "--manifest-path", user / "Cargo.toml", "--path", CALLERS / "rust"], env=env)
         image = self.written("some.dll", BY_NAME.read_bytes())
         first = "GetTickCount from KERNEL32.dll\n"
-        for (readme, programs), wanted in zip(readmes().items(), (first, first + "COFF_MACHINE_X86_64, 64 bits, library: true\n"), strict=True):
+        for (readme, programs), wanted in zip(readmes().items(), (first, first + "1 imports\nCOFF_MACHINE_X86_64, 64 bits, library: true\n"), strict=True):
             with self.subTest(readme=readme):
                 (user / "src/main.rs").write_text(README % programs, "utf-8")
                 command = ["cargo", "run", "-q", "--offline", "--manifest-path", user / "Cargo.toml", image.name]

@@ -640,11 +640,21 @@ class Files(unittest.TestCase):
         self.assertIn(stored, sample("program_x64.exe"))
         self.assertEqual((len(block.words), block.words[0], block.words[-1], block.words[1:]), (len(words), words[0], words[-1], words[1:]))
         self.assertEqual((block.words, words, repr(block.words)), (words, block.words, repr(words)))
-        self.assertEqual({block, block._replace(words=words), pickle.loads(pickle.dumps(block))}, {block})
+        self.assertEqual({block, block._replace(words=words), *(pickle.loads(pickle.dumps(block, it)) for it in (0, 2, 5))}, {block})
         self.assertNotIn(block.words, [words[1:], list(words), None, goblin_pe.rows.Words(b"")])
         self.assertEqual(([*reversed(block.words)], block.words.index(words[-1])), ([*reversed(words)], words.index(words[-1])))
         self.assertRaises(IndexError, lambda: block.words[len(words)])
+        self.assertEqual((block.words == unittest.mock.ANY, block.words != list(words)), (True, True))
         self.assertEqual((len(goblin_pe.rows.Words(b"")), goblin_pe.rows.Words(b"")), (0, ()))
+
+    def test_blocks_are_sorted_by_their_words_too(self):
+        """As tuples are, also where they stand at one address and have one size."""
+        block = next(Layout(sample("program_x64.exe")).walk_blocks())
+        rows = [(), (0x100,), (1,), (1, 2), (2, 1)]
+        blocks = [block._replace(words=goblin_pe.rows.Words(struct.pack("<%dH" % len(it), *it))) for it in rows]
+        self.assertEqual([it.words for it in sorted(blocks)], sorted(rows))
+        self.assertTrue(blocks[2].words <= (1,) < blocks[1].words > (2, 1) >= blocks[4].words)
+        self.assertRaises(TypeError, lambda: block.words < [])
 
     def test_a_step_makes_no_words(self):
         """Of a block of 4 MiB, in a file that ends with a byte more."""
@@ -804,6 +814,8 @@ class Files(unittest.TestCase):
         """It says so in numbers, which may be sent."""
         for walk in self.walks():
             wanted = list(walk())
+            for wrong in None, 0:  # (and no walk that begins again)
+                self.assertRaises(TypeError, walk, at=wrong)
             for steps in range(1, len(wanted) + 2):
                 found, at = [], ()
                 while at is not None:

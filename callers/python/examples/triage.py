@@ -124,8 +124,10 @@ def only_in(views: Dict[str, Layout], one: str, other: str, cut_off: Set[str]) -
     they are read."""
     def walked(view: str) -> Iterator[Import]:
         return within(views[view].walk_imports(steps=STEPS), view, cut_off)
-    keys = set(map(key, walked(other)))
     if other in cut_off:
+        return []
+    keys = set(map(key, walked(other)))
+    if other in cut_off:  # (by now)
         return []
     lone = (it for it in walked(one) if key(it) not in keys)
     return [text(it.dll) + " " + (f"#{it.ordinal}" if it.name is None else text(it.name)) for it in itertools.islice(lone, TOLD)]

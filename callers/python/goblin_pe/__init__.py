@@ -730,7 +730,7 @@ class Layout(_File):
         OutOfSteps says. In strict mode Refused is raised where it would be of the list, after what comes before; no law says on
         which bytes that depends. What gives no import is counted by `damage`: `unmapped_entries` in either mode, the other two in
         permissive mode."""
-        return self._walked(DirectoryType.IMPORT_TABLE, "imported", steps, at or (library.cursor if library else ()))
+        return self._walked(DirectoryType.IMPORT_TABLE, "imported", steps, tuple(at) or (library.cursor if library else ()))
 
     def walk_libraries(self, *, steps: _t.Optional[int] = None, at: _t.Tuple[int, ...] = ()) -> _t.Iterator[Library]:
         """The libraries one by one, as walk_imports gives imports: one for each record of the import directory, in order, up to

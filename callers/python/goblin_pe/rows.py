@@ -202,8 +202,9 @@ class ExportDirectory(NamedTuple):
     table: ExportDirectoryTable
 
 
+@functools.total_ordering
 class Words(Sequence[int]):
-    """The words of a block, each made when it is asked for: equal to a tuple of them, hashed and shown as one."""
+    """The words of a block, each made when it is asked for: equal to a tuple of them, and hashed, ordered and shown as one."""
 
     __slots__ = ("_stored",)
 
@@ -232,10 +233,20 @@ class Words(Sequence[int]):
     def __eq__(self, other: object) -> bool:
         if isinstance(other, Words):
             return self._stored == other._stored
-        return isinstance(other, tuple) and len(self) == len(other) and all(map(operator.eq, self, other))
+        if not isinstance(other, tuple):
+            return NotImplemented
+        return len(self) == len(other) and all(map(operator.eq, self, other))
+
+    def __lt__(self, other: object) -> bool:
+        if not isinstance(other, (Words, tuple)):
+            return NotImplemented
+        return tuple(self) < tuple(other)
 
     def __hash__(self) -> int:
         return hash(tuple(self))
+
+    def __reduce__(self) -> Tuple[Any, ...]:
+        return type(self), (self._stored,)  # (also for the first protocols, which know no slots)
 
     def __repr__(self) -> str:
         return repr(tuple(self))
@@ -388,7 +399,8 @@ def room(kind: Any, count: int) -> Any:
 class OutOfSteps(Exception):
     """A walk has taken all the steps that it was given: `steps` of them. The same method goes on there where it is given `at`, with
     steps of its own. These are numbers, which may be kept and sent: an index, an offset or, of imports and libraries, a cursor.
-    Others than a walk over this file told lead to other rows, or to none, and harm nothing.
+    Others than a walk over this file told lead to other rows, to none or to a refusal, and harm nothing.
+    They follow the rows that were given: take these one by one, since list() of a walk that raises this keeps none of them.
 
     Steps are a bound of the work, and no measure of it. How many rows come within them depends on how these are fetched, so that
     of imports even more steps may give fewer rows. An end that only one more step would tell is told so, too: a walk may raise this
