@@ -1,7 +1,7 @@
 """Tells of each file of a folder what analysts compare, a line of JSON each: triage.py FOLDER. Four threads look at them. Of no
 file are more imports or exports counted than a limit says, nor more entries looked at for them, nor more read of a name: `cut_off`
 tells of which there are more, and where these are the imports or their names, `damage` tells nothing of imports, and there is no
-hash of them; but it looks at all exports, and all sections are told. What
+hash of them; where they are exports or their names, there is no `damage`, which would look at all. All sections are told. What
 imports only the Windows loader finds, and what only a reader does that takes raw pointers as stored and no names from the headers,
 has a finding of its own: packers hide imports so. Where one of these views is cut off, nothing is said to be only in another. What
 can't be read has a line, too, that says why, and of an image what is there of it all the same.
@@ -169,11 +169,11 @@ def image(data: Any) -> Dict[str, Any]:
         told = contents(layout, data)
         is_counted = told["imphash"] is not None
         whole = Layout(data, Options(is_permissive=True, longest_name=LONGEST)) if is_counted else layout  # (else without imports)
-        damage = whole.damage
+        damage = None if {"exports", "export_names"} & set(told["cut_off"]) else whole.damage  # (which looks at all exports)
         return {
             **told, "rich_hash": rich_hash(layout, data),
-            "damage": {part: str(why) for part, why in damage.parts()},
-            "left_out": {what: count for what, count in zip(damage._fields[5:], damage[5:]) if count}}
+            "damage": damage and {part: str(why) for part, why in damage.parts()},
+            "left_out": damage and {what: count for what, count in zip(damage._fields[5:], damage[5:]) if count}}
 
 
 def parts(data: Any, refused: Refused) -> Dict[str, Any]:
