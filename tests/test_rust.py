@@ -72,7 +72,7 @@ def programs_of(readme, count):
 
 
 def readmes():
-    """Those of the repository, whose second program is in Rattle, and of the crate, by their places."""
+    """The programs of the READMEs of the repository and of the crate, by their places."""
     return {str(it.relative_to(TOP)): programs_of(it, count) for it, count in ((TOP / "README.md", 1), (CALLERS / "rust/README.md", 3))}
 
 

@@ -225,30 +225,32 @@ enum goblin_pe_read_fault {
     GOBLIN_PE_READ_FAULT_BAD_INPUT = 3
 };
 
-/* What the table of a directory is: the kinds, in the order of their indexes 0 to 14.
+/* The kind of table that a data directory locates. The kinds are in the order of their indexes, 0
+   to 14.
 
    Source: PE Format, "Optional Header Data Directories (Image Only)". The sixteenth entry is
    reserved and has no kind. */
 enum goblin_pe_directory_type {
     /* The exports (`.edata`), at index 0: what other images may import from this one. */
     GOBLIN_PE_DIRECTORY_TYPE_EXPORT_TABLE = 0,
-    /* The import directory (`.idata`), at index 1: what the loader takes from which libraries. */
+    /* The import directory (`.idata`), at index 1: what this image imports, and from which
+       libraries. */
     GOBLIN_PE_DIRECTORY_TYPE_IMPORT_TABLE = 1,
     /* The resources (`.rsrc`), at index 2. */
     GOBLIN_PE_DIRECTORY_TYPE_RESOURCE_TABLE = 2,
-    /* How exceptions are handled (`.pdata`), at index 3. */
+    /* The exception table (`.pdata`), at index 3: how exceptions are handled. */
     GOBLIN_PE_DIRECTORY_TYPE_EXCEPTION_TABLE = 3,
-    /* The attribute certificates, at index 4. They are not part of the image in memory: the address
-       is a file offset. */
+    /* The attribute certificates, at index 4. They are not part of the image in memory, so the
+       address is a file offset. */
     GOBLIN_PE_DIRECTORY_TYPE_CERTIFICATE_TABLE = 4,
-    /* The base relocations (`.reloc`), at index 5: what the loader changes where it can't load the
-       image at its base. */
+    /* The base relocations (`.reloc`), at index 5: what the loader changes if it can't load the
+       image at its preferred address. */
     GOBLIN_PE_DIRECTORY_TYPE_BASE_RELOCATION_TABLE = 5,
     /* The debug data (`.debug`), at index 6. */
     GOBLIN_PE_DIRECTORY_TYPE_DEBUG_TABLE = 6,
     /* Reserved, at index 7. */
     GOBLIN_PE_DIRECTORY_TYPE_ARCHITECTURE = 7,
-    /* The address of the value for the global pointer register, at index 8. Its size must be 0. */
+    /* The address of the value for the global pointer register, at index 8. The size must be 0. */
     GOBLIN_PE_DIRECTORY_TYPE_GLOBAL_PTR = 8,
     /* The thread local storage (`.tls`), at index 9. Its callbacks run before the entry point. */
     GOBLIN_PE_DIRECTORY_TYPE_TLS_TABLE = 9,
@@ -256,8 +258,8 @@ enum goblin_pe_directory_type {
     GOBLIN_PE_DIRECTORY_TYPE_LOAD_CONFIG_TABLE = 10,
     /* The bound imports, at index 11. */
     GOBLIN_PE_DIRECTORY_TYPE_BOUND_IMPORT_TABLE = 11,
-    /* The import address table, at index 12, which the loader fills. Readers find it by the import
-       directory. */
+    /* The import address table, at index 12, which the loader fills. Readers find it through the
+       import directory. */
     GOBLIN_PE_DIRECTORY_TYPE_IMPORT_ADDRESS_TABLE = 12,
     /* The delayed imports, at index 13: libraries that are loaded at the first call. */
     GOBLIN_PE_DIRECTORY_TYPE_DELAY_IMPORT_DESCRIPTOR = 13,
@@ -269,9 +271,9 @@ enum goblin_pe_directory_type {
 enum goblin_pe_refused_part {
     /* Nothing is refused. */
     GOBLIN_PE_REFUSED_PART_NOTHING = 0,
-    /* The header: all that stands before the section table. */
+    /* The header: everything before the section table. */
     GOBLIN_PE_REFUSED_PART_HEADER = 1,
-    /* The sections: their records, or a name. */
+    /* The sections: their headers, or a name. */
     GOBLIN_PE_REFUSED_PART_SECTIONS = 2,
     /* The imports. */
     GOBLIN_PE_REFUSED_PART_IMPORTS = 3,
@@ -289,7 +291,7 @@ struct goblin_pe_text {
     size_t length;
 };
 
-/* What follows a symbol that defines a function.
+/* The auxiliary record of a symbol that defines a function.
 
    Source: PE Format, "Auxiliary Format 1: Function Definitions". Numbers are as stored; the record
    has 18 bytes, and `at` gives a field's offset in it. */
@@ -299,15 +301,15 @@ struct goblin_pe_aux_function_definition {
     uint32_t tag_index;
     /* The size of the function's code, in bytes, at 4. */
     uint32_t total_size;
-    /* The file offset of the function's first line number, at 8; 0 where it has none. */
+    /* The file offset of the function's first line number, at 8; 0 if it has none. */
     uint32_t pointer_to_line_number;
-    /* The index in the symbol table of the next function's record, at 12; 0 where this is the last. */
+    /* The index in the symbol table of the next function's record, at 12; 0 if this is the last. */
     uint32_t pointer_to_next_function;
     /* Not used, at 16. */
     uint8_t unused[2];
 };
 
-/* What follows a symbol of a function's start or end.
+/* The auxiliary record of a symbol for the start or the end of a function.
 
    Source: PE Format, "Auxiliary Format 2: .bf and .ef Symbols". Numbers are as stored; the record
    has 18 bytes, and `at` gives a field's offset in it. */
@@ -318,32 +320,32 @@ struct goblin_pe_aux_begin_and_end_function {
     uint16_t line_number;
     /* Not used, at 6. */
     uint8_t unused2[6];
-    /* At 12, only for a start: the index in the symbol table of the next function's start, 0 where
-       this is the last. */
+    /* The index in the symbol table of the next function's start, at 12; 0 if this is the last. It
+       counts only in the record of a start. */
     uint32_t pointer_to_next_function;
     /* Not used, at 16. */
     uint8_t unused3[2];
 };
 
-/* What follows a symbol that another may replace.
+/* The auxiliary record of a weak external, a symbol that another may replace.
 
    Source: PE Format, "Auxiliary Format 3: Weak Externals". Numbers are as stored; the record has 18
    bytes, and `at` gives a field's offset in it. */
 struct goblin_pe_aux_weak_external {
-    /* The index in the symbol table of the symbol that is taken where this one is not found, at 0. */
+    /* The index in the symbol table of the symbol that replaces this one if it is not found, at 0. */
     uint32_t tag_index;
-    /* Where this one is looked for, an `IMAGE_WEAK_EXTERN_SEARCH_*`, at 4. */
+    /* Where the linker looks for this symbol, an `IMAGE_WEAK_EXTERN_SEARCH_*`, at 4. */
     uint32_t characteristics;
     /* Not used, at 8. */
     uint8_t unused[10];
 };
 
-/* What follows a symbol that defines a section.
+/* The auxiliary record of a symbol that defines a section.
 
    Source: PE Format, "Auxiliary Format 5: Section Definitions". Numbers are as stored; the record
    has 18 bytes, and `at` gives a field's offset in it. */
 struct goblin_pe_aux_section_definition {
-    /* The size of the section's data, in bytes, at 0: the same as in its section record. */
+    /* The size of the section's data, in bytes, at 0: the same as in its section header. */
     uint32_t length;
     /* How many relocations the section has, at 4. */
     uint16_t number_of_relocations;
@@ -351,10 +353,11 @@ struct goblin_pe_aux_section_definition {
     uint16_t number_of_line_numbers;
     /* The checksum of COMDAT data, at 8. */
     uint32_t checksum;
-    /* The number, counted from 1, of the section that this one is taken with, at 12; it counts if
-       `selection` is `IMAGE_COMDAT_SELECT_ASSOCIATIVE`. */
+    /* The number, counted from 1, of the section that this one is associated with, at 12. It counts
+       only if `selection` is `IMAGE_COMDAT_SELECT_ASSOCIATIVE`. */
     uint16_t number;
-    /* Which of several COMDAT sections of one name is taken, an `IMAGE_COMDAT_SELECT_*`, at 14. */
+    /* Which of several COMDAT sections of one name the linker keeps, an `IMAGE_COMDAT_SELECT_*`, at
+       14. */
     uint8_t selection;
     /* Not used, at 15. */
     uint8_t unused[3];
@@ -487,17 +490,18 @@ struct goblin_pe_section_data {
     size_t zeros;
 };
 
-/* Where a table of an image lies.
+/* A data directory: where a table of an image lies.
 
-   Source: PE Format, "Optional Header Data Directories (Image Only)". Numbers are as stored; the
-   record has 8 bytes, and `at` gives a field's offset in it. */
+   Source: PE Format, "Optional Header Data Directories (Image Only)". Numbers are as stored. The
+   record has 8 bytes, and `at` gives the offset of a field in it. */
 struct goblin_pe_data_directory {
-    /* The table's address, relative to the image's base, at 0. That of the certificates is a file
-       offset, since they are not loaded. */
+    /* The table's address, relative to the image's base, at 0. For the certificates it is a file
+       offset, because they are not loaded. */
     uint32_t virtual_address;
-    /* The table's size in bytes, at 4. An import directory ends at its own last record, and a value
-       at an address by its own type, whatever the size; of an export directory the size says which
-       addresses are forwarders, of base relocations where the blocks end. */
+    /* The table's size in bytes, at 4. In an export directory it says which addresses are
+       forwarders, and in a base relocation directory where the blocks end. An import directory ends
+       at its own last record, and the type of a value at an address says where the value ends,
+       whatever the size. */
     uint32_t size;
 };
 
@@ -552,23 +556,26 @@ struct goblin_pe_import_cursor {
     bool is_untested;
 };
 
-/* A record of an import directory: where the imports from a library are.
+/* An import descriptor: the record of a library in an import directory. It says where the imports
+   from that library are.
 
-   Source: PE Format, "Import Directory Table". Numbers are as stored; the record has 20 bytes, and
-   `at` gives a field's offset in it. Addresses are relative to the image's base. */
+   A descriptor has 20 bytes, and `at` gives a field's offset in it. Numbers are as stored.
+   Addresses are RVAs, relative to the image's base.
+
+   Source: PE Format, "Import Directory Table". */
 struct goblin_pe_import_directory_entry {
-    /* The address of the lookup table, which says what is imported, at 0. Where it has no file
-       offset, the address table is read instead, as images of some old linkers ask for. */
+    /* The address of the lookup table, which says what is imported, at 0. If it has no file offset,
+       the address table is read instead, as images of some old linkers require. */
     uint32_t import_lookup_table_rva;
-    /* 0 until the imports are bound, at 4; then the time stamp of the library to which they were
-       bound, or 2^32 - 1 if the bound imports say it. */
+    /* 0 until the imports are bound, at 4. Then it is the time stamp of the library to which they
+       were bound, or 2^32 - 1 if the table of bound imports has that time stamp. */
     uint32_t time_date_stamp;
     /* The index of the first forwarder, at 8. */
     uint32_t forwarder_chain;
-    /* The address of the library's name, at 12. The record with 0 here is the directory's last. */
+    /* The address of the library's name, at 12. A descriptor with 0 here ends the directory. */
     uint32_t name_rva;
-    /* The address of the address table, at 16: a copy of the lookup table, whose entries the loader
-       replaces with addresses. The record with 0 here is the directory's last. */
+    /* The address of the address table, at 16. That table is a copy of the lookup table, whose
+       entries the loader replaces with addresses. A descriptor with 0 here ends the directory. */
     uint32_t import_address_table_rva;
 };
 
@@ -603,25 +610,26 @@ struct goblin_pe_library {
    20 bytes, and `at` gives a field's offset in it. An object begins with it; in an image it follows
    the PE signature. */
 struct goblin_pe_coff_header {
-    /* The machine that the file is for, a `COFF_MACHINE_*`, at 0. No reader looks at it: the width
-       of an image is what the magic of its optional header says. */
+    /* The machine that the file is for, a `COFF_MACHINE_*`, at 0. No reader looks at it, because
+       the magic of the optional header gives the width of an image. */
     uint16_t machine;
-    /* How many section records follow the optional header, at 2. The Windows loader takes at most
+    /* How many section headers follow the optional header, at 2. The Windows loader accepts at most
        96. */
     uint16_t number_of_sections;
-    /* When the file was made, in seconds since the start of 1970, at 4; or what its maker put
-       there, such as a hash. */
+    /* When the file was made, in seconds since the start of 1970, at 4. Some makers store something
+       else there, such as a hash. */
     uint32_t time_date_stamp;
-    /* The file offset of the symbol table, at 8; 0 where there is none, as in most images. The
-       string table follows the symbol table. */
+    /* The file offset of the symbol table, at 8; 0 if there is none, as in most images. The string
+       table follows the symbol table. */
     uint32_t pointer_to_symbol_table;
-    /* How many records the symbol table has, the auxiliary ones too, at 12. */
+    /* How many records the symbol table has, at 12. Auxiliary records are counted. */
     uint32_t number_of_symbol_table;
-    /* The size of the optional header, in bytes, at 16; 0 where there is none, as in an object.
-       Only this says where the section table begins; it says nothing about the optional header's
-       own layout. */
+    /* The size of the optional header, in bytes, at 16; 0 if there is none, as in an object. This
+       field alone says where the section table begins. It says nothing about the layout of the
+       optional header. */
     uint16_t size_of_optional_header;
-    /* What kind of file it is, as bits `IMAGE_FILE_*` (PE Format, "Characteristics"), at 18. */
+    /* The characteristics of the file, as bits `IMAGE_FILE_*` (PE Format, "Characteristics"), at
+       18. */
     uint16_t characteristics;
 };
 
@@ -659,17 +667,18 @@ struct goblin_pe_symbol_table {
    Source: PE Format, "COFF Symbol Table". Numbers are as stored; a record has 18 bytes, and `at`
    gives a field's offset in it. */
 struct goblin_pe_symbol {
-    /* The eight bytes of the name, padded with NULs, at 0. Where the first is 0, the name is in the
-       string table, at the number in the last four, which counts from the table's length field. */
+    /* The eight bytes of the name, padded with NULs, at 0. If the first byte is 0, the name is in
+       the string table, and the last four bytes are its offset there, counted from the table's
+       length field. */
     uint8_t name[8];
-    /* What the symbol stands for, by its section and class, at 8: mostly an offset in its section,
-       in bytes. */
+    /* The value of the symbol, at 8. Its section and class say what it means; mostly it is an
+       offset in the section, in bytes. */
     uint32_t value;
     /* The number of its section, counted from 1, at 12; or `IMAGE_SYM_UNDEFINED` (0),
        `IMAGE_SYM_ABSOLUTE` (-1) or `IMAGE_SYM_DEBUG` (-2). */
     int16_t section_number;
     /* Its type, at 14: an `IMAGE_SYM_TYPE_*` in the low four bits, an `IMAGE_SYM_DTYPE_*` above
-       them. Microsoft's tools store 0x20 of a function, else 0. */
+       them. Microsoft's tools store 0x20 for a function, else 0. */
     uint16_t typ;
     /* Its class, an `IMAGE_SYM_CLASS_*`, at 16. */
     uint8_t storage_class;
@@ -692,51 +701,51 @@ struct goblin_pe_named_symbol {
     bool has_name;
 };
 
-/* A relocation of a COFF object: which bytes of a section a linker changes, and how.
+/* A relocation of a COFF object. It says which bytes of a section a linker changes, and how.
 
-   Source: PE Format, "COFF Relocations (Object Only)". Numbers are as stored; the record has 10
-   bytes, and `at` gives a field's offset in it. */
+   Source: PE Format, "COFF Relocations (Object Only)". Numbers are as stored. The record has 10
+   bytes, and `at` gives the offset of a field in it. */
 struct goblin_pe_relocation {
-    /* Where the bytes that are changed begin, at 0: their offset in the section, in bytes, plus the
-       section's own address, which is mostly 0. Of the first relocation of a section with
-       `IMAGE_SCN_LNK_NRELOC_OVFL` it is the number of all. */
+    /* The address of the bytes that are changed, at 0: their offset in the section, in bytes, plus
+       the section's own address, which is mostly 0. In the first relocation of a section with
+       `IMAGE_SCN_LNK_NRELOC_OVFL` it is the number of relocations. */
     uint32_t virtual_address;
-    /* The index in the symbol table of the symbol whose address is put there, at 4. */
+    /* The index in the symbol table of the symbol whose address the linker puts there, at 4. */
     uint32_t symbol_table_index;
-    /* How it is put there, at 8: an `IMAGE_REL_*` of the machine that the COFF header names. */
+    /* How the linker puts it there, at 8: an `IMAGE_REL_*` of the machine that the COFF header
+       names. */
     uint16_t typ;
 };
 
 /* The header of a Terse Executable.
 
    Source: UEFI Platform Initialization Specification, volume 1, "TE Image". Numbers are as stored,
-   but for the four that are adjusted when it is read; the record has 40 bytes, and `at` gives a
-   field's offset in it. It replaces the headers of a PE file and keeps what a loader of firmware
-   needs of them; its addresses still count the bytes that were stripped. */
+   except for four that are adjusted when the header is parsed; the record has 40 bytes, and `at`
+   gives a field's offset in it. This header replaces the headers of a PE file, and keeps what a
+   firmware loader needs of them. The addresses that it stores still count the bytes that were
+   stripped. */
 struct goblin_pe_te_header {
     /* `VZ`, at 0. No reader tests it. */
     uint16_t signature;
     /* The machine that the file is for, a `COFF_MACHINE_*`, at 2. */
     uint16_t machine;
-    /* How many section records follow, at 4. */
+    /* How many section headers follow, at 4. */
     uint8_t number_of_sections;
     /* The subsystem that runs the image, at 5. */
     uint8_t subsystem;
     /* How many bytes were stripped from the front of the PE file, at 6. This header replaces them,
-       so everything after it moved forward by this minus 40. */
+       so everything after it moved towards the front by this number minus 40. */
     uint16_t stripped_size;
-    /* The address of the entry point, relative to the image's base, at 8; in a header that was
-       parsed, adjusted. */
+    /* The RVA of the entry point, at 8; adjusted in a header that was parsed. */
     uint32_t entry_point;
-    /* The address at which the code begins, relative to the image's base, at 12; in a header that
-       was parsed, adjusted. */
+    /* The RVA at which the code begins, at 12; adjusted in a header that was parsed. */
     uint32_t base_of_code;
-    /* The address at which the image is best loaded, at 16; as stored. */
+    /* The preferred address of the image in memory, at 16, as stored. */
     uint64_t image_base;
-    /* Where the base relocations lie, at 24; in a header that was parsed, with the address
-       adjusted. */
+    /* The data directory of the base relocations, at 24. Its RVA is adjusted in a header that was
+       parsed. */
     struct goblin_pe_data_directory reloc_dir;
-    /* Where the debug data lies, at 32; in a header that was parsed, with the address adjusted. */
+    /* The data directory of the debug data, at 32. Its RVA is adjusted in a header that was parsed. */
     struct goblin_pe_data_directory debug_dir;
 };
 
@@ -797,33 +806,34 @@ struct goblin_pe_export {
     uint32_t name_rva;
 };
 
-/* The record that an image's exports begin with.
+/* The record with which the exports of an image begin.
 
    Source: PE Format, "Export Directory Table". Numbers are as stored; the record has 40 bytes, and
-   `at` gives a field's offset in it. Addresses are relative to the image's base. */
+   `at` gives a field's offset in it. An RVA is an address relative to the image's base. */
 struct goblin_pe_export_directory_table {
     /* Reserved, 0, at 0. */
     uint32_t export_flags;
     /* When the exports were made, in seconds since the start of 1970, at 4. */
     uint32_t time_date_stamp;
-    /* The major version, at 8. It is the maker's own. */
+    /* The major version, at 8. The maker of the image chooses it. */
     uint16_t major_version;
     /* The minor version, at 10. */
     uint16_t minor_version;
-    /* The address of the library's name, at 12. */
+    /* The RVA of the library's name, at 12. */
     uint32_t name_rva;
-    /* The ordinal of the first entry of the address table, at 16; mostly 1. It is added to an index
-       to make an ordinal, and counts in no table. */
+    /* The ordinal of the first entry of the address table, at 16; mostly 1. An ordinal is an index
+       in the address table plus this base. The entries of the ordinal table do not include the
+       base. */
     uint32_t ordinal_base;
     /* How many entries the address table has, at 20. */
     uint32_t address_table_entries;
-    /* How many entries the name pointer table has, and as many has the ordinal table, at 24. */
+    /* How many entries the name pointer table and the ordinal table each have, at 24. */
     uint32_t number_of_name_pointers;
-    /* The address of the address table, at 28. */
+    /* The RVA of the address table, at 28. */
     uint32_t export_address_table_rva;
-    /* The address of the name pointer table, at 32. */
+    /* The RVA of the name pointer table, at 32. */
     uint32_t name_pointer_rva;
-    /* The address of the ordinal table, at 36. */
+    /* The RVA of the ordinal table, at 36. */
     uint32_t ordinal_table_rva;
 };
 
@@ -880,8 +890,8 @@ struct goblin_pe_word {
    Source: PE Format, "Optional Header Standard Fields (Image Only)". `at` gives a field's offset
    from the front of the optional header, in both widths. */
 struct goblin_pe_standard_fields {
-    /* What the optional header is, at 0: `MAGIC_32` or `MAGIC_64`. Only this says the width of the
-       header and of import entries. */
+    /* The magic of the optional header, at 0: `MAGIC_32` or `MAGIC_64`. It alone gives the width of
+       the header and of the entries of import tables. */
     uint16_t magic;
     /* The linker's major version, at 2. */
     uint8_t major_linker_version;
@@ -893,34 +903,33 @@ struct goblin_pe_standard_fields {
     uint64_t size_of_initialized_data;
     /* The size of the uninitialized data, in bytes, at 12: the sum of all such sections. */
     uint64_t size_of_uninitialized_data;
-    /* The address of the entry point, relative to the image's base, at 16; 0 where there is none,
-       as in some libraries. The loader starts there, in whatever section it lies. */
+    /* The RVA of the entry point, at 16; 0 if there is none, as in some libraries. The loader
+       starts there, in whatever section it lies. */
     uint32_t address_of_entry_point;
-    /* The address at which the code begins, relative to the image's base, at 20. */
+    /* The RVA at which the code begins, at 20. */
     uint64_t base_of_code;
-    /* The address at which the data begins, relative to the image's base, at 24 in an image for 32
-       bits; 0 in one for 64 bits. */
+    /* The RVA at which the data begins, at 24, in an image for 32 bits; 0 in one for 64 bits. */
     uint32_t base_of_data;
 };
 
 /* The Windows fields of an optional header for 64 bits.
 
    Source: PE Format, "Optional Header Windows-Specific Fields (Image Only)". Numbers are as stored;
-   the record has 88 bytes, and `at` gives a field's offset in it. It begins at 24 in the optional
-   header. */
+   the record has 88 bytes, and `at` gives a field's offset in it. The record begins at 24 in the
+   optional header. */
 struct goblin_pe_windows_fields {
-    /* The address at which the image is best loaded, a multiple of 64 KiB, at 0. Where the loader
-       takes another, it applies the base relocations. */
+    /* The preferred address of the image in memory, a multiple of 64 KiB, at 0. If the loader uses
+       another address, it applies the base relocations. */
     uint64_t image_base;
     /* The alignment of sections in memory, in bytes, at 8: at least the file alignment, mostly a
        page. */
     uint32_t section_alignment;
     /* The alignment of the raw data of sections in the file, in bytes, at 12: a power of two,
-       mostly 512. The mapping of addresses to file offsets goes by it. */
+       mostly 512. The mapping of addresses to file offsets depends on it. */
     uint32_t file_alignment;
-    /* The major version of the system that the image needs, at 16. */
+    /* The major version of the operating system that the image needs, at 16. */
     uint16_t major_operating_system_version;
-    /* The minor version of the system that the image needs, at 18. */
+    /* The minor version of the operating system that the image needs, at 18. */
     uint16_t minor_operating_system_version;
     /* The image's major version, at 20. */
     uint16_t major_image_version;
@@ -932,20 +941,21 @@ struct goblin_pe_windows_fields {
     uint16_t minor_subsystem_version;
     /* Reserved, 0, at 28. */
     uint32_t win32_version_value;
-    /* The size of the image in memory with all headers, in bytes, at 32: how much the loader
-       reserves, a multiple of the section alignment. */
+    /* The size of the image in memory with all headers, in bytes, at 32. It is a multiple of the
+       section alignment, and what the loader reserves. */
     uint32_t size_of_image;
     /* The size of all headers together, in bytes, rounded up to the file alignment, at 36. The
-       loader maps this much of the file's front at the image's base. */
+       loader maps this much of the front of the file, in whole file blocks, at the image's base. */
     uint32_t size_of_headers;
-    /* The image's checksum, at 40. The loader tests that of drivers and of what is loaded at boot;
-       no reader does. */
+    /* The checksum of the image, at 40. The loader tests it for drivers and for images that are
+       loaded at boot; no reader tests it. */
     uint32_t check_sum;
     /* The subsystem that runs the image, an `IMAGE_SUBSYSTEM_*` (PE Format, "Windows Subsystem"),
        at 44. */
     uint16_t subsystem;
-    /* What the loader may and has to do, as bits `IMAGE_DLLCHARACTERISTICS_*` (PE Format, "DLL
-       Characteristics"), at 46: whether it may move the image, and which guards it turns on. */
+    /* What the image allows and requires of the loader, as bits `IMAGE_DLLCHARACTERISTICS_*` (PE
+       Format, "DLL Characteristics"), at 46: whether the loader may move the image, and which
+       guards it turns on. */
     uint16_t dll_characteristics;
     /* How much of the stack to reserve, in bytes, at 48. */
     uint64_t size_of_stack_reserve;
@@ -957,8 +967,8 @@ struct goblin_pe_windows_fields {
     uint64_t size_of_heap_commit;
     /* Reserved, 0, at 80. */
     uint32_t loader_flags;
-    /* How many data directories follow, at 84. Readers refuse a header that says more than sixteen;
-       directories past this number are not there, whatever bytes follow. */
+    /* How many data directories follow, at 84. A reader of a whole header refuses more than
+       sixteen. Data directories past this number do not exist, whatever bytes follow. */
     uint32_t number_of_rva_and_sizes;
 };
 
@@ -1020,9 +1030,9 @@ struct goblin_pe_dos_header {
     uint16_t relocations;
     /* The size of the header in paragraphs of 16 bytes, at 0x08. */
     uint16_t size_of_header_in_paragraphs;
-    /* The least memory that the program needs after it, in paragraphs, at 0x0A. */
+    /* The least memory that the program needs after its own, in paragraphs, at 0x0A. */
     uint16_t minimum_extra_paragraphs_needed;
-    /* The most memory that the program asks for after it, in paragraphs, at 0x0C. */
+    /* The most memory that the program asks for after its own, in paragraphs, at 0x0C. */
     uint16_t maximum_extra_paragraphs_needed;
     /* The stack segment at the start, relative to the program, at 0x0E. */
     uint16_t initial_relative_ss;
@@ -1040,15 +1050,15 @@ struct goblin_pe_dos_header {
     uint16_t overlay_number;
     /* Reserved, at 0x1C. */
     uint16_t reserved[4];
-    /* The maker's identifier, at 0x24. */
+    /* The identifier of the maker (OEM), at 0x24. */
     uint16_t oem_id;
-    /* What the maker says, at 0x26. */
+    /* The information of the maker (OEM), at 0x26. */
     uint16_t oem_info;
     /* Reserved, at 0x28. */
     uint16_t reserved2[10];
-    /* The file offset of the PE signature, at 0x3C. It may lie anywhere in the file, even inside
-       the DOS header, and need not be aligned; a whole header is read in strict mode only where
-       this is at least 0x40. */
+    /* The file offset of the PE signature, at 0x3C. The signature may lie anywhere in the file,
+       even inside the DOS header, and need not be aligned. Strict mode reads a whole header only if
+       this offset is at least 0x40. */
     uint32_t pe_pointer;
 };
 
@@ -1078,15 +1088,15 @@ struct goblin_pe_file {
 
 /* An entry of a Rich header: a tool, and how often it was used.
 
-   Source: not documented by Microsoft; the layout is what linkers write. Numbers are as stored; the
-   record has 8 bytes, and `at` gives a field's offset in it. In a file its two words are stored
-   under the header's key. */
+   Source: not documented by Microsoft; the layout is what linkers write. The record has 8 bytes,
+   and `at` gives a field's offset in it. In a file each of its two words is stored under the key of
+   the header: as its exclusive or with the key. */
 struct goblin_pe_rich_metadata {
-    /* The build of the tool, at 0. */
+    /* The build number of the tool, at 0. */
     uint16_t build;
-    /* Which tool it is, at 2. */
+    /* The identifier of the tool, at 2. */
     uint16_t product;
-    /* How many files it made, at 4. */
+    /* How many files the tool made, at 4. */
     uint32_t use_count;
 };
 

@@ -1377,7 +1377,7 @@ class Files(unittest.TestCase):
         for name in ("class Pe", "class Parts", "class ObjectFile", "class Te", "class Refused", "class Options", "footprint(", "walk_imports(", "walk_symbols(", "write(", "names_of(", "to_json("):
             self.assertIn(name, text)
         self.assertNotIn("ctypes", text)
-        self.assertLess(len(text.splitlines()), 2000)
+        self.assertLess(len(text.splitlines()), 2200)
 
 
 if __name__ == "__main__":

@@ -1,5 +1,5 @@
-"""Reads PE files that can't be trusted: images with their headers, sections, imports, exports and base
-relocations, objects with their symbols, and Terse Executables.
+"""Reads PE and COFF files that can't be trusted: images with their headers, sections, imports,
+exports and base relocations; object files with their symbols; Terse Executables.
 
     from goblin_pe import Options, Pe, Refused
 
@@ -13,33 +13,44 @@ relocations, objects with their symbols, and Terse Executables.
         for x in pe.imports:
             print(x.dll, x.name, x.ordinal)
 
-`python -m goblin_pe FILE` lists a file, and with --json many of them.
+On the command line, `python -m goblin_pe FILE` lists a file, and with --json many files.
 
-Pe, Layout, Parts, ObjectFile and Te read bytes, a memoryview, a mapped file or any other buffer that lies in one piece; Options say how.
-Texts are bytes. Addresses (rva) are relative to the image's base, offsets are file offsets, both in bytes. `kind` tells what
-a file is.
+What to use:
 
-What is read is a `bytes` object, a file mapped with ACCESS_READ, or a memoryview of these: as nothing of Python's can change
-them, none of it is copied, and other threads run on meanwhile. Any other buffer, as a bytearray, a writable mapping or a
-view of one, is copied first. A mapped file must not be written or cut by whatever other way.
+- Pe reads an image and lists its tables.
+- Layout reads the header and the sections of an image, and lists nothing. Its walks yield rows one
+  at a time. A Pe is a Layout that also has its lists.
+- Parts reads what is there of an image whose header is refused.
+- ObjectFile reads an object file, Te a Terse Executable.
+- kind says what a file is. Options say how a file is read.
 
-The rows of a table are made when they are first asked for, of the file's bytes, and are Python's own then: they stay when
-the bytes are gone. A file of 256 KiB can have more than 800 million imports, and exports whose names have 2 GB; those of
-sections can have hundreds of megabytes. Where memory can't be limited, read a Layout, which lists nothing, and use its
-walk_imports, walk_exports, walk_export_addresses, walk_blocks and walk_symbols, which keep no row. A Pe is a Layout with its
-lists.
+Values: texts are bytes. An address (rva) is relative to the image's base, an offset is a file
+offset; both are in bytes. Rows such as Section, Import, Export, Block, Symbol and Range are named
+tuples, and so are the headers, whose fields are those of the format. To change a header, make a
+copy with _replace and write it with Pe.write. Lists of rows are tuples. State, Status, Kind, Cause,
+Counted, ReadFault, RefusedPart, Region and DirectoryType name numbers. All of these can be imported
+from here; help(goblin_pe.Section) explains one. goblin_pe.constants has the numbers of the formats,
+such as IMAGE_FILE_DLL.
 
-A refusal raises Refused, also where the library is refused memory: its status is then Status.MEMORY. MemoryError
-comes from Python alone, where there is no memory for what was read.
+Errors: a file that is refused raises Refused. So does a call for which the library is refused
+memory; its status is then Status.MEMORY. MemoryError comes from Python alone, if there is no memory
+for what was read.
 
-The rows Section, Import, Export, Block, Symbol, Range and others are named tuples, and so are the headers, whose fields
-are those of the format: a changed copy is made by _replace, and Pe.write writes it. What lists rows is a tuple, which nobody
-changes. State, Status, Kind, Cause, Counted, ReadFault, RefusedPart, Region and DirectoryType name numbers. All of them can be
-imported from here, and help(goblin_pe.Section) explains one; goblin_pe.constants has the numbers of the formats, such as
-IMAGE_FILE_DLL.
+Buffers: Pe, Layout, Parts, ObjectFile and Te take bytes, a memoryview, a mapped file, or any other
+contiguous buffer. A `bytes` object, a file mapped with ACCESS_READ, and a memoryview of these are
+not copied, since nothing in Python can change them; other threads run while they are read. Any
+other buffer, such as a bytearray, a writable mapping or a view of one, is copied first. A mapped
+file must not be written or truncated by any other means.
 
-The reader is the proved library goblin_pe. Its shared library stands beside an installed module; in the repository
-callers/build puts it into callers/lib. The variable GOBLIN_PE_SO names another when the module is imported.
+Memory: the rows of a table are made from the file's bytes when you first ask for them. From then on
+they belong to Python, and stay when the bytes are gone. A file of 256 KiB can list more than 800
+million imports, and exports whose names have 2 GB; the names of its sections can have hundreds of
+megabytes. If memory can't be limited, read a Layout, and use its walk_imports, walk_exports,
+walk_export_addresses, walk_blocks and walk_symbols, which keep no row.
+
+The library: the reader is the proved library goblin_pe. In an installed package, its shared library
+is beside the module; in a checkout, callers/build puts it into callers/lib. To load another one,
+name it in the environment variable GOBLIN_PE_SO before you import the module.
 """
 import ctypes as _c
 import dataclasses as _dataclasses
@@ -178,24 +189,30 @@ def checksum(data: Data, field: int) -> int:
 
 
 class Damage(_t.NamedTuple):
-    """What strict mode would refuse of an image, part by part, each for itself, as a Refused; None is no damage. A file
-    without damage, of which no library is left out, is one that both modes read, and read alike.
+    """What strict mode would refuse of an image, part by part. Each part is read by itself. A part
+    is a Refused, or None if it has no damage.
 
-    dos_stub: of the DOS stub.
-    section_names: of the names of the sections: one begins with a slash and goes on with bytes that are no text.
-    imports, exports: of these; of the imports only where the options ask for them: with parse_imports=False it is None, and 0
-        of them are counted, whatever they hold.
-    relocations: of the base relocations: of their directory, not of its blocks.
-    left_out_libraries: how many libraries permissive mode leaves out of the imports: those without an address table; of a
-        directory at file offset 0 all.
-    left_out_entries: how many entries it leaves out of libraries that have an address table: those whose hint is not whole; of
-        a directory at file offset 0 all but those that lead nowhere.
-    unmapped_entries: how many entries of these libraries give no import, in either mode: they lead nowhere, since the address
-        of their hint and name has no file offset.
-    left_out_exports: how many name pointers of the export directory give no export, in either mode: there is no ordinal, it lies
-        past the address table, or it leads to a forwarder whose text can't be read. 0 where the exports are refused. Their
-        indexes are the hints that no export has: such a pointer stands four times its index after the file offset of the
-        record's name_pointer_rva.
+    Both modes read a file, and read it alike, if it has no damage and no library is left out.
+
+    dos_stub: damage of the DOS stub.
+    section_names: damage of the names of the sections: a name begins with a slash, and the bytes
+        after it are no text.
+    imports: damage of the imports. If the options do not ask for imports, this is None, and the
+        three counts of imports are 0, whatever the file holds.
+    exports: damage of the exports.
+    relocations: damage of the directory of base relocations, not of its blocks.
+    left_out_libraries: how many libraries permissive mode leaves out of the imports, because their
+        address table can't be read. Of an import directory at file offset 0, all.
+    left_out_entries: how many entries permissive mode leaves out of the other libraries, because
+        the file lacks a byte of their hint. Of an import directory at file offset 0, all except
+        unmapped entries.
+    unmapped_entries: how many entries of these libraries give no import in either mode, because the
+        address of their hint and name has no file offset.
+    left_out_exports: how many name pointers of the export directory give no export in either mode.
+        Such a pointer has no ordinal, or its ordinal lies past the address table, or it leads to a
+        forwarder whose text can't be read. The count is 0 if the exports are refused. The index of
+        such a pointer is a hint that no export has. The pointer lies at four times that index after
+        the file offset of the record's name_pointer_rva.
     """
 
     dos_stub: _t.Optional[Refused]
@@ -209,39 +226,52 @@ class Damage(_t.NamedTuple):
     left_out_exports: int
 
     def parts(self) -> _t.List[_t.Tuple[str, Refused]]:
-        """The parts that are damaged, as pairs (name of the field, why)."""
+        """The damaged parts, as pairs (name of the field, the Refused)."""
         return [(name, why) for name, why in zip(self._fields[:5], self[:5]) if why]
 
 
 @_dataclasses.dataclass(frozen=True)
 class Options:
-    """How a file is read; by default strictly, with all its tables. Each but the rule and the length is a bool;
-    TypeError is raised where one is not.
+    """How a file is read. By default: in strict mode, with all tables. All fields except
+    raw_pointer_rule and longest_name are bools; any other type raises TypeError.
 
-    is_permissive: whether damaged parts are passed over, in permissive mode. An import directory at file offset 0 is an empty
-        list there, whatever it holds; `damage` tells what strict mode would refuse of it, and how much is left out.
-    resolve_rva: whether an address is mapped to a file offset by the sections; where not, it is the offset.
-    raw_pointer_rule: where the raw data of a section begins for the mapping of addresses, and for section_data and memory_at
-        of an image: a RawPointerRule. Rounding is right where `section_alignment` is 4,096 or more, and pointers as stored
-        where it is less, since the Windows loader maps such an image as one flat view of the file. BY_FILE_ALIGNMENT
-        chooses so, as pefile does. AS_LOADED also maps the headers, as that loader does: packers put names and tables there.
-    parse_imports: whether the imports are read; where not, their table is absent, and `damage` tells nothing of them.
-    raw_section_names: whether the sections of a Layout have their raw names alone, which refuse no file; where not, a name that
-        begins with a slash is looked up in the string table. Only the read of a Layout looks at this: a file with a name that
-        can't be read is refused by Pe and by `damage` all the same, and footprint and fingerprint tell of that refusal alone.
-    longest_name: how many bytes a name of an import, a library, an export, a section or a symbol may have before it is cut, in a
-        Layout, in Parts, in an ObjectFile and in their walks, from 1 to 2**32 - 1; None is no limit. Of a longer one the front is
-        given, to the end of the character that reaches past: what has more bytes than this is a longer name, unless it stands in
-        the eight bytes of a section's or a symbol's record, which are told whole. What follows is not tested, so a walk may give
-        what a Pe refuses or leaves out. So is the text of a forwarder: of a longer one the library is what stands before its
-        first dot, or all without a dot, and the name what follows, which may be empty or begin with "#"; it is longer where
-        library, dot and name are. A Pe has whole names, and imphash hashes these. ValueError is raised where it is another
-        number.
+    is_permissive: whether to pass over damaged parts (permissive mode). `damage` then reports what
+        strict mode would refuse, and how much is left out. An import directory at file offset 0 is
+        an empty list in this mode, whatever it holds.
+    resolve_rva: whether the sections map addresses to file offsets. If not, an address is taken as
+        a file offset.
+    raw_pointer_rule: how addresses are mapped: a RawPointerRule, which says where the raw data of a
+        section begins. section_data and memory_at of an image follow it too. AS_STORED is goblin's
+        rule. ROUNDED_TO512 rounds raw pointers down to 512. This is right if `section_alignment` is
+        4,096 or more; if it is less, the Windows loader maps the image as one flat view of the
+        file, and pointers as stored are right. BY_FILE_ALIGNMENT chooses between the two, as pefile
+        does. AS_LOADED does so too, and also maps the headers, as the Windows loader does: packers
+        put names and tables there.
+    parse_imports: whether to read the imports. If not, their table is absent, and `damage` reports
+        nothing of them.
+    raw_section_names: whether the sections of a Layout have only their raw names, which refuse no
+        file. If not, a name that begins with a slash is looked up in the string table. Only Layout,
+        and the refusal of Parts, follow this option. If a name can't be read, Pe and `damage`
+        refuse the file all the same, and footprint and fingerprint depend on that refusal alone.
+    longest_name: the length, in bytes, above which names of imports, libraries, exports, sections
+        and symbols are cut: from 1 to 2**32 - 1, or None for no limit. Any other number raises
+        ValueError. Layout, Parts, ObjectFile and their walks follow it; a Pe has whole names, and
+        imphash hashes whole names.
 
-    Neither mode passes over more than sixteen data directories (so number_of_rva_and_sizes is at most sixteen of what was read, and
-    was not cut to that), a magic that is neither of the two, a header or a section table that the file's end cuts, a section's name
-    that is a slash and a text which is no number, or the marker `Rich` of a Rich header without `DanS` before it: such a file is
-    refused. Parts has what is there of it.
+    What a cut name looks like: a longer name ends with the character that reaches past the limit.
+    So a name that comes with more bytes than the limit may be cut. (A name in the eight bytes of a
+    section's or a symbol's record is always whole.) What follows the cut is not tested, so a walk
+    may yield rows that a Pe refuses or leaves out.
+
+    The text of a forwarder is cut in the same way. The library is then the text before the first
+    dot, or all of it if there is no dot. The name is what follows, which may be empty or begin with
+    "#". The forwarder may be cut if library, dot and name together are longer than the limit.
+
+    What both modes refuse: more than sixteen data directories (so number_of_rva_and_sizes is at
+    most sixteen in a file that was read, and was not cut to that); an unknown magic; a header or a
+    section table that the end of the file cuts; a section name that is a slash and a text which is
+    no number; the marker `Rich` of a Rich header without `DanS` before it. Parts has what is there
+    of such a file.
     """
 
     is_permissive: bool = False
@@ -407,15 +437,19 @@ def _whole(path: _t.Union[str, "_os.PathLike[str]"]) -> bytes:
 
 
 class Layout(_File):
-    """An image by its header and its sections: Layout(data, options), where `data` are the file's bytes and `options` are
-    Options. A file whose header or sections are refused raises Refused. Nothing of it is listed, so it takes memory for the
-    records of its sections alone, however much its tables list: these are walked over, or looked up. Of the sections rows are
-    made where `sections` is asked for.
+    """An image: its header and its sections. Layout(data, options) reads them, where `data` is the
+    bytes of the file and `options` are Options. It raises Refused if the header or the sections are
+    refused.
 
-    It keeps `data`, or the copy of a buffer that could be written, until close() or the end of a `with`. Sections, symbols and
-    damage that were not asked for before, the export directory and the name in it, the DOS stub, and the methods raise ValueError
-    then, but find_offset needs the bytes no longer. A copy, as it is sent to another process, has all but `data`; symbols and damage where
-    they were asked for.
+    A layout lists no table. It takes memory for the records of the sections only, however much the
+    tables list. You walk the tables row by row, or look things up. The rows of the sections are
+    made when you ask for `sections`.
+
+    It keeps `data` (or its copy of a writable buffer) until close() or the end of a `with` block.
+    After that, these raise ValueError: sections, symbols and damage that you did not ask for
+    before, the export directory and the name in it, the DOS stub, and the methods that read the
+    file's bytes (find_offset and find_rva do not). A copy, such as one sent to another process, has
+    everything except `data`, and has symbols and damage if you asked for them before.
     """
 
     def __init__(self, data: Data, options: _t.Optional[Options] = None):
@@ -469,13 +503,14 @@ class Layout(_File):
         self._mapping = _mapping_of(state["_mapping"], self._counts["sections"])
 
     def imphash(self) -> str:
-        """The hash of the imports that analysts compare: the MD5 in hexadecimal, or an empty text where there are no
-        imports. Other tools tell the same where they see the same imports. It walks over them, and keeps none."""
+        """The imphash, which analysts compare: the MD5 of the imports, in hexadecimal, or an empty
+        text if there are no imports. Other tools compute the same if they see the same imports. It
+        walks over the imports, and keeps none."""
         return imphash(self._with_names_up_to(0, DirectoryType.IMPORT_TABLE, "imported"))
 
     @classmethod
     def open(cls: _t.Type[_L], path: _t.Union[str, "_os.PathLike[str]"], options: _t.Optional[Options] = None) -> _L:
-        """The image in a file, which is read whole. OSError is raised where it can't be read."""
+        """Reads the image in a file. The file is read whole. Raises OSError if it can't be read."""
         return cls(_whole(path), options)
 
     def _rich(self) -> _Rich:
@@ -493,7 +528,8 @@ class Layout(_File):
 
     @property
     def rich_header(self) -> _t.Optional[RichHeader]:
-        """The Rich header; None where the file has none. A layout reads it when it, or an entry of it, is first asked for."""
+        """The Rich header, or None if the file has none. A layout reads it when you first ask for
+        it or for one of its entries."""
         return self._rich()[0]
 
     @property
@@ -503,7 +539,8 @@ class Layout(_File):
 
     @property
     def rich_rest(self) -> _t.Optional[Refused]:
-        """Why the rest that follows these entries is no entry; None where there is no rest."""
+        """Why the bytes left over after these entries are no entry, or None if no bytes are left
+        over."""
         return self._rich()[2]
 
     @property
@@ -513,8 +550,8 @@ class Layout(_File):
 
     @property
     def dos_stub(self) -> bytes:
-        """The bytes between the DOS header and the PE signature; where permissive mode could not read them, a stub of the
-        library's own."""
+        """The bytes between the DOS header and the PE signature. If permissive mode could not read
+        them, this is a stub of the library's own."""
         if self._replaced_stub is not None:
             return self._replaced_stub
         return bytes(self._bytes()[_DOS_STUB_OFFSET: self._dos_header.pe_pointer])
@@ -526,12 +563,12 @@ class Layout(_File):
 
     @property
     def optional_header(self) -> _t.Optional[OptionalHeader]:
-        """The optional header; None where the file has none."""
+        """The optional header, or None if the file has none."""
         return self._header if self._has_directories else None
 
     @property
     def data_directories(self) -> _t.Mapping[int, DataDirectory]:
-        """The data directories that are there, by their index, which is a DirectoryType below 15."""
+        """The data directories that are there, by index. An index below 15 is a DirectoryType."""
         return _types.MappingProxyType(self._once("data_directories", self._present_directories))
 
     def _present_directories(self) -> _t.Dict[int, DataDirectory]:
@@ -539,22 +576,22 @@ class Layout(_File):
 
     @property
     def is_64(self) -> bool:
-        """Whether the optional header is one for 64 bits."""
+        """Whether the image is PE32+: it has an optional header for 64 bits."""
         return self._has_directories and self._header.standard_fields.magic == _MAGIC_64
 
     @property
     def is_lib(self) -> bool:
-        """Whether the file says that it is a dynamic-link library."""
+        """Whether the file header has the flag of a dynamic-link library."""
         return bool(self.coff_header.characteristics & _IMAGE_FILE_DLL)
 
     @property
     def entry(self) -> int:
-        """The address of the entry point, relative to the image's base; 0 where there is none."""
+        """The RVA of the entry point, or 0 if there is none."""
         return self._header.standard_fields.address_of_entry_point if self._has_directories else 0
 
     @property
     def image_base(self) -> int:
-        """The address at which the image is best loaded; 0 where it has no optional header."""
+        """The preferred address of the image in memory, or 0 if it has no optional header."""
         return self._header.windows_fields.image_base if self._has_directories else 0
 
     def _image(self, address: int, length: int) -> records.Image:
@@ -564,29 +601,38 @@ class Layout(_File):
                              fields.file_alignment, fields.size_of_headers, self._options)
 
     def find_offset(self, rva: int) -> _t.Optional[int]:
-        """The file offset of an address: None where no section maps it, nor the headers where the options map as the Windows
-        loader does, or the file alignment is no power of two;
-        the address itself where the options say that addresses are offsets. It can lie past the file's end. OverflowError
-        is raised where the address has more than 64 bits or a sign."""
+        """The file offset of an address. It can lie past the end of the file.
+
+        None if no section maps the address (nor the headers, with the rule AS_LOADED), or if the
+        file alignment is no power of two. If the options say that addresses are offsets, the
+        address itself. Raises OverflowError for an address that is negative or has more than 64
+        bits.
+        """
         offset = _c.c_size_t()
         is_found = _LIB.goblin_pe_raw_find_offset(_c.byref(self._image(_laid_out.NOWHERE, 0)), _size(rva), _c.byref(offset))
         return offset.value if is_found else None
 
     def text_at(self, rva: int) -> _t.Optional[bytes]:
-        """The text at an address, up to its NUL or the end of the file: None where the address has no offset in the file,
-        this lies at or past its end, or no UTF-8 stands there."""
+        """The text at an address, up to its NUL or the end of the file. None if the address has no
+        file offset, if the offset is at or past the end of the file, or if the bytes there are not
+        UTF-8."""
         text, data = records.Text(), self._bytes()
         with _held(data) as (address, length):
             refused = _LIB.goblin_pe_raw_text_at(_c.byref(self._image(address, length)), _size(rva), _c.byref(text)).status
             return None if refused else _Rows(data, address).text(text)
 
     def bytes_at(self, rva: int, size: int) -> _t.Optional[bytes]:
-        """So many bytes of the file from the offset of an address on: None where the address has no offset in the file, this
-        lies at or past its end, or the bytes pass it. The end of its section is not looked at, so where they pass that, what
-        comes is what follows in the file, which a loader maps elsewhere or not at all.
+        """`size` bytes of the file, from the offset of an address on. None if the address has no
+        file offset, if the offset is at or past the end of the file, or if the bytes run past the
+        end.
 
-        So a name that is not UTF-8, which text_at refuses, can be read: of an import two bytes after its rva, of a library or
-        an export at its name_rva, up to the first NUL among as many bytes as it may have, or as many as are left of the file."""
+        The end of the section is not looked at. Bytes past it are what follows in the file, which a
+        loader maps elsewhere or not at all.
+
+        You can use this to read a name that is not UTF-8, which text_at refuses: that of an import
+        two bytes after its rva; that of a library or an export at its name_rva. Ask for as many
+        bytes as the name may have, or as the file has left, and take them up to the first NUL.
+        """
         text, data = records.Text(), self._bytes()
         with _held(data) as (address, length):
             image = self._image(address, length)
@@ -594,13 +640,21 @@ class Layout(_File):
             return None if refused else _Rows(data, address).text(text)
 
     def memory_at(self, rva: int, size: int) -> _t.Optional[SectionData]:
-        """The bytes that a loader sees at an address: those that the file has, and how many zeros follow them. Where the address
-        has an offset inside the file, the first is the byte there, as bytes_at gives it, but in a section of uninitialized
-        data whose raw pointer is 0. They lie in the memory of the first section whose window holds the address, or else of the
-        first whose memory does: as many bytes as its virtual size says, or its raw size where that is 0, and no fewer than its
-        window has. A header lies in none, but where the options map as the Windows loader does, it is there, too. Where
-        the options say that addresses are offsets, the bytes are the file's own. None where nothing in memory holds the address,
-        the bytes pass the memory of what does, or the file does not have its bytes."""
+        """The `size` bytes that a loader sees at an address: those that the file has, and the
+        number of zeros after them.
+
+        None if nothing in memory holds the address, if the bytes run past the memory of what holds
+        it, or if the file lacks bytes that it should have there.
+
+        Which memory holds the address: that of the first section whose window holds it, or else of
+        the first section whose memory does. The memory of a section is as long as its virtual size
+        says, or its raw size if that is 0, and at least as long as its window. The headers are in
+        memory with the rule AS_LOADED only. If the options say that addresses are offsets, the
+        bytes are those of the file.
+
+        If the address has an offset inside the file, the first byte is the one there, as from
+        bytes_at. The exception is a section of uninitialized data whose raw pointer is 0.
+        """
         seen, data = records.SectionData(), self._bytes()
         with _held(data) as (address, length):
             image = self._image(address, length)
@@ -608,10 +662,13 @@ class Layout(_File):
             return None if refused else SectionData(_Rows(data, address).text(seen.bytes), seen.zeros)
 
     def available_at(self, rva: int, size: int) -> _t.Optional[SectionData]:
-        """The first of the bytes that a loader sees at an address, at most so many: as memory_at, but fewer where the section's
-        memory ends before, or the file does. No zeros follow bytes of which some are missing in the file, since it is not
-        known what they are. None where nothing in memory holds the address; where the options say that addresses are
-        offsets, at or past the file's end."""
+        """The first bytes that a loader sees at an address, at most `size`: as memory_at, but fewer
+        if the memory of the section or the file ends before. If the file lacks some of the bytes,
+        no zeros follow them, since it is not known what they are.
+
+        None if nothing in memory holds the address, or, if the options say that addresses are
+        offsets, if it is at or past the end of the file.
+        """
         seen, data = records.SectionData(), self._bytes()
         with _held(data) as (address, length):
             image = self._image(address, length)
@@ -619,9 +676,12 @@ class Layout(_File):
             return None if refused else SectionData(_Rows(data, address).text(seen.bytes), seen.zeros)
 
     def region_of(self, rva: int) -> _t.Tuple[Region, _t.Optional[Section]]:
-        """Where an address lies, and its section, where it lies in the memory of one, as for memory_at; or else in the headers, in
-        whole file blocks, or nowhere. Whether addresses are offsets is not looked at, nor whether the file has the section's
-        bytes."""
+        """Where an address lies, and the section if it lies in the memory of one (see memory_at).
+        Else it lies in the headers, which take whole file blocks, or nowhere.
+
+        This does not depend on whether addresses are offsets, nor on whether the file has the bytes
+        of the section.
+        """
         index = _c.c_size_t()
         with _held(self._bytes()) as (address, length):
             image = self._image(address, length)
@@ -629,27 +689,39 @@ class Layout(_File):
         return region, self._section(index.value) if region in (Region.STORED, Region.ZEROS) else None
 
     def forwarder_at(self, rva: int) -> _t.Optional[_t.Tuple[bytes, _t.Union[bytes, int]]]:
-        """The forwarder whose text is at an address, as an ExportAddress that forwards has it, also of an export without a name:
-        the library without its ending, and the export's name or ordinal there. None where the address has no offset in the
-        file, there is no text, or the text is no forwarder."""
+        """The forwarder whose text is at an address, also of an export without a name, as an
+        ExportAddress that forwards gives its address. It is a pair: the library without its ending,
+        and the name or ordinal of the export there.
+
+        None if the address has no file offset, if there is no text, or if the text is no forwarder.
+        """
         found, data = records.Forwarder(), self._bytes()
         with _held(data) as (address, length):
             refused = _LIB.goblin_pe_raw_forwarder_at(_c.byref(self._image(address, length)), _size(rva), _c.byref(found)).status
             return None if refused else _Rows(data, address).forwarder(found)
 
     def section_at(self, rva: int) -> _t.Optional[Section]:
-        """The section by which an address is mapped: the first whose window holds it; None where there is none. A window begins at
-        the section's address. It is empty where the raw size is 0, and else has the least of three sizes: that of the data in the
-        file, from its start rounded down to 512 up to its end rounded up to the file alignment; the raw size; and the virtual
-        size where that is not 0, these two rounded up to 4,096. So an address in the zeros that follow the data may lie in none,
-        as a TLS index does; region_of finds it."""
+        """The section that maps an address: the first whose window holds it. None if there is none.
+
+        A window begins at the address of the section. It is empty if the raw size is 0. Otherwise
+        its size is the least of three:
+
+        - the data in the file, from its start rounded down to 512 to its end rounded up to the file
+          alignment;
+        - the raw size, rounded up to 4,096;
+        - the virtual size, rounded up to 4,096, unless it is 0.
+
+        So an address in the zeros after the data, such as that of a TLS index, may lie in no
+        window. region_of finds it.
+        """
         index = _c.c_size_t()
         is_found = _LIB.goblin_pe_raw_section_at(_c.byref(self._image(_laid_out.NOWHERE, 0)), _size(rva), _c.byref(index))
         return self._section(index.value) if is_found else None
 
     def find_rva(self, offset: int) -> _t.Optional[int]:
-        """The address of a file offset, which find_offset maps to it: that in the first section that has one; None where
-        there is none. It takes one walk over the sections, and one more for each whose data holds the offset."""
+        """The address that find_offset maps to a file offset. If there are several, the one in the
+        first section that has one. None if there is none. The call walks over the sections once,
+        and once more for each section whose data holds the offset."""
         rva = _c.c_size_t()
         is_found = _LIB.goblin_pe_raw_find_rva(_c.byref(self._image(_laid_out.NOWHERE, 0)), _size(offset), _c.byref(rva))
         return rva.value if is_found else None
@@ -658,9 +730,12 @@ class Layout(_File):
         return self._options, self._header.windows_fields.file_alignment
 
     def checksum(self) -> _t.Optional[int]:
-        """The checksum of the whole file, as the function `checksum` adds it up; None without an optional header, which has the
-        field check_sum for it. Windows tests that of drivers, and of libraries that it loads at boot or into critical
-        processes."""
+        """Computes the checksum of the whole file, as the function `checksum` does. None if the
+        file has no optional header, which has the field check_sum for it.
+
+        Windows verifies the checksum of drivers, and of libraries that it loads at boot or into
+        critical processes.
+        """
         found = _c.c_uint32()
         with _held(self._bytes()) as (address, length):
             is_there = _LIB.goblin_pe_raw_file_checksum(address, length, _c.byref(self._options), _c.byref(found))
@@ -723,43 +798,62 @@ class Layout(_File):
 
     def walk_imports(self, library: _t.Optional[Library] = None, *, steps: _t.Optional[int] = None,
                      at: _t.Tuple[int, ...] = ()) -> _t.Iterator[Import]:
-        """The imports one by one, of which none is kept: also where the options left them out; from the first one of a library
-        on, where one is given, which walk_libraries of this file gave. With `steps` it raises OutOfSteps once it has looked at so
-        many slots and records of its tables, whether or not these gave an import; an address table is looked at in one go, for
-        each batch of rows, however long it is. The walk is an iterator, and not copied: begin again, at a library, or `at` where
-        OutOfSteps says. In strict mode Refused is raised where it would be of the list, after what comes before; no law says on
-        which bytes that depends. What gives no import is counted by `damage`: `unmapped_entries` in either mode, the other two in
-        permissive mode."""
+        """A walk over the imports, which yields them one at a time and keeps none. It yields them
+        even if the options do not ask for imports. With `library`, which must come from
+        walk_libraries of this file, it begins at the first import of that library.
+
+        `steps` is a budget. A step is one slot or record of the tables that the walk passes,
+        whether or not it gives an import. When the budget is spent, the walk raises OutOfSteps;
+        pass its `at` to go on from there. The walk may look at more slots than it passes: it looks
+        at an address table in one go for each batch of rows, however long the table is, and it may
+        read a batch again to find out where the budget ended.
+
+        The walk is an iterator, and can't be copied. To begin again, call this method again.
+
+        In strict mode it raises Refused where the list of a Pe would be refused, after the rows
+        that come before. It is not proved on which bytes those rows depend. `damage` counts what
+        gives no import: `unmapped_entries` in either mode, and the other two in permissive mode.
+        """
         return self._walked(DirectoryType.IMPORT_TABLE, "imported", steps, tuple(at) or (library.cursor if library else ()))
 
     def walk_libraries(self, *, steps: _t.Optional[int] = None, at: _t.Tuple[int, ...] = ()) -> _t.Iterator[Library]:
-        """The libraries one by one, as walk_imports gives imports: one for each record of the import directory, in order, up to
-        the first that has no name or no address table. Those that permissive mode leaves out of the imports come, too, but
-        those of a directory at file offset 0, which it takes as empty. With `steps` it raises OutOfSteps after so many, and goes on
-        `at`: each library is one, whatever its tables have, so some tens are enough of a file that is hostile. In strict mode
-        Refused is raised where the directory reaches the end of the file; what else is refused of a library walk_imports tells,
-        where it is given that."""
+        """A walk over the libraries of the import directory, which yields them one at a time and
+        keeps none. It yields one for each record, in order, up to the first record whose name or
+        address table is at address 0.
+
+        It also yields the libraries that permissive mode leaves out of the imports. But of a
+        directory at file offset 0, which permissive mode takes as empty, it yields none in that
+        mode.
+
+        With `steps` it raises OutOfSteps after so many libraries, and goes on with `at`. Each
+        library is one step, whatever its tables hold, so of a hostile file let some tens be enough.
+
+        In strict mode it raises Refused if the directory reaches the end of the file. For other
+        errors in a library, pass it to walk_imports.
+        """
         call, asked = _LIB.goblin_pe_raw_next_libraries, self._with_imports
         return _walk(self._bytes(), records.Library, "library", lambda address, length, *to: call(
             address, length, _c.byref(asked), _c.byref(self._places), *to), _position_at(records.ImportCursor, at), self._batch(),
             _limit(steps), self._options.is_permissive)
 
     def walk_exports(self, *, steps: _t.Optional[int] = None, at: _t.Tuple[int, ...] = ()) -> _t.Iterator[Export]:
-        """The exports one by one, of which none is kept. With `steps` it raises OutOfSteps once it has looked at so many name
-        pointers, whether or not these gave an export, and goes on `at`."""
+        """A walk over the exports, which yields them one at a time and keeps none. With `steps` it
+        raises OutOfSteps after so many name pointers, whether or not they give an export, and goes
+        on with `at`."""
         return self._walked(DirectoryType.EXPORT_TABLE, "exported", steps, at)
 
     def find_export(self, name: _t.Union[bytes, str]) -> _t.Optional[Export]:
-        """The first export of this name; None where there is none. It walks over the exports, of which it keeps none. Where the
-        options say a limit for names, and this is longer, the limit is its length."""
+        """The first export of this name, or None if there is none. It walks over the exports, and
+        keeps none. If the options limit names, and this name is longer than the limit, its length
+        is the limit."""
         wanted, longest = _in_bytes(name), self._options.longest_name
         most = min(max(longest, len(wanted)), (1 << 32) - 1) if longest else 0
         exports = self._with_names_up_to(most, DirectoryType.EXPORT_TABLE, "exported")
         return next((x for x in exports if x.name == wanted), None)
 
     def find_export_by_ordinal(self, ordinal: int) -> _t.Optional[ExportEntry]:
-        """The entry of the export address table for an ordinal, also of an export without a name; None where the table has none,
-        or one that is not used."""
+        """The entry of the export address table for an ordinal, whether or not the export has a
+        name. None if the table has no such entry, or if the entry is unused."""
         data = self._bytes()
         directory = self._read_directory(data)
         if directory is None or ordinal - directory.table.ordinal_base not in range(directory.table.address_table_entries):
@@ -769,8 +863,9 @@ class Layout(_File):
 
     @property
     def export_directory(self) -> _t.Optional[ExportDirectory]:
-        """The record of the exports; None where there are none, and where permissive mode passes over a refused directory. A
-        Pe has it from its read, a Layout reads it each time: Refused is raised where strict mode refuses it."""
+        """The record of the export directory. None if there is no export directory, or if
+        permissive mode passes over a refused one. A Pe has it from its read. A Layout reads it each
+        time, and raises Refused if strict mode refuses it."""
         return self._read_directory(self._bytes())
 
     def _read_directory(self, data: _Kept) -> _t.Optional[ExportDirectory]:
@@ -782,15 +877,21 @@ class Layout(_File):
 
     @property
     def name(self) -> _t.Optional[bytes]:
-        """The name with which it was linked as a library; None where it has none. It is that of export_directory."""
+        """The name under which the library was linked, from export_directory, or None if it has
+        none."""
         directory = self.export_directory
         return directory.name if directory else None
 
     def walk_export_addresses(
             self, *, steps: _t.Optional[int] = None, at: _t.Tuple[int, ...] = ()) -> _t.Iterator[ExportEntry]:
-        """The entries of the export address table one by one, by rising ordinals, also those without a name, each with its
-        forwarder. None is kept. With `steps` it raises OutOfSteps after so many, and goes on `at`. Refused is raised where the
-        export directory is refused, but not for the number of its name pointers, for which the exports are."""
+        """A walk over the entries of the export address table, which yields them one at a time and
+        keeps none. They come in the order of their ordinals, whether or not they have a name, each
+        with its forwarder if it has one. With `steps` it raises OutOfSteps after so many entries,
+        and goes on with `at`.
+
+        It raises Refused if the export directory is refused. Unlike the exports, it is not refused
+        for the number of name pointers.
+        """
         return self._export_entries(self._bytes(), _position_at(_c.c_size_t, at), _limit(steps))
 
     def _export_entries(self, data: _Kept, index: _c.c_size_t, limit: _t.Optional[int] = None) -> _t.Iterator[ExportEntry]:
@@ -804,43 +905,58 @@ class Layout(_File):
             yield ExportEntry(next(ordinals), it.rva, it.forwards, self.forwarder_at(it.rva) if it.forwards else None)
 
     def walk_blocks(self, *, steps: _t.Optional[int] = None, at: _t.Tuple[int, ...] = ()) -> _t.Iterator[Block]:
-        """The blocks of base relocations one by one, of which none is kept. With `steps` it raises OutOfSteps after so many, and
-        goes on `at`. A step copies the bytes of a block, which may be all that the file has, and makes none of its words. Where a
-        rest of their directory is no block, Refused is raised in either mode, after what comes before, as block_rest of a Pe has it;
-        and where strict mode refuses the directory."""
+        """A walk over the blocks of base relocations, which yields them one at a time and keeps
+        none. With `steps` it raises OutOfSteps after so many blocks, and goes on with `at`. A step
+        copies the bytes of a block, which may be all that the file has, and makes none of its
+        words.
+
+        In either mode it raises Refused, after the blocks, if bytes of the directory are left over
+        that are no block, as block_rest of a Pe says. It also does if strict mode refuses the
+        directory.
+        """
         return self._walked(DirectoryType.BASE_RELOCATION_TABLE, "block", steps, at)
 
     @property
     def symbols(self) -> _t.Tuple[Symbol, ...]:
-        """The symbols, which few images have. Refused is raised where the file is too short for their table or its string
-        table, and where the string table is not UTF-8, or says a length below 4."""
+        """The COFF symbols, which few images have. Raises Refused if the file is too short for the
+        symbol table or the string table, if the string table is not UTF-8, or if its length field
+        is below 4."""
         return self._once("symbols", lambda: tuple(self.walk_symbols()))
 
     def walk_symbols(
             self, tests_texts: bool = True, *, steps: _t.Optional[int] = None, at: _t.Tuple[int, ...] = ()) -> _t.Iterator[Symbol]:
-        """The symbols one by one, of which none is kept, their names up to the limit of the options. With `steps` it raises
-        OutOfSteps after so many, and goes on `at`. Refused is raised as by `symbols`; without tests_texts not where the string
-        table is not UTF-8: a symbol whose name is not has none."""
+        """A walk over the COFF symbols, which yields them one at a time and keeps none. Names are
+        cut at the limit of the options. With `steps` it raises OutOfSteps after so many symbols,
+        and goes on with `at`.
+
+        It raises Refused as `symbols` does. With tests_texts=False the string table need not be
+        UTF-8; a symbol whose name is not UTF-8 then has none.
+        """
         data = self._bytes()
         return _walk_symbols(data, self._found_symbols(data, tests_texts), steps, at)
 
     def string_at(self, offset: int) -> _t.Optional[bytes]:
-        """The text at an offset of the string table, up to a NUL, the table's end or, as a name is, the limit of the options;
-        None where there is none that is UTF-8. The offset counts from the four bytes of the table's length, as the numbers do
-        that stand in place of names. Refused is raised where a table does not lie in the file."""
+        """The text at an offset of the string table: up to a NUL, the end of the table or the limit
+        of the options for names. None if there is none that is UTF-8. Offsets count from the four
+        bytes of the table's length, as they do in the records that refer to it. Raises Refused if a
+        table does not lie in the file."""
         data = self._bytes()
         return _string_at(data, self._found_symbols(data, False), offset)
 
     @property
     def string_table_size(self) -> int:
-        """How many bytes the string table has, with the four of its length; 0 where there is none, as in most images. Refused is
-        raised where a table does not lie in the file."""
+        """The size of the string table in bytes, with the four bytes of its length; 0 if there is
+        none, as in most images. Raises Refused if a table does not lie in the file."""
         return _string_table_size(self._found_symbols(self._bytes(), False))
 
     def symbol_at(self, index: int, tests_texts: bool = True) -> _t.Optional[Symbol]:
-        """The symbol whose record has this index: relocations and weak externals name symbols so. None where the table ends
-        before it; an auxiliary record is read as a symbol, too. Refused is raised as by walk_symbols. The string table is read
-        whole the first time, and then never again; without tests_texts never."""
+        """The symbol whose record has this index, by which relocations and weak externals refer to
+        symbols. None if the table ends before it. An auxiliary record is read as if it were a
+        symbol.
+
+        Raises Refused as walk_symbols does. The first call reads the whole string table, later ones
+        do not; with tests_texts=False none does.
+        """
         data = self._bytes()
         return _symbol_at(data, self._found_symbols(data, tests_texts), index)
 
@@ -854,8 +970,9 @@ class Layout(_File):
 
     @property
     def damage(self) -> Damage:
-        """What strict mode would refuse of the file, part by part. Refused is raised for the cause for which the file is refused as a
-        whole: of Parts, and of a Layout whose sections have raw names."""
+        """What strict mode would refuse of the file, part by part, as a Damage. Raises Refused if
+        memory is refused. For Parts, and for a Layout whose sections have raw names, it also does
+        if the file is refused as a whole."""
         return self._once("damage", self._read_damage)
 
     def _read_damage(self) -> Damage:
@@ -866,20 +983,26 @@ class Layout(_File):
                       _refusal(d.relocations), d.left_out_libraries, d.left_out_entries, d.unmapped_entries, d.left_out_exports)
 
     def footprint(self) -> _t.List[Range]:
-        """The bytes of the file on which what Pe lists depends, its attributes but for symbols and damage: a file of the same
-        length that has the same bytes in these ranges is read alike, by the same options. It does not cover what is read
-        later: walk_imports and imphash where the options leave the imports out, damage of an import directory at file offset
-        0, symbols, texts and bytes at addresses, and the data of sections. The ranges come in order, with a byte between each
-        and the next; none is empty, and none passes the file. So footprints of the same bytes are equal."""
+        """The bytes of the file on which the lists and attributes of a Pe depend, except symbols
+        and damage. With the same options, a file of the same length with the same bytes in these
+        ranges is read alike.
+
+        The ranges come in order. At least one byte lies between two of them, none is empty, and
+        none runs past the end of the file. So footprints of the same bytes are equal.
+
+        The footprint does not cover what is read later: walk_imports and imphash, if the options do
+        not ask for imports; damage of an import directory at file offset 0; symbols; texts and
+        bytes at addresses; the data of sections.
+        """
         ranges = records.Ranges()
         with _held(self._bytes()) as (address, length):
             _test(_LIB.goblin_pe_raw_footprint(address, length, _c.byref(self._options), _c.byref(ranges)))
         return [Range(it.offset, it.length) for it in ranges.records("ranges")]
 
     def fingerprint(self) -> str:
-        """A key of what Pe lists, for one choice of Options: the SHA-256, in hexadecimal, of the length of the file and of its
-        footprint, the ranges and their bytes. Files that have the same are read alike by the same options. It covers what
-        the footprint does."""
+        """A cache key for what a Pe lists with these options: the SHA-256, in hexadecimal, of the
+        length of the file and of its footprint (the ranges and their bytes). Files with the same
+        fingerprint are read alike by the same options. It covers what the footprint covers."""
         with memoryview(self._bytes()) as view, view.cast("B") as in_bytes:
             digest = _hashlib.sha256(b"%d" % len(in_bytes))
             for begin, length in self.footprint():
@@ -890,20 +1013,27 @@ class Layout(_File):
     def write(self, coff_header: _t.Optional[CoffHeader] = None, optional_header: _t.Optional[OptionalHeader] = None,
               sections: _t.Optional[_t.Iterable[Section]] = None, data_directories: _t.Optional[_t.Mapping[int, DataDirectory]] = None,
               dos_header: _t.Optional[DosHeader] = None) -> bytes:
-        """The file with these in place of its own, and else as it was read. Of the headers all up to the section table is
-        written, and of sections the records of the first ones, each with its raw_name; nothing else of the file changes. Data
-        directories are given by their index, and those that are left out are zeros then; so are those by which a larger
-        number_of_rva_and_sizes adds to the file's own.
+        """A copy of the file in which these headers and sections replace its own. It writes the
+        headers up to the section table, and the records of the first sections, each with its
+        raw_name. The rest of the file stays as it was read.
 
-        Refused is raised where a header can't be written, OverflowError where a number does not fit its field, and ValueError
-        where the file has no place for what is given:
+        If you give data directories, give all of them, by index: those that you leave out become
+        zeros. So do those by which a larger number_of_rva_and_sizes adds to the file's own.
 
-        An optional header or a directory may reach into the section table only where both say the same. Another
-        number_of_rva_and_sizes has to count directories that end in the optional header. More sections than the file has, given or
-        counted by the COFF header, need zeros in their place, before the data of all sections.
+        Raises Refused if a header can't be written, OverflowError if a number does not fit its
+        field, and ValueError if the file has no room for what is given:
 
-        So ValueError is raised, too, where permissive mode replaced the DOS stub, and where a DOS header leads elsewhere than the
-        file's own. A COFF header may say no other size of the optional header, which would move the section table."""
+        - An optional header or a data directory may overlap the section table only where both have
+          the same bytes.
+        - If number_of_rva_and_sizes changes, the directories that it counts must end within the
+          optional header.
+        - More sections than the file has, whether given or counted by the COFF header, need zeros
+          in their place, before the data of all sections.
+        - The DOS stub must be the file's own, which it is not if permissive mode replaced it.
+        - The DOS header must lead to the same PE signature.
+        - The COFF header must give the same size of the optional header, since another size would
+          move the section table.
+        """
         if optional_header is not None and self.optional_header is None:
             raise ValueError("the file has no optional header")
         coff = coff_header or self.coff_header

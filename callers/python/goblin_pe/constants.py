@@ -3,7 +3,7 @@
 
 # The machines that a COFF header can name.
 #
-# Source: PE Format, "Machine Types", and of some the Windows headers.
+# Source: PE Format, "Machine Types", and for some the Windows headers.
 
 # The machine: any machine.
 COFF_MACHINE_UNKNOWN = 0x0
@@ -64,13 +64,13 @@ COFF_MACHINE_THUMB = 0x1C2
 # The machine: MIPS WCE v2, little-endian.
 COFF_MACHINE_WCEMIPSV2 = 0x169
 
-# What kind of file a COFF header says that it is, as bits.
+# The characteristics of a file, as bits of its COFF header.
 #
 # Source: PE Format, "Characteristics".
 
-# The image has no base relocations, so it has to be loaded at its base.
+# The image has no base relocations, so it must be loaded at its preferred address.
 IMAGE_FILE_RELOCS_STRIPPED = 0x0001
-# The image is valid and can be run. Where the bit is not set, the linker failed.
+# The image is valid and can be run. If the bit is not set, the linker failed.
 IMAGE_FILE_EXECUTABLE_IMAGE = 0x0002
 # The COFF line numbers were removed. Obsolete.
 IMAGE_FILE_LINE_NUMS_STRIPPED = 0x0004
@@ -86,15 +86,15 @@ IMAGE_FILE_BYTES_REVERSED_LO = 0x0080
 IMAGE_FILE_32BIT_MACHINE = 0x0100
 # The debug data was removed from the image.
 IMAGE_FILE_DEBUG_STRIPPED = 0x0200
-# From removable media the image is loaded whole and copied to the swap file.
+# If the image is on removable media, it is loaded whole and copied to the swap file.
 IMAGE_FILE_REMOVABLE_RUN_FROM_SWAP = 0x0400
-# From a network the image is loaded whole and copied to the swap file.
+# If the image is on a network, it is loaded whole and copied to the swap file.
 IMAGE_FILE_NET_RUN_FROM_SWAP = 0x0800
-# The image is a system file, no user program.
+# The image is a system file, not a user program.
 IMAGE_FILE_SYSTEM = 0x1000
 # The image is a dynamic-link library.
 IMAGE_FILE_DLL = 0x2000
-# The image is only for machines with one processor.
+# The image may run only on machines with one processor.
 IMAGE_FILE_UP_SYSTEM_ONLY = 0x4000
 # The bytes of a word are stored big-endian. Obsolete.
 IMAGE_FILE_BYTES_REVERSED_HI = 0x8000
@@ -109,16 +109,16 @@ MAGIC_64 = 0x20B
 IMAGE_NT_OPTIONAL_HDR32_MAGIC = 0x10B
 # The magic of an optional header for 64 bits, by its name in the Windows headers.
 IMAGE_NT_OPTIONAL_HDR64_MAGIC = 0x20B
-# The magic of a ROM image. No reader takes it.
+# The magic of a ROM image. No reader accepts it.
 IMAGE_ROM_OPTIONAL_HDR_MAGIC = 0x107
 
 # The subsystems that run images.
 #
 # Source: PE Format, "Windows Subsystem".
 
-# The subsystem: none that is known.
+# The subsystem: unknown.
 IMAGE_SUBSYSTEM_UNKNOWN = 0
-# The subsystem: none is needed, as for device drivers and native processes of Windows.
+# The subsystem: none is needed, as for device drivers and native Windows processes.
 IMAGE_SUBSYSTEM_NATIVE = 1
 # The subsystem: the graphical user interface of Windows.
 IMAGE_SUBSYSTEM_WINDOWS_GUI = 2
@@ -134,18 +134,18 @@ IMAGE_SUBSYSTEM_NATIVE_WINDOWS = 8
 IMAGE_SUBSYSTEM_WINDOWS_CE_GUI = 9
 # The subsystem: an application of the Extensible Firmware Interface.
 IMAGE_SUBSYSTEM_EFI_APPLICATION = 10
-# The subsystem: a driver of this interface, with boot services.
+# The subsystem: a driver of the Extensible Firmware Interface, with boot services.
 IMAGE_SUBSYSTEM_EFI_BOOT_SERVICE_DRIVER = 11
-# The subsystem: a driver of this interface, with run-time services.
+# The subsystem: a driver of the Extensible Firmware Interface, with run-time services.
 IMAGE_SUBSYSTEM_EFI_RUNTIME_DRIVER = 12
-# The subsystem: a ROM image of this interface.
+# The subsystem: a ROM image of the Extensible Firmware Interface.
 IMAGE_SUBSYSTEM_EFI_ROM = 13
 # The subsystem: Xbox.
 IMAGE_SUBSYSTEM_XBOX = 14
-# The subsystem: an application that Windows boots.
+# The subsystem: a boot application of Windows.
 IMAGE_SUBSYSTEM_WINDOWS_BOOT_APPLICATION = 16
 
-# What the loader may do with an image, and has to, as bits of an optional header.
+# What an image allows and requires of the loader, as bits of its optional header.
 #
 # Source: PE Format, "DLL Characteristics".
 
@@ -155,13 +155,13 @@ IMAGE_DLLCHARACTERISTICS_HIGH_ENTROPY_VA = 0x0020
 IMAGE_DLLCHARACTERISTICS_DYNAMIC_BASE = 0x0040
 # The loader has to check the image's signature.
 IMAGE_DLLCHARACTERISTICS_FORCE_INTEGRITY = 0x0080
-# The image runs where data can't be executed.
+# The image can run where data can't be executed.
 IMAGE_DLLCHARACTERISTICS_NX_COMPAT = 0x0100
-# The image is not isolated, though it could be.
+# The image is aware of isolation, but must not be isolated.
 IMAGE_DLLCHARACTERISTICS_NO_ISOLATION = 0x0200
 # The image has no structured exception handlers.
 IMAGE_DLLCHARACTERISTICS_NO_SEH = 0x0400
-# The image may not be bound.
+# The image must not be bound.
 IMAGE_DLLCHARACTERISTICS_NO_BIND = 0x0800
 # The image has to run in an AppContainer.
 IMAGE_DLLCHARACTERISTICS_APPCONTAINER = 0x1000
@@ -169,14 +169,14 @@ IMAGE_DLLCHARACTERISTICS_APPCONTAINER = 0x1000
 IMAGE_DLLCHARACTERISTICS_WDM_DRIVER = 0x2000
 # The image supports Control Flow Guard.
 IMAGE_DLLCHARACTERISTICS_GUARD_CF = 0x4000
-# The image knows of terminal servers.
+# The image is aware of terminal servers.
 IMAGE_DLLCHARACTERISTICS_TERMINAL_SERVER_AWARE = 0x8000
 
 # The characteristics of sections, as bits.
 #
 # Source: PE Format, "Section Flags".
 
-# The section is not padded to the next border. Obsolete; use `IMAGE_SCN_ALIGN_1BYTES`.
+# The section is not padded to the next boundary. Obsolete; use `IMAGE_SCN_ALIGN_1BYTES`.
 IMAGE_SCN_TYPE_NO_PAD = 0x0000_0008
 # The section has executable code.
 IMAGE_SCN_CNT_CODE = 0x0000_0020
@@ -230,10 +230,10 @@ IMAGE_SCN_ALIGN_2048BYTES = 0x00C0_0000
 IMAGE_SCN_ALIGN_4096BYTES = 0x00D0_0000
 # The data is aligned to 8,192 bytes.
 IMAGE_SCN_ALIGN_8192BYTES = 0x00E0_0000
-# The bits that say the alignment.
+# The bits that give the alignment.
 IMAGE_SCN_ALIGN_MASK = 0x00F0_0000
-# The section has more relocations than its record can count: the first one's address is their
-# number.
+# The section has more relocations than its section header can count. The address in the first one
+# is the number of relocations.
 IMAGE_SCN_LNK_NRELOC_OVFL = 0x0100_0000
 # The section can be discarded once the image is loaded.
 IMAGE_SCN_MEM_DISCARDABLE = 0x0200_0000
@@ -255,13 +255,13 @@ IMAGE_SCN_MEM_WRITE = 0x8000_0000
 # Source: PE Format, "Section Number Values", "Type Representation", "Storage Class", "Auxiliary
 # Format 3: Weak Externals" and "COMDAT Sections (Object Only)".
 
-# A symbol's section: none; it is defined elsewhere, or is common where its value is not 0.
+# A symbol's section: none. The symbol is defined elsewhere, or is common if its value is not 0.
 IMAGE_SYM_UNDEFINED = 0
 # A symbol's section: none; the value is not an address.
 IMAGE_SYM_ABSOLUTE = -1
 # A symbol's section: none; the symbol is for debuggers.
 IMAGE_SYM_DEBUG = -2
-# A symbol's base type: none, or not known.
+# A symbol's base type: none, or unknown.
 IMAGE_SYM_TYPE_NULL = 0
 # A symbol's base type: no valid type, as for a function that returns nothing.
 IMAGE_SYM_TYPE_VOID = 1
@@ -309,9 +309,9 @@ IMAGE_SYM_DTYPE_ARRAY = 3
 IMAGE_SYM_CLASS_NULL = 0
 # A symbol's class: a variable on the stack.
 IMAGE_SYM_CLASS_AUTOMATIC = 1
-# A symbol's class: seen by other files.
+# A symbol's class: visible to other files.
 IMAGE_SYM_CLASS_EXTERNAL = 2
-# A symbol's class: seen only by its file; with the value 0 it may stand for a section.
+# A symbol's class: visible only in its own file; with the value 0 it may represent a section.
 IMAGE_SYM_CLASS_STATIC = 3
 # A symbol's class: a variable in a register.
 IMAGE_SYM_CLASS_REGISTER = 4
@@ -341,11 +341,11 @@ IMAGE_SYM_CLASS_ENUM_TAG = 15
 IMAGE_SYM_CLASS_MEMBER_OF_ENUM = 16
 # A symbol's class: an argument in a register.
 IMAGE_SYM_CLASS_REGISTER_PARAM = 17
-# A symbol's class: a field of bits.
+# A symbol's class: a bit field.
 IMAGE_SYM_CLASS_BIT_FIELD = 18
 # A symbol's class: the start or the end of a block.
 IMAGE_SYM_CLASS_BLOCK = 100
-# A symbol's class: the start or the end of a function, or its lines.
+# A symbol's class: the start or the end of a function, or its number of lines.
 IMAGE_SYM_CLASS_FUNCTION = 101
 # A symbol's class: the end of a structure.
 IMAGE_SYM_CLASS_END_OF_STRUCT = 102
@@ -363,19 +363,20 @@ IMAGE_SYM_CLASS_END_OF_FUNCTION = 255
 IMAGE_WEAK_EXTERN_SEARCH_NOLIBRARY = 1
 # Where a weak symbol is looked for: in libraries too.
 IMAGE_WEAK_EXTERN_SEARCH_LIBRARY = 2
-# Where a weak symbol is looked for: nowhere; it is another name of the other symbol.
+# Where a weak symbol is looked for: nowhere; it is an alias of the other symbol.
 IMAGE_WEAK_EXTERN_SEARCH_ALIAS = 3
-# Which of several COMDAT sections is taken: only one may exist.
+# Which of several COMDAT sections is kept: only one may exist.
 IMAGE_COMDAT_SELECT_NODUPLICATES = 1
-# Which of several COMDAT sections is taken: any.
+# Which of several COMDAT sections is kept: any.
 IMAGE_COMDAT_SELECT_ANY = 2
-# Which of several COMDAT sections is taken: any, and all must have one size.
+# Which of several COMDAT sections is kept: any, and all must have one size.
 IMAGE_COMDAT_SELECT_SAME_SIZE = 3
-# Which of several COMDAT sections is taken: any, and all must be equal.
+# Which of several COMDAT sections is kept: any, and all must be equal.
 IMAGE_COMDAT_SELECT_EXACT_MATCH = 4
-# Which of several COMDAT sections is taken: this one where another section is taken.
+# Which of several COMDAT sections is kept: this one if the section that it is associated with is
+# kept.
 IMAGE_COMDAT_SELECT_ASSOCIATIVE = 5
-# Which of several COMDAT sections is taken: the largest.
+# Which of several COMDAT sections is kept: the largest.
 IMAGE_COMDAT_SELECT_LARGEST = 6
 
 # The types of relocations, by the machine, and those of base relocations.
@@ -554,15 +555,15 @@ IMAGE_REL_IA64_SREL22 = 0x12
 IMAGE_REL_IA64_SREL32 = 0x13
 # Itanium: an unsigned value of 32 bits, the difference of two targets.
 IMAGE_REL_IA64_UREL32 = 0x14
-# Itanium: the distance of a branch of 60 bits, kept long.
+# Itanium: the distance of a branch, 60 bits; the branch stays a long one.
 IMAGE_REL_IA64_PCREL60X = 0x15
-# Itanium: the distance of a branch of 60 bits; a short one becomes one of 25 in a branch slot.
+# Itanium: the distance of a branch, 60 bits; if 25 bits suffice, its bundle becomes an MBB one.
 IMAGE_REL_IA64_PCREL60B = 0x16
-# Itanium: the same, a short one in a floating-point slot.
+# Itanium: the distance of a branch, 60 bits; if 25 bits suffice, its bundle becomes an MFB one.
 IMAGE_REL_IA64_PCREL60F = 0x17
-# Itanium: the same, a short one in an integer slot.
+# Itanium: the distance of a branch, 60 bits; if 25 bits suffice, its bundle becomes an MIB one.
 IMAGE_REL_IA64_PCREL60I = 0x18
-# Itanium: the same, a short one in a memory slot.
+# Itanium: the distance of a branch, 60 bits; if 25 bits suffice, its bundle becomes an MMB one.
 IMAGE_REL_IA64_PCREL60M = 0x19
 # Itanium: an offset from the global pointer, an immediate of 64 bits.
 IMAGE_REL_IA64_IMMGPREL64 = 0x1A
@@ -623,30 +624,30 @@ OFFSET_WINDOWS_FIELDS_32_CHECKSUM = 36
 OFFSET_WINDOWS_FIELDS_64_CHECKSUM = 40
 # The size of the signature of a PE header, in bytes.
 SIZEOF_PE_MAGIC = 4
-# The offset in the DOS header of the file offset of the PE signature.
+# The offset, in the DOS header, of the field with the file offset of the PE signature.
 PE_POINTER_OFFSET = 0x3C
 # The file offset at which the DOS stub begins, just past the DOS header.
 DOS_STUB_OFFSET = 0x40
-# The size of a directory's record, in bytes.
+# The size of a data directory's record, in bytes.
 SIZEOF_DATA_DIRECTORY = 8
-# How many entries the table has.
+# How many entries the table of data directories has.
 NUM_DATA_DIRECTORIES = 16
-# The size of a section record, in bytes.
+# The size of a section header, in bytes.
 SIZEOF_SECTION_TABLE = 40
 # The size of a record of the symbol table, in bytes.
 COFF_SYMBOL_SIZE = 18
 # The size of a relocation of a COFF object, in bytes.
 COFF_RELOCATION_SIZE = 10
-# The size of an import directory record, in bytes.
+# The size of an import descriptor, in bytes.
 SIZEOF_IMPORT_DIRECTORY_ENTRY = 20
 # The size of an export directory's record, in bytes.
 SIZEOF_EXPORT_DIRECTORY_TABLE = 40
 # The size of an entry of the export address table, in bytes.
 SIZEOF_EXPORT_ADDRESS_TABLE_ENTRY = 4
-# The size of the head of a base relocation block, in bytes.
+# The size of the header of a base relocation block, in bytes.
 RELOCATION_BLOCK_SIZE = 8
-# The most sections that are walked over for each address: as many as the Windows loader takes. Of
-# more an index is made, which takes memory.
+# The largest number of sections that are walked over for each address. It is the limit of the
+# Windows loader. For more sections an index is made, which takes memory.
 #
 # Source: PE Format, "COFF File Header (Object and Image)".
 MOST_WITHOUT_INDEX = 96

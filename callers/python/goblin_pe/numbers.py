@@ -209,30 +209,32 @@ class ReadFault(Number):
 
 
 class DirectoryType(Number):
-    """What the table of a directory is: the kinds, in the order of their indexes 0 to 14.
+    """The kind of table that a data directory locates. The kinds are in the order of their indexes,
+    0 to 14.
 
     Source: PE Format, "Optional Header Data Directories (Image Only)". The sixteenth entry is
     reserved and has no kind."""
 
     # The exports (`.edata`), at index 0: what other images may import from this one.
     EXPORT_TABLE = 0
-    # The import directory (`.idata`), at index 1: what the loader takes from which libraries.
+    # The import directory (`.idata`), at index 1: what this image imports, and from which
+    # libraries.
     IMPORT_TABLE = 1
     # The resources (`.rsrc`), at index 2.
     RESOURCE_TABLE = 2
-    # How exceptions are handled (`.pdata`), at index 3.
+    # The exception table (`.pdata`), at index 3: how exceptions are handled.
     EXCEPTION_TABLE = 3
-    # The attribute certificates, at index 4. They are not part of the image in memory: the address
-    # is a file offset.
+    # The attribute certificates, at index 4. They are not part of the image in memory, so the
+    # address is a file offset.
     CERTIFICATE_TABLE = 4
-    # The base relocations (`.reloc`), at index 5: what the loader changes where it can't load the
-    # image at its base.
+    # The base relocations (`.reloc`), at index 5: what the loader changes if it can't load the
+    # image at its preferred address.
     BASE_RELOCATION_TABLE = 5
     # The debug data (`.debug`), at index 6.
     DEBUG_TABLE = 6
     # Reserved, at index 7.
     ARCHITECTURE = 7
-    # The address of the value for the global pointer register, at index 8. Its size must be 0.
+    # The address of the value for the global pointer register, at index 8. The size must be 0.
     GLOBAL_PTR = 8
     # The thread local storage (`.tls`), at index 9. Its callbacks run before the entry point.
     TLS_TABLE = 9
@@ -240,8 +242,8 @@ class DirectoryType(Number):
     LOAD_CONFIG_TABLE = 10
     # The bound imports, at index 11.
     BOUND_IMPORT_TABLE = 11
-    # The import address table, at index 12, which the loader fills. Readers find it by the import
-    # directory.
+    # The import address table, at index 12, which the loader fills. Readers find it through the
+    # import directory.
     IMPORT_ADDRESS_TABLE = 12
     # The delayed imports, at index 13: libraries that are loaded at the first call.
     DELAY_IMPORT_DESCRIPTOR = 13
@@ -254,9 +256,9 @@ class RefusedPart(Number):
 
     # Nothing is refused.
     NOTHING = 0
-    # The header: all that stands before the section table.
+    # The header: everything before the section table.
     HEADER = 1
-    # The sections: their records, or a name.
+    # The sections: their headers, or a name.
     SECTIONS = 2
     # The imports.
     IMPORTS = 3

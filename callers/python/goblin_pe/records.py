@@ -24,7 +24,7 @@ class Text(Record):
 
 @header
 class AuxFunctionDefinition(NamedTuple):
-    """What follows a symbol that defines a function.
+    """The auxiliary record of a symbol that defines a function.
 
     Source: PE Format, "Auxiliary Format 1: Function Definitions". Numbers are as stored; the record
     has 18 bytes, and `at` gives a field's offset in it.
@@ -32,10 +32,10 @@ class AuxFunctionDefinition(NamedTuple):
     tag_index: The index in the symbol table of the function's start, a record of class
         `IMAGE_SYM_CLASS_FUNCTION`, at 0.
     total_size: The size of the function's code, in bytes, at 4.
-    pointer_to_line_number: The file offset of the function's first line number, at 8; 0 where it
-        has none.
+    pointer_to_line_number: The file offset of the function's first line number, at 8; 0 if it has
+        none.
     pointer_to_next_function: The index in the symbol table of the next function's record, at 12; 0
-        where this is the last.
+        if this is the last.
     unused: Not used, at 16.
     """
 
@@ -48,7 +48,7 @@ class AuxFunctionDefinition(NamedTuple):
 
 @header
 class AuxBeginAndEndFunction(NamedTuple):
-    """What follows a symbol of a function's start or end.
+    """The auxiliary record of a symbol for the start or the end of a function.
 
     Source: PE Format, "Auxiliary Format 2: .bf and .ef Symbols". Numbers are as stored; the record
     has 18 bytes, and `at` gives a field's offset in it.
@@ -56,8 +56,8 @@ class AuxBeginAndEndFunction(NamedTuple):
     unused1: Not used, at 0.
     line_number: The line in the source file, counted from 1, at 4.
     unused2: Not used, at 6.
-    pointer_to_next_function: At 12, only for a start: the index in the symbol table of the next
-        function's start, 0 where this is the last.
+    pointer_to_next_function: The index in the symbol table of the next function's start, at 12; 0
+        if this is the last. It counts only in the record of a start.
     unused3: Not used, at 16.
     """
 
@@ -70,14 +70,14 @@ class AuxBeginAndEndFunction(NamedTuple):
 
 @header
 class AuxWeakExternal(NamedTuple):
-    """What follows a symbol that another may replace.
+    """The auxiliary record of a weak external, a symbol that another may replace.
 
     Source: PE Format, "Auxiliary Format 3: Weak Externals". Numbers are as stored; the record has
     18 bytes, and `at` gives a field's offset in it.
 
-    tag_index: The index in the symbol table of the symbol that is taken where this one is not
+    tag_index: The index in the symbol table of the symbol that replaces this one if it is not
         found, at 0.
-    characteristics: Where this one is looked for, an `IMAGE_WEAK_EXTERN_SEARCH_*`, at 4.
+    characteristics: Where the linker looks for this symbol, an `IMAGE_WEAK_EXTERN_SEARCH_*`, at 4.
     unused: Not used, at 8.
     """
 
@@ -88,19 +88,19 @@ class AuxWeakExternal(NamedTuple):
 
 @header
 class AuxSectionDefinition(NamedTuple):
-    """What follows a symbol that defines a section.
+    """The auxiliary record of a symbol that defines a section.
 
     Source: PE Format, "Auxiliary Format 5: Section Definitions". Numbers are as stored; the record
     has 18 bytes, and `at` gives a field's offset in it.
 
-    length: The size of the section's data, in bytes, at 0: the same as in its section record.
+    length: The size of the section's data, in bytes, at 0: the same as in its section header.
     number_of_relocations: How many relocations the section has, at 4.
     number_of_line_numbers: How many line numbers the section has, at 6.
     checksum: The checksum of COMDAT data, at 8.
-    number: The number, counted from 1, of the section that this one is taken with, at 12; it counts
-        if `selection` is `IMAGE_COMDAT_SELECT_ASSOCIATIVE`.
-    selection: Which of several COMDAT sections of one name is taken, an `IMAGE_COMDAT_SELECT_*`, at
-        14.
+    number: The number, counted from 1, of the section that this one is associated with, at 12. It
+        counts only if `selection` is `IMAGE_COMDAT_SELECT_ASSOCIATIVE`.
+    selection: Which of several COMDAT sections of one name the linker keeps, an
+        `IMAGE_COMDAT_SELECT_*`, at 14.
     unused: Not used, at 15.
     """
 
@@ -269,16 +269,17 @@ class SectionData(Record):
 
 @header
 class DataDirectory(NamedTuple):
-    """Where a table of an image lies.
+    """A data directory: where a table of an image lies.
 
-    Source: PE Format, "Optional Header Data Directories (Image Only)". Numbers are as stored; the
-    record has 8 bytes, and `at` gives a field's offset in it.
+    Source: PE Format, "Optional Header Data Directories (Image Only)". Numbers are as stored. The
+    record has 8 bytes, and `at` gives the offset of a field in it.
 
-    virtual_address: The table's address, relative to the image's base, at 0. That of the
-        certificates is a file offset, since they are not loaded.
-    size: The table's size in bytes, at 4. An import directory ends at its own last record, and a
-        value at an address by its own type, whatever the size; of an export directory the size says
-        which addresses are forwarders, of base relocations where the blocks end.
+    virtual_address: The table's address, relative to the image's base, at 0. For the certificates
+        it is a file offset, because they are not loaded.
+    size: The table's size in bytes, at 4. In an export directory it says which addresses are
+        forwarders, and in a base relocation directory where the blocks end. An import directory
+        ends at its own last record, and the type of a value at an address says where the value
+        ends, whatever the size.
     """
 
     virtual_address: Annotated[int, c.c_uint32]
@@ -348,22 +349,24 @@ class ImportCursor(Record):
 
 @header
 class ImportDirectoryEntry(NamedTuple):
-    """A record of an import directory: where the imports from a library are.
+    """An import descriptor: the record of a library in an import directory. It says where the
+    imports from that library are.
 
-    Source: PE Format, "Import Directory Table". Numbers are as stored; the record has 20 bytes, and
-    `at` gives a field's offset in it. Addresses are relative to the image's base.
+    A descriptor has 20 bytes, and `at` gives a field's offset in it. Numbers are as stored.
+    Addresses are RVAs, relative to the image's base.
 
-    import_lookup_table_rva: The address of the lookup table, which says what is imported, at 0.
-        Where it has no file offset, the address table is read instead, as images of some old
-        linkers ask for.
-    time_date_stamp: 0 until the imports are bound, at 4; then the time stamp of the library to
-        which they were bound, or 2^32 - 1 if the bound imports say it.
+    Source: PE Format, "Import Directory Table".
+
+    import_lookup_table_rva: The address of the lookup table, which says what is imported, at 0. If
+        it has no file offset, the address table is read instead, as images of some old linkers
+        require.
+    time_date_stamp: 0 until the imports are bound, at 4. Then it is the time stamp of the library
+        to which they were bound, or 2^32 - 1 if the table of bound imports has that time stamp.
     forwarder_chain: The index of the first forwarder, at 8.
-    name_rva: The address of the library's name, at 12. The record with 0 here is the directory's
-        last.
-    import_address_table_rva: The address of the address table, at 16: a copy of the lookup table,
-        whose entries the loader replaces with addresses. The record with 0 here is the directory's
-        last.
+    name_rva: The address of the library's name, at 12. A descriptor with 0 here ends the directory.
+    import_address_table_rva: The address of the address table, at 16. That table is a copy of the
+        lookup table, whose entries the loader replaces with addresses. A descriptor with 0 here
+        ends the directory.
     """
 
     import_lookup_table_rva: Annotated[int, c.c_uint32]
@@ -410,20 +413,21 @@ class CoffHeader(NamedTuple):
     20 bytes, and `at` gives a field's offset in it. An object begins with it; in an image it
     follows the PE signature.
 
-    machine: The machine that the file is for, a `COFF_MACHINE_*`, at 0. No reader looks at it: the
-        width of an image is what the magic of its optional header says.
-    number_of_sections: How many section records follow the optional header, at 2. The Windows
-        loader takes at most 96.
-    time_date_stamp: When the file was made, in seconds since the start of 1970, at 4; or what its
-        maker put there, such as a hash.
-    pointer_to_symbol_table: The file offset of the symbol table, at 8; 0 where there is none, as in
+    machine: The machine that the file is for, a `COFF_MACHINE_*`, at 0. No reader looks at it,
+        because the magic of the optional header gives the width of an image.
+    number_of_sections: How many section headers follow the optional header, at 2. The Windows
+        loader accepts at most 96.
+    time_date_stamp: When the file was made, in seconds since the start of 1970, at 4. Some makers
+        store something else there, such as a hash.
+    pointer_to_symbol_table: The file offset of the symbol table, at 8; 0 if there is none, as in
         most images. The string table follows the symbol table.
-    number_of_symbol_table: How many records the symbol table has, the auxiliary ones too, at 12.
-    size_of_optional_header: The size of the optional header, in bytes, at 16; 0 where there is
-        none, as in an object. Only this says where the section table begins; it says nothing about
-        the optional header's own layout.
-    characteristics: What kind of file it is, as bits `IMAGE_FILE_*` (PE Format, "Characteristics"),
-        at 18.
+    number_of_symbol_table: How many records the symbol table has, at 12. Auxiliary records are
+        counted.
+    size_of_optional_header: The size of the optional header, in bytes, at 16; 0 if there is none,
+        as in an object. This field alone says where the section table begins. It says nothing about
+        the layout of the optional header.
+    characteristics: The characteristics of the file, as bits `IMAGE_FILE_*` (PE Format,
+        "Characteristics"), at 18.
     """
 
     machine: Annotated[int, c.c_uint16]
@@ -481,15 +485,15 @@ class Symbol(NamedTuple):
     Source: PE Format, "COFF Symbol Table". Numbers are as stored; a record has 18 bytes, and `at`
     gives a field's offset in it.
 
-    name: The eight bytes of the name, padded with NULs, at 0. Where the first is 0, the name is in
-        the string table, at the number in the last four, which counts from the table's length
-        field.
-    value: What the symbol stands for, by its section and class, at 8: mostly an offset in its
-        section, in bytes.
+    name: The eight bytes of the name, padded with NULs, at 0. If the first byte is 0, the name is
+        in the string table, and the last four bytes are its offset there, counted from the table's
+        length field.
+    value: The value of the symbol, at 8. Its section and class say what it means; mostly it is an
+        offset in the section, in bytes.
     section_number: The number of its section, counted from 1, at 12; or `IMAGE_SYM_UNDEFINED` (0),
         `IMAGE_SYM_ABSOLUTE` (-1) or `IMAGE_SYM_DEBUG` (-2).
     typ: Its type, at 14: an `IMAGE_SYM_TYPE_*` in the low four bits, an `IMAGE_SYM_DTYPE_*` above
-        them. Microsoft's tools store 0x20 of a function, else 0.
+        them. Microsoft's tools store 0x20 for a function, else 0.
     storage_class: Its class, an `IMAGE_SYM_CLASS_*`, at 16.
     number_of_aux_symbols: How many auxiliary records follow it, at 17. The next symbol follows
         these.
@@ -524,17 +528,18 @@ class NamedSymbol(Record):
 
 @header
 class Relocation(NamedTuple):
-    """A relocation of a COFF object: which bytes of a section a linker changes, and how.
+    """A relocation of a COFF object. It says which bytes of a section a linker changes, and how.
 
-    Source: PE Format, "COFF Relocations (Object Only)". Numbers are as stored; the record has 10
-    bytes, and `at` gives a field's offset in it.
+    Source: PE Format, "COFF Relocations (Object Only)". Numbers are as stored. The record has 10
+    bytes, and `at` gives the offset of a field in it.
 
-    virtual_address: Where the bytes that are changed begin, at 0: their offset in the section, in
-        bytes, plus the section's own address, which is mostly 0. Of the first relocation of a
-        section with `IMAGE_SCN_LNK_NRELOC_OVFL` it is the number of all.
-    symbol_table_index: The index in the symbol table of the symbol whose address is put there, at
-        4.
-    typ: How it is put there, at 8: an `IMAGE_REL_*` of the machine that the COFF header names.
+    virtual_address: The address of the bytes that are changed, at 0: their offset in the section,
+        in bytes, plus the section's own address, which is mostly 0. In the first relocation of a
+        section with `IMAGE_SCN_LNK_NRELOC_OVFL` it is the number of relocations.
+    symbol_table_index: The index in the symbol table of the symbol whose address the linker puts
+        there, at 4.
+    typ: How the linker puts it there, at 8: an `IMAGE_REL_*` of the machine that the COFF header
+        names.
     """
 
     virtual_address: Annotated[int, c.c_uint32]
@@ -547,25 +552,24 @@ class TeHeader(NamedTuple):
     """The header of a Terse Executable.
 
     Source: UEFI Platform Initialization Specification, volume 1, "TE Image". Numbers are as stored,
-    but for the four that are adjusted when it is read; the record has 40 bytes, and `at` gives a
-    field's offset in it. It replaces the headers of a PE file and keeps what a loader of firmware
-    needs of them; its addresses still count the bytes that were stripped.
+    except for four that are adjusted when the header is parsed; the record has 40 bytes, and `at`
+    gives a field's offset in it. This header replaces the headers of a PE file, and keeps what a
+    firmware loader needs of them. The addresses that it stores still count the bytes that were
+    stripped.
 
     signature: `VZ`, at 0. No reader tests it.
     machine: The machine that the file is for, a `COFF_MACHINE_*`, at 2.
-    number_of_sections: How many section records follow, at 4.
+    number_of_sections: How many section headers follow, at 4.
     subsystem: The subsystem that runs the image, at 5.
     stripped_size: How many bytes were stripped from the front of the PE file, at 6. This header
-        replaces them, so everything after it moved forward by this minus 40.
-    entry_point: The address of the entry point, relative to the image's base, at 8; in a header
-        that was parsed, adjusted.
-    base_of_code: The address at which the code begins, relative to the image's base, at 12; in a
-        header that was parsed, adjusted.
-    image_base: The address at which the image is best loaded, at 16; as stored.
-    reloc_dir: Where the base relocations lie, at 24; in a header that was parsed, with the address
-        adjusted.
-    debug_dir: Where the debug data lies, at 32; in a header that was parsed, with the address
-        adjusted.
+        replaces them, so everything after it moved towards the front by this number minus 40.
+    entry_point: The RVA of the entry point, at 8; adjusted in a header that was parsed.
+    base_of_code: The RVA at which the code begins, at 12; adjusted in a header that was parsed.
+    image_base: The preferred address of the image in memory, at 16, as stored.
+    reloc_dir: The data directory of the base relocations, at 24. Its RVA is adjusted in a header
+        that was parsed.
+    debug_dir: The data directory of the debug data, at 32. Its RVA is adjusted in a header that was
+        parsed.
     """
 
     signature: Annotated[int, c.c_uint16]
@@ -648,24 +652,25 @@ class Export(Record):
 
 @header
 class ExportDirectoryTable(NamedTuple):
-    """The record that an image's exports begin with.
+    """The record with which the exports of an image begin.
 
     Source: PE Format, "Export Directory Table". Numbers are as stored; the record has 40 bytes, and
-    `at` gives a field's offset in it. Addresses are relative to the image's base.
+    `at` gives a field's offset in it. An RVA is an address relative to the image's base.
 
     export_flags: Reserved, 0, at 0.
     time_date_stamp: When the exports were made, in seconds since the start of 1970, at 4.
-    major_version: The major version, at 8. It is the maker's own.
+    major_version: The major version, at 8. The maker of the image chooses it.
     minor_version: The minor version, at 10.
-    name_rva: The address of the library's name, at 12.
-    ordinal_base: The ordinal of the first entry of the address table, at 16; mostly 1. It is added
-        to an index to make an ordinal, and counts in no table.
+    name_rva: The RVA of the library's name, at 12.
+    ordinal_base: The ordinal of the first entry of the address table, at 16; mostly 1. An ordinal
+        is an index in the address table plus this base. The entries of the ordinal table do not
+        include the base.
     address_table_entries: How many entries the address table has, at 20.
-    number_of_name_pointers: How many entries the name pointer table has, and as many has the
-        ordinal table, at 24.
-    export_address_table_rva: The address of the address table, at 28.
-    name_pointer_rva: The address of the name pointer table, at 32.
-    ordinal_table_rva: The address of the ordinal table, at 36.
+    number_of_name_pointers: How many entries the name pointer table and the ordinal table each
+        have, at 24.
+    export_address_table_rva: The RVA of the address table, at 28.
+    name_pointer_rva: The RVA of the name pointer table, at 32.
+    ordinal_table_rva: The RVA of the ordinal table, at 36.
     """
 
     export_flags: Annotated[int, c.c_uint32]
@@ -752,8 +757,8 @@ class StandardFields(NamedTuple):
     Source: PE Format, "Optional Header Standard Fields (Image Only)". `at` gives a field's offset
     from the front of the optional header, in both widths.
 
-    magic: What the optional header is, at 0: `MAGIC_32` or `MAGIC_64`. Only this says the width of
-        the header and of import entries.
+    magic: The magic of the optional header, at 0: `MAGIC_32` or `MAGIC_64`. It alone gives the
+        width of the header and of the entries of import tables.
     major_linker_version: The linker's major version, at 2.
     minor_linker_version: The linker's minor version, at 3.
     size_of_code: The size of the code, in bytes, at 4: the sum of all code sections.
@@ -761,12 +766,11 @@ class StandardFields(NamedTuple):
         sections.
     size_of_uninitialized_data: The size of the uninitialized data, in bytes, at 12: the sum of all
         such sections.
-    address_of_entry_point: The address of the entry point, relative to the image's base, at 16; 0
-        where there is none, as in some libraries. The loader starts there, in whatever section it
-        lies.
-    base_of_code: The address at which the code begins, relative to the image's base, at 20.
-    base_of_data: The address at which the data begins, relative to the image's base, at 24 in an
-        image for 32 bits; 0 in one for 64 bits.
+    address_of_entry_point: The RVA of the entry point, at 16; 0 if there is none, as in some
+        libraries. The loader starts there, in whatever section it lies.
+    base_of_code: The RVA at which the code begins, at 20.
+    base_of_data: The RVA at which the data begins, at 24, in an image for 32 bits; 0 in one for 64
+        bits.
     """
 
     magic: Annotated[int, c.c_uint16]
@@ -785,33 +789,36 @@ class WindowsFields(NamedTuple):
     """The Windows fields of an optional header for 64 bits.
 
     Source: PE Format, "Optional Header Windows-Specific Fields (Image Only)". Numbers are as
-    stored; the record has 88 bytes, and `at` gives a field's offset in it. It begins at 24 in the
-    optional header.
+    stored; the record has 88 bytes, and `at` gives a field's offset in it. The record begins at 24
+    in the optional header.
 
-    image_base: The address at which the image is best loaded, a multiple of 64 KiB, at 0. Where the
-        loader takes another, it applies the base relocations.
+    image_base: The preferred address of the image in memory, a multiple of 64 KiB, at 0. If the
+        loader uses another address, it applies the base relocations.
     section_alignment: The alignment of sections in memory, in bytes, at 8: at least the file
         alignment, mostly a page.
     file_alignment: The alignment of the raw data of sections in the file, in bytes, at 12: a power
-        of two, mostly 512. The mapping of addresses to file offsets goes by it.
-    major_operating_system_version: The major version of the system that the image needs, at 16.
-    minor_operating_system_version: The minor version of the system that the image needs, at 18.
+        of two, mostly 512. The mapping of addresses to file offsets depends on it.
+    major_operating_system_version: The major version of the operating system that the image needs,
+        at 16.
+    minor_operating_system_version: The minor version of the operating system that the image needs,
+        at 18.
     major_image_version: The image's major version, at 20.
     minor_image_version: The image's minor version, at 22.
     major_subsystem_version: The major version of the subsystem that the image needs, at 24.
     minor_subsystem_version: The minor version of the subsystem that the image needs, at 26.
     win32_version_value: Reserved, 0, at 28.
-    size_of_image: The size of the image in memory with all headers, in bytes, at 32: how much the
-        loader reserves, a multiple of the section alignment.
+    size_of_image: The size of the image in memory with all headers, in bytes, at 32. It is a
+        multiple of the section alignment, and what the loader reserves.
     size_of_headers: The size of all headers together, in bytes, rounded up to the file alignment,
-        at 36. The loader maps this much of the file's front at the image's base.
-    check_sum: The image's checksum, at 40. The loader tests that of drivers and of what is loaded
-        at boot; no reader does.
+        at 36. The loader maps this much of the front of the file, in whole file blocks, at the
+        image's base.
+    check_sum: The checksum of the image, at 40. The loader tests it for drivers and for images that
+        are loaded at boot; no reader tests it.
     subsystem: The subsystem that runs the image, an `IMAGE_SUBSYSTEM_*` (PE Format, "Windows
         Subsystem"), at 44.
-    dll_characteristics: What the loader may and has to do, as bits `IMAGE_DLLCHARACTERISTICS_*` (PE
-        Format, "DLL Characteristics"), at 46: whether it may move the image, and which guards it
-        turns on.
+    dll_characteristics: What the image allows and requires of the loader, as bits
+        `IMAGE_DLLCHARACTERISTICS_*` (PE Format, "DLL Characteristics"), at 46: whether the loader
+        may move the image, and which guards it turns on.
     size_of_stack_reserve: How much of the stack to reserve, in bytes, at 48.
     size_of_stack_commit: How much of the stack to commit, in bytes, at 56; the rest follows page by
         page.
@@ -819,8 +826,9 @@ class WindowsFields(NamedTuple):
     size_of_heap_commit: How much of the heap to commit, in bytes, at 72; the rest follows page by
         page.
     loader_flags: Reserved, 0, at 80.
-    number_of_rva_and_sizes: How many data directories follow, at 84. Readers refuse a header that
-        says more than sixteen; directories past this number are not there, whatever bytes follow.
+    number_of_rva_and_sizes: How many data directories follow, at 84. A reader of a whole header
+        refuses more than sixteen. Data directories past this number do not exist, whatever bytes
+        follow.
     """
 
     image_base: Annotated[int, c.c_uint64]
@@ -917,9 +925,9 @@ class DosHeader(NamedTuple):
     pages_in_file: How many pages of 512 bytes the program has, at 0x04.
     relocations: How many relocations there are, at 0x06.
     size_of_header_in_paragraphs: The size of the header in paragraphs of 16 bytes, at 0x08.
-    minimum_extra_paragraphs_needed: The least memory that the program needs after it, in
+    minimum_extra_paragraphs_needed: The least memory that the program needs after its own, in
         paragraphs, at 0x0A.
-    maximum_extra_paragraphs_needed: The most memory that the program asks for after it, in
+    maximum_extra_paragraphs_needed: The most memory that the program asks for after its own, in
         paragraphs, at 0x0C.
     initial_relative_ss: The stack segment at the start, relative to the program, at 0x0E.
     initial_sp: The stack pointer at the start, at 0x10.
@@ -929,12 +937,12 @@ class DosHeader(NamedTuple):
     file_address_of_relocation_table: The file offset of the relocations, at 0x18.
     overlay_number: The overlay's number, at 0x1A.
     reserved: Reserved, at 0x1C.
-    oem_id: The maker's identifier, at 0x24.
-    oem_info: What the maker says, at 0x26.
+    oem_id: The identifier of the maker (OEM), at 0x24.
+    oem_info: The information of the maker (OEM), at 0x26.
     reserved2: Reserved, at 0x28.
-    pe_pointer: The file offset of the PE signature, at 0x3C. It may lie anywhere in the file, even
-        inside the DOS header, and need not be aligned; a whole header is read in strict mode only
-        where this is at least 0x40.
+    pe_pointer: The file offset of the PE signature, at 0x3C. The signature may lie anywhere in the
+        file, even inside the DOS header, and need not be aligned. Strict mode reads a whole header
+        only if this offset is at least 0x40.
     """
 
     signature: Annotated[int, c.c_uint16]
@@ -991,13 +999,13 @@ class File(Record):
 class RichMetadata(NamedTuple):
     """An entry of a Rich header: a tool, and how often it was used.
 
-    Source: not documented by Microsoft; the layout is what linkers write. Numbers are as stored;
-    the record has 8 bytes, and `at` gives a field's offset in it. In a file its two words are
-    stored under the header's key.
+    Source: not documented by Microsoft; the layout is what linkers write. The record has 8 bytes,
+    and `at` gives a field's offset in it. In a file each of its two words is stored under the key
+    of the header: as its exclusive or with the key.
 
-    build: The build of the tool, at 0.
-    product: Which tool it is, at 2.
-    use_count: How many files it made, at 4.
+    build: The build number of the tool, at 0.
+    product: The identifier of the tool, at 2.
+    use_count: How many files the tool made, at 4.
     """
 
     build: Annotated[int, c.c_uint16]

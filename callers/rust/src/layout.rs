@@ -1,4 +1,4 @@
-//! Images without their lists.
+//! Images whose tables are walked, not listed.
 
 use std::fmt;
 use std::io::{self, Write};
@@ -25,9 +25,12 @@ use crate::rows::{
 };
 use crate::text::Text;
 
-/// An image by its header and its sections. Nothing of it is listed, so it takes memory for these alone, however much
-/// its tables list; these are walked over, or looked up. A copy has records of its own; where memory for them is
-/// refused, the process ends as it does for a [`Vec`].
+/// An image: its header and its sections. A layout lists no table, so it takes the same little
+/// memory however much the tables of the file list. You walk the tables row by row, or look things
+/// up.
+///
+/// A clone has records of its own. If memory for them is refused, the process ends, as it does when
+/// a [`Vec`] is cloned.
 ///
 /// ```no_run
 /// use goblin_pe::{Layout, Options};
@@ -40,7 +43,7 @@ use crate::text::Text;
 /// # Ok::<(), std::io::Error>(())
 /// ```
 ///
-/// A [`Pe`] is a layout with its lists, so what takes a layout takes a `Pe`:
+/// A [`Pe`] is a layout that also has its lists, so what takes a `&Layout` takes a `&Pe`:
 ///
 /// ```no_run
 /// use goblin_pe::{Layout, Pe};
@@ -77,11 +80,11 @@ pub(crate) fn expected(bytes: &[u8]) -> usize {
 }
 
 impl<'a> Layout<'a> {
-    /// Reads the header and the sections of an image that lies in memory.
+    /// Reads the header and the sections of an image.
     ///
     /// # Errors
-    /// Memory, which is asked for first, for as many sections as the header counts; and why the header or a section was
-    /// refused.
+    /// If memory for as many sections as the header counts is refused, which is asked for first; or
+    /// if the header or a section is refused.
     ///
     /// ```no_run
     /// # let bytes = [];
@@ -112,10 +115,10 @@ impl<'a> Layout<'a> {
         }
     }
 
-    /// Reads the header and the sections of an image that lies in memory, by the default options: strictly.
+    /// Reads the header and the sections of an image with the default options, in strict mode.
     ///
     /// # Errors
-    /// As of [`Layout::read`].
+    /// As [`Layout::read`].
     ///
     /// ```no_run
     /// # let bytes = [];
@@ -140,7 +143,7 @@ impl<'a> Layout<'a> {
         self.bytes
     }
 
-    /// Whether the optional header is one for 64 bits.
+    /// Whether the image is PE32+: it has an optional header for 64 bits.
     ///
     /// ```no_run
     /// # let bytes = [];
@@ -154,7 +157,7 @@ impl<'a> Layout<'a> {
             .is_some_and(|it| it.standard_fields.magic == MAGIC_64)
     }
 
-    /// Whether the file says that it is a dynamic-link library.
+    /// Whether the file header has the flag of a dynamic-link library.
     ///
     /// ```no_run
     /// # let bytes = [];
@@ -167,7 +170,7 @@ impl<'a> Layout<'a> {
         self.coff_header().characteristics & IMAGE_FILE_DLL != 0
     }
 
-    /// The address of the entry point, relative to the image's base; 0 where there is none.
+    /// The RVA of the entry point, or 0 if there is none.
     ///
     /// ```no_run
     /// # let bytes = [];
@@ -181,7 +184,7 @@ impl<'a> Layout<'a> {
             .map_or(0, |it| it.standard_fields.address_of_entry_point)
     }
 
-    /// The address at which the image is best loaded; 0 where it has no optional header.
+    /// The preferred address of the image in memory, or 0 if it has no optional header.
     ///
     /// ```no_run
     /// # let bytes = [];
@@ -222,7 +225,7 @@ impl<'a> Layout<'a> {
         &self.head.file.coff_header
     }
 
-    /// The optional header; `None` where the file has none, and then it has no tables.
+    /// The optional header, or `None` if the file has none. Then it has no tables either.
     ///
     /// ```no_run
     /// # let bytes = [];
@@ -235,7 +238,7 @@ impl<'a> Layout<'a> {
         (self.head.file.directories != 0).then_some(&self.head.file.optional_header)
     }
 
-    /// The data directory of a kind; `None` where the file has none, or one of zeros.
+    /// The data directory of a kind, or `None` if the file has none, or one that is all zeros.
     ///
     /// ```no_run
     /// # use goblin_pe::DirectoryType;
@@ -249,8 +252,8 @@ impl<'a> Layout<'a> {
         self.head.file.places.directory(kind as usize)
     }
 
-    /// The data directories that are there, as pairs (index, directory), by rising index; an index
-    /// below 15 is that of a [`DirectoryType`].
+    /// The data directories that are there, as pairs (index, directory) in the order of their
+    /// indexes. An index below 15 is that of a [`DirectoryType`].
     ///
     /// ```no_run
     /// # let bytes = [];
@@ -265,8 +268,11 @@ impl<'a> Layout<'a> {
         DataDirectories(self.head.file.places.directories.iter().enumerate())
     }
 
-    /// The sections. What follows the data of all of them in the file is its overlay; what is left of a section that the
-    /// file's end cuts is none. A section with the raw pointer 0 has no data in the file.
+    /// The sections.
+    ///
+    /// What follows the data of all sections in the file is its overlay. The rest of a section that
+    /// the end of the file cuts is no overlay. A section with the raw pointer 0 has no data in the
+    /// file. So this finds the overlay:
     ///
     /// ```no_run
     /// # let bytes = [];
@@ -291,7 +297,7 @@ impl<'a> Layout<'a> {
         }
     }
 
-    /// The first section of this name; `None` where there is none, and where the options cut this name.
+    /// The first section of this name. `None` if there is none, or if the options cut this name.
     ///
     /// ```no_run
     /// # let bytes = [];
@@ -305,8 +311,9 @@ impl<'a> Layout<'a> {
         self.sections().find(|s| s.is_named(name, longest))
     }
 
-    /// The section of this number, counted from 1, as a symbol's `section_number` has it; `None` where there is none, as
-    /// where a symbol is undefined (0), absolute (-1) or for a debugger (-2).
+    /// The section of this number, counted from 1, as the `section_number` of a symbol gives it.
+    /// `None` if there is none, as for a symbol that is undefined (0), absolute (-1) or for a
+    /// debugger (-2).
     ///
     /// ```no_run
     /// # let bytes = [];
@@ -322,7 +329,7 @@ impl<'a> Layout<'a> {
         self.sections().nth(section_index(number)?)
     }
 
-    /// The header, to be changed and written: [`patched`](Self::patched) puts it into the file.
+    /// A copy of the header, to change and write. [`patched`](Self::patched) puts it into the file.
     ///
     /// ```no_run
     /// # let bytes = [];
@@ -343,10 +350,10 @@ impl<'a> Layout<'a> {
         }
     }
 
-    /// Writes the header as it was read; see [`Header::write`].
+    /// Writes the header as it was read. See [`Header::write`].
     ///
     /// # Errors
-    /// Too little room; nothing is written then.
+    /// If `out` is too small. Nothing is written then.
     ///
     /// ```no_run
     /// # let bytes = [];
@@ -359,9 +366,11 @@ impl<'a> Layout<'a> {
         self.header().write(out)
     }
 
-    /// The checksum of the whole file, as [`checksum`](crate::checksum) adds it up; `None` without an optional
-    /// header, which has the field `check_sum` for it. Windows tests that of drivers, and of libraries that it loads at
-    /// boot or into critical processes.
+    /// Computes the checksum of the whole file, as [`checksum`](crate::checksum) does. `None` if
+    /// the file has no optional header, which has the field `check_sum` for it.
+    ///
+    /// Windows verifies the checksum of drivers, and of libraries that it loads at boot or into
+    /// critical processes.
     ///
     /// ```no_run
     /// # let bytes = [];
@@ -375,13 +384,14 @@ impl<'a> Layout<'a> {
         raw::file_checksum(self.bytes, &self.options)
     }
 
-    /// The data of one of its sections, and how many zeros follow it in memory. It begins at the raw
-    /// pointer, which the options may round down to 512, as they do for [`find_offset`](Self::find_offset).
-    /// There is as much as the raw size says: it is not cut at the virtual size, as
-    /// [`memory_at`](Self::memory_at) cuts it. Uninitialized data is as [`Section::data`] has it.
+    /// The raw data of a section, and the number of zeros that follow it in memory.
+    ///
+    /// The data begins at the raw pointer. The options may round that down to 512, as for
+    /// [`find_offset`](Self::find_offset). The data is not cut at the virtual size, as it is by
+    /// [`memory_at`](Self::memory_at). [`Section::data`] says what uninitialized data is.
     ///
     /// # Errors
-    /// Where the data passes the file, and where it begins past the end, even if there is none.
+    /// If the data runs past the end of the file, or begins past it, even if it is empty.
     ///
     /// ```no_run
     /// # let bytes = [];
@@ -393,7 +403,8 @@ impl<'a> Layout<'a> {
         section.data_in(&self.image())
     }
 
-    /// The same as far as the file has it; see [`Section::available_data`].
+    /// As [`section_data`](Self::section_data), but only as far as the file has it. See
+    /// [`Section::available_data`].
     ///
     /// ```no_run
     /// # let bytes = [];
@@ -406,10 +417,11 @@ impl<'a> Layout<'a> {
         section.available_in(&self.image())
     }
 
-    /// The relocations of one of its sections, which few images have: the base relocations are [blocks](Self::walk_blocks); see [`Section::relocations`].
+    /// The COFF relocations of a section, which few images have. (Base relocations are
+    /// [blocks](Self::walk_blocks).) See [`Section::relocations`].
     ///
     /// # Errors
-    /// As of [`Section::relocations`].
+    /// As [`Section::relocations`].
     ///
     /// ```no_run
     /// # let bytes = [];
@@ -423,7 +435,7 @@ impl<'a> Layout<'a> {
         section.relocations(self.bytes)
     }
 
-    /// A walk over all relocations of one of its sections; see [`Section::walk_relocations`].
+    /// A walk over all COFF relocations of a section. See [`Section::walk_relocations`].
     ///
     /// ```no_run
     /// # let bytes = [];
@@ -439,11 +451,16 @@ impl<'a> Layout<'a> {
         section.walk_relocations(self.bytes)
     }
 
-    /// A walk over the imports, in constant memory, which reads the file as it goes on: also where the
-    /// options of the read left them out. A file of 256 KiB can have more than 800 million imports, more
-    /// than may be listed. In strict mode it ends with the error for which a read is refused; no law says
-    /// on which bytes what comes before it depends. What gives no import [`damage`](Self::damage) counts:
-    /// `unmapped_entries` in either mode, the others in permissive mode.
+    /// A walk over the imports. It reads the file as it goes, and takes constant memory. It yields
+    /// the imports even if the options do not ask for them.
+    ///
+    /// A file of 256 KiB can list more than 800 million imports, so limit the walk with
+    /// [`within`](WalkImports::within).
+    ///
+    /// In strict mode the walk ends with the error for which [`Pe::read`] refuses the file. It is
+    /// not proved on which bytes the rows before that error depend. [`damage`](Self::damage) counts
+    /// what gives no import: `unmapped_entries` in either mode, and the other two in permissive
+    /// mode.
     ///
     /// ```no_run
     /// # let bytes = [];
@@ -462,9 +479,10 @@ impl<'a> Layout<'a> {
         )
     }
 
-    /// A walk over the imports from the first one of a library on, which [`walk_libraries`](Self::walk_libraries) of this
-    /// file gave: it goes on with those of the later ones, and begins with these where the library has none, or permissive
-    /// mode leaves it out.
+    /// A walk over the imports that begins at the first import of `library`, which must come from
+    /// [`walk_libraries`](Self::walk_libraries) of this file. After the imports of that library
+    /// come those of later libraries. If the library has none, or if permissive mode leaves it out,
+    /// the walk begins with those.
     ///
     /// ```no_run
     /// # let bytes = [];
@@ -489,14 +507,20 @@ impl<'a> Layout<'a> {
         self.walk_imports().at_library(library)
     }
 
-    /// A walk over the libraries, as [`walk_imports`](Self::walk_imports) is over imports: one for each record of the
-    /// import directory, in order, up to the first that has no name or no address table. One library may have several.
-    /// Those that permissive mode leaves out of the imports come, too, but those of a directory at file offset 0, which
-    /// it takes as empty: [`damage`](Self::damage) counts both. In strict mode it ends with an error where the directory
-    /// reaches the end of the file; what else is refused of a library the walk over its imports tells.
+    /// A walk over the libraries of the import directory. It yields one for each record of the
+    /// directory, in order, up to the first record whose name or address table is at address 0. The
+    /// same library may come several times.
     ///
-    /// Each library may take as long as its lookup table and its address table have slots, however many libraries share
-    /// them. So a limit of libraries bounds no time: let some tens be enough of a file that is hostile.
+    /// The walk also yields the libraries that permissive mode leaves out of the imports. But of an
+    /// import directory at file offset 0, which permissive mode takes as empty, it yields none in
+    /// that mode. [`damage`](Self::damage) counts both.
+    ///
+    /// In strict mode the walk ends with an error if the directory reaches the end of the file. For
+    /// other errors in a library, walk its imports.
+    ///
+    /// Each library takes one step of [`within`](WalkLibraries::within), but may take as long as
+    /// its lookup table and its address table have slots, however many libraries share them. So a
+    /// limit on libraries does not limit the time: of a hostile file, let some tens be enough.
     ///
     /// ```no_run
     /// # let bytes = [];
@@ -516,7 +540,7 @@ impl<'a> Layout<'a> {
         )
     }
 
-    /// A walk over the exports, in constant memory, which reads the file as it goes on.
+    /// A walk over the exports. It reads the file as it goes, and takes constant memory.
     ///
     /// ```no_run
     /// # let bytes = [];
@@ -537,12 +561,14 @@ impl<'a> Layout<'a> {
         WalkImports::of(self.bytes, &options, &self.head.file.places)
     }
 
-    /// The record of the exports, read anew by each call; `None` where there are none, and where permissive mode passes
-    /// over a refused directory. How many name pointers it counts does not matter, as it does to the exports.
-    /// [`Pe::export_directory`] has it from the read of these.
+    /// The export directory's record. `None` if there is no export directory, or if permissive mode
+    /// passes over a refused one.
+    ///
+    /// Unlike the exports, the record is not refused for the number of its name pointers. Each call
+    /// reads it again; a [`Pe`] keeps that of its exports ([`Pe::export_directory`]).
     ///
     /// # Errors
-    /// Where strict mode refuses the directory, and memory, as of the walks.
+    /// If strict mode refuses the directory, or if memory is refused, as for the walks.
     ///
     /// ```no_run
     /// # let bytes = [];
@@ -558,11 +584,12 @@ impl<'a> Layout<'a> {
         Ok(ExportDirectory::of(&directory))
     }
 
-    /// The first export of this name, to which a walk goes anew by each call; `None` where there is none. Where the options
-    /// say a limit for names, and this one is longer, the limit is its length. [`Pe::find_export`] has it from the read.
+    /// The first export of this name, or `None` if there is none. Each call walks over the exports;
+    /// [`Pe::find_export`] searches the list. If the options limit names, and this name is longer
+    /// than the limit, its length is the limit.
     ///
     /// # Errors
-    /// As of [`walk_exports`](Self::walk_exports).
+    /// As [`walk_exports`](Self::walk_exports).
     ///
     /// ```no_run
     /// # let bytes = [];
@@ -582,11 +609,12 @@ impl<'a> Layout<'a> {
             .transpose()
     }
 
-    /// The entry of the export address table for an ordinal, also of an export without a name, read anew by each call; `None`
-    /// where the table has none, or one that is not used. [`Pe::find_export_by_ordinal`] has it from the read.
+    /// The entry of the export address table for an ordinal, whether or not the export has a name.
+    /// `None` if the table has no such entry, or if the entry is unused. Each call reads the table
+    /// again; [`Pe::find_export_by_ordinal`] searches the list.
     ///
     /// # Errors
-    /// As of [`export_directory`](Self::export_directory).
+    /// As [`export_directory`](Self::export_directory).
     ///
     /// ```no_run
     /// # let bytes = [];
@@ -618,10 +646,11 @@ impl<'a> Layout<'a> {
         Ok(found.map(|it| export_address((ordinal, it))))
     }
 
-    /// The name with which it was linked as a library; `None` where it has none. [`Pe::name`] has it from the read.
+    /// The name under which the library was linked, from the export directory. `None` if it has
+    /// none. [`Pe::name`] has it from the read.
     ///
     /// # Errors
-    /// As of [`export_directory`](Self::export_directory).
+    /// As [`export_directory`](Self::export_directory).
     ///
     /// ```no_run
     /// # let bytes = [];
@@ -633,10 +662,12 @@ impl<'a> Layout<'a> {
         Ok(self.export_directory()?.and_then(|it| it.name))
     }
 
-    /// The Rich header, read anew by each call; `None` where the file has none. [`Pe::rich_header`] has it from the read.
+    /// The Rich header, or `None` if the file has none. Each call reads it again;
+    /// [`Pe::rich_header`] has it from the read.
     ///
     /// # Errors
-    /// [`ErrorKind::Memory`](crate::ErrorKind::Memory) alone, but of [`Parts`](crate::Parts) as these tell.
+    /// Only [`ErrorKind::Memory`](crate::ErrorKind::Memory); for [`Parts`](crate::Parts), also what
+    /// these say.
     ///
     /// ```no_run
     /// # let bytes = [];
@@ -650,10 +681,12 @@ impl<'a> Layout<'a> {
         front.as_ref().map_or(Ok(None), read)
     }
 
-    /// The entries of the Rich header, read anew by each call. [`Pe::rich_entries`] has them from the read.
+    /// The entries of the Rich header. Each call reads them again; [`Pe::rich_entries`] has them
+    /// from the read.
     ///
     /// # Errors
-    /// [`ErrorKind::Memory`](crate::ErrorKind::Memory) alone, but of [`Parts`](crate::Parts) as these tell.
+    /// Only [`ErrorKind::Memory`](crate::ErrorKind::Memory); for [`Parts`](crate::Parts), also what
+    /// these say.
     ///
     /// ```no_run
     /// # let bytes = [];
@@ -673,11 +706,12 @@ impl<'a> Layout<'a> {
         Ok(entries)
     }
 
-    /// Why the rest that follows the entries of the Rich header is no entry, read anew by each call; `None` where there
-    /// is no rest. [`Pe::rich_rest`] has it from the read.
+    /// Why the bytes left over after the entries of the Rich header are no entry. `None` if no
+    /// bytes are left over. Each call reads them again; [`Pe::rich_rest`] has it from the read.
     ///
     /// # Errors
-    /// [`ErrorKind::Memory`](crate::ErrorKind::Memory) alone, but of [`Parts`](crate::Parts) as these tell.
+    /// Only [`ErrorKind::Memory`](crate::ErrorKind::Memory); for [`Parts`](crate::Parts), also what
+    /// these say.
     ///
     /// ```no_run
     /// # let bytes = [];
@@ -709,9 +743,12 @@ impl<'a> Layout<'a> {
         Ok(Some(front))
     }
 
-    /// A walk over the entries of the export address table, by rising ordinals, also those without a name, each with its
-    /// forwarder: for the first of these it reads the sections anew, of which it keeps the records. A directory that is
-    /// refused ends it, but not for the number of its name pointers, for which the exports are refused.
+    /// A walk over the entries of the export address table, in the order of their ordinals, whether
+    /// or not they have a name. Each entry comes with its forwarder, if it has one. At the first
+    /// forwarder the walk reads the sections again, and keeps their records.
+    ///
+    /// If the export directory is refused, the walk ends with that error. Unlike the exports, it is
+    /// not refused for the number of name pointers.
     ///
     /// ```no_run
     /// # let bytes = [];
@@ -727,9 +764,10 @@ impl<'a> Layout<'a> {
         WalkExportAddresses::of(self.bytes, self.options, &self.head.file.places)
     }
 
-    /// A walk over the blocks of base relocations, in constant memory, which reads the file as it goes on. Where a rest
-    /// of their directory is no block, it ends with the reason, as [`Pe::block_rest`] has it, and so it does where
-    /// strict mode refuses the directory.
+    /// A walk over the blocks of base relocations. It reads the file as it goes, and takes constant
+    /// memory. If bytes of the directory are left over that are no block, the walk ends with an
+    /// error, that of [`Pe::block_rest`]. It also ends with an error if strict mode refuses the
+    /// directory.
     ///
     /// ```no_run
     /// # let bytes = [];
@@ -744,12 +782,12 @@ impl<'a> Layout<'a> {
         WalkBlocks::of(self.bytes, &self.options, &self.head.file.places)
     }
 
-    /// The symbols, which few images have; they are read as the walk goes on. The first call tests the whole string table,
-    /// and no other one; see [`Object::symbols`](crate::Object::symbols).
+    /// A walk over the COFF symbols, which few images have. The first call tests the whole string
+    /// table; later calls do not. See [`Object::symbols`](crate::Object::symbols).
     ///
     /// # Errors
-    /// A file that is too short for the symbol table or its string table, and a string table that is not
-    /// UTF-8, or says a length below 4.
+    /// If the file is too short for the symbol table or the string table, if the string table is
+    /// not UTF-8, or if its length field is below 4.
     ///
     /// ```no_run
     /// # let bytes = [];
@@ -764,12 +802,12 @@ impl<'a> Layout<'a> {
         Symbols::of(self.bytes, self.coff_header(), longest, &self.symbol_table)
     }
 
-    /// The same, whatever the texts of the string table are; see
+    /// As [`symbols`](Self::symbols), but the string table need not be UTF-8. See
     /// [`Object::untested_symbols`](crate::Object::untested_symbols).
     ///
     /// # Errors
-    /// A file that is too short for the symbol table or its string table, and a string table that says a length
-    /// below 4.
+    /// If the file is too short for the symbol table or the string table, or if the length field of
+    /// the string table is below 4.
     ///
     /// ```no_run
     /// # let bytes = [];
@@ -781,12 +819,12 @@ impl<'a> Layout<'a> {
         Symbols::untested(self.bytes, self.coff_header(), self.options.longest_name)
     }
 
-    /// Writes the text whose MD5 is the hash of the imports that analysts compare, as
-    /// [`Pe::write_imphash_text`](crate::Pe::write_imphash_text) does, in constant memory: it walks over the imports,
-    /// whether or not the options ask for them.
+    /// Writes the text whose MD5 is the imphash, as
+    /// [`Pe::write_imphash_text`](crate::Pe::write_imphash_text) does, in constant memory. It walks
+    /// over the imports, whether or not the options ask for them.
     ///
     /// # Errors
-    /// As of [`Layout::walk_imports`], and as of the writer.
+    /// Those of [`Layout::walk_imports`] and of the writer.
     ///
     /// ```no_run
     /// # let bytes = [];
@@ -798,12 +836,13 @@ impl<'a> Layout<'a> {
         imphash::write_imphash_text(self.walk_whole_imports(), to)
     }
 
-    /// What strict mode would refuse of the file, part by part, by the options of the read, and how much is left
-    /// out of the imports and the exports.
+    /// Reports what strict mode would refuse of the file, part by part, and how much is left out of
+    /// the imports and the exports. The options are those of the read.
     ///
     /// # Errors
-    /// [`ErrorKind::Memory`](crate::ErrorKind::Memory) alone; but why the file is refused as a whole, of
-    /// [`Parts`](crate::Parts) and of a layout whose sections have raw names.
+    /// Only [`ErrorKind::Memory`](crate::ErrorKind::Memory). For [`Parts`](crate::Parts), and for a
+    /// layout whose sections have raw names, also the error for which the file is refused as a
+    /// whole.
     ///
     /// ```no_run
     /// # let bytes = [];
@@ -819,14 +858,17 @@ impl<'a> Layout<'a> {
         Ok(Damage::from(damage))
     }
 
-    /// The bytes of the file on which what [`Pe::read`] lists depends: a file of the same length that has
-    /// the same bytes in these ranges is read alike, by the same options. It does not cover what is read
-    /// later: [`walk_imports`](Self::walk_imports) where the options leave the imports out,
-    /// [`damage`](Self::damage) of imports that permissive mode does not read, [`symbols`](Self::symbols), texts
-    /// and bytes at addresses, and the data of sections.
+    /// The bytes of the file on which the result of [`Pe::read`] depends. With the same options, a
+    /// file of the same length with the same bytes in these ranges is read alike.
+    ///
+    /// The footprint does not cover what is read later:
+    ///
+    /// - [`walk_imports`](Self::walk_imports), if the options do not ask for imports;
+    /// - [`damage`](Self::damage) of imports that permissive mode does not read;
+    /// - [`symbols`](Self::symbols), texts and bytes at addresses, and the data of sections.
     ///
     /// # Errors
-    /// [`ErrorKind::Memory`](crate::ErrorKind::Memory) alone.
+    /// Only [`ErrorKind::Memory`](crate::ErrorKind::Memory).
     ///
     /// ```no_run
     /// # let bytes = [];
@@ -839,13 +881,15 @@ impl<'a> Layout<'a> {
         Footprint::of(self.bytes, self.options)
     }
 
-    /// Writes a key of what [`Pe::read`] lists, for one choice of options: the length of the file, and its
-    /// footprint, the ranges and their bytes. Files that have the same are read alike by the same options. It
-    /// covers what the footprint does. Its SHA-256, for which a hash of the crate `sha2` is such a writer, is
-    /// the fingerprint of the package for Python.
+    /// Writes a cache key for the result of [`Pe::read`] with these options: the length of the
+    /// file, and the ranges of its [`footprint`](Self::footprint) with their bytes. Files with the
+    /// same key are read alike by the same options. The key covers what the footprint covers.
+    ///
+    /// Its SHA-256 is the `fingerprint` of the Python package. A hash of the crate `sha2` can be
+    /// the writer.
     ///
     /// # Errors
-    /// [`io::ErrorKind::OutOfMemory`], and as of the writer.
+    /// [`io::ErrorKind::OutOfMemory`], and those of the writer.
     ///
     /// ```no_run
     /// # let bytes = [];
@@ -860,7 +904,7 @@ impl<'a> Layout<'a> {
 }
 
 impl fmt::Debug for Layout<'_> {
-    /// What was read, by its numbers.
+    /// The machine and the number of sections.
     fn fmt(&self, f: &mut fmt::Formatter<'_>) -> fmt::Result {
         f.debug_struct("Layout")
             .field("machine", &self.coff_header().machine)
@@ -872,14 +916,14 @@ impl fmt::Debug for Layout<'_> {
 impl<'a> TryFrom<&'a [u8]> for Layout<'a> {
     type Error = Error;
 
-    /// As by [`Layout::parse`].
+    /// As [`Layout::parse`].
     fn try_from(bytes: &'a [u8]) -> Result<Layout<'a>, Error> {
         Layout::parse(bytes)
     }
 }
 
 impl<'a> From<Pe<'a>> for Layout<'a> {
-    /// The image without its lists, whose memory is given back.
+    /// The image without its lists, whose memory is freed.
     fn from(pe: Pe<'a>) -> Layout<'a> {
         let mut layout = pe.layout;
         let sections = mem::take(&mut layout.head.tables.sections);

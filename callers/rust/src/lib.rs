@@ -1,47 +1,15 @@
-//! Reads PE files that can't be trusted: images with their headers, sections, imports, exports and base
-//! relocations, objects with their symbols, and Terse Executables.
+//! Reads PE and COFF files that can't be trusted: executables, libraries and object files of
+//! Windows and UEFI.
 //!
-//! The reader is the proved library `goblin_pe`; this crate declares it and gives its records types.
-//! Rows, names and texts borrow from the bytes alone. Addresses (`rva`) are
-//! relative to the image's base, and offsets are file offsets, both in bytes.
+//! The work is done by the library `goblin_pe`, whose answers are proved by machine. This crate
+//! declares that library and gives its records types.
 //!
-//! What was read can be kept and handed to other threads as long as the bytes live. A file may ask for
-//! much memory: where it is refused, so is the read, by [`ErrorKind::Memory`]. Where it should not even be
-//! asked for, read a [`Layout`], and walk over its tables.
-//!
-//! `callers/build` makes the library that this crate links, in `callers/lib`, or `callers/install` puts
-//! it where pkg-config finds it; the variable `GOBLIN_PE_LIB` names another folder with it. A crate names
-//! this one by its path: `goblin_pe = { path = ".../callers/rust" }`. It can be checked and documented
-//! without the library.
-//!
-//! # Platforms
-//!
-//! The library is built for x86-64 Linux, and needs the C library alone, static or shared. This crate needs
-//! `std`, Rust 1.85 and no other crate.
-//!
-//! # What it costs
-//!
-//! | Call | Time | Memory |
-//! |---|---|---|
-//! | [`Pe::read`] | as long as the file and what it lists, some microseconds for a small one | a kilobyte, and a record for each row, of 8 to 96 bytes, and room for half as many more imports, exports and blocks, or for 512, 512 and 32 of them; an index of more than 96 sections |
-//! | [`Layout::read`] | as long as the file, and the names of the sections, which end at [`Options::with_longest_name`] | a kilobyte, and a record for each section |
-//! | [`Parts::read`] | as long as the file | a kilobyte, and a record for each section |
-//! | [`Layout::walk_imports`], [`Layout::walk_exports`], [`Layout::walk_blocks`] | as they go on, at most as many steps as [`WalkImports::within`] says; names end at [`Options::with_longest_name`]; for each batch the name of the library that it is in, and of exports the image's own name once more | room for at most 256 rows; of more than 96 sections for 4,096 and up to 65,536, and an index |
-//! | [`Layout::walk_libraries`] | as it goes on, each library a step; for each its name, its address table, and its lookup table up to the first import | as the walks above |
-//! | [`Layout::walk_export_addresses`] | as it goes on, at most as many steps as [`WalkExportAddresses::within`] says; for each batch the image's own name once more; a walk over the sections and a text for each forwarder, and for the first a [`Parts::read`]; names end at [`Options::with_longest_name`] | as the walks above, and of forwarders a record for each section |
-//! | [`Layout::export_directory`], [`Layout::name`] | a walk over the sections, and a text | an index of more than 96 sections |
-//! | [`Layout::find_export`] | a walk over the exports | as that |
-//! | [`Layout::find_export_by_ordinal`] | twice [`Layout::export_directory`] | room for a row, and the same |
-//! | [`Layout::symbols`], [`Object::symbols`] | at first as long as the string table, then as they go on, at most as many steps as [`Symbols::within`] says; names end at [`Options::with_longest_name`]; `untested_symbols` as they go on, [`Symbols::symbol_at`] and [`Symbols::text_at`] as long as a name | room for 256 rows |
-//! | [`Section::walk_relocations`] | as it goes on, at most as many steps as [`WalkRelocations::within`] says | room for at most 256 rows |
-//! | [`Layout::damage`] | as a read | an index of more than 96 sections |
-//! | [`Layout::footprint`], [`Layout::write_fingerprint_text`] | as two reads | a bit for each byte of the file, and the ranges; an index of more than 96 sections |
-//! | [`Layout::find_offset`] and what is at an address | a walk over the sections, and the text there, if it is one | none |
-//! | [`Layout::rich_header`], [`Layout::rich_entries`] | as long as what stands before the PE signature | a copy of that, and a record for each entry |
-//! | [`Layout::patched`] | as long as the file | a copy of the file, and of its header |
-//! | [`Layout::find_rva`] | a walk over the sections, and one more for each whose data holds the offset | none |
-//! | [`Object::read`], [`Te::read`] | as long as the sections and their names, of an object up to [`Options::with_longest_name`] | a record for each section |
-//! | rows, names and texts | none: they are places in the bytes | none |
+//! - [`Pe`] reads an image and lists its tables.
+//! - [`Layout`] reads the header and the sections of an image, and lists nothing. You walk its
+//!   tables row by row, or look things up.
+//! - [`Parts`] reads what is there of an image whose header is refused.
+//! - [`Object`] reads an object file, [`Te`] a Terse Executable.
+//! - [`kind`] says what a file is.
 //!
 //! ```no_run
 //! use goblin_pe::{Options, Pe};
@@ -53,7 +21,14 @@
 //! # Ok::<(), std::io::Error>(())
 //! ```
 //!
-//! What was read can't outlive the bytes, so this is no program:
+//! An address (`rva`) is relative to the image's base. An offset is a file offset. Both are in
+//! bytes.
+//!
+//! # Lifetimes
+//!
+//! Rows, names and texts borrow from the bytes of the file, and from nothing else. What was read
+//! can be kept, and sent to other threads, as long as the bytes live. It can't outlive them, so
+//! this does not compile:
 //!
 //! ```compile_fail
 //! use goblin_pe::{Options, Pe};
@@ -63,6 +38,62 @@
 //! println!("{pe:?}");
 //! # Ok::<(), std::io::Error>(())
 //! ```
+//!
+//! # Memory
+//!
+//! A small file may list more than fits into memory. If memory is refused, a read fails with
+//! [`ErrorKind::Memory`]. If it should not even be asked for, read a [`Layout`] and walk its
+//! tables.
+//!
+//! # Linking
+//!
+//! Depend on this crate by its path: `goblin_pe = { path = ".../callers/rust" }`. It links a
+//! library that `callers/build` puts into `callers/lib`, and that `callers/install` puts where
+//! `pkg-config` finds it. To use another folder, name it in the environment variable
+//! `GOBLIN_PE_LIB`. Without the library, the crate can be checked and documented, but not linked.
+//!
+//! # Platforms
+//!
+//! The library is built for x86-64 Linux. It needs the C library, static or shared, and nothing
+//! else. This crate needs `std` and Rust 1.85, and no other crate.
+//!
+//! # What it costs
+//!
+//! | Call | Time grows with | Memory |
+//! |---|---|---|
+//! | [`Pe::read`] | the file, and all that it lists; microseconds for a small file | a kilobyte; 8 to 96 bytes for each row; spare room; an index |
+//! | [`Layout::read`] | the file, and the names of the sections | a kilobyte; a record for each section |
+//! | [`Parts::read`] | the file | a kilobyte; a record for each section |
+//! | [`Object::read`], [`Te::read`] | the sections and their names | a record for each section |
+//! | [`Layout::walk_imports`], [`Layout::walk_exports`], [`Layout::walk_blocks`] | the walk | a batch; an index |
+//! | [`Layout::walk_libraries`] | the walk; for each library its name, its address table, and its lookup table up to the first import | a batch; an index |
+//! | [`Layout::walk_export_addresses`] | the walk; for each forwarder the sections and its text; for the first also [`Parts::read`] | a batch; an index; for forwarders a record for each section |
+//! | [`Layout::export_directory`], [`Layout::name`] | the sections, and one text | an index |
+//! | [`Layout::find_export`] | a walk over the exports | a batch; an index |
+//! | [`Layout::find_export_by_ordinal`] | two calls of [`Layout::export_directory`] | a row; an index |
+//! | [`Layout::symbols`], [`Object::symbols`] | the string table, once; then the walk | a batch |
+//! | [`Layout::untested_symbols`], [`Object::untested_symbols`] | the walk | a batch |
+//! | [`Symbols::symbol_at`], [`Symbols::text_at`] | one name | none |
+//! | [`Section::walk_relocations`] | the walk | a batch |
+//! | [`Layout::damage`] | one read | an index |
+//! | [`Layout::footprint`], [`Layout::write_fingerprint_text`] | two reads | a bit for each byte of the file; the ranges; an index |
+//! | [`Layout::find_offset`], and what is at an address | the sections, and the text there | none |
+//! | [`Layout::find_rva`] | the sections, once more for each whose data holds the offset | none |
+//! | [`Layout::rich_header`], [`Layout::rich_entries`] | what precedes the PE signature | a copy of that; a record for each entry |
+//! | [`Layout::patched`] | the file | a copy of the file, and of its header |
+//!
+//! Rows, names and texts take no memory: they are places in the bytes.
+//!
+//! - **An index** is made only for a file of more than 96 sections.
+//! - **Spare room** is for half as many more imports, exports and blocks as there are, or for 512
+//!   imports, 512 exports and 32 blocks.
+//! - **A batch** is at most 256 rows. For a file of more than 96 sections, walks over tables of an
+//!   image read 4,096 rows at once, and up to 65,536.
+//! - **Each batch** of imports reads the name of its library once more, and each batch of exports
+//!   and of export addresses the image's own name.
+//! - **A walk** can be limited by steps (see [`WalkImports::within`]).
+//! - **Names** are read up to [`Options::with_longest_name`], except by [`Pe::read`],
+//!   [`Layout::damage`], [`Layout::footprint`] and [`Te::read`].
 #![deny(unsafe_code)]
 #![warn(missing_docs)]
 

@@ -488,7 +488,8 @@ impl From<ReadFault> for u32 {
     }
 }
 
-/// What the table of a directory is: the kinds, in the order of their indexes 0 to 14.
+/// The kind of table that a data directory locates. The kinds are in the order of their indexes, 0
+/// to 14.
 ///
 /// Source: PE Format, "Optional Header Data Directories (Image Only)". The sixteenth entry is
 /// reserved and has no kind.
@@ -498,23 +499,24 @@ impl From<ReadFault> for u32 {
 pub enum DirectoryType {
     /// The exports (`.edata`), at index 0: what other images may import from this one.
     ExportTable = 0,
-    /// The import directory (`.idata`), at index 1: what the loader takes from which libraries.
+    /// The import directory (`.idata`), at index 1: what this image imports, and from which
+    /// libraries.
     ImportTable = 1,
     /// The resources (`.rsrc`), at index 2.
     ResourceTable = 2,
-    /// How exceptions are handled (`.pdata`), at index 3.
+    /// The exception table (`.pdata`), at index 3: how exceptions are handled.
     ExceptionTable = 3,
-    /// The attribute certificates, at index 4. They are not part of the image in memory: the
+    /// The attribute certificates, at index 4. They are not part of the image in memory, so the
     /// address is a file offset.
     CertificateTable = 4,
-    /// The base relocations (`.reloc`), at index 5: what the loader changes where it can't load the
-    /// image at its base.
+    /// The base relocations (`.reloc`), at index 5: what the loader changes if it can't load the
+    /// image at its preferred address.
     BaseRelocationTable = 5,
     /// The debug data (`.debug`), at index 6.
     DebugTable = 6,
     /// Reserved, at index 7.
     Architecture = 7,
-    /// The address of the value for the global pointer register, at index 8. Its size must be 0.
+    /// The address of the value for the global pointer register, at index 8. The size must be 0.
     GlobalPtr = 8,
     /// The thread local storage (`.tls`), at index 9. Its callbacks run before the entry point.
     TlsTable = 9,
@@ -522,8 +524,8 @@ pub enum DirectoryType {
     LoadConfigTable = 10,
     /// The bound imports, at index 11.
     BoundImportTable = 11,
-    /// The import address table, at index 12, which the loader fills. Readers find it by the import
-    /// directory.
+    /// The import address table, at index 12, which the loader fills. Readers find it through the
+    /// import directory.
     ImportAddressTable = 12,
     /// The delayed imports, at index 13: libraries that are loaded at the first call.
     DelayImportDescriptor = 13,
@@ -574,9 +576,9 @@ impl From<DirectoryType> for u32 {
 pub enum RefusedPart {
     /// Nothing is refused.
     Nothing = 0,
-    /// The header: all that stands before the section table.
+    /// The header: everything before the section table.
     Header = 1,
-    /// The sections: their records, or a name.
+    /// The sections: their headers, or a name.
     Sections = 2,
     /// The imports.
     Imports = 3,

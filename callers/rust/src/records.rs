@@ -7,7 +7,7 @@ use std::mem::offset_of;
 /// The sum of the interface that is declared here: of its records, the numbers in them, and its calls.
 pub const INTERFACE: u32 = 0x5431_f3a1;
 
-/// What follows a symbol that defines a function.
+/// The auxiliary record of a symbol that defines a function.
 ///
 /// Source: PE Format, "Auxiliary Format 1: Function Definitions". Numbers are as stored; the record
 /// has 18 bytes, and `at` gives a field's offset in it.
@@ -19,16 +19,15 @@ pub struct AuxFunctionDefinition {
     pub tag_index: u32,
     /// The size of the function's code, in bytes, at 4.
     pub total_size: u32,
-    /// The file offset of the function's first line number, at 8; 0 where it has none.
+    /// The file offset of the function's first line number, at 8; 0 if it has none.
     pub pointer_to_line_number: u32,
-    /// The index in the symbol table of the next function's record, at 12; 0 where this is the
-    /// last.
+    /// The index in the symbol table of the next function's record, at 12; 0 if this is the last.
     pub pointer_to_next_function: u32,
     /// Not used, at 16.
     pub unused: [u8; 2],
 }
 
-/// What follows a symbol of a function's start or end.
+/// The auxiliary record of a symbol for the start or the end of a function.
 ///
 /// Source: PE Format, "Auxiliary Format 2: .bf and .ef Symbols". Numbers are as stored; the record
 /// has 18 bytes, and `at` gives a field's offset in it.
@@ -41,36 +40,36 @@ pub struct AuxBeginAndEndFunction {
     pub line_number: u16,
     /// Not used, at 6.
     pub unused2: [u8; 6],
-    /// At 12, only for a start: the index in the symbol table of the next function's start, 0 where
-    /// this is the last.
+    /// The index in the symbol table of the next function's start, at 12; 0 if this is the last. It
+    /// counts only in the record of a start.
     pub pointer_to_next_function: u32,
     /// Not used, at 16.
     pub unused3: [u8; 2],
 }
 
-/// What follows a symbol that another may replace.
+/// The auxiliary record of a weak external, a symbol that another may replace.
 ///
 /// Source: PE Format, "Auxiliary Format 3: Weak Externals". Numbers are as stored; the record has
 /// 18 bytes, and `at` gives a field's offset in it.
 #[repr(C)]
 #[derive(Clone, Copy, Default, Debug, PartialEq, Eq, PartialOrd, Ord, Hash)]
 pub struct AuxWeakExternal {
-    /// The index in the symbol table of the symbol that is taken where this one is not found, at 0.
+    /// The index in the symbol table of the symbol that replaces this one if it is not found, at 0.
     pub tag_index: u32,
-    /// Where this one is looked for, an `IMAGE_WEAK_EXTERN_SEARCH_*`, at 4.
+    /// Where the linker looks for this symbol, an `IMAGE_WEAK_EXTERN_SEARCH_*`, at 4.
     pub characteristics: u32,
     /// Not used, at 8.
     pub unused: [u8; 10],
 }
 
-/// What follows a symbol that defines a section.
+/// The auxiliary record of a symbol that defines a section.
 ///
 /// Source: PE Format, "Auxiliary Format 5: Section Definitions". Numbers are as stored; the record
 /// has 18 bytes, and `at` gives a field's offset in it.
 #[repr(C)]
 #[derive(Clone, Copy, Default, Debug, PartialEq, Eq, PartialOrd, Ord, Hash)]
 pub struct AuxSectionDefinition {
-    /// The size of the section's data, in bytes, at 0: the same as in its section record.
+    /// The size of the section's data, in bytes, at 0: the same as in its section header.
     pub length: u32,
     /// How many relocations the section has, at 4.
     pub number_of_relocations: u16,
@@ -78,10 +77,11 @@ pub struct AuxSectionDefinition {
     pub number_of_line_numbers: u16,
     /// The checksum of COMDAT data, at 8.
     pub checksum: u32,
-    /// The number, counted from 1, of the section that this one is taken with, at 12; it counts if
-    /// `selection` is `IMAGE_COMDAT_SELECT_ASSOCIATIVE`.
+    /// The number, counted from 1, of the section that this one is associated with, at 12. It
+    /// counts only if `selection` is `IMAGE_COMDAT_SELECT_ASSOCIATIVE`.
     pub number: u16,
-    /// Which of several COMDAT sections of one name is taken, an `IMAGE_COMDAT_SELECT_*`, at 14.
+    /// Which of several COMDAT sections of one name the linker keeps, an `IMAGE_COMDAT_SELECT_*`,
+    /// at 14.
     pub selection: u8,
     /// Not used, at 15.
     pub unused: [u8; 3],
@@ -227,19 +227,20 @@ pub struct SectionData<'a> {
     pub zeros: usize,
 }
 
-/// Where a table of an image lies.
+/// A data directory: where a table of an image lies.
 ///
-/// Source: PE Format, "Optional Header Data Directories (Image Only)". Numbers are as stored; the
-/// record has 8 bytes, and `at` gives a field's offset in it.
+/// Source: PE Format, "Optional Header Data Directories (Image Only)". Numbers are as stored. The
+/// record has 8 bytes, and `at` gives the offset of a field in it.
 #[repr(C)]
 #[derive(Clone, Copy, Default, Debug, PartialEq, Eq, PartialOrd, Ord, Hash)]
 pub struct DataDirectory {
-    /// The table's address, relative to the image's base, at 0. That of the certificates is a file
-    /// offset, since they are not loaded.
+    /// The table's address, relative to the image's base, at 0. For the certificates it is a file
+    /// offset, because they are not loaded.
     pub virtual_address: u32,
-    /// The table's size in bytes, at 4. An import directory ends at its own last record, and a
-    /// value at an address by its own type, whatever the size; of an export directory the size says
-    /// which addresses are forwarders, of base relocations where the blocks end.
+    /// The table's size in bytes, at 4. In an export directory it says which addresses are
+    /// forwarders, and in a base relocation directory where the blocks end. An import directory
+    /// ends at its own last record, and the type of a value at an address says where the value
+    /// ends, whatever the size.
     pub size: u32,
 }
 
@@ -298,25 +299,28 @@ pub struct ImportCursor {
     pub is_untested: bool,
 }
 
-/// A record of an import directory: where the imports from a library are.
+/// An import descriptor: the record of a library in an import directory. It says where the imports
+/// from that library are.
 ///
-/// Source: PE Format, "Import Directory Table". Numbers are as stored; the record has 20 bytes, and
-/// `at` gives a field's offset in it. Addresses are relative to the image's base.
+/// A descriptor has 20 bytes, and `at` gives a field's offset in it. Numbers are as stored.
+/// Addresses are RVAs, relative to the image's base.
+///
+/// Source: PE Format, "Import Directory Table".
 #[repr(C)]
 #[derive(Clone, Copy, Default, Debug, PartialEq, Eq, PartialOrd, Ord, Hash)]
 pub struct ImportDirectoryEntry {
-    /// The address of the lookup table, which says what is imported, at 0. Where it has no file
-    /// offset, the address table is read instead, as images of some old linkers ask for.
+    /// The address of the lookup table, which says what is imported, at 0. If it has no file
+    /// offset, the address table is read instead, as images of some old linkers require.
     pub import_lookup_table_rva: u32,
-    /// 0 until the imports are bound, at 4; then the time stamp of the library to which they were
-    /// bound, or 2^32 - 1 if the bound imports say it.
+    /// 0 until the imports are bound, at 4. Then it is the time stamp of the library to which they
+    /// were bound, or 2^32 - 1 if the table of bound imports has that time stamp.
     pub time_date_stamp: u32,
     /// The index of the first forwarder, at 8.
     pub forwarder_chain: u32,
-    /// The address of the library's name, at 12. The record with 0 here is the directory's last.
+    /// The address of the library's name, at 12. A descriptor with 0 here ends the directory.
     pub name_rva: u32,
-    /// The address of the address table, at 16: a copy of the lookup table, whose entries the
-    /// loader replaces with addresses. The record with 0 here is the directory's last.
+    /// The address of the address table, at 16. That table is a copy of the lookup table, whose
+    /// entries the loader replaces with addresses. A descriptor with 0 here ends the directory.
     pub import_address_table_rva: u32,
 }
 
@@ -355,25 +359,26 @@ pub struct Library<'a> {
 #[repr(C)]
 #[derive(Clone, Copy, Default, Debug, PartialEq, Eq, PartialOrd, Ord, Hash)]
 pub struct CoffHeader {
-    /// The machine that the file is for, a `COFF_MACHINE_*`, at 0. No reader looks at it: the width
-    /// of an image is what the magic of its optional header says.
+    /// The machine that the file is for, a `COFF_MACHINE_*`, at 0. No reader looks at it, because
+    /// the magic of the optional header gives the width of an image.
     pub machine: u16,
-    /// How many section records follow the optional header, at 2. The Windows loader takes at most
-    /// 96.
+    /// How many section headers follow the optional header, at 2. The Windows loader accepts at
+    /// most 96.
     pub number_of_sections: u16,
-    /// When the file was made, in seconds since the start of 1970, at 4; or what its maker put
-    /// there, such as a hash.
+    /// When the file was made, in seconds since the start of 1970, at 4. Some makers store
+    /// something else there, such as a hash.
     pub time_date_stamp: u32,
-    /// The file offset of the symbol table, at 8; 0 where there is none, as in most images. The
-    /// string table follows the symbol table.
+    /// The file offset of the symbol table, at 8; 0 if there is none, as in most images. The string
+    /// table follows the symbol table.
     pub pointer_to_symbol_table: u32,
-    /// How many records the symbol table has, the auxiliary ones too, at 12.
+    /// How many records the symbol table has, at 12. Auxiliary records are counted.
     pub number_of_symbol_table: u32,
-    /// The size of the optional header, in bytes, at 16; 0 where there is none, as in an object.
-    /// Only this says where the section table begins; it says nothing about the optional header's
-    /// own layout.
+    /// The size of the optional header, in bytes, at 16; 0 if there is none, as in an object. This
+    /// field alone says where the section table begins. It says nothing about the layout of the
+    /// optional header.
     pub size_of_optional_header: u16,
-    /// What kind of file it is, as bits `IMAGE_FILE_*` (PE Format, "Characteristics"), at 18.
+    /// The characteristics of the file, as bits `IMAGE_FILE_*` (PE Format, "Characteristics"), at
+    /// 18.
     pub characteristics: u16,
 }
 
@@ -417,18 +422,18 @@ pub struct SymbolTable {
 #[repr(C)]
 #[derive(Clone, Copy, Default, Debug, PartialEq, Eq, PartialOrd, Ord, Hash)]
 pub struct Symbol {
-    /// The eight bytes of the name, padded with NULs, at 0. Where the first is 0, the name is in
-    /// the string table, at the number in the last four, which counts from the table's length
-    /// field.
+    /// The eight bytes of the name, padded with NULs, at 0. If the first byte is 0, the name is in
+    /// the string table, and the last four bytes are its offset there, counted from the table's
+    /// length field.
     pub name: [u8; 8],
-    /// What the symbol stands for, by its section and class, at 8: mostly an offset in its section,
-    /// in bytes.
+    /// The value of the symbol, at 8. Its section and class say what it means; mostly it is an
+    /// offset in the section, in bytes.
     pub value: u32,
     /// The number of its section, counted from 1, at 12; or `IMAGE_SYM_UNDEFINED` (0),
     /// `IMAGE_SYM_ABSOLUTE` (-1) or `IMAGE_SYM_DEBUG` (-2).
     pub section_number: i16,
     /// Its type, at 14: an `IMAGE_SYM_TYPE_*` in the low four bits, an `IMAGE_SYM_DTYPE_*` above
-    /// them. Microsoft's tools store 0x20 of a function, else 0.
+    /// them. Microsoft's tools store 0x20 for a function, else 0.
     pub typ: u16,
     /// Its class, an `IMAGE_SYM_CLASS_*`, at 16.
     pub storage_class: u8,
@@ -453,29 +458,31 @@ pub struct NamedSymbol<'a> {
     pub has_name: bool,
 }
 
-/// A relocation of a COFF object: which bytes of a section a linker changes, and how.
+/// A relocation of a COFF object. It says which bytes of a section a linker changes, and how.
 ///
-/// Source: PE Format, "COFF Relocations (Object Only)". Numbers are as stored; the record has 10
-/// bytes, and `at` gives a field's offset in it.
+/// Source: PE Format, "COFF Relocations (Object Only)". Numbers are as stored. The record has 10
+/// bytes, and `at` gives the offset of a field in it.
 #[repr(C)]
 #[derive(Clone, Copy, Default, Debug, PartialEq, Eq, PartialOrd, Ord, Hash)]
 pub struct Relocation {
-    /// Where the bytes that are changed begin, at 0: their offset in the section, in bytes, plus
-    /// the section's own address, which is mostly 0. Of the first relocation of a section with
-    /// `IMAGE_SCN_LNK_NRELOC_OVFL` it is the number of all.
+    /// The address of the bytes that are changed, at 0: their offset in the section, in bytes, plus
+    /// the section's own address, which is mostly 0. In the first relocation of a section with
+    /// `IMAGE_SCN_LNK_NRELOC_OVFL` it is the number of relocations.
     pub virtual_address: u32,
-    /// The index in the symbol table of the symbol whose address is put there, at 4.
+    /// The index in the symbol table of the symbol whose address the linker puts there, at 4.
     pub symbol_table_index: u32,
-    /// How it is put there, at 8: an `IMAGE_REL_*` of the machine that the COFF header names.
+    /// How the linker puts it there, at 8: an `IMAGE_REL_*` of the machine that the COFF header
+    /// names.
     pub typ: u16,
 }
 
 /// The header of a Terse Executable.
 ///
 /// Source: UEFI Platform Initialization Specification, volume 1, "TE Image". Numbers are as stored,
-/// but for the four that are adjusted when it is read; the record has 40 bytes, and `at` gives a
-/// field's offset in it. It replaces the headers of a PE file and keeps what a loader of firmware
-/// needs of them; its addresses still count the bytes that were stripped.
+/// except for four that are adjusted when the header is parsed; the record has 40 bytes, and `at`
+/// gives a field's offset in it. This header replaces the headers of a PE file, and keeps what a
+/// firmware loader needs of them. The addresses that it stores still count the bytes that were
+/// stripped.
 #[repr(C)]
 #[derive(Clone, Copy, Default, Debug, PartialEq, Eq, PartialOrd, Ord, Hash)]
 pub struct TeHeader {
@@ -483,25 +490,24 @@ pub struct TeHeader {
     pub signature: u16,
     /// The machine that the file is for, a `COFF_MACHINE_*`, at 2.
     pub machine: u16,
-    /// How many section records follow, at 4.
+    /// How many section headers follow, at 4.
     pub number_of_sections: u8,
     /// The subsystem that runs the image, at 5.
     pub subsystem: u8,
     /// How many bytes were stripped from the front of the PE file, at 6. This header replaces them,
-    /// so everything after it moved forward by this minus 40.
+    /// so everything after it moved towards the front by this number minus 40.
     pub stripped_size: u16,
-    /// The address of the entry point, relative to the image's base, at 8; in a header that was
-    /// parsed, adjusted.
+    /// The RVA of the entry point, at 8; adjusted in a header that was parsed.
     pub entry_point: u32,
-    /// The address at which the code begins, relative to the image's base, at 12; in a header that
-    /// was parsed, adjusted.
+    /// The RVA at which the code begins, at 12; adjusted in a header that was parsed.
     pub base_of_code: u32,
-    /// The address at which the image is best loaded, at 16; as stored.
+    /// The preferred address of the image in memory, at 16, as stored.
     pub image_base: u64,
-    /// Where the base relocations lie, at 24; in a header that was parsed, with the address
-    /// adjusted.
+    /// The data directory of the base relocations, at 24. Its RVA is adjusted in a header that was
+    /// parsed.
     pub reloc_dir: DataDirectory,
-    /// Where the debug data lies, at 32; in a header that was parsed, with the address adjusted.
+    /// The data directory of the debug data, at 32. Its RVA is adjusted in a header that was
+    /// parsed.
     pub debug_dir: DataDirectory,
 }
 
@@ -566,10 +572,10 @@ pub struct Export<'a> {
     pub name_rva: u32,
 }
 
-/// The record that an image's exports begin with.
+/// The record with which the exports of an image begin.
 ///
 /// Source: PE Format, "Export Directory Table". Numbers are as stored; the record has 40 bytes, and
-/// `at` gives a field's offset in it. Addresses are relative to the image's base.
+/// `at` gives a field's offset in it. An RVA is an address relative to the image's base.
 #[repr(C)]
 #[derive(Clone, Copy, Default, Debug, PartialEq, Eq, PartialOrd, Ord, Hash)]
 pub struct ExportDirectoryTable {
@@ -577,24 +583,25 @@ pub struct ExportDirectoryTable {
     pub export_flags: u32,
     /// When the exports were made, in seconds since the start of 1970, at 4.
     pub time_date_stamp: u32,
-    /// The major version, at 8. It is the maker's own.
+    /// The major version, at 8. The maker of the image chooses it.
     pub major_version: u16,
     /// The minor version, at 10.
     pub minor_version: u16,
-    /// The address of the library's name, at 12.
+    /// The RVA of the library's name, at 12.
     pub name_rva: u32,
-    /// The ordinal of the first entry of the address table, at 16; mostly 1. It is added to an
-    /// index to make an ordinal, and counts in no table.
+    /// The ordinal of the first entry of the address table, at 16; mostly 1. An ordinal is an index
+    /// in the address table plus this base. The entries of the ordinal table do not include the
+    /// base.
     pub ordinal_base: u32,
     /// How many entries the address table has, at 20.
     pub address_table_entries: u32,
-    /// How many entries the name pointer table has, and as many has the ordinal table, at 24.
+    /// How many entries the name pointer table and the ordinal table each have, at 24.
     pub number_of_name_pointers: u32,
-    /// The address of the address table, at 28.
+    /// The RVA of the address table, at 28.
     pub export_address_table_rva: u32,
-    /// The address of the name pointer table, at 32.
+    /// The RVA of the name pointer table, at 32.
     pub name_pointer_rva: u32,
-    /// The address of the ordinal table, at 36.
+    /// The RVA of the ordinal table, at 36.
     pub ordinal_table_rva: u32,
 }
 
@@ -661,8 +668,8 @@ pub struct Word {
 #[repr(C)]
 #[derive(Clone, Copy, Default, Debug, PartialEq, Eq, PartialOrd, Ord, Hash)]
 pub struct StandardFields {
-    /// What the optional header is, at 0: `MAGIC_32` or `MAGIC_64`. Only this says the width of the
-    /// header and of import entries.
+    /// The magic of the optional header, at 0: `MAGIC_32` or `MAGIC_64`. It alone gives the width
+    /// of the header and of the entries of import tables.
     pub magic: u16,
     /// The linker's major version, at 2.
     pub major_linker_version: u8,
@@ -674,36 +681,35 @@ pub struct StandardFields {
     pub size_of_initialized_data: u64,
     /// The size of the uninitialized data, in bytes, at 12: the sum of all such sections.
     pub size_of_uninitialized_data: u64,
-    /// The address of the entry point, relative to the image's base, at 16; 0 where there is none,
-    /// as in some libraries. The loader starts there, in whatever section it lies.
+    /// The RVA of the entry point, at 16; 0 if there is none, as in some libraries. The loader
+    /// starts there, in whatever section it lies.
     pub address_of_entry_point: u32,
-    /// The address at which the code begins, relative to the image's base, at 20.
+    /// The RVA at which the code begins, at 20.
     pub base_of_code: u64,
-    /// The address at which the data begins, relative to the image's base, at 24 in an image for 32
-    /// bits; 0 in one for 64 bits.
+    /// The RVA at which the data begins, at 24, in an image for 32 bits; 0 in one for 64 bits.
     pub base_of_data: u32,
 }
 
 /// The Windows fields of an optional header for 64 bits.
 ///
 /// Source: PE Format, "Optional Header Windows-Specific Fields (Image Only)". Numbers are as
-/// stored; the record has 88 bytes, and `at` gives a field's offset in it. It begins at 24 in the
-/// optional header.
+/// stored; the record has 88 bytes, and `at` gives a field's offset in it. The record begins at 24
+/// in the optional header.
 #[repr(C)]
 #[derive(Clone, Copy, Default, Debug, PartialEq, Eq, PartialOrd, Ord, Hash)]
 pub struct WindowsFields {
-    /// The address at which the image is best loaded, a multiple of 64 KiB, at 0. Where the loader
-    /// takes another, it applies the base relocations.
+    /// The preferred address of the image in memory, a multiple of 64 KiB, at 0. If the loader uses
+    /// another address, it applies the base relocations.
     pub image_base: u64,
     /// The alignment of sections in memory, in bytes, at 8: at least the file alignment, mostly a
     /// page.
     pub section_alignment: u32,
     /// The alignment of the raw data of sections in the file, in bytes, at 12: a power of two,
-    /// mostly 512. The mapping of addresses to file offsets goes by it.
+    /// mostly 512. The mapping of addresses to file offsets depends on it.
     pub file_alignment: u32,
-    /// The major version of the system that the image needs, at 16.
+    /// The major version of the operating system that the image needs, at 16.
     pub major_operating_system_version: u16,
-    /// The minor version of the system that the image needs, at 18.
+    /// The minor version of the operating system that the image needs, at 18.
     pub minor_operating_system_version: u16,
     /// The image's major version, at 20.
     pub major_image_version: u16,
@@ -715,20 +721,21 @@ pub struct WindowsFields {
     pub minor_subsystem_version: u16,
     /// Reserved, 0, at 28.
     pub win32_version_value: u32,
-    /// The size of the image in memory with all headers, in bytes, at 32: how much the loader
-    /// reserves, a multiple of the section alignment.
+    /// The size of the image in memory with all headers, in bytes, at 32. It is a multiple of the
+    /// section alignment, and what the loader reserves.
     pub size_of_image: u32,
     /// The size of all headers together, in bytes, rounded up to the file alignment, at 36. The
-    /// loader maps this much of the file's front at the image's base.
+    /// loader maps this much of the front of the file, in whole file blocks, at the image's base.
     pub size_of_headers: u32,
-    /// The image's checksum, at 40. The loader tests that of drivers and of what is loaded at boot;
-    /// no reader does.
+    /// The checksum of the image, at 40. The loader tests it for drivers and for images that are
+    /// loaded at boot; no reader tests it.
     pub check_sum: u32,
     /// The subsystem that runs the image, an `IMAGE_SUBSYSTEM_*` (PE Format, "Windows Subsystem"),
     /// at 44.
     pub subsystem: u16,
-    /// What the loader may and has to do, as bits `IMAGE_DLLCHARACTERISTICS_*` (PE Format, "DLL
-    /// Characteristics"), at 46: whether it may move the image, and which guards it turns on.
+    /// What the image allows and requires of the loader, as bits `IMAGE_DLLCHARACTERISTICS_*` (PE
+    /// Format, "DLL Characteristics"), at 46: whether the loader may move the image, and which
+    /// guards it turns on.
     pub dll_characteristics: u16,
     /// How much of the stack to reserve, in bytes, at 48.
     pub size_of_stack_reserve: u64,
@@ -740,8 +747,8 @@ pub struct WindowsFields {
     pub size_of_heap_commit: u64,
     /// Reserved, 0, at 80.
     pub loader_flags: u32,
-    /// How many data directories follow, at 84. Readers refuse a header that says more than
-    /// sixteen; directories past this number are not there, whatever bytes follow.
+    /// How many data directories follow, at 84. A reader of a whole header refuses more than
+    /// sixteen. Data directories past this number do not exist, whatever bytes follow.
     pub number_of_rva_and_sizes: u32,
 }
 
@@ -813,9 +820,9 @@ pub struct DosHeader {
     pub relocations: u16,
     /// The size of the header in paragraphs of 16 bytes, at 0x08.
     pub size_of_header_in_paragraphs: u16,
-    /// The least memory that the program needs after it, in paragraphs, at 0x0A.
+    /// The least memory that the program needs after its own, in paragraphs, at 0x0A.
     pub minimum_extra_paragraphs_needed: u16,
-    /// The most memory that the program asks for after it, in paragraphs, at 0x0C.
+    /// The most memory that the program asks for after its own, in paragraphs, at 0x0C.
     pub maximum_extra_paragraphs_needed: u16,
     /// The stack segment at the start, relative to the program, at 0x0E.
     pub initial_relative_ss: u16,
@@ -833,15 +840,15 @@ pub struct DosHeader {
     pub overlay_number: u16,
     /// Reserved, at 0x1C.
     pub reserved: [u16; 4],
-    /// The maker's identifier, at 0x24.
+    /// The identifier of the maker (OEM), at 0x24.
     pub oem_id: u16,
-    /// What the maker says, at 0x26.
+    /// The information of the maker (OEM), at 0x26.
     pub oem_info: u16,
     /// Reserved, at 0x28.
     pub reserved2: [u16; 10],
-    /// The file offset of the PE signature, at 0x3C. It may lie anywhere in the file, even inside
-    /// the DOS header, and need not be aligned; a whole header is read in strict mode only where
-    /// this is at least 0x40.
+    /// The file offset of the PE signature, at 0x3C. The signature may lie anywhere in the file,
+    /// even inside the DOS header, and need not be aligned. Strict mode reads a whole header only
+    /// if this offset is at least 0x40.
     pub pe_pointer: u32,
 }
 
@@ -873,17 +880,17 @@ pub struct File {
 
 /// An entry of a Rich header: a tool, and how often it was used.
 ///
-/// Source: not documented by Microsoft; the layout is what linkers write. Numbers are as stored;
-/// the record has 8 bytes, and `at` gives a field's offset in it. In a file its two words are
-/// stored under the header's key.
+/// Source: not documented by Microsoft; the layout is what linkers write. The record has 8 bytes,
+/// and `at` gives a field's offset in it. In a file each of its two words is stored under the key
+/// of the header: as its exclusive or with the key.
 #[repr(C)]
 #[derive(Clone, Copy, Default, Debug, PartialEq, Eq, PartialOrd, Ord, Hash)]
 pub struct RichMetadata {
-    /// The build of the tool, at 0.
+    /// The build number of the tool, at 0.
     pub build: u16,
-    /// Which tool it is, at 2.
+    /// The identifier of the tool, at 2.
     pub product: u16,
-    /// How many files it made, at 4.
+    /// How many files the tool made, at 4.
     pub use_count: u32,
 }
 

@@ -1,17 +1,17 @@
--- The result of a read of a file, in one definition: its value, if it has one; which cause is true,
--- if it has none; and which positions of the file it reaches.
+-- The result of a read of a file, in one definition: its value, if there is one; the causes that
+-- are true if there is none; and the positions of the file that it reaches.
 use Rattle.std.specs.Prelude.{◌≡◌, ◌<◌, ◌≤◌, ℕ, List, Option, Some, None, Result, length, All}
 use Rattle.goblin_base.specs.declared.error.ErrorOf.{ErrorOf}
 use Rattle.goblin_base.specs.Answers.{Answers, AnswersOrMemory, IsMemory}
 use Rattle.goblin_base.specs.Footprints.{Agree, Alike, AlikeOrMemory, Range}
 
--- The range is not empty, and does not run past the file.
+-- The range is not empty, and does not run past the end of the file.
 abbrev pub IsInFile : List ℕ → Range → Type 0
 IsInFile bytes range = (range.0 < range.1) × (range.1 ≤ length bytes)
 
--- A read of a file. Each part is a function of the file's bytes. It has three laws. Files that
--- agree on what is reached in the first have the same value. What is reached lies in the file. No
--- cause is Memory.
+-- A read of a file. The value, the true causes and the positions reached are functions of the bytes
+-- of the file. There are three laws. Files that agree on the positions reached in the first have
+-- the same value. The positions reached lie in the file. No cause is Memory.
 pub record Reading (A : Type 0) : Type 1 where
   pub value : List ℕ → Option A
   pub IsCause : List ℕ → ErrorOf → Type 0
@@ -36,8 +36,8 @@ ReadsOrMemory view result reading bytes =
 abbrev pub IsRefused : {A : Type 0} → Reading A → List ℕ → ErrorOf → Type 0
 IsRefused reading bytes e = (reading.value bytes ≡ None) × reading.IsCause bytes e
 
--- A reader on two files. Each answer is the reader's for its file. Where the files agree on what is
--- reached in the first, the values are the same, and the answers are alike.
+-- A reader on two files. Each answer is the reader's for its file. If the files agree on the
+-- positions reached in the first, the values are the same, and the answers are alike.
 pub record Twins {X Y : Type 0} (view : X → Y) (reading : Reading Y) (a b : List ℕ)
     (both : Result X ErrorOf × Result X ErrorOf) : Type 0 where
   pub first : Reads view both.0 reading a
@@ -45,8 +45,8 @@ pub record Twins {X Y : Type 0} (view : X → Y) (reading : Reading Y) (a b : Li
   pub same : Agree (reading.reaches a) a b → reading.value a ≡ reading.value b
   pub alike : Agree (reading.reaches a) a b → Alike view both.0 both.1
 
--- Two files read by a reader that takes memory. Each answer is the reader's for its file. Where the
--- files agree on what is reached in the first, the values are the same, and the answers are alike.
+-- A reader that takes memory, on two files. Each answer is the reader's for its file. If the files
+-- agree on the positions reached in the first, the values are the same, and the answers are alike.
 pub record TwinsOrMemory {X Y : Type 0} (view : X → Y) (reading : Reading Y) (a b : List ℕ)
     (both : Result X ErrorOf × Result X ErrorOf) : Type 0 where
   pub first : ReadsOrMemory view both.0 reading a
@@ -54,18 +54,19 @@ pub record TwinsOrMemory {X Y : Type 0} (view : X → Y) (reading : Reading Y) (
   pub same : Agree (reading.reaches a) a b → reading.value a ≡ reading.value b
   pub alike : Agree (reading.reaches a) a b → AlikeOrMemory view both.0 both.1
 
--- Where the first reading has a value, the second has what `becomes` makes of it: for example the
--- same read in strict mode and in permissive mode. Proofs alone cite it; contracts say `InModes`.
+-- If the first reading has a value, the second has what `becomes` makes of that value. An example
+-- is the same read in strict mode and in permissive mode. Only proofs use this definition;
+-- contracts use `InModes`.
 pub record RepeatsAs {A : Type 0} (becomes : A → A) (first second : Reading A) : Type 0 where
   pub kept : (bytes : List ℕ) (x : A) → first.value bytes ≡ Some x
       → second.value bytes ≡ Some (becomes x)
 
--- Where the first reading has a value, the second has that value (in proofs alone).
+-- If the first reading has a value, the second has the same value. Only proofs use this definition.
 abbrev pub Repeats : {A : Type 0} → Reading A → Reading A → Type 0
 Repeats first second = RepeatsAs (λ x. x) first second
 
 -- A reader that takes memory, in strict mode and in permissive mode. Each answer is that of its own
--- mode. Where strict mode has a value, permissive mode has what `becomes` makes of it.
+-- mode. If strict mode has a value, permissive mode has what `becomes` makes of that value.
 pub record InModes {X Y : Type 0} (view : X → Y) (becomes : Y → Y)
     (strict permissive : Reading Y) (bytes : List ℕ)
     (both : Result X ErrorOf × Result X ErrorOf) : Type 0 where

@@ -5,7 +5,8 @@ ghost use Rattle.std.specs.Prelude.{slice_index};
 
 use std::simd::prelude::*;
 
-// How many of the first 16 bytes precede the first that is a NUL or not ASCII, if one is.
+// How many of the first 16 bytes come before the first one that is a NUL or is not ASCII. `None` if
+// there is no such byte among them.
 #[inline(always)]
 fn stop_in_lanes(bytes: &[u8]) -> Option<usize>
     requires { 16 ≤ length bytes.now }
@@ -35,8 +36,8 @@ fn is_plain(byte: u8) -> bool
     0 < byte && byte < 128
 }
 
-// How many bytes precede the first that is a NUL or not ASCII, where it lies in a whole lane of 16
-// bytes, counted from the front.
+// How many bytes come before the first one that is a NUL or is not ASCII. Only whole lanes of 16
+// bytes, counted from the front, are searched. `None` if they have no such byte.
 #[inline(always)]
 fn first_stop(bytes: &[u8]) -> Option<usize>
     ensures none { result ≡ None → (k : ℕ) → k < length bytes.now / 16 * 16
@@ -57,8 +58,8 @@ fn first_stop(bytes: &[u8]) -> Option<usize>
     None
 }
 
-// How many bytes precede the first NUL, if they are all ASCII and it lies in a whole lane. `None`
-// leaves it to a slower way.
+// How many bytes come before the first NUL, if they are all ASCII and the NUL lies in a whole lane.
+// `None` says nothing about the bytes.
 #[inline(always)]
 pub(crate) fn run_in_lanes(bytes: &[u8]) -> Option<usize>
     ensures within { IfSome result (λ run. run < length bytes.now) }
@@ -72,8 +73,8 @@ pub(crate) fn run_in_lanes(bytes: &[u8]) -> Option<usize>
     }
 }
 
-// How many bytes precede the first NUL, or the end where there is none, if they are all ASCII.
-// `None` leaves it to a slower way.
+// How many bytes come before the first NUL, or before the end if there is no NUL, if they are all
+// ASCII. `None` if one of them is not ASCII.
 #[inline(always)]
 pub(crate) fn plain_run(bytes: &[u8]) -> Option<usize>
     ensures within { IfSome result (λ run. run ≤ length bytes.now) }

@@ -1,4 +1,4 @@
-//! Bits in words of 64: one for each position of a file.
+//! Bits in words of 64 bits, one bit for each position of a file.
 
 ghost use Rattle.std.specs.Prelude.{◌≡◌, ◌==◌, ◌<◌, ◌≤◌, ◌+◌, ◌*◌, ◌/◌, ◌%◌, ◌&&◌, ◌||◌, ℕ, nat_le};
 ghost use Rattle.std.specs.Prelude.{nat_lt, not, if◌then◌else◌, length, vec_capacity, vec_len};
@@ -7,7 +7,7 @@ ghost use Rattle.goblin_base.specs.Marks.{GivesBit, IsMask, word_mark};
 
 pub(crate) const BITS: usize = 64;
 
-// The bits of a word from the first number on and before the last.
+// A word in which the bits from `first` up to, but not including, `last` are set.
 #[inline(always)]
 fn mask(first: usize, last: usize) -> u64
     requires some { first < last }
@@ -17,7 +17,7 @@ fn mask(first: usize, last: usize) -> u64
     (u64::MAX >> (BITS - (last - first))) << first
 }
 
-// Marks `count` positions from `at` on, which lie in one word.
+// Marks the `count` positions from `at` on, which must lie in one word.
 #[inline(always)]
 fn mark_word(words: &mut [u64], at: usize, count: usize)
     requires room { at / 64 < length words.old }
@@ -30,7 +30,7 @@ fn mark_word(words: &mut [u64], at: usize, count: usize)
     words[at / BITS] |= mask(first, first + count);
 }
 
-// Adds empty words where there are fewer than `count`.
+// Adds words without marks until there are at least `count` words.
 pub(crate) fn add_words(words: &mut Vec<u64>, count: usize)
     requires { count ≤ vec_capacity words.old }
     ensures there { count ≤ vec_len words.new }
@@ -42,7 +42,7 @@ pub(crate) fn add_words(words: &mut Vec<u64>, count: usize)
     }
 }
 
-// Marks the positions from `begin` on and before `end`, of which there is one at least.
+// Marks the positions from `begin` up to, but not including, `end`. There must be at least one.
 pub(crate) fn mark_words(words: &mut [u64], begin: usize, end: usize)
     requires some { begin < end }
     requires room { end ≤ 64 * length words.old }
@@ -61,7 +61,7 @@ pub(crate) fn mark_words(words: &mut [u64], begin: usize, end: usize)
     }
 }
 
-// The word whose bits tell which bits of this one are wanted.
+// A word in which a bit is set if the bit of `word` there equals `wanted`.
 fn wanted_bits(word: u64, wanted: bool) -> u64
     ensures { (i : ℕ) → i < 64 → (bit_at result i == 1)
         ≡ (if wanted then bit_at word i == 1 else not (bit_at word i == 1)) }
@@ -69,7 +69,7 @@ fn wanted_bits(word: u64, wanted: bool) -> u64
     if wanted { word } else { !word }
 }
 
-// The first place from `first` on at which a word has a bit.
+// The first place from `first` on at which a bit of the word is set.
 fn first_bit(word: u64, first: usize) -> Option<usize>
     requires { first < 64 }
     ensures { GivesBit word first result }
@@ -81,7 +81,8 @@ fn first_bit(word: u64, first: usize) -> Option<usize>
     Some(first + rest.trailing_zeros() as usize)
 }
 
-// The first position from `from` on and before `end` that has the mark that is wanted, or `end`.
+// The first position from `from` on that is marked, if `wanted` is true, or not marked, if it is
+// false. `end` if there is none before it.
 pub(crate) fn first_wanted(words: &[u64], from: usize, end: usize, wanted: bool) -> usize
     requires room { end ≤ 64 * length words.now }
     requires within { from ≤ end }

@@ -16,8 +16,8 @@ use Rattle.goblin_pe.specs.declared.whole.layout.Layout.{Layout}
 use Rattle.goblin_pe.specs.Layouts.{layout_map, layout_places}
 use Rattle.goblin_pe.specs.Whole.{TablePlaces, mapped_in, addressing_by, places_in, sections_after}
 
--- what reads a table, by how addresses are mapped and where the tables lie: `import_list`,
--- `export_part` and `relocation_part` are such readers
+-- a reader of a table, from the options, the map of addresses and the places of the tables:
+-- `import_list`, `export_part` and `relocation_part` are such readers
 abbrev pub TableReader : Type 0 → Type 1
 TableReader A = ParseOptions → Addressing → TablePlaces → Reading A
 
@@ -28,17 +28,17 @@ table_with read opts h sections =
     let places = places_in h.optional_header in
     read opts (addressing_by opts (mapped_in Sections h sections) places) places
 
--- a table of a file by itself: of the rest of the file only the header and the sections are needed
+-- one table of a file; apart from it, only the header and the sections have to be read
 abbrev pub file_table : {A : Type 0} → TableReader A → ParseOptions → Reading A
 file_table read opts =
     let strict = is_strict opts.parse_mode in
     pe_header strict >>= λ h. sections_after strict h >>= table_with read opts h
 
--- the same of a layout
+-- a table of a layout
 abbrev pub layout_table : {A : Type 0} → TableReader A → Layout → Reading A
 layout_table read l = let m = layout_map l in read m.opts m.addressing (layout_places l)
 
--- what is made of a table that was read, and a default where it was not
+-- what `f` makes of a table that was read, and a default if it was not
 abbrev pub read_or : {A B : Type 0} → B → (A → B) → Part A → B
 read_or default f Absent = default
 read_or default f (part.Read table) = f table

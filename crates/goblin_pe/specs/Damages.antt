@@ -1,4 +1,4 @@
--- What strict mode would refuse of a file, part by part.
+-- What strict mode would refuse in a file, part by part.
 use Rattle.std.specs.Prelude.{◌≡◌, ℕ, true, List, Option, None, Some, IsSome, IsSomeAnd, Result, Ok}
 use Rattle.std.specs.Prelude.{Err, if◌then◌else◌, min, ◌^◌, ◌-◌}
 use Rattle.goblin_base.specs.declared.error.ErrorOf.{ErrorOf}
@@ -25,16 +25,16 @@ use Rattle.goblin_pe.specs.Whole.{TablePlaces, directory_at, entry_format, expor
 use Rattle.goblin_pe.specs.Whole.{mapped_in, addressing_by, places_in, relocation_part, sections_after}
 use Rattle.goblin_pe.specs.Whole.{whole_in}
 
--- There is a value and no damage, or there is none and the cause is true.
+-- There is a value and no damage, or there is no value and the cause is true.
 abbrev pub IsDamageOf : {A : Type 0} → Option A → (ErrorOf → Type 0) → Option ErrorOf → Type 0
 IsDamageOf value IsCause None = IsSome value
 IsDamageOf value IsCause (Some e) = (value ≡ None) × IsCause e
 
--- the same of a reading
+-- the same for a reading
 abbrev pub IsDamage : {A : Type 0} → Reading A → List ℕ → Option ErrorOf → Type 0
 IsDamage reading bytes damage = IsDamageOf (reading.value bytes) (reading.IsCause bytes) damage
 
--- how much is left out of the imports that a directory leads to, if there is one
+-- how much is left out of the imports of a directory; nothing without one
 abbrev pub imports_left_out_at : Format EntryValue → Addressing → List ℕ
     → Option DataDirectory → LeftOut
 imports_left_out_at format addressing bytes None =
@@ -45,25 +45,25 @@ imports_left_out_at format addressing bytes (Some d) = record {
   unmapped_entries = min (unmapped_entries format addressing bytes d.virtual_address) (2 ^ 64 - 1);
 }
 
--- the same of a file's imports; nothing where they are not asked for
+-- how much is left out of a file's imports; nothing if the options do not ask for them
 unfoldable pub left_out_of : ParseOptions → Addressing → TablePlaces → List ℕ → LeftOut
 left_out_of opts addressing places bytes =
     imports_left_out_at (entry_format places.magic) addressing bytes
     (if opts.parse_imports then directory_at places 1 else None)
 
--- how many name pointers of the export directory that was read give no export; 0 without one
+-- how many name pointers of an export directory give no export; 0 if none was read
 abbrev pub exports_left_out_of : Addressing → List ℕ
     → Option (ExportTables × List NumberedExport) → ℕ
 exports_left_out_of addressing bytes None = 0
 exports_left_out_of addressing bytes (Some read) = pointers_left_out addressing bytes read.0
 
--- the same of a file, where its export directory can be read
+-- how many name pointers of a file's export directory give no export; 0 if it cannot be read
 unfoldable pub exports_left_out : Addressing → TablePlaces → List ℕ → ℕ
 exports_left_out addressing places bytes =
     exports_left_out_of addressing bytes
     (directory_at places 0 >>= λ d. (numbered_read addressing d).value bytes)
 
--- What strict mode would refuse of the tables whose addresses are mapped so.
+-- What strict mode would refuse in the tables, with this map of addresses.
 pub record AreDamaged (opts : ParseOptions) (addressing : Addressing) (places : TablePlaces)
     (bytes : List ℕ) (of_imports of_exports of_relocations : Option ErrorOf) (of_left_out : LeftOut)
     : Type 0 where
@@ -73,7 +73,7 @@ pub record AreDamaged (opts : ParseOptions) (addressing : Addressing) (places : 
       of_relocations
   pub left_out : of_left_out ≡ left_out_of opts addressing places bytes
 
--- What strict mode would refuse of a file with this header and these sections, in a view.
+-- What strict mode would refuse in a file with this header and these sections, in a view.
 pub record IsDamaged (view : View) (opts : ParseOptions) (h : PeHeader) (sections : List Section)
     (bytes : List ℕ) (d : Damage) : Type 0 where
   pub dos_stub : IsDamage (stub_at h.dos_header.pe_pointer) bytes d.dos_stub
@@ -85,8 +85,8 @@ pub record IsDamaged (view : View) (opts : ParseOptions) (h : PeHeader) (section
       d.left_out_exports
       ≡ exports_left_out (addressing_by opts (mapped_in view h sections) places) places bytes
 
--- A call tells the damage of a file that has a header and sections in its own mode; or these are
--- refused, or memory.
+-- A call reports the damage of a file whose header and sections are read in its own mode. Or it is
+-- refused because these are, or because memory is.
 abbrev pub TellsDamage : View → ParseOptions → List ℕ → Result Damage ErrorOf → Type 0
 TellsDamage view opts bytes (Ok d) =
     IsSomeAnd ((layout opts).value bytes) (λ l. IsDamaged view opts l.0 l.1 bytes d)

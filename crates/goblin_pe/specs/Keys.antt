@@ -1,4 +1,4 @@
--- What a file is known by to one who has its answer.
+-- A key by which a cache knows the files whose answer it has.
 use Rattle.std.specs.Prelude.{◌≡◌, ◌≤◌, ℕ, List, length, map, slice_range}
 use Rattle.goblin_base.specs.Footprints.{Range}
 use Rattle.goblin_base.specs.Marks.{IsFootprint}
@@ -13,7 +13,7 @@ KeptRange = Range × List ℕ
 abbrev pub kept_range : List ℕ → Range → KeptRange
 kept_range file range = (range, slice_range file range.0 range.1)
 
--- the file has these bytes there
+-- the file has the kept bytes in the kept range
 abbrev pub HasKeptRange : List ℕ → KeptRange → Type 0
 HasKeptRange file kept =
     (kept.0.0 ≤ kept.0.1) × (kept.0.1 ≤ length file)
@@ -26,7 +26,7 @@ key_length key = key.length
 abbrev pub key_ranges : FileKey → List KeptRange
 key_ranges key = key.kept.items
 
--- It is the key of this file by these options: its length, and its bytes in the ranges of its
+-- The key of this file with these options: its length, and its bytes in the ranges of its
 -- footprint.
 pub record IsKeyOf (opts : ParseOptions) (file : List ℕ) (key : FileKey) : Type 0 where
   pub ranges : List Range

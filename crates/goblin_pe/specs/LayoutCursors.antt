@@ -29,51 +29,51 @@ use Rattle.goblin_pe.specs.declared.whole.imports.FileImports.TheVariants.{Narro
 use Rattle.goblin_pe.specs.Layouts.{IsFileImportsCause, file_imports_left}
 use Rattle.goblin_pe.specs.Whole.{TablePlaces, directory_at, entry_format}
 
--- what is still to come at a cursor, by this magic and this map of addresses
+-- the imports still to come at a cursor, with this magic and this map of addresses
 abbrev pub file_cursor_left : MapOfAddresses → ℕ → List ℕ → ImportCursor
     → List (Option NumberedImport)
 file_cursor_left m magic bytes c = cursor_left m (entry_format magic) bytes c
 
--- which cause is true if there is a refusal among it
+-- the cause that is true if one of these is a refusal
 abbrev pub IsFileCursorCause : MapOfAddresses → ℕ → List ℕ → ImportCursor → ErrorOf → Type 0
 IsFileCursorCause m magic bytes c e = IsCursorCause m (entry_format magic) bytes c e
 
--- where a walk is
+-- the cursor of a walk
 abbrev pub file_cursor : FileImports → ImportCursor
 file_cursor (Narrow imports) = cursor_of imports
 file_cursor (Wide imports) = cursor_of imports
 
--- the map that a walk goes by
+-- the map of addresses that a walk uses
 abbrev pub file_map : FileImports → MapOfAddresses
 file_map (Narrow imports) = imports_map imports
 file_map (Wide imports) = imports_map imports
 
--- the bytes that it is over
+-- the bytes that a walk is over
 abbrev pub file_bytes : FileImports → List ℕ
 file_bytes (Narrow imports) = imports_bytes imports
 file_bytes (Wide imports) = imports_bytes imports
 
--- the walk is over these bytes, by this magic and this map of addresses, and holds the name that its
--- cursor says
+-- The walk is over these bytes, with this magic and this map of addresses, and holds the name that
+-- its cursor says.
 abbrev pub IsImportWalk : MapOfAddresses → ℕ → List ℕ → FileImports → Type 0
 IsImportWalk m magic bytes (Narrow imports) =
     (entry_format magic ≡ entries_32) × AreImportsOver bytes m imports × HasName imports
 IsImportWalk m magic bytes (Wide imports) =
     (entry_format magic ≡ entries_64) × AreImportsOver bytes m imports × HasName imports
 
--- it is at this cursor
+-- It is such a walk, and it is at this cursor.
 abbrev pub IsImportWalkAt : MapOfAddresses → ℕ → List ℕ → ImportCursor → FileImports → Type 0
 IsImportWalkAt m magic bytes c imports =
     IsImportWalk m magic bytes imports × (file_cursor imports ≡ c)
 
--- a walk that has given no import is at the end
+-- If the call gave no import, the walk is at the end.
 abbrev pub IsAtFileEnd : Option (Result WalkedImport ErrorOf) → FileImports → Type 0
 IsAtFileEnd result imports =
     let c = file_cursor imports in
     MatchOption result (c ≡ no_imports) (λ r. IfErr r (λ e. c ≡ no_imports))
 
--- A call of `next` gives the next import, or an error that is never Memory, or else has ended the
--- walk; it keeps the bytes and the map, and what is known of the walk.
+-- A call of `next` gives the next import, or an error that is never Memory, or it has ended the
+-- walk. It keeps the bytes and the map, and what is known of the walk.
 abbrev pub GivesFileImport : FileImports → Option (Result WalkedImport ErrorOf) → FileImports
     → Type 0
 GivesFileImport s result t =
@@ -85,16 +85,16 @@ GivesFileImport s result t =
     × (file_bytes t ≡ file_bytes s)
     × (file_map t ≡ file_map s)
 
--- how many steps are ahead: slots and records that are still to be looked at
+-- how many steps are ahead: slots and import descriptors that are still to be looked at
 abbrev pub file_ahead : FileImports → ℕ
 file_ahead (Narrow imports) = imports_ahead entries_32 imports
 file_ahead (Wide imports) = imports_ahead entries_64 imports
 
--- those from a cursor on
+-- how many steps are ahead from a cursor on
 abbrev pub file_cursor_ahead : MapOfAddresses → ℕ → List ℕ → ImportCursor → ℕ
 file_cursor_ahead m magic bytes c = cursor_ahead m (entry_format magic) bytes c
 
--- A call of `next_within`: by a limit of steps, of which it leaves some.
+-- A call of `next_within`, with a budget of steps before and after the call.
 pub record GivesFileWithin (s : FileImports) (old : Option ℕ)
     (result : Option (Result WalkedImport ErrorOf)) (t : FileImports) (new : Option ℕ) : Type 0
   where
@@ -106,7 +106,7 @@ pub record GivesFileWithin (s : FileImports) (old : Option ℕ)
     pub ended : EndsWithin result (file_cursor t)
         (HaveRunOut (length (file_bytes s)) old new (file_ahead s) (file_ahead t))
 
--- A call gives the walk from the first import of a directory on, or is refused since that is.
+-- A call gives the walk at the cursor that `first` reads, or it is refused as `first` is.
 abbrev pub GivesFirst : MapOfAddresses → ℕ → List ℕ → Reading ImportCursor
     → Result FileImports ErrorOf → Type 0
 GivesFirst m magic bytes first (Ok imports) =
@@ -120,20 +120,20 @@ begin_in strict addressing None = given no_imports
 begin_in strict addressing (Some directory) =
     first_import strict addressing directory.virtual_address
 
--- Before the first import of the directory. There are none without a directory, or where they are
--- not asked for.
+-- The cursor before the first import of the directory. It is the end if there is no directory, or
+-- if the options do not ask for imports.
 unfoldable pub import_begin : ParseOptions → Addressing → TablePlaces → Reading ImportCursor
 import_begin opts addressing places =
     pick opts.parse_imports (begin_in (is_strict opts.parse_mode) addressing (directory_at places 1))
     (given no_imports)
 
--- the imports from there on
+-- the walk from that cursor on
 abbrev pub PartBegins : MapOfAddresses → ℕ → List ℕ → ImportCursor → Part FileImports → Type 0
 PartBegins m magic bytes c Absent = c ≡ no_imports
 PartBegins m magic bytes c (part.Read imports) = IsImportWalkAt m magic bytes c imports
 PartBegins m magic bytes c Refused = ⊥
 
--- A call gives the imports from where they begin, or is refused since that is.
+-- A call gives the imports from the cursor that `begin` reads on, or it is refused as `begin` is.
 abbrev pub StartsAt : MapOfAddresses → ℕ → List ℕ → Reading ImportCursor
     → Result (Part FileImports) ErrorOf → Type 0
 StartsAt m magic bytes begin (Ok result) =

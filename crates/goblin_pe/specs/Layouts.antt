@@ -1,4 +1,4 @@
--- What all tables of a file are read by, and the tables as walks.
+-- What a reader of any table of a file needs, and the tables as walks.
 use Rattle.std.specs.Prelude.{◌≡◌, ℕ, List, Option, Some, Result, Ok, Err}
 use Rattle.goblin_base.specs.declared.error.ErrorOf.{ErrorOf}
 use Rattle.goblin_base.specs.Reading.{IsRefused, Reading}
@@ -28,7 +28,7 @@ use Rattle.goblin_pe_head.specs.PeHeader.{header_value}
 use Rattle.goblin_pe.specs.Whole.{TablePlaces, directory_at, mapped_in, part_at, places_in, sections_after}
 use Rattle.goblin_pe.specs.Whole.{table_places}
 
--- ---- what all tables are read by
+-- ---- what a reader of any table needs
 
 -- the bytes of the file
 abbrev pub layout_bytes : Layout → List ℕ
@@ -46,9 +46,9 @@ layout_places l = table_places l.places
 abbrev pub layout_map : Layout → MapOfAddresses
 layout_map l = map_of l.address_map
 
--- It is that of these bytes with this header, in a view: its tables lie where the header says, and
--- its addresses are mapped by the file's sections, with the file's front in the loader's view, by the
--- header's file alignment and by these options.
+-- It is the layout of these bytes with this header, in a view. Its tables lie where the header
+-- says. Its addresses are mapped by the sections of the file, and in the loader's view also by the
+-- front of the file, with the header's file alignment and these options.
 pub record IsLayoutOf (view : View) (opts : ParseOptions) (bytes : List ℕ) (header : Header)
     (l : Layout) : Type 0 where
   pub over : layout_bytes l ≡ bytes
@@ -63,8 +63,8 @@ pub record IsLayoutOf (view : View) (opts : ParseOptions) (bytes : List ℕ) (he
 
 -- ---- tables as walks
 
--- A call returns a table as a walk, or says that it is absent or refused; or it is refused itself:
--- as the reading says.
+-- A call gives what the reading says: a table as a walk, a table that is absent or refused, or a
+-- refusal of the call itself.
 abbrev pub PartWalks : {S A B : Type 0} → (S → List (Option A)) → (S → ErrorOf → Type 0)
     → (List A → B) → Result (Part S) ErrorOf → Reading (Part B) → List ℕ → Type 0
 PartWalks left IsCause gather (Ok Absent) reading bytes = reading.value bytes ≡ Some Absent
@@ -76,17 +76,17 @@ PartWalks left IsCause gather (Err e) reading bytes =
 
 -- ---- the walk over the imports, whose entries have four bytes or eight
 
--- what is still to come
+-- the imports still to come
 abbrev pub file_imports_left : FileImports → List (Option NumberedImport)
 file_imports_left (Narrow imports) = imports_left entries_32 imports
 file_imports_left (Wide imports) = imports_left entries_64 imports
 
--- which cause is true if there is a refusal among it
+-- the cause that is true if one of these is a refusal
 abbrev pub IsFileImportsCause : FileImports → ErrorOf → Type 0
 IsFileImportsCause (Narrow imports) e = IsImportsCause entries_32 imports e
 IsFileImportsCause (Wide imports) e = IsImportsCause entries_64 imports e
 
--- no more than this comes
+-- an upper bound of the number of imports to come
 abbrev pub file_imports_bound : FileImports → ℕ
 file_imports_bound (Narrow imports) = imports_bound imports
 file_imports_bound (Wide imports) = imports_bound imports
@@ -97,13 +97,13 @@ file_imports_bound (Wide imports) = imports_bound imports
 abbrev pub walked_exports : Exports → ExportTables × List NumberedExport
 walked_exports walk = (walked_tables walk, exports_left walk)
 
--- what the export directory leads to besides the names of exports
+-- what the export directory leads to, without the names of the exports
 unfoldable pub address_part : ParseOptions → Addressing → TablePlaces
     → Reading (Part ExportTables)
 address_part opts addressing places =
     part_at (is_strict opts.parse_mode) (export_addresses addressing) (directory_at places 0)
 
--- A walk over these bytes, whose addresses are mapped so: all exports are still to come, with their
+-- A walk over these bytes, with this map of addresses. All exports are still to come, with their
 -- numbers.
 abbrev pub IsExportWalk : MapOfAddresses → List ℕ → Exports → Type 0
 IsExportWalk m bytes walk =

@@ -1,5 +1,5 @@
--- One reader in both modes: where strict mode has a value, permissive mode has the same; but an
--- import directory at file offset 0 is an empty list there, whatever it holds.
+-- One reader in both modes. If strict mode has a value, permissive mode has the same, with one
+-- exception: an import directory at file offset 0 is an empty list there, whatever it holds.
 use Rattle.std.specs.Prelude.{◌≡◌, ℕ, ◌==◌, Bool, false, if◌then◌else◌, List, [], Option, None}
 use Rattle.std.specs.Prelude.{Some, Result}
 use Rattle.goblin_base.specs.declared.error.ErrorOf.{ErrorOf}
@@ -14,8 +14,8 @@ use Rattle.goblin_pe.specs.Whole.{TablePlaces, WholeFile, addressing_by, directo
 abbrev pub in_mode : ParseMode → ParseOptions → ParseOptions
 in_mode mode opts = record opts { parse_mode = mode }
 
--- A reader that takes no memory, in strict mode and in permissive mode, as `InModes` for one that
--- does.
+-- A reader that takes no memory, in strict and in permissive mode. `InModes` is for a reader that
+-- takes memory.
 pub record ReadsInModes {X Y : Type 0} (view : X → Y) (becomes : Y → Y)
     (strict permissive : Reading Y) (bytes : List ℕ)
     (both : Result X ErrorOf × Result X ErrorOf) : Type 0 where
@@ -24,17 +24,17 @@ pub record ReadsInModes {X Y : Type 0} (view : X → Y) (becomes : Y → Y)
   pub repeats : (x : Y) → strict.value bytes ≡ Some x
       → permissive.value bytes ≡ Some (becomes x)
 
--- the offset is that of the front of the file
+-- whether an offset is that of the front of the file
 abbrev pub is_front : Option ℕ → Bool
 is_front None = false
 is_front (Some o) = o == 0
 
--- a list made of the directory at an offset; permissive mode treats a directory at the front of the
--- file as empty
+-- the list of a directory at an offset, in permissive mode: a directory at the front of the file is
+-- empty there
 abbrev pub unless_front : {A : Type 0} → Option ℕ → List A → List A
 unless_front place xs = if is_front place then [] else xs
 
--- the offset of the import directory of a file, by the file's own header and sections
+-- the file offset of the import directory of a file, with the file's own header and sections
 abbrev pub import_place : ParseOptions → WholeFile → Option ℕ
 import_place opts whole =
     let places : TablePlaces = places_in whole.header.optional_header in

@@ -22,7 +22,7 @@ refused_number refused.Imports = 3
 refused_number refused.Exports = 4
 refused_number refused.Relocations = 5
 
--- the first of the tables that has no value; permissive mode has one for each
+-- the first of the tables that has no value; in permissive mode each has one
 abbrev pub refused_table : ParseOptions → Addressing → TablePlaces → List ℕ → RefusedPart
 refused_table opts addressing places bytes =
     if is_some ((import_list opts addressing places).value bytes)
@@ -33,7 +33,7 @@ refused_table opts addressing places bytes =
     else refused.Exports)
     else refused.Imports
 
--- of a file with this header, by its sections, if they have a value
+-- the part that is refused in a file with this header, if the sections have this value or none
 abbrev pub refused_with : View → ParseOptions → PeHeader → List ℕ → Option (List Section)
     → RefusedPart
 refused_with view opts h bytes None = refused.Sections
@@ -45,7 +45,7 @@ abbrev pub refused_after : View → ParseOptions → List ℕ → PeHeader → R
 refused_after view opts bytes h =
     refused_with view opts h bytes ((sections_after (is_strict opts.parse_mode) h).value bytes)
 
--- of a file, by its header, if it has a value
+-- the part that is refused in a file, if the header has this value or none
 abbrev pub refused_by : View → ParseOptions → List ℕ → Option PeHeader → RefusedPart
 refused_by view opts bytes None = refused.Header
 refused_by view opts bytes (Some h) = refused_after view opts bytes h
@@ -54,12 +54,12 @@ unfoldable pub refused_part : View → ParseOptions → List ℕ → RefusedPart
 refused_part view opts bytes =
     refused_by view opts bytes ((pe_header (is_strict opts.parse_mode)).value bytes)
 
--- a file of which no part is refused is read
+-- A file without a refused part is read.
 abbrev pub IsReadWithout : View → ParseOptions → List ℕ → Type 0
 IsReadWithout view opts bytes =
     refused_part view opts bytes ≡ refused.Nothing → IsSome ((whole_in view opts).value bytes)
 
--- of a file that is read no part is refused
+-- A file that is read has no refused part.
 abbrev pub IsWithoutRead : View → ParseOptions → List ℕ → Type 0
 IsWithoutRead view opts bytes =
     IsSome ((whole_in view opts).value bytes) → refused_part view opts bytes ≡ refused.Nothing

@@ -13,7 +13,7 @@ use goblin_pe_head::optional_header::{
 };
 use goblin_pe_sect::options::ParseOptions;
 
-// The byte at an offset; 0 in the four bytes of the field, and past the end.
+// The byte at an offset. It counts as 0 in the four bytes of the checksum field, and past the end.
 fn summed_byte(bytes: &[u8], field: usize, offset: usize) -> u32
     ensures value { result ≡ summed_byte bytes.now field offset }
     ensures small { result < 256 }
@@ -27,7 +27,7 @@ fn summed_byte(bytes: &[u8], field: usize, offset: usize) -> u32
     }
 }
 
-// The little-endian word of two bytes at an index.
+// The little-endian word of two bytes at an index, which counts words.
 fn summed_word(bytes: &[u8], field: usize, index: usize) -> u32
     requires { 2 * index < length bytes.now }
     ensures value { result ≡ summed_word bytes.now field index }
@@ -36,7 +36,7 @@ fn summed_word(bytes: &[u8], field: usize, index: usize) -> u32
     summed_byte(bytes, field, 2 * index) + 256 * summed_byte(bytes, field, 2 * index + 1)
 }
 
-// The sum cut to 16 bits, and its carry added.
+// The low 16 bits of a sum, with its carry added.
 fn with_carry(sum: u32) -> u32
     requires { sum < 131071 }
     ensures value { result ≡ with_carry sum }
@@ -45,7 +45,7 @@ fn with_carry(sum: u32) -> u32
     sum % 65536 + sum / 65536
 }
 
-// The sum of all words in 16 bits, each carry added.
+// The sum of all words in 16 bits, with each carry added.
 #[tactic(auto, unfolding(crate::specs::Checksums::sum_of_words))]
 fn sum_of_words(bytes: &[u8], field: usize) -> u32
     ensures value { result ≡ sum_of_words bytes.now field ((length bytes.now + 1) / 2) }
@@ -58,17 +58,19 @@ fn sum_of_words(bytes: &[u8], field: usize) -> u32
     sum
 }
 
-/// The checksum of the image `bytes`, whose checksum field stands at the file offset `field`: 88
-/// bytes after the offset of its signature, `pe_pointer`. It is the sum of the little-endian words
-/// of two bytes, in 16 bits and with each carry added, and the length of the file, in 32 bits. The
-/// four bytes of the field, as far as the file has them, count as zeros, and so does the byte that
-/// a last word lacks. Windows tests it of drivers, and of libraries that it loads at boot or into
-/// critical processes.
+/// The checksum of the image `bytes`. `field` is the file offset of the checksum field, which lies
+/// 88 bytes after the PE signature at `pe_pointer`.
+///
+/// The little-endian words of two bytes are summed in 16 bits, with each carry added. Then the
+/// length of the file is added, in 32 bits. The four bytes of the field, as far as the file has
+/// them, count as zeros. So does the byte that the last word lacks if the length is odd. Windows
+/// tests the checksum of drivers, and of libraries that it loads at boot or into critical
+/// processes.
 ///
 /// Source: PE Format, "Optional Header Windows-Specific Fields (Image Only)", `CheckSum`, which
-/// leaves the algorithm to the Windows library IMAGEHLP. That is known to add the field, too, and to
-/// take it off again with borrows: it then has 0 where the other words add up to 0xFFFF, unless the
-/// field is 0.
+/// leaves the algorithm to the Windows library IMAGEHLP. That library is known to sum the field,
+/// too, and to subtract it again with borrows. Its sum is then 0 if the other words add up to
+/// 0xFFFF, unless the field is 0.
 pub fn checksum(bytes: &[u8], field: usize) -> u32
     ensures { result ≡ image_checksum bytes.now field }
 {
@@ -76,8 +78,8 @@ pub fn checksum(bytes: &[u8], field: usize) -> u32
     sum_of_words(bytes, field).wrapping_add(length)
 }
 
-// How far after the signature the field is: that and the COFF header stand before the optional
-// header, in which the standard fields stand before the others.
+// The distance of the checksum field from the PE signature, in bytes. The signature and the COFF
+// header come before the optional header, whose standard fields come before the Windows fields.
 const FIELD_OFFSET: usize = 88;
 
 const _: () = prove!(
@@ -93,8 +95,8 @@ const _: () = prove!(
                 + OFFSET_WINDOWS_FIELDS_64_CHECKSUM
 );
 
-/// The file offset of the checksum field of an image with this header; `None` without an optional
-/// header.
+/// The file offset of the checksum field of an image with this header, or `None` if the image has
+/// no optional header.
 pub fn checksum_field(header: &Header) -> Option<usize>
     ensures { result ≡ checksum_field (header_value header.now) }
 {
@@ -104,8 +106,8 @@ pub fn checksum_field(header: &Header) -> Option<usize>
     }
 }
 
-/// The checksum of the image `bytes`, as [`checksum`], whose header says where its field is. `None`
-/// where the header cannot be read by these options, or has no optional header.
+/// The checksum of the image `bytes`, as [`checksum`] computes it, with the field where the header
+/// says. It is `None` if these options refuse the header, or if there is no optional header.
 pub fn file_checksum(bytes: &[u8], opts: &ParseOptions) -> Option<u32>
     ensures { result ≡ file_checksum (is_strict opts.now.parse_mode) bytes.now }
 {

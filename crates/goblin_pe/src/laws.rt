@@ -1,25 +1,27 @@
-//! Laws over two reads, and which bytes of a file a read depends on.
+//! Laws over two reads, and the positions of a file on which a read depends.
 //!
 //! The footprint of a read is the set of positions of the file that it depends on, whether or not
 //! the read has a value. The definition of each reader includes it, as a list of ranges: each
-//! record whose offset the layout gives, each slot of a table up to and with the one that ends it,
-//! each text through its NUL or to the end of the file. What does not lie in the file adds nothing.
+//! record whose offset the layout gives, each slot of a table up to and including the one that ends
+//! it, and each text through its NUL or to the end of the file. Positions outside the file add
+//! nothing.
 //!
 //! Two files agree on a footprint if they have the same length and the same byte at every position
 //! in it. Each call here with two files, `a` and `b`, returns what the reader returns for each of
-//! them; a refusal of one is returned in its place, and the other still runs. It is proved that the
+//! them. A refusal of one is returned in its place, and the other still runs. It is proved that the
 //! two are equal values or both refusals if the files agree on the footprint of the read in `a` and
 //! neither is `Error::Memory`. Nothing is said about equal causes.
 //!
 //! The calls whose names begin with `footprint` list the footprint of a read, as ranges in order
-//! that do not touch; [`mark_whole`] gives the marks from which these of a whole file come, and
-//! [`FileKey`] keeps the bytes there.
+//! that do not touch. [`mark_whole`] returns the marks from which the ranges of a whole file come,
+//! and [`FileKey`] keeps the bytes there.
 //!
-//! The calls whose names begin with `mode` read one file in both modes, and
-//! [`reorder_whole_tables`] reads it under two tables of sections. Permissive mode repeats what
-//! strict mode reads, but for the imports of which
-//! [`ParseOptions::parse_mode`](crate::options::ParseOptions::parse_mode) tells. The order of
-//! sections changes nothing where their windows are disjoint.
+//! The calls whose names begin with `mode` read one file in both modes. Permissive mode repeats
+//! what strict mode reads, with one exception: an import directory at file offset 0 is an empty
+//! list there, as [`ParseOptions::parse_mode`](crate::options::ParseOptions::parse_mode) says.
+//!
+//! [`reorder_whole_tables`] reads one file with two tables of sections. The order of sections
+//! changes nothing if their windows are disjoint.
 
 mod footprint;
 mod header;

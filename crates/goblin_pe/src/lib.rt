@@ -1,5 +1,5 @@
-//! Reads PE files: headers, sections, symbols, relocations, imports, exports, whole files. It
-//! re-exports the modules of the crates below, so that a user names one crate.
+//! Reads PE files: headers, sections, symbols, relocations, imports, exports and whole files. It
+//! re-exports the modules of the crates below, so that users need to name only this one.
 #![tactic(auto)]
 
 mod image_checksum;

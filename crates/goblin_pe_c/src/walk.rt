@@ -57,8 +57,8 @@ use std::alloc::Global;
 /// offset, if the cursor is the first; and in strict mode the very next import, if there is room
 /// for it. Imports that come before a refusal are given, and the next call is refused; no law says
 /// on which bytes those before a refusal depend. Memory (the status 5) is refused only of a file
-/// that has more than 96 sections, by whose windows addresses are mapped: it is taken for an index
-/// of them, and given back before the call returns.
+/// that has more than 96 sections: it is taken for an index of them, and given back before the call
+/// returns.
 #[unsafe(no_mangle)]
 pub extern "C" fn goblin_pe_raw_next_imports<'a>(
     alloc: Global,

@@ -1,4 +1,4 @@
--- What the audits say of a file.
+-- What the audits say about a file.
 use Rattle.std.specs.Prelude.{◌≡◌, ◌++◌, ◌==◌, ◌&&◌, ℕ, Bool, false, not, List, Option, Some, None}
 use Rattle.std.specs.Prelude.{IsSome, bit_and, codes, count_by, filter}
 use Rattle.std.specs.Option.{is_some}
@@ -21,11 +21,11 @@ use Rattle.goblin_pe.specs.Whole.{export_part, import_list, layout}
 
 -- ---- imports
 
--- the import is from the library of this name, byte for byte
+-- whether an import is from the library of this name, byte for byte
 abbrev pub is_from : List ℕ → NumberedImport → Bool
 is_from library walked = bytes_eq walked.import.dll library
 
--- a file, read strictly, imports something from this library
+-- whether a file, read in strict mode, imports something from this library
 abbrev pub imports_from : List ℕ → Reading Bool
 imports_from library =
     mapped (read_or false (has_any (is_from library))) (file_table import_list default_options)
@@ -45,7 +45,7 @@ forwarders opts = mapped (read_or 0 forwarder_count) (file_table export_part opt
 
 -- ---- sections
 
--- the section may be executed, or written: this bit is set
+-- whether a section may be executed, or written: this bit is set
 abbrev pub is_code : Section → Bool
 is_code s = not (bit_and s.characteristics 0x2000_0000 == 0)
 
@@ -59,19 +59,19 @@ is_writable_code s = is_writable s && is_code s
 abbrev pub writable_code : Reading (List Section)
 writable_code = mapped (λ both. filter is_writable_code both.1) (layout default_options)
 
--- there is a section, and it may be executed
+-- whether there is a section, and it may be executed
 abbrev pub is_code_there : Option Section → Bool
 is_code_there None = false
 is_code_there (Some s) = is_code s
 
--- the entry point of an optional header lies in a section that may be executed
+-- whether the entry point of an optional header lies in a section that may be executed
 abbrev pub is_entered_in_code : Option OptionalHeader → List Section → Bool
 is_entered_in_code None sections = false
 is_entered_in_code (Some h) sections =
     is_code_there
     (section_at h.windows_fields.file_alignment h.standard_fields.address_of_entry_point sections)
 
--- the same of a file
+-- the same for a file
 abbrev pub enters_code : Reading Bool
 enters_code =
     mapped (λ both. is_entered_in_code both.0.optional_header both.1) (layout default_options)
@@ -85,8 +85,8 @@ stamped time h =
 
 -- ---- refusals
 
--- The text tells a true cause why the reading refuses the file; where it has a value, there is
--- none.
+-- The text says a true cause why the reading refuses the file. There is no text if the reading has
+-- a value.
 abbrev pub Tells : {A : Type 0} → Reading A → List ℕ → Option (List ℕ) → Type 0
 Tells reading bytes None = IsSome (reading.value bytes)
 Tells reading bytes (Some text) =

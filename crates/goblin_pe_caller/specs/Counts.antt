@@ -14,11 +14,11 @@ use Rattle.goblin_pe.specs.RichMetadata.{metadata_items}
 use Rattle.goblin_pe.specs.HeaderReadings.{rich_header}
 use Rattle.goblin_pe.specs.Whole.{whole_file}
 
--- the options that pass over damaged parts
+-- the options of permissive mode, which passes over damaged parts
 abbrev pub permissive_options : ParseOptions
 permissive_options = record default_options { parse_mode = Permissive }
 
--- how many functions a file imports, damaged parts passed over
+-- how many functions a file imports in permissive mode
 abbrev pub import_count : Reading ℕ
 import_count = mapped (λ whole. read_or 0 length whole.imports) (whole_file permissive_options)
 
@@ -29,7 +29,7 @@ rich_entry_count =
     mapped (option_map (λ r. length (metadata_items r.key (drop r.padding_size r.bytes))))
     rich_header
 
--- the entry of an address table leads to a forwarder
+-- whether the entry of an address table leads to a forwarder
 abbrev pub leads_to_forwarder : ExportAddressTableEntry → Bool
 leads_to_forwarder (ExportRVA rva) = false
 leads_to_forwarder (ForwarderRVA rva) = true

@@ -6,7 +6,7 @@ use Rattle.goblin_pe.specs.Options.{default_options}
 use Rattle.goblin_pe.specs.Whole.{whole_file}
 use Rattle.goblin_pe_caller.specs.declared.verdict.Verdict.{Verdict}
 
--- it says whether this file is read, and its key is that of the file
+-- The verdict says whether this file is read, and its key is the key of the file.
 pub record IsVerdictOn (file : List ℕ) (verdict : Verdict) : Type 0 where
   pub says : verdict.is_read ≡ is_some ((whole_file default_options).value file)
   pub known : IsKeyOf default_options file verdict.key

@@ -12,11 +12,11 @@ ghost use Rattle.goblin_pe_caller.specs.Audits.{stamped};
 use goblin_pe::header::Header;
 use goblin_pe::{Endian, Result};
 
-/// Writes the header of a file, with another time stamp, to the front of `out`, and returns how
-/// many bytes it takes. Reading these gives the header with that time stamp.
+/// Writes the header of a file, with another time stamp, to the front of `out`, and returns its
+/// size in bytes. What was written reads back as the header with that time stamp.
 ///
 /// # Errors
-/// As [`Header::parse`] and [`Header::try_into_ctx`]; `out` is then unchanged.
+/// As [`Header::parse`] and [`Header::try_into_ctx`]. `out` is then unchanged.
 pub fn stamp(file: &[u8], time: u32, out: &mut [u8]) -> Result<usize>
     ensures again { IfOk result (λ _. IsSomeAnd ((pe_header true).value file.now)
         (λ h. (pe_header true).value out.new ≡ Some (stamped time h))) }

@@ -34,9 +34,9 @@ fitting t =
     >>= (λ n.
     needs_by (if counts_fit n t then Some t else None) (IsCountFault n t) (count-not_memory n t))
 
--- What a record leads to: the library's name, and the three tables, each empty where its address
--- has no offset. There are as many ordinals as name pointers by the record's number, not by the
--- pointers that are whole.
+-- What a record leads to: the library's name, and the three tables, each empty if its address has
+-- no offset. The record's number of name pointers also counts the ordinals, even if fewer name
+-- pointers are whole.
 unfoldable pub export_tables : Addressing → DataDirectory → ExportDirectoryTable
     → Reading ExportTables
 export_tables addressing d t =
@@ -52,7 +52,7 @@ export_tables addressing d t =
     beside counted_if ordinals t.number_of_name_pointers (addressing.offset t.ordinal_table_rva)
     beside counted_if (addresses d) t.address_table_entries (addressing.offset t.export_address_table_rva))
 
--- what a record leads to, where its counts fit the file
+-- what a record leads to, if its counts fit the file
 abbrev pub tables_if : Addressing → DataDirectory → ExportDirectoryTable
     → Reading ExportTables
 tables_if addressing d t = fitting t >>= export_tables addressing d
@@ -72,8 +72,7 @@ fitting_addresses t =
     needs_by (if nat_le t.address_table_entries n then Some t else None) (IsAddressCountFault n t)
     (address_count-not_memory n t))
 
--- what a record leads to besides the names of exports, whose tables are left out: the library's name
--- and the address table
+-- what a record leads to, without the tables of the names: the library's name and the address table
 unfoldable pub address_tables : Addressing → DataDirectory → ExportDirectoryTable
     → Reading ExportTables
 address_tables addressing d t =
@@ -87,8 +86,8 @@ address_tables addressing d t =
     (or_none (name_at addressing t.name_rva)
     beside counted_if (addresses d) t.address_table_entries (addressing.offset t.export_address_table_rva))
 
--- what the record at a directory's address leads to besides the names, whatever it says of these: a
--- loader finds an export by its ordinal without them
+-- what the record at a directory's address leads to, without the tables of the names, whatever it
+-- says about these; a loader finds an export by its ordinal without them
 unfoldable pub export_addresses : Addressing → DataDirectory → Reading ExportTables
 export_addresses addressing d =
     at_address addressing.offset d.virtual_address
@@ -99,7 +98,7 @@ abbrev pub without_names : ExportTables → ExportTables
 without_names tables =
     record tables { export_name_pointer_table = []; export_ordinal_table = [] }
 
--- Where the export data are read, these are their addresses.
+-- If the export data is read, its addresses are these.
 abbrev pub RepeatsAddresses : Addressing → DataDirectory → List ℕ → Type 0
 RepeatsAddresses addressing d bytes =
     IfSome ((export_data addressing d).value bytes)
@@ -107,14 +106,14 @@ RepeatsAddresses addressing d bytes =
 
 -- ---- the exports
 
--- What an entry stands for in another library: nothing, or what its forwarder says, if there is
--- one.
+-- What an entry refers to in another library: nothing if it is not a forwarder, else what the
+-- forwarder's text says.
 abbrev pub reexport_of : Addressing → ExportAddressTableEntry → Reading (Option Forwarder)
 reexport_of addressing (variant.ExportRVA rva) = given None
 reexport_of addressing (variant.ForwarderRVA rva) =
     mapped (λ f. Some f) (at_address addressing.offset rva (forwarder_within addressing.longest))
 
--- the row of a name pointer and an address: it stays without a name that can't be read
+-- the row of a name pointer and an address; a name that can't be read is left out of it
 unfoldable pub row_of : Addressing → ℕ → ExportAddressTableEntry → Reading ExportRow
 row_of addressing pointer address =
     mapped (λ parts. record {
@@ -130,8 +129,8 @@ row_of addressing pointer address =
 abbrev pub entry_of : {A : Type 0} → List A → ℕ → Reading A
 entry_of entries x = taken (slice_get entries x)
 
--- The export of the name pointer at index x. Its entry of the ordinal table is at x too, and
--- numbers its address; with the ordinal base added it is its ordinal.
+-- The export of the name pointer at index x. The entry of the ordinal table at x is the index of
+-- its address; with the ordinal base added, that entry is its ordinal.
 unfoldable pub numbered_row : Addressing → ExportTables → ℕ → Reading NumberedExport
 numbered_row addressing tables x =
     entry_of tables.export_name_pointer_table x
@@ -142,7 +141,7 @@ numbered_row addressing tables x =
     >>= (λ address.
     mapped (numbered_by tables x pointer ordinal) (row_of addressing pointer address))))
 
--- its row alone
+-- the row of that export alone
 unfoldable pub export_row : Addressing → ExportTables → ℕ → Reading ExportRow
 export_row addressing tables x = mapped (λ x. x.row) (numbered_row addressing tables x)
 
@@ -154,7 +153,7 @@ numbered_rows addressing tables =
     (file_length
     beside each_kept (numbered_row addressing tables) (length tables.export_name_pointer_table))
 
--- their rows alone
+-- the rows of these exports alone
 unfoldable pub exports : Addressing → ExportTables → Reading (List ExportRow)
 exports addressing tables = mapped (map (λ x. x.row)) (numbered_rows addressing tables)
 
@@ -164,7 +163,7 @@ unfoldable pub numbered_read : Addressing → DataDirectory
 numbered_read addressing d =
     export_data addressing d >>= (λ tables. given tables beside numbered_rows addressing tables)
 
--- with the rows alone
+-- the same, with the rows alone
 unfoldable pub export_read : Addressing → DataDirectory
     → Reading (ExportTables × List ExportRow)
 export_read addressing d = mapped read_rows (numbered_read addressing d)

@@ -49,16 +49,16 @@ export_directory_fields t =
     ∷ uint 4 t.export_address_table_rva ∷ uint 4 t.name_pointer_rva ∷ uint 4 t.ordinal_table_rva
     ∷ []
 
--- it counts at most n entries of each table
+-- the record counts at most n name pointers and at most n addresses
 abbrev pub counts_fit : ℕ → ExportDirectoryTable → Bool
 counts_fit n t = nat_le t.number_of_name_pointers n && nat_le t.address_table_entries n
 
--- it counts more than n addresses
+-- the cause is that the record counts more than n addresses
 abbrev pub IsAddressCountFault : ℕ → ExportDirectoryTable → ErrorOf → Type 0
 IsAddressCountFault n t e = IsTooShort t.address_table_entries (codes "address table entries") n e
 
--- Which cause is true of a record that says more than n entries: there are too many name pointers,
--- or, where these fit, too many addresses.
+-- Which cause is true of a record that counts more than n entries: there are too many name
+-- pointers, or, if these fit, too many addresses.
 abbrev pub IsCountFault : ℕ → ExportDirectoryTable → ErrorOf → Type 0
 IsCountFault n t e =
     IsTooShort t.number_of_name_pointers (codes "name pointers") n e
@@ -94,8 +94,7 @@ ordinals = record { width = 2; value_of = λ bytes. number Little 2 bytes 0 }
 abbrev pub is_in_directory : DataDirectory → ℕ → Bool
 is_in_directory d rva = nat_le d.virtual_address rva && nat_lt rva (d.virtual_address + d.size)
 
--- What an address stands for: a forwarder's text where it lies in the export directory, else an
--- export.
+-- What an address leads to: a forwarder's text if it lies in the export directory, else an export.
 unfoldable pub address_entry : DataDirectory → ℕ → ExportAddressTableEntry
 address_entry d rva = if is_in_directory d rva then variant.ForwarderRVA rva else variant.ExportRVA rva
 
@@ -118,8 +117,8 @@ pub record ExportTables : Type 0 where
 
 -- ---- the tables as bytes of the file
 
--- The bytes of a table of `count` entries of `width` bytes at a place, up to the first that is not
--- whole. A table without a place has none.
+-- The bytes of a table of `count` entries of `width` bytes at a place, up to the first incomplete
+-- entry. A table without a place has none.
 abbrev pub table_bytes : ℕ → ℕ → List ℕ → Option ℕ → List ℕ
 table_bytes width count bytes None = []
 table_bytes width count bytes (Some o) =
@@ -141,8 +140,8 @@ tables_in t = record {
 
 -- ---- the exports
 
--- An export: its name, where it has one that can be read, its file offset and address, its size,
--- which is not known, and what it stands for in another library.
+-- An export: its name, if that can be read, its file offset and RVA, its size, which is not known,
+-- and what it refers to in another library.
 pub record ExportRow : Type 0 where
   pub name : Option (List ℕ)
   pub offset : Option ℕ
@@ -150,14 +149,15 @@ pub record ExportRow : Type 0 where
   pub size : ℕ
   pub reexport : Option Forwarder
 
--- an export, with the index of its name pointer, its own ordinal and the address of its name
+-- an export, with the index of its name pointer, its own ordinal and the RVA of its name
 pub record NumberedExport : Type 0 where
   pub hint : ℕ
   pub ordinal : ℕ
   pub name_rva : ℕ
   pub row : ExportRow
 
--- the export of the name pointer at index x, by that and its entry of the ordinal table
+-- the export of the name pointer at index x, with the numbers that this pointer and its entry of
+-- the ordinal table give
 abbrev pub numbered_by : ExportTables → ℕ → ℕ → ℕ → ExportRow → NumberedExport
 numbered_by tables x pointer ordinal row = record {
   hint = x;

@@ -13,7 +13,7 @@ use Rattle.goblin_pe_export.specs.declared.export.exports.WalkedExport.{WalkedEx
 
 -- ---- the exports with their numbers
 
--- the export of the name pointer at index x, where that has one
+-- the export of the name pointer at index x, if it has one
 abbrev pub numbered_export : Addressing → List ℕ → ExportTables → ℕ → Option NumberedExport
 numbered_export addressing bytes tables x = (numbered_row addressing tables x).value bytes
 
@@ -41,7 +41,7 @@ exports_map walk = map_of walk.finder
 abbrev pub walked_tables : Exports → ExportTables
 walked_tables walk = tables_in walk.tables
 
--- what comes of a walk from a name pointer on
+-- the exports that a walk yields from a name pointer on
 abbrev pub exports_at : Exports → ℕ → List NumberedExport
 exports_at walk x =
     numbered_from (exports_map walk).addressing (exports_bytes walk) (walked_tables walk) x
@@ -50,32 +50,33 @@ exports_at walk x =
 abbrev pub exports_position : Exports → ℕ
 exports_position walk = walk.next
 
--- what is still to come
+-- the exports that a walk has yet to yield
 abbrev pub exports_left : Exports → List NumberedExport
 exports_left walk = exports_at walk (exports_position walk)
 
--- the walk is over these bytes, whose addresses are mapped so
+-- the walk is over these bytes, with their addresses mapped by m
 abbrev pub AreExportsOver : List ℕ → MapOfAddresses → Exports → Type 0
 AreExportsOver bytes m walk = (exports_bytes walk ≡ bytes) × (exports_map walk ≡ m)
 
--- the second walk is over what the first is over
+-- the second walk is over the bytes, the map and the tables of the first
 abbrev pub KeepsOver : Exports → Exports → Type 0
 KeepsOver s t =
     AreExportsOver (exports_bytes s) (exports_map s) t × (walked_tables t ≡ walked_tables s)
 
--- A call of `next` gives the next export; it keeps what is walked over, and goes on behind the name
--- pointer of that export.
+-- A call of `next` gives the next export. It keeps the bytes, the map and the tables, and moves the
+-- walk just past the name pointer of that export.
 abbrev pub GivesExport : Exports → Option WalkedExport → Exports → Type 0
 GivesExport s result t =
     YieldsFirstBy walked_export exports_left s result t × KeepsOver s t
     × IfSome result (λ x. exports_position t ≡ x.hint + 1)
 
--- how many name pointers the file has
+-- how many whole name pointers the file has
 abbrev pub pointer_count : Exports → ℕ
 pointer_count walk = length walk.tables.name_pointers.now / 4
 
--- A call of `next_before` gives the next export, if its name pointer has an index below this end.
--- Else the same is still to come, and the walk is at the end, or where the name pointers end before.
+-- A call of `next_before` gives the next export, if its name pointer has an index below `end`. Else
+-- the walk has the same exports yet to yield, and is at `end`, or at the end of the name pointers
+-- if that comes first. A walk that was past that place stays where it was.
 abbrev pub GivesExportBefore : ℕ → Exports → Option WalkedExport → Exports → Type 0
 GivesExportBefore end s result t =
     let last = min end (pointer_count s) in
@@ -85,6 +86,6 @@ GivesExportBefore end s result t =
     (λ x. GivesExport s (Some x) t × (exports_position s < exports_position t)
     × (exports_position t ≤ last))
 
--- no more than this comes
+-- an upper bound of the number of exports to come
 abbrev pub exports_bound : Exports → ℕ
 exports_bound walk = pointer_count walk - exports_position walk

@@ -1,4 +1,4 @@
--- What holds of the reader of a forwarder: it takes no more bytes than there are.
+-- The reader of a forwarder reads no more bytes than there are.
 use Rattle.std.proofs.Common.{ℕ, ◌+◌, ◌≤◌, List, length, Option, Some, None}
 use Rattle.std.specs.Prelude.{IfSome, min}
 use Rattle.std.proofs.Math.Nat.{min-le_right}

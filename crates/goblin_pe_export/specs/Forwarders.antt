@@ -31,9 +31,9 @@ pub data Forwarder : Type 0 where
 abbrev pub HasNoDot : List ℕ → Type 0
 HasNoDot text = (i : ℕ) → i < length text → slice_index text i ≢ 46
 
--- The grammar: a library without a dot, a dot, and then a name that has a character and does not
--- begin with '#' (35); or '#' and an ordinal: an optional '+' and decimal digits, at least one, of
--- a value below 2^32.
+-- The grammar: a library without a dot, a dot, and then a name, or '#' (35) and an ordinal. The
+-- name has at least one character and does not begin with '#'. The ordinal is an optional '+' and
+-- at least one decimal digit, with a value below 2^32.
 pub data IsForwarder (text : List ℕ) : Forwarder → Type 0 where
   Named : (export lib : List ℕ) → text ≡ lib ++ 46 ∷ export → HasNoDot lib → 0 < length export
       → slice_index export 0 ≢ 35 → IsForwarder text (ByName export lib)
@@ -56,7 +56,7 @@ ordinal_of text =
     then Some (digits_value 10 digits)
     else None
 
--- what a library and the text after its dot name
+-- the export that a library and the text after its dot name
 unfoldable pub export_of : List ℕ → List ℕ → Option Forwarder
 export_of lib [] = None
 export_of lib (c ∷ rest) =
@@ -64,19 +64,19 @@ export_of lib (c ∷ rest) =
     then option_map (λ n. ByOrdinal n lib) (ordinal_of rest)
     else Some (ByName (c ∷ rest) lib)
 
--- what a text names; without a dot nothing follows it
+-- the forwarder that a text names; without a dot nothing follows the library
 unfoldable pub forwarder_of : List ℕ → Option Forwarder
 forwarder_of text = export_of (before_first is_dot text) (after_first is_dot text)
 
--- the forwarder at the front of bytes, and how many of them it takes: its text, and the NUL after
--- it if there is one
+-- the forwarder at the front of bytes, and its size in bytes: that of its text, and of the NUL
+-- after it if there is one
 abbrev pub forwarder_in : Endian → List ℕ → Option (Forwarder × ℕ)
 forwarder_in endian bytes = do
   text ← text_at bytes 0
   forwarder ← forwarder_of text
   Some (forwarder, min (length text + 1) (length bytes))
 
--- a forwarder that was read, its texts as their bytes
+-- a forwarder that was read, with its texts as their bytes
 abbrev pub forwarder_value : Reexport → Forwarder
 forwarder_value (DLLName export lib) = ByName export.now lib.now
 forwarder_value (DLLOrdinal ordinal lib) = ByOrdinal ordinal lib.now
@@ -95,8 +95,9 @@ forwarder_at p =
     checked forwarder_of IsForwarderFault
     (λ text. by_cases-not_memory (IsForwarderFault text) (λ m h. h)) (reads.text_at p)
 
--- What a text names, or the front of a longer one: then the library before its first dot, if there is
--- one, and what follows as a name, whatever it is.
+-- The forwarder that a text names, which may be the front of a longer one. In such a front, the
+-- library is what comes before the first dot, if there is one, and what follows is a name, whatever
+-- it is.
 abbrev pub forwarder_in_text : (is_longer : Bool) → List ℕ → Option Forwarder
 forwarder_in_text false text = forwarder_of text
 forwarder_in_text true text =
@@ -107,7 +108,7 @@ abbrev pub is_longer : Option ℕ → List ℕ → Bool
 is_longer None text = false
 is_longer (Some n) text = nat_lt n (length text)
 
--- the forwarder that the text at an offset names, up to a limit
+-- the forwarder that the text at an offset names; the text is cut at a limit if there is one
 abbrev pub forwarder_within : Option ℕ → ℕ → Reading Forwarder
 forwarder_within longest p =
     checked (λ text. forwarder_in_text (is_longer longest text) text) IsForwarderFault

@@ -7,7 +7,7 @@ use Rattle.goblin_pe_export.specs.Exports.{export_row}
 use Rattle.goblin_pe_export.specs.declared.export.tables.ExportAddressTableEntry.{ExportAddressTableEntry}
 use Rattle.goblin_pe_sect.specs.Addresses.{Addressing}
 
--- an entry of the address table is no forwarder, or one whose text can be read
+-- an entry of the address table is not a forwarder, or is one whose text can be read
 abbrev pub reads_forwarder : Addressing → List ℕ → ExportAddressTableEntry → Bool
 reads_forwarder addressing bytes address = is_some ((reexport_of addressing address).value bytes)
 
@@ -15,7 +15,7 @@ reads_forwarder addressing bytes address = is_some ((reexport_of addressing addr
 abbrev pub gives_export : Addressing → List ℕ → ExportTables → ℕ → Bool
 gives_export addressing bytes tables x = is_some (export_row addressing bytes tables x)
 
--- how many name pointers give none
+-- how many name pointers give no export
 unfoldable pub pointers_left_out : Addressing → List ℕ → ExportTables → ℕ
 pointers_left_out addressing bytes tables =
     count_by (λ x. not (gives_export addressing bytes tables x))

@@ -1,5 +1,5 @@
-//! Laws about two reads of exports, and the bytes of a file that these depend on;
-//! `goblin_pe::laws` explains them.
+//! Laws about two reads of exports, and the footprint of such a read: the bytes of a file on which
+//! it depends. `goblin_pe::laws` explains them.
 
 mod exports;
 mod footprint;

@@ -1,5 +1,6 @@
-//! Reads the exports of a PE file, and their forwarders. It does not depend on `goblin_pe_head`,
-//! and is proved beside `goblin_pe_import`. `goblin_pe` re-exports `export`.
+//! Reads the exports of a PE file, and their forwarders. This crate does not depend on
+//! `goblin_pe_head` or `goblin_pe_import`, so it is proved beside them. `goblin_pe` re-exports
+//! `export`.
 #![tactic(auto)]
 
 pub mod export;

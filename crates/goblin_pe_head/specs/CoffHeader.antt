@@ -33,8 +33,8 @@ coff_fields h =
 
 -- ---- the tables that it leads to
 
--- the end of the symbol table, whose records have 18 bytes, which is the start of the string table,
--- if there are such tables
+-- the end of the symbol table, at which the string table begins, if there are such tables; a record
+-- of the symbol table has 18 bytes
 abbrev pub symbols_end : CoffHeader → ℕ
 symbols_end header = header.pointer_to_symbol_table + 18 * header.number_of_symbol_table
 
@@ -42,7 +42,8 @@ symbols_end header = header.pointer_to_symbol_table + 18 * header.number_of_symb
 abbrev pub IsTooManySections : ℕ → List ℕ → ErrorOf → Type 0
 IsTooManySections n bytes = IsTooShort n (codes "sections") (length bytes / 40)
 
--- the offset of the string table: none if the pointer to the symbol table is 0, else after that
+-- the file offset of the string table: that after the symbol table, or none if the pointer to the
+-- symbol table is 0
 unfoldable pub string_table_offset : CoffHeader → Option ℕ
 string_table_offset header =
     if header.pointer_to_symbol_table == 0 then None else Some (symbols_end header)

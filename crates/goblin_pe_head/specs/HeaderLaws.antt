@@ -28,22 +28,22 @@ DosWritesBack =
     (file : List ℕ) (h : DosHeader) → IsBytes file → dos_header.value file ≡ Some h
     → slice_at file 0 64 ≡ Some (encoding Little (dos_fields h))
 
--- how many bytes the fields before the directories take, by the magic
+-- the size in bytes of the fields before the data directories, which the magic gives
 abbrev pub fields_size : ℕ → ℕ
 fields_size magic = if magic == 0x10B then 96 else 112
 
--- how many bytes an optional header takes in its file: the fields that its magic asks for, and as
--- many directories as they say
+-- the size in bytes of an optional header in its file: its fields in the width that the magic
+-- gives, and as many data directories as they count
 abbrev pub optional_size : OptionalHeader → ℕ
 optional_size h =
     fields_size h.standard_fields.magic + 8 * h.windows_fields.number_of_rva_and_sizes
 
--- the zeros that are written after its directories, up to the sixteenth
+-- the zeros that are written after its data directories, up to the sixteenth
 abbrev pub filling : OptionalHeader → List ℕ
 filling h = replicate (8 * (16 - h.windows_fields.number_of_rva_and_sizes)) 0
 
--- An optional header that was read takes `optional_size` bytes, and is written as they stand with
--- the missing directories after them.
+-- An optional header that was read has `optional_size` bytes. It is written as these bytes,
+-- followed by zeros for the missing data directories.
 unfoldable pub OptionalWritesBack : Type 0
 OptionalWritesBack =
     (bytes : List ℕ) (h : OptionalHeader) (n : ℕ) → IsBytes bytes
@@ -51,8 +51,8 @@ OptionalWritesBack =
     → (n ≡ optional_size h) × (n ≤ length bytes)
     × (optional_bytes Little h ≡ Some (take n bytes ++ filling h))
 
--- where a header ends in its file: 24 bytes after the start of the signature, or where the optional
--- header ends
+-- the file offset where a header ends: 24 bytes after the start of the signature or, if there is an
+-- optional header, at its end
 abbrev pub end_after : ℕ → Option OptionalHeader → ℕ
 end_after p None = p + 24
 end_after p (Some h) = p + 24 + optional_size h
@@ -65,8 +65,8 @@ abbrev pub filling_after : Option OptionalHeader → List ℕ
 filling_after None = []
 filling_after (Some h) = filling h
 
--- A header that was read in strict mode is written as the file's bytes up to its end, with the
--- missing directories after them.
+-- A header that was read in strict mode is written as the file's bytes up to its end, followed by
+-- zeros for the missing data directories.
 unfoldable pub HeaderWritesBack : Type 0
 HeaderWritesBack =
     (file : List ℕ) (h : PeHeader) → IsBytes file → (pe_header true).value file ≡ Some h
@@ -74,7 +74,7 @@ HeaderWritesBack =
     × (header_bytes Little h
     ≡ Some (take (header_end h) file ++ filling_after h.optional_header))
 
--- It reads back from any bytes that it was written over.
+-- A header that was read in strict mode reads back from any bytes that it was written over.
 unfoldable pub HeaderReadsBack : Type 0
 HeaderReadsBack =
     (file old new : List ℕ) (h : PeHeader) → IsBytes file → (pe_header true).value file ≡ Some h
@@ -83,16 +83,17 @@ HeaderReadsBack =
 
 -- ---- which headers read back, whatever their numbers are
 
--- An entry of the data directories is what a reader makes of its directory, in which the numbers
--- fit: it knows where its record ends, and is none where it is zeros or past the count.
+-- Entry i of the data directories is what a reader makes of its directory: the directory with the
+-- offset of its end, or none if it is zeros or i is past the count. The numbers of the directory
+-- fit their fields.
 abbrev pub IsEntryAt : ℕ → ℕ → ℕ → Option (ℕ × DataDirectory) → Type 0
 IsEntryAt start count i entry =
     let d = directory_or_zeros entry in
     ((if nat_lt i count then entry_ending (start + 8 * i + 8) d else None) ≡ entry)
     × FieldsFit (directory_fields d)
 
--- The parts of an optional header agree: its directories follow the fields that its magic asks for,
--- as many as it says, and its standard fields fit these.
+-- The parts of an optional header agree. It has as many data directories as it counts, at most
+-- sixteen, after its fields in the width that the magic gives. The standard fields fit that width.
 abbrev pub IsConsistentOptional : OptionalHeader → Type 0
 IsConsistentOptional h =
     let s = h.standard_fields in
@@ -104,13 +105,14 @@ IsConsistentOptional h =
     × (s.size_of_uninitialized_data < 2 ^ 32) × (s.base_of_code < 2 ^ 32)
     × (s.magic ≡ 0x20B → s.base_of_data ≡ 0)
 
--- there is an optional header where its size is not 0, and its parts agree
+-- there is an optional header exactly if its size is not 0, and its parts agree
 abbrev pub IsConsistentPart : ℕ → Option OptionalHeader → Type 0
 IsConsistentPart size None = size ≡ 0
 IsConsistentPart size (Some h) = ((size == 0) ≡ false) × IsConsistentOptional h
 
--- The parts of a header agree: both signatures are right, the DOS header points to where its stub
--- ends, and the Rich header is that of the stub. This says nothing of its other numbers.
+-- The parts of a header agree: both signatures are right, the DOS header points to the end of the
+-- stub, the Rich header is that of the stub, and the optional header agrees with its size. This
+-- says nothing about the other numbers.
 abbrev pub IsConsistent : PeHeader → Type 0
 IsConsistent h =
     (h.dos_header.signature ≡ 0x5A4D)
@@ -146,7 +148,7 @@ pub record IsLeast (P : ℕ → Type 0) (i : ℕ) : Type 0 where
   pub least : (k : ℕ) → k < i → ¬ P k
 
 -- The markers of a Rich header before a PE signature at p: each is at the least possible offset in
--- the stretch, and the key after the one is that of the other.
+-- the stretch from 64 to p, and the key of the header follows the marker `Rich`.
 pub record IsMarked (bytes : List ℕ) (p : ℕ) (r : Rich) : Type 0 where
   pub end : ℕ
   pub start : ℕ
@@ -156,13 +158,15 @@ pub record IsMarked (bytes : List ℕ) (p : ℕ) (r : Rich) : Type 0 where
   pub key : r.key ≡ word_at (slice_range bytes 64 p) (end + 4)
   pub dans : IsLeast (IsDansAt r.key (slice_range bytes 64 p)) start
 
--- A file whose Rich header is read has a DOS header, and these markers.
+-- If the Rich header of a file is read, the file has a DOS header, and the Rich header has these
+-- markers.
 unfoldable pub RichIsMarked : Type 0
 RichIsMarked =
     (bytes : List ℕ) (r : Rich) → rich_header.value bytes ≡ Some (Some r)
     → IsSomeAnd (dos_header.value bytes) (λ dos. IsMarked bytes dos.pe_pointer r)
 
--- A file without one has no marker with a key after it.
+-- If a read finds no Rich header, the file has a DOS header, but no marker `Rich` with a key after
+-- it.
 unfoldable pub RichIsUnmarked : Type 0
 RichIsUnmarked =
     (bytes : List ℕ) → rich_header.value bytes ≡ Some None

@@ -1,4 +1,4 @@
--- The parts of a file's header, each by itself, and the section records that are there.
+-- The parts of a file's header, each by itself, and the section headers that are there.
 use Rattle.std.specs.Prelude.{◌≡◌, ℕ, ◌+◌, ◌-◌, ◌*◌, ◌/◌, ◌==◌, if◌then◌else◌, List, [], Bool, true}
 use Rattle.std.specs.Prelude.{Option, None, Some, Result, Ok, Err, IfSome, min, option_map, replicate}
 use Rattle.std.specs.Prelude.{unwrap_or}
@@ -29,8 +29,8 @@ use Rattle.goblin_pe_head.specs.PeHeader.{PeHeader}
 
 -- ---- the COFF header
 
--- the COFF header after the signature that the DOS header points to, and the offset behind it, where
--- the optional header begins
+-- the file offset just past the COFF header, where the optional header begins, and the COFF header
+-- itself, which follows the signature that the DOS header points to
 unfoldable pub placed_coff : Reading (ℕ × CoffHeader)
 placed_coff =
     dos_header
@@ -42,38 +42,38 @@ coff_part = mapped (λ placed. placed.1) placed_coff
 
 -- ---- the optional header
 
--- what is read at the front of an optional header, which exists if its size is not 0
+-- what `read` finds at the front of the optional header, which exists if its size is not 0
 abbrev pub optional_part : {A : Type 0} → Reading A → Reading (Option A)
 optional_part read =
     placed_coff
     >>= λ placed. pick (placed.1.size_of_optional_header == 0) (given None)
     (mapped (λ x. Some x) (in_rest placed.0 read))
 
--- by the magic at the front, what it asks for: for 32 bits, or for 64; another magic asks for
--- nothing
+-- the read that the magic selects, for 32 bits or for 64; another magic is refused
 abbrev pub by_magic : {A : Type 0} → Reading A → Reading A → ℕ → Reading A
 by_magic narrow wide magic =
     pick (magic == 0x10B) narrow
     (pick (magic == 0x20B) wide
     (needs_by None (IsBadMagic magic) (by_cases-not_memory (IsBadMagic magic) (λ m h. h))))
 
--- the standard fields that a magic asks for
+-- the standard fields in the width that the magic gives
 unfoldable pub standard_by : ℕ → Reading StandardFields
 standard_by magic =
     by_magic (mapped standard_from_32 (record_at 28 (standard_32_record Little) 0))
     (mapped standard_from_64 (record_at 24 (standard_64_record Little) 0)) magic
 
--- the Windows fields after them
+-- the Windows fields, which follow the standard fields
 unfoldable pub windows_by : ℕ → Reading WindowsFields64
 windows_by magic =
     by_magic (mapped windows_from_32 (record_at 68 (windows_32_record Little) 28))
     (record_at 88 (windows_64_record Little) 24) magic
 
--- how many bytes both take
+-- the size in bytes of the standard and the Windows fields together
 abbrev pub fields_size : ℕ → ℕ
 fields_size magic = if magic == 0x10B then 96 else 112
 
--- the first sixteen of the data directories after them, however many the last field says
+-- the data directories, which follow the Windows fields: as many as the last field says, but at
+-- most sixteen
 abbrev pub directories_after : ℕ → WindowsFields64 → Reading (List (Option (ℕ × DataDirectory)))
 directories_after magic fields =
     directories_at (min fields.number_of_rva_and_sizes 16) (fields_size magic)
@@ -88,24 +88,25 @@ unfoldable pub directories_front : Reading (List (Option (ℕ × DataDirectory))
 directories_front =
     number_at Little 2 0 >>= λ magic. windows_by magic >>= directories_after magic
 
--- ---- the section records
+-- ---- the section headers
 
--- The sections of so many records at p, without their names from the string table. Where there are
--- none, it does not matter where.
+-- The sections of `count` section headers at p, without their names from the string table. If
+-- `count` is 0, p does not matter.
 abbrev pub sections_there : ℕ → ℕ → Reading (List Section)
 sections_there count p =
     pick (count == 0) (given []) (mapped sections_in (slice_at p (40 * count)))
 
--- those of a section table, of which no name is tested
+-- the sections of a section table; no name is tested
 abbrev pub unnamed_sections : ℕ → ℕ → Reading (List Section)
 unnamed_sections count p = with_room count (sections_there count p)
 
--- as many of so many records at p as the file has
+-- the sections at p: `count`, or as many as the file has, if it has fewer
 abbrev pub whole_sections : ℕ → ℕ → Reading (List Section)
 whole_sections count p =
     file_length >>= λ length. sections_there (min count ((length - p) / 40)) p
 
--- where the section table begins, by the size that the COFF header says
+-- the file offset of the section table, which the COFF header gives by the size of the optional
+-- header
 abbrev pub table_after : ℕ × CoffHeader → ℕ
 table_after placed = placed.0 + placed.1.size_of_optional_header
 
@@ -158,12 +159,13 @@ no_windows_fields = record {
 abbrev pub no_directories : DataDirectories
 no_directories = record { data_directories = replicate 16 None }
 
--- a part of an optional header, where it is given
+-- the part of an optional header, if it could be read
 abbrev pub part_given : {A : Type 0} → Result (Option A) ErrorOf → Option A
 part_given (Ok part) = part
 part_given (Err e) = None
 
--- the optional header of these parts, with zeros and no directories in place of others
+-- the optional header of these parts; Windows fields that are missing are zeros, and data
+-- directories that are missing are none
 abbrev pub optional_of : StandardFields → Option WindowsFields64 → Option DataDirectories
     → OptionalHeader
 optional_of standard windows directories = record {
@@ -172,7 +174,7 @@ optional_of standard windows directories = record {
   data_directories = unwrap_or directories no_directories;
 }
 
--- that of the parts that are given; there is none without standard fields
+-- the optional header of the parts that could be read; there is none without standard fields
 abbrev pub known_optional : HeaderParts → Option OptionalHeader
 known_optional parts =
     option_map
@@ -180,7 +182,7 @@ known_optional parts =
     (part_given parts.data_directories))
     (part_given parts.standard_fields)
 
--- The parts of a header that is read as a whole are its parts.
+-- If a header is read as a whole, the parts that are read by themselves are its parts.
 pub record AreOfHeader (h : PeHeader) (parts : HeaderParts) : Type 0 where
   pub dos : parts.dos_header ≡ Ok h.dos_header
   pub coff : parts.coff_header ≡ Ok h.coff_header

@@ -31,7 +31,7 @@ use Rattle.goblin_pe_head.specs.RichReadings.{rich_at}
 
 -- ---- the DOS header
 
--- the number, where it is the one that is wanted
+-- the number, if it is the one that is wanted
 abbrev pub that_is : ℕ → ℕ → Option ℕ
 that_is wanted n = if n == wanted then Some n else None
 
@@ -53,7 +53,7 @@ signature_at p = because (NoPeSignature p) (number_at Little 4 p)
 abbrev pub pe_signature : ℕ → Reading ℕ
 pe_signature p = only 0x4550 (λ n. PeMagic n) (signature_at p)
 
--- the record at the front, with the PE signature where it points
+-- the record at the front, if the PE signature is where it points
 abbrev pub signed_record : Reading DosHeader
 signed_record =
     because NoPePointer (record_at 64 (dos_record Little) 0)
@@ -64,7 +64,7 @@ signed_record =
 unfoldable pub dos_header : Reading DosHeader
 dos_header = mapped (λ both. both.1) (dos_signature beside signed_record)
 
--- the Rich header of a file, where there is one
+-- the Rich header of a file, if there is one
 unfoldable pub rich_header : Reading (Option Rich)
 rich_header = dos_header >>= λ dos. rich_at dos.pe_pointer
 
@@ -76,7 +76,7 @@ stub_at p =
     because_by (λ bytes. IsStubFault bytes p)
     (λ bytes. by_cases-not_memory (IsStubFault bytes p) (λ m h. h)) (bytes_between 64 p)
 
--- the stub before a PE signature at p; where there is none, permissive mode takes the default one
+-- the stub before a PE signature at p; if it is refused, permissive mode gives the default stub
 unfoldable pub stub_in : Bool → ℕ → Reading (List ℕ)
 stub_in strict p = or_else strict default_stub (stub_at p)
 
@@ -95,7 +95,7 @@ fields_32 =
     })
     (record_at 28 (standard_32_record Little) 0 beside record_at 68 (windows_32_record Little) 28)
 
--- those of an optional header for 64 bits, which is PE32+
+-- the fields before the directories of an optional header for 64 bits, which is PE32+
 abbrev pub fields_64 : Reading FixedFields
 fields_64 =
     mapped
@@ -107,7 +107,8 @@ fields_64 =
     })
     (record_at 24 (standard_64_record Little) 0 beside record_at 88 (windows_64_record Little) 24)
 
--- the fields that the magic asks for: 0x10B for PE32, 0x20B for PE32+; another magic has none
+-- the fields in the width that the magic gives: 0x10B for PE32, 0x20B for PE32+; another magic is
+-- refused
 unfoldable pub fixed_fields : ℕ → Reading FixedFields
 fixed_fields magic =
     pick (magic == 0x10B) fields_32
@@ -118,7 +119,7 @@ fixed_fields magic =
 abbrev pub count_after : FixedFields → ℕ
 count_after fields = fields.windows_fields.number_of_rva_and_sizes
 
--- how many bytes the optional header of these fields takes
+-- the size in bytes of the optional header with these fields
 abbrev pub size_of : FixedFields → ℕ
 size_of fields = fields.size + 8 * count_after fields
 
@@ -131,7 +132,7 @@ abbrev pub AreThere : List ℕ → FixedFields → Type 0
 AreThere bytes fields =
     (count_after fields ≤ 16) × (0 < count_after fields → size_of fields ≤ length bytes)
 
--- the optional header of these fields and data directories
+-- the optional header with these fields and data directories
 abbrev pub with_entries : FixedFields → List (Option (ℕ × DataDirectory)) → OptionalHeader
 with_entries fields entries = record {
   standard_fields = fields.standard_fields;
@@ -139,7 +140,7 @@ with_entries fields entries = record {
   data_directories = record { data_directories = entries };
 }
 
--- the optional header at the front of bytes, always little-endian, and how many bytes it takes: its
+-- the optional header at the front of bytes, always little-endian, and its size in bytes: its
 -- magic, its fields, and the data directories after them
 unfoldable pub optional_header : Reading (OptionalHeader × ℕ)
 optional_header =
@@ -159,7 +160,7 @@ pub record SignedParts : Type 0 where
   pub coff_header : CoffHeader
   pub optional_header : Option OptionalHeader
 
--- the COFF file header after a signature at p, and the optional header after that
+-- the COFF header after a signature at p, and the optional header after that
 abbrev pub coff_parts : ℕ → Reading (CoffHeader × Option OptionalHeader)
 coff_parts p =
     record_at 20 (coff_header Little) (p + 4)
@@ -185,7 +186,7 @@ header_of dos stub rich parts = record {
   optional_header = parts.optional_header;
 }
 
--- the header whose signature stands at p, with the parts before it
+-- the header whose signature is at p, with these parts before it
 unfoldable pub header_at : DosHeader → List ℕ → Option Rich → ℕ → Reading PeHeader
 header_at dos stub rich p = mapped (header_of dos stub rich) (parts_at p)
 
@@ -193,7 +194,7 @@ header_at dos stub rich p = mapped (header_of dos stub rich) (parts_at p)
 abbrev pub rich_and_parts : ℕ → Reading (Option Rich × SignedParts)
 rich_and_parts p = rich_at p beside parts_at p
 
--- the header whose signature stands where this DOS header points
+-- the header whose signature is where this DOS header points
 abbrev pub header_after : Bool → DosHeader → Reading PeHeader
 header_after strict dos =
     mapped (λ all. header_of dos all.0 all.1.0 all.1.1)

@@ -1,4 +1,5 @@
--- The optional header: standard fields and Windows fields by its magic, and then the directories.
+-- The optional header: standard fields and Windows fields in the width that the magic gives, and
+-- then the data directories.
 use Rattle.std.specs.List.{concat}
 use Rattle.std.specs.Prelude.{◌≡◌, ◌≢◌, ◌⊎◌, ℕ, ◌%◌, ◌^◌, ◌==◌, if◌then◌else◌, List, [], ◌∷◌}
 use Rattle.std.specs.Prelude.{nat_lt, Option, Some, None, Result, option_map}
@@ -164,8 +165,7 @@ standard_from_32 s = record {
   base_of_data = s.base_of_data;
 }
 
--- the standard fields of either width, from those for 64 bits, which do not say where the data
--- begins
+-- the standard fields of either width, from those for 64 bits, which have no base of data
 unfoldable pub standard_from_64 : StandardFields64 → StandardFields
 standard_from_64 s = record {
   magic = s.magic;
@@ -241,7 +241,7 @@ abbrev pub IsTooWide : ErrorOf → Type 0
 IsTooWide (Malformed FieldTooWide) = Unit {0}
 IsTooWide e = ⊥
 
--- the Windows fields for 32 bits, where the five wide fields fit
+-- the Windows fields for 32 bits, if the five wide fields fit
 unfoldable pub windows_to_32 : WindowsFields64 → Option WindowsFields32
 windows_to_32 s = do
   image_base ← narrowed s.image_base
@@ -282,15 +282,15 @@ abbrev pub IsBadMagic : ℕ → ErrorOf → Type 0
 IsBadMagic magic (BadMagic m) = (m ≡ magic) × (magic ≢ 0x10B) × (magic ≢ 0x20B)
 IsBadMagic magic e = ⊥
 
--- for how many bits the image is, by the magic
+-- the width of the image, which the magic gives
 abbrev pub container_of : ℕ → Option Container
 container_of magic =
     if magic == 0x10B
     then Some container.Little
     else if magic == 0x20B then Some container.Big else None
 
--- What is written of an optional header whose magic asks for 32 bits, where the five wide fields
--- fit: standard fields, Windows fields and sixteen directories.
+-- The written form of an optional header for 32 bits, if the five wide fields fit: standard fields,
+-- Windows fields and sixteen data directories.
 abbrev pub bytes_32 : Endian → OptionalHeader → Option (List ℕ)
 bytes_32 endian h =
     option_map (λ windows. concat (
@@ -300,8 +300,8 @@ bytes_32 endian h =
     ∷ []
     )) (windows_to_32 h.windows_fields)
 
--- What is written of an optional header whose magic asks for 64 bits: standard fields, Windows
--- fields and sixteen directories.
+-- The written form of an optional header for 64 bits: standard fields, Windows fields and sixteen
+-- data directories.
 abbrev pub bytes_64 : Endian → OptionalHeader → List ℕ
 bytes_64 endian h = concat (
     encoding endian (standard_64_fields (standard_to_64 h.standard_fields))
@@ -310,15 +310,15 @@ bytes_64 endian h = concat (
     ∷ []
     )
 
--- the written form of an optional header, by its magic; another magic has none
+-- the written form of an optional header, in the width that the magic gives; another magic has none
 unfoldable pub optional_bytes : Endian → OptionalHeader → Option (List ℕ)
 optional_bytes endian h =
     if h.standard_fields.magic == 0x10B then bytes_32 endian h
     else if h.standard_fields.magic == 0x20B then Some (bytes_64 endian h)
     else None
 
--- which cause is true of an optional header that has no written form: its magic is unknown, or asks
--- for 32 bits where a wide field does not fit
+-- which cause is true of an optional header that has no written form: its magic is unknown, or the
+-- magic is for 32 bits and a wide field does not fit
 abbrev pub IsUnwritten : OptionalHeader → ErrorOf → Type 0
 IsUnwritten h e =
     IsBadMagic h.standard_fields.magic e

@@ -1,4 +1,4 @@
--- What holds of a reader of an optional header: it takes no more bytes than there are.
+-- The reader of an optional header reads no more bytes than there are.
 use Rattle.std.proofs.Common.{◌≡◌, ℕ, ◌+◌, ◌*◌, ◌≤◌, ◌&&◌, Bool, true, false, cond, nat_eq, nat_lt}
 use Rattle.std.proofs.Common.{nat_le, List, length, Option, Some, None, refl}
 use Rattle.std.specs.Prelude.{IfSome, option_map, slice_range}
@@ -24,7 +24,7 @@ made-within : {A B : Type 0} (o : Option A) (f : A → B) (P : Type 0) (Q : B �
 made-within None f P Q h made = tt
 made-within (Some x) f P Q h made = made x h
 
--- what is made of two values takes no more bytes if the second does not
+-- what is made of two values stays within the bytes if the second does
 both-within : {A B C : Type 0} (x : Option A) (y : Option B) (f : A × B → C) (P : Type 0)
     (Q : C → Type 0)
     → IfSome y (λ _. P) → ((both : A × B) → P → Q (f both)) → IfSome (option_map f (pair_of x y)) Q
@@ -75,7 +75,7 @@ anything : {A : Type 0} (o : Option A) → IfSome o (λ _. Unit {0})
 anything None = tt
 anything (Some x) = tt
 
--- an optional header takes no more bytes than there are
+-- an optional header has no more bytes than there are
 pub optional_header-within : (bytes : List ℕ)
     → IfSome (optional_header.value bytes) (λ x. x.1 ≤ length bytes)
 unfolding optional_header

@@ -26,7 +26,7 @@ pub record PeHeader : Type 0 where
   pub coff_header : CoffHeader
   pub optional_header : Option OptionalHeader
 
--- a header that borrows its slices
+-- the value of a header that borrows its slices
 abbrev pub header_value : Header → PeHeader
 header_value h = record {
   dos_header = h.dos_header;
@@ -61,8 +61,7 @@ zero_dos_header = record {
   pe_pointer = 0;
 }
 
--- the header that stands for none: zeros, the default stub, and neither a Rich header nor an
--- optional header
+-- the default header: zeros, the default stub, and neither a Rich header nor an optional header
 unfoldable pub default_header : PeHeader
 default_header = record {
   dos_header = zero_dos_header;
@@ -81,13 +80,13 @@ default_header = record {
   optional_header = None;
 }
 
--- the written form of the optional header, if any; where there is none, no bytes
+-- the written form of the optional header: no bytes if there is none
 abbrev pub optional_part : Endian → Option OptionalHeader → Option (List ℕ)
 optional_part endian None = Some []
 optional_part endian (Some h) = optional_bytes endian h
 
--- the parts of a header one after the other, the signature always little-endian, the optional
--- header as these bytes
+-- the parts of a header one after the other, with the signature always little-endian, and with
+-- these bytes as the written optional header
 unfoldable pub header_parts : Endian → PeHeader → List ℕ → List ℕ
 header_parts endian h optional = concat (
     encoding endian (dos_fields h.dos_header)

@@ -24,7 +24,7 @@ pub record Rich : Type 0 where
   pub start_offset : ℕ
   pub end_offset : ℕ
 
--- a Rich header that borrows its data
+-- the value of a Rich header that borrows its data
 abbrev pub rich_value : RichHeader → Rich
 rich_value r =
     record {
@@ -51,7 +51,7 @@ word_at bytes p = number Little 4 bytes p
 abbrev pub is_rich : ℕ → Bool
 is_rich word = word == 0x68636952
 
--- the word is the marker `DanS` under the key
+-- the word is the marker `DanS` under the key: its exclusive or with the key is the marker
 abbrev pub is_dans : ℕ → ℕ → Bool
 is_dans key word = bit_xor word key == 0x536E6144
 
@@ -63,11 +63,11 @@ marker_place stretch = least_place Little 4 4 is_rich stretch
 abbrev pub dans_place : ℕ → List ℕ → Option ℕ
 dans_place key stretch = least_place Little 4 0 (is_dans key) stretch
 
--- which word is the first that is not the key
+-- the index of the first word that is not the key
 unfoldable pub other_place : ℕ → List ℕ → Option ℕ
 other_place key bytes = least_below (length bytes / 4) (λ k. not (word_at bytes (4 * k) == key))
 
--- how many of the leading words are the key: all, if no other word follows
+-- how many words at the front are the key; all, if there is no other word
 unfoldable pub leading_words : ℕ → List ℕ → ℕ
 leading_words key bytes = unwrap_or (other_place key bytes) (length bytes / 4)
 

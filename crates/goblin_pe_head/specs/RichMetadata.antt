@@ -28,8 +28,8 @@ metadata_fields m = uint 2 m.build ∷ uint 2 m.product ∷ uint 4 m.use_count �
 abbrev pub word_under : ℕ → List ℕ → ℕ → ℕ
 word_under key bytes p = bit_xor (word_at bytes p) key
 
--- the entry at p: of its first word the low half is the build and the high half the product, and
--- its second word is the use count
+-- the entry at p: the low half of its first word is the build, the high half the product, and its
+-- second word is the use count
 abbrev pub metadata_at : ℕ → List ℕ → ℕ → RichMetadata
 metadata_at key bytes p = record {
   build = word_under key bytes p % 65536;
@@ -52,8 +52,8 @@ stored_entry key m =
     number_bytes Little 4 (bit_xor (m.product * 65536 + m.build) key)
     ++ number_bytes Little 4 (bit_xor m.use_count key)
 
--- The items are entries that, joined as they are stored, are these bytes up to a rest of none or
--- four, which comes as one refusal after them.
+-- The items are entries, and then one refusal if there is a rest. The stored forms of the entries,
+-- joined, and the rest are these bytes. The rest has no bytes or four.
 pub record AreEntriesOf (key : ℕ) (bytes : List ℕ) (items : List (Result RichMetadata ErrorOf)) :
     Type 0 where
   pub entries : List RichMetadata

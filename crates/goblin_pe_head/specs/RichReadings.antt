@@ -20,22 +20,22 @@ marker = front_through Little 4 4 is_rich
 abbrev pub dans : ℕ → Reading (ℕ × List ℕ)
 dans key = because NoDans (front_through Little 4 0 (is_dans key))
 
--- the Rich header with its markers here, from the bytes through the key
+-- the Rich header whose marker `Rich` is at `end`, from the bytes through the key
 abbrev pub rich_with : List ℕ → ℕ → ℕ → Reading (Option Rich)
 rich_with front key end =
     checked (λ start. rich_between front key start.0 end) (λ start. IsBetweenFault start.0 end)
     (λ start. by_cases-not_memory (IsBetweenFault start.0 end) (λ m h. h)) (dans key)
 
--- the Rich header whose marker `Rich` is here; none without the marker
+-- the Rich header whose marker `Rich` is here, or none without the marker
 abbrev pub rich_before : Option (ℕ × List ℕ) → Reading (Option Rich)
 rich_before None = given None
 rich_before (Some end) = rich_with end.1 (word_at end.1 (end.0 + 4)) end.0
 
--- the Rich header of a stretch, where there is one
+-- the Rich header of a stretch, if there is one
 unfoldable pub rich_in : Reading (Option Rich)
 rich_in = or_none marker >>= rich_before
 
--- the Rich header before a PE signature at p, where there is one: in the stretch from 64 up to
--- there, if that has at least four bytes
+-- the Rich header before a PE signature at p, if there is one: it lies in the stretch from 64 to p,
+-- which must have at least four bytes
 unfoldable pub rich_at : ℕ → Reading (Option Rich)
 rich_at p = pick (nat_lt p 68) (given None) (in_slice 64 p rich_in)

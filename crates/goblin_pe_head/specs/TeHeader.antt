@@ -1,5 +1,5 @@
--- The header of a Terse Executable: its record; and what becomes of addresses and pointers, which
--- still say where things were before the headers of the PE file were stripped.
+-- The header of a Terse Executable: its record, and the adjustment of addresses and pointers. As
+-- stored, these still say where things were before the headers of the PE file were stripped.
 use Rattle.std.specs.Prelude.{◌≡◌, ℕ, ◌+◌, ◌-◌, ◌%◌, ◌^◌, ◌==◌, if◌then◌else◌, nat_le, List, []}
 use Rattle.std.specs.Prelude.{◌∷◌, Option, Some, None}
 use Rattle.goblin_base.specs.declared.endian.Endian.{Endian}
@@ -39,16 +39,16 @@ te_fields h =
     ∷ uint 4 h.reloc_dir.virtual_address
     ∷ uint 4 h.reloc_dir.size ∷ uint 4 h.debug_dir.virtual_address ∷ uint 4 h.debug_dir.size ∷ []
 
--- By how much everything moved to the front: what was stripped, less the 40 bytes that replace it.
--- There is no such number if less was stripped.
+-- How many bytes everything moved towards the front: the number of stripped bytes minus the 40
+-- bytes of the header. There is no such number if fewer than 40 were stripped.
 abbrev pub displacement : TeHeader → Option ℕ
 displacement h = if nat_le 40 h.stripped_size then Some (h.stripped_size - 40) else None
 
--- a number less d, modulo 2 ^ 32
+-- a number minus d, modulo 2 ^ 32
 abbrev pub moved_address : ℕ → ℕ → ℕ
 moved_address d x = (x + (2 ^ 32 - d)) % 2 ^ 32
 
--- a header whose entry point, base of code and directories are addresses in the stripped file
+-- a header whose entry point, base of code and directories are adjusted to the stripped file
 abbrev pub te_adjusted : ℕ → TeHeader → TeHeader
 te_adjusted d h = record h {
   entry_point = moved_address d h.entry_point;
@@ -57,15 +57,15 @@ te_adjusted d h = record h {
   debug_dir = record h.debug_dir { virtual_address = moved_address d h.debug_dir.virtual_address };
 }
 
--- the refusal names how much was stripped
+-- the refusal says how many bytes were stripped
 abbrev pub IsStrippedFault : TeHeader → ErrorOf → Type 0
 IsStrippedFault h e = e ≡ Malformed (StrippedSize h.stripped_size)
 
--- a pointer less d, where it points to something; 0 points to nothing
+-- a pointer minus d, modulo 2 ^ 32; 0 points to nothing and stays 0
 abbrev pub pointer_moved : ℕ → ℕ → ℕ
 pointer_moved d x = if x == 0 then 0 else moved_address d x
 
--- a section whose address and pointers are those in the stripped file
+-- a section whose address and pointers are adjusted to the stripped file
 unfoldable pub section_adjusted : ℕ → Section → Section
 section_adjusted d s = record s {
   virtual_address = moved_address d s.virtual_address;
@@ -74,7 +74,7 @@ section_adjusted d s = record s {
   pointer_to_linenumbers = pointer_moved d s.pointer_to_linenumbers;
 }
 
--- a section as stored, or as it is in a file whose front was stripped
+-- a section as stored, or adjusted to a file whose front was stripped
 abbrev pub section_moved : Option ℕ → Section → Section
 section_moved None = λ s. s
 section_moved (Some d) = section_adjusted d

@@ -14,8 +14,8 @@ use Rattle.goblin_pe_head.specs.TeHeader.{te_adjusted, te_record}
 
 -- Source: UEFI Platform Initialization Specification, volume 1, "TE Image".
 
--- a header whose addresses are those in the stripped file; there is none if less was stripped than
--- replaces it
+-- the header with its addresses adjusted to the stripped file; none if fewer bytes were stripped
+-- than the header has
 abbrev pub adjusted : TeHeader → Option TeHeader
 adjusted header = option_map (λ d. te_adjusted d header) (displacement header)
 
@@ -26,20 +26,20 @@ te_header p =
     (λ header. malformed-not_memory (StrippedSize header.stripped_size))
     (record_at 40 (te_record Little) p)
 
--- the section at p: as stored, or as it is in a file whose front was stripped
+-- the section at p: as stored, or adjusted to a file whose front was stripped
 abbrev pub moved_section : Option ℕ → Bool → ℕ → ℕ → Reading Section
 moved_section None strict table p = named_section_at strict table p
 moved_section (Some d) strict table p =
     mapped (section_adjusted d) (named_section_at strict table p)
 
--- n sections, each as `moved_section` has it, whose records follow one another from p on, with
--- their names from the string table at `table`
+-- n sections, each as `moved_section` gives it, whose section headers follow one another from p on,
+-- with their names from the string table at `table`
 abbrev pub moved_sections : Option ℕ → Bool → ℕ → ℕ → ℕ → Reading (List Section)
 moved_sections move strict table n p =
     each (λ i. moved_section move strict table (p + 40 * i)) n
 
--- as many sections as the header says, adjusted; a string table would begin at the front of the
--- file
+-- as many sections as the header says, adjusted; the string table for their names is at the front
+-- of the file
 unfoldable pub te_sections_at : TeHeader → ℕ → Reading (List Section)
 te_sections_at h p =
     with_room h.number_of_sections

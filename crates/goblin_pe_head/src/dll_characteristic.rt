@@ -1,4 +1,4 @@
-//! What the loader may do with an image, and has to, as bits of an optional header.
+//! What an image allows and requires of the loader, as bits of its optional header.
 //!
 //! Source: PE Format, "DLL Characteristics".
 
@@ -8,13 +8,13 @@ pub const IMAGE_DLLCHARACTERISTICS_HIGH_ENTROPY_VA: u16 = 0x0020;
 pub const IMAGE_DLLCHARACTERISTICS_DYNAMIC_BASE: u16 = 0x0040;
 /// The loader has to check the image's signature.
 pub const IMAGE_DLLCHARACTERISTICS_FORCE_INTEGRITY: u16 = 0x0080;
-/// The image runs where data can't be executed.
+/// The image can run where data can't be executed.
 pub const IMAGE_DLLCHARACTERISTICS_NX_COMPAT: u16 = 0x0100;
-/// The image is not isolated, though it could be.
+/// The image is aware of isolation, but must not be isolated.
 pub const IMAGE_DLLCHARACTERISTICS_NO_ISOLATION: u16 = 0x0200;
 /// The image has no structured exception handlers.
 pub const IMAGE_DLLCHARACTERISTICS_NO_SEH: u16 = 0x0400;
-/// The image may not be bound.
+/// The image must not be bound.
 pub const IMAGE_DLLCHARACTERISTICS_NO_BIND: u16 = 0x0800;
 /// The image has to run in an AppContainer.
 pub const IMAGE_DLLCHARACTERISTICS_APPCONTAINER: u16 = 0x1000;
@@ -22,7 +22,7 @@ pub const IMAGE_DLLCHARACTERISTICS_APPCONTAINER: u16 = 0x1000;
 pub const IMAGE_DLLCHARACTERISTICS_WDM_DRIVER: u16 = 0x2000;
 /// The image supports Control Flow Guard.
 pub const IMAGE_DLLCHARACTERISTICS_GUARD_CF: u16 = 0x4000;
-/// The image knows of terminal servers.
+/// The image is aware of terminal servers.
 pub const IMAGE_DLLCHARACTERISTICS_TERMINAL_SERVER_AWARE: u16 = 0x8000;
 
 const _: () = prove!(

@@ -1,6 +1,5 @@
-//! The headers of a PE file: the whole header, and its parts, which are the DOS header and the stub
-//! after it, the Rich header and the COFF header; the section table; and the header of a Terse
-//! Executable.
+//! The whole header of a PE file and its parts: the DOS header, the DOS stub, the Rich header and
+//! the COFF header. This module also reads the section table, and the header of a Terse Executable.
 
 mod coff;
 mod dos;

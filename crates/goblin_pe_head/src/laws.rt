@@ -1,4 +1,5 @@
-//! Which bytes of a file its header and its sections depend on; `goblin_pe::laws` explains it.
+//! The footprints of a file's header and of its section table: the bytes on which they depend.
+//! `goblin_pe::laws` explains footprints.
 
 mod header;
 mod sections;

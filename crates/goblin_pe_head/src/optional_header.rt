@@ -1,7 +1,7 @@
-//! The optional header of an image: what a loader needs to know of it.
+//! The optional header of an image: what a loader needs to know about it.
 //!
-//! Its standard fields and Windows fields have two widths, for images of 32 and of 64 bits; its
-//! magic says which. The data directories follow.
+//! The standard fields and the Windows fields have two widths, for images of 32 bits (PE32) and of
+//! 64 bits (PE32+). The magic says which. The data directories follow.
 
 ghost use Rattle.std.specs.Prelude.{◌≡◌, ◌≤◌, length, IfErr, IfOk, IfSome, IsSomeAnd, None, OnErr};
 ghost use Rattle.std.specs.Prelude.{OnOk, Some, option_and_then, option_map};
@@ -49,20 +49,21 @@ pub use windows_fields::{
 /// The optional header of an image of either width.
 ///
 /// Source: PE Format, "Optional Header (Image Only)". An image must have one; an object has none.
-/// `at` gives a field's offset from its front, first in an image for 32 bits, then in one for 64
-/// bits.
+/// `at` gives a field's offset from the front of the optional header, first for 32 bits, then for
+/// 64 bits.
 #[derive(Debug, PartialEq, Copy, Clone)]
 pub struct OptionalHeader {
-    /// The standard fields, at 0: what any loader of COFF files wants to know.
+    /// The standard fields, at 0, which any loader of COFF files uses.
     pub standard_fields: StandardFields,
     /// The Windows fields, at 28 or 24.
     pub windows_fields: WindowsFields,
-    /// Where the image's tables lie, at 96 or 112: as many entries as the last Windows field says.
-    /// The offsets of the entries count from the front of the optional header.
+    /// The data directories, at 96 or 112, which say where the tables of the image lie. There are
+    /// as many as the last Windows field says. The offset in an entry counts from the front of the
+    /// optional header.
     pub data_directories: DataDirectories,
 }
 
-// The fields before the directories, and how many bytes they take.
+// The fields before the data directories, and their size in bytes.
 #[derive(Copy, Clone)]
 pub(crate) struct FixedFields {
     pub(crate) standard_fields: StandardFields,
@@ -70,10 +71,10 @@ pub(crate) struct FixedFields {
     pub(crate) size: usize,
 }
 
-/// What is written of an optional header, by its width.
+/// The written form of an optional header, by its width.
 #[derive(Copy, Clone)]
 pub(crate) enum WrittenHeader {
-    /// Nothing, where there is no optional header.
+    /// No bytes: there is no optional header.
     Absent,
     /// For 32 bits.
     Narrow([u8; 224]),
@@ -82,7 +83,6 @@ pub(crate) enum WrittenHeader {
 }
 
 impl WrittenHeader {
-    /// The bytes.
     pub(crate) fn as_slice(&self) -> &[u8]
         ensures value { result.now ≡ written_bytes self.now }
         ensures most { length result.now ≤ 240 }
@@ -131,7 +131,7 @@ fn fields_64(bytes: &[u8]) -> Result<FixedFields>
     })
 }
 
-// The fields that the magic asks for.
+// The fields in the width that the magic gives.
 #[inline(always)]
 #[tactic(auto, unfolding(crate::specs::HeaderReadings::fixed_fields))]
 pub(crate) fn fixed_fields(magic: u16, bytes: &[u8]) -> Result<FixedFields>
@@ -145,7 +145,8 @@ pub(crate) fn fixed_fields(magic: u16, bytes: &[u8]) -> Result<FixedFields>
     }
 }
 
-// The fields of the optional header at the front of bytes, if its directories are there too.
+// Reads the fields of the optional header at the front of `bytes`, and tests that the data
+// directories after them can be read.
 #[inline(always)]
 #[tactic(auto, unfolding(crate::specs::HeaderReadings::optional_header))]
 pub(crate) fn tested_fields(bytes: &[u8]) -> Result<FixedFields>
@@ -164,7 +165,7 @@ pub(crate) fn tested_fields(bytes: &[u8]) -> Result<FixedFields>
 }
 
 impl OptionalHeader {
-    // A header of these fields, whose directories are still to be read.
+    // An optional header with these fields. Its data directories are yet to be read.
     pub(crate) fn of_fields(fields: FixedFields) -> OptionalHeader
         ensures standard { result.standard_fields ≡ fields.standard_fields }
         ensures windows { result.windows_fields ≡ fields.windows_fields }
@@ -176,7 +177,7 @@ impl OptionalHeader {
         }
     }
 
-    // Reads the directories after these fields, which are those of this header.
+    // Reads the data directories that follow `fields`, which must be the fields of this header.
     #[inline(always)]
     pub(crate) fn read_directories(&mut self, bytes: &[u8], fields: &FixedFields)
         requires there { reading.AreThere bytes.now fields.now }
@@ -201,13 +202,13 @@ impl TryFromCtx<'_> for OptionalHeader {
 
     ghost within = { λ _ bytes. optional_header-within bytes };
 
-    /// Reads the optional header at the front of `bytes`, always little-endian, and returns the
-    /// pair (header, how many bytes it takes with its directories). Only the magic says its width.
+    /// Reads the optional header at the front of `bytes`, always as little-endian, and returns the
+    /// pair (header, its size in bytes with the data directories). The magic alone gives the width.
     ///
     /// # Errors
-    /// [`Error::Read`] if a part runs past the end; [`Error::BadMagic`] of a magic other than
-    /// [`MAGIC_32`] and [`MAGIC_64`]; [`Error::Malformed`] with `DirectoryCount` of more than
-    /// sixteen directories.
+    /// [`Error::Read`] if a part runs past the end; [`Error::BadMagic`] if the magic is neither
+    /// [`MAGIC_32`] nor [`MAGIC_64`]; [`Error::Malformed`] with `DirectoryCount` if there are more
+    /// than sixteen data directories.
     #[inline(always)]
     #[tactic(auto, unfolding(crate::specs::HeaderReadings::optional_header))]
     fn try_from_ctx(bytes: &[u8], _endian: Endian) -> Result<(OptionalHeader, usize)> {
@@ -220,10 +221,10 @@ impl TryFromCtx<'_> for OptionalHeader {
 }
 
 impl OptionalHeader {
-    /// For how many bits the image is, by the magic.
+    /// The width of the image, which the magic gives.
     ///
     /// # Errors
-    /// [`Error::BadMagic`] of a magic other than [`MAGIC_32`] and [`MAGIC_64`].
+    /// [`Error::BadMagic`] if the magic is neither [`MAGIC_32`] nor [`MAGIC_64`].
     pub fn container(&self) -> Result<Container>
         ensures { Answers (λ c. c) result (container_of self.now.standard_fields.magic)
             (IsBadMagic self.now.standard_fields.magic) }
@@ -235,7 +236,7 @@ impl OptionalHeader {
         }
     }
 
-    // What is written where the magic asks for 32 bits.
+    // The written form of an optional header for 32 bits.
     fn bytes_32(&self, endian: Endian) -> Result<[u8; 224]>
         ensures made { Answers (λ bytes. bytes) result (bytes_32 endian self.now)
             (λ e. (windows_to_32 self.now.windows_fields ≡ None) × IsTooWide e) }
@@ -257,7 +258,7 @@ impl OptionalHeader {
         Ok(encode_fields(&parts, endian))
     }
 
-    // What is written where the magic asks for 64 bits.
+    // The written form of an optional header for 64 bits.
     fn bytes_64(&self, endian: Endian) -> [u8; 240]
         ensures made { result ≡ bytes_64 endian self.now }
         ensures standard { ReadsBack 24 standard_64_record standard_64_fields
@@ -277,10 +278,10 @@ impl OptionalHeader {
         encode_fields(&parts, endian)
     }
 
-    /// The bytes that are written of it.
+    /// The written form of this header.
     ///
     /// # Errors
-    /// [`Error::BadMagic`] of a magic other than [`MAGIC_32`] and [`MAGIC_64`];
+    /// [`Error::BadMagic`] if the magic is neither [`MAGIC_32`] nor [`MAGIC_64`];
     /// [`Error::Malformed`] with `FieldTooWide` if the magic is [`MAGIC_32`] and a Windows field
     /// does not fit 32 bits.
     #[tactic(auto, unfolding(crate::specs::OptionalHeader::optional_bytes))]
@@ -296,13 +297,14 @@ impl OptionalHeader {
         }
     }
 
-    /// Writes the optional header to the front of `bytes` and returns how many bytes it takes, 224
-    /// or 240: the fields that its magic asks for and always sixteen directories, those that are
-    /// `None` as zeros. Standard fields are written modulo 2^32. In little-endian order, a header
-    /// that was read is written as its bytes, and zeros for the directories that it lacks.
+    /// Writes the optional header to the front of `bytes` and returns its size, 224 or 240 bytes.
+    /// It writes the fields in the width that the magic gives, then always sixteen data
+    /// directories; those that are `None` are written as zeros. Standard fields are written modulo
+    /// 2^32. In little-endian order, a header that was read is written as its own bytes, followed
+    /// by zeros for the data directories that it lacks.
     ///
     /// # Errors
-    /// In this order: [`Error::BadMagic`] of a magic other than [`MAGIC_32`] and [`MAGIC_64`];
+    /// In this order: [`Error::BadMagic`] if the magic is neither [`MAGIC_32`] nor [`MAGIC_64`];
     /// [`Error::Malformed`] with `FieldTooWide` if the magic is [`MAGIC_32`] and a Windows field
     /// does not fit 32 bits; [`Error::Read`] if there is no room. `bytes` is then unchanged.
     #[tactic(auto, using(crate::proofs::OptionalHeaderRoundTrip::optional_back))]

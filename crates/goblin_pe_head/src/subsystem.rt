@@ -2,9 +2,9 @@
 //!
 //! Source: PE Format, "Windows Subsystem".
 
-/// The subsystem: none that is known.
+/// The subsystem: unknown.
 pub const IMAGE_SUBSYSTEM_UNKNOWN: u16 = 0;
-/// The subsystem: none is needed, as for device drivers and native processes of Windows.
+/// The subsystem: none is needed, as for device drivers and native Windows processes.
 pub const IMAGE_SUBSYSTEM_NATIVE: u16 = 1;
 /// The subsystem: the graphical user interface of Windows.
 pub const IMAGE_SUBSYSTEM_WINDOWS_GUI: u16 = 2;
@@ -20,15 +20,15 @@ pub const IMAGE_SUBSYSTEM_NATIVE_WINDOWS: u16 = 8;
 pub const IMAGE_SUBSYSTEM_WINDOWS_CE_GUI: u16 = 9;
 /// The subsystem: an application of the Extensible Firmware Interface.
 pub const IMAGE_SUBSYSTEM_EFI_APPLICATION: u16 = 10;
-/// The subsystem: a driver of this interface, with boot services.
+/// The subsystem: a driver of the Extensible Firmware Interface, with boot services.
 pub const IMAGE_SUBSYSTEM_EFI_BOOT_SERVICE_DRIVER: u16 = 11;
-/// The subsystem: a driver of this interface, with run-time services.
+/// The subsystem: a driver of the Extensible Firmware Interface, with run-time services.
 pub const IMAGE_SUBSYSTEM_EFI_RUNTIME_DRIVER: u16 = 12;
-/// The subsystem: a ROM image of this interface.
+/// The subsystem: a ROM image of the Extensible Firmware Interface.
 pub const IMAGE_SUBSYSTEM_EFI_ROM: u16 = 13;
 /// The subsystem: Xbox.
 pub const IMAGE_SUBSYSTEM_XBOX: u16 = 14;
-/// The subsystem: an application that Windows boots.
+/// The subsystem: a boot application of Windows.
 pub const IMAGE_SUBSYSTEM_WINDOWS_BOOT_APPLICATION: u16 = 16;
 
 const _: () = prove!(

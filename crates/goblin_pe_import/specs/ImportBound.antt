@@ -7,9 +7,9 @@ use Rattle.goblin_pe_import.specs.ImportLookup.{EntryValue}
 use Rattle.goblin_pe_import.specs.Imports.{ImportValue}
 use Rattle.goblin_pe_sect.specs.Addresses.{Addressing}
 
--- If the libraries are the import data of some file, in either mode and by any map of addresses,
--- the number of imports is at most that of the records that fit the file, times that of the
--- entries that fit it.
+-- If the libraries are the import data of some file, in either mode and with any map of addresses,
+-- the number of imports is at most the number of import descriptors that fit the file, times the
+-- number of entries that fit it.
 unfoldable pub AreFew : Format EntryValue → List ImportedLibrary → List ImportValue → Type 0
 AreFew format libraries imports =
     (strict : Bool) (addressing : Addressing) (file : List ℕ) (rva : ℕ)

@@ -11,11 +11,11 @@ use Rattle.goblin_pe_import.specs.ImportWalks.{IsWalkAt, no_imports}
 use Rattle.goblin_pe_import.specs.declared.import.imports.ImportCursor.{ImportCursor}
 use Rattle.goblin_pe_import.specs.declared.import.imports.Imports.{Imports}
 
--- the cursor before the first record of a directory, which is at this offset
+-- the cursor before the first import descriptor of a directory, which lies at this offset
 abbrev pub before_record : ℕ → ImportCursor
 before_record p = record no_imports { first_record = p; next_record = Some p }
 
--- the same where there is such a record
+-- the same if there is such a descriptor, else the end
 abbrev pub before_first : Option ℕ → ImportCursor
 before_first None = no_imports
 before_first (Some p) = before_record p
@@ -27,7 +27,7 @@ first_import strict addressing rva =
     mapped (λ o. before_first (first_record_offset strict (Some o)))
     (or_else strict 0 (offset_at addressing.offset rva))
 
--- A call gives the walk from where the imports begin, or is refused since that is.
+-- A call gives the walk at the cursor that `first` reads, or it is refused as `first` is.
 abbrev pub BeginsAt : {T : Type 0} → MapOfAddresses → List ℕ → Reading ImportCursor
     → Result (Imports T) ErrorOf → Type 0
 BeginsAt m bytes first (Ok it) = IsSomeAnd (first.value bytes) (λ c. IsWalkAt m bytes c it)

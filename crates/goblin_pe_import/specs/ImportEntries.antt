@@ -16,7 +16,7 @@ pub record EntryValue : Type 0 where
   pub ordinal : ℕ
   pub rva : ℕ
 
--- the entry of a number that imports by ordinal from `first` on
+-- the entry of a number, which imports by ordinal if it is `first` or more
 abbrev pub entry_value : ℕ → ℕ → EntryValue
 entry_value first n = record {
   number = n;
@@ -25,7 +25,7 @@ entry_value first n = record {
   rva = n % 2 ^ 31;
 }
 
--- entries of 32 bits, which import by ordinal where the highest bit is set; and entries of 64 bits
+-- entries of 32 bits, and entries of 64 bits; they import by ordinal if the highest bit is set
 abbrev pub entries_32 : Format EntryValue
 entries_32 = record {
   width = 4;
@@ -42,7 +42,7 @@ entries_64 = record {
 abbrev pub entry_slots : Format EntryValue → SlotFormat EntryValue
 entry_slots format = record { entry = format; is_last = λ entry. entry.number == 0 }
 
--- A call gives the entry in the slot at p, or nothing, since the table ends there.
+-- A call gives the entry in the slot at p, or nothing because the table ends there.
 abbrev pub GivesSlot : {T V : Type 0} → (T → V) → SlotFormat V → List ℕ → ℕ → Option T → Type 0
 GivesSlot view slots bytes p None =
     ends_table slots.is_last (record_at slots.entry.width slots.entry.value_of bytes p) ≡ true

@@ -1,5 +1,5 @@
--- The import directory: its records, and the library that each leads to, over a map of addresses to
--- file offsets.
+-- The import directory: its import descriptors, and the library to which each leads, over a map of
+-- addresses to file offsets.
 use Rattle.std.specs.Prelude.{ℕ, ◌==◌, Bool, ◌&&◌, not, cond, List, [], ◌∷◌, Option, Some, None}
 use Rattle.goblin_base.specs.declared.endian.Endian.TheVariants.{Little}
 use Rattle.goblin_base.specs.declared.error.CauseOf.TheVariants.{ImportRecordEnd}
@@ -15,19 +15,19 @@ use Rattle.goblin_pe_import.specs.ImportRecords.{import_record, import_slots, lo
 use Rattle.goblin_pe_import.specs.LookupReadings.{address_table, lookup_with_slots}
 use Rattle.goblin_pe_import.specs.declared.import.directory_entry.ImportDirectoryEntry.{ImportDirectoryEntry}
 
--- the record at an offset
+-- the descriptor at an offset
 abbrev pub import_record_at : ℕ → Reading ImportDirectoryEntry
 import_record_at p = because (ImportRecordEnd p) (record_at 20 (import_record Little) p)
 
--- the lookup table at an offset with its slots, and nothing where there is no offset
+-- the lookup table at an offset with its slots, or nothing if there is no offset
 unfoldable pub lookup_if : Bool → Format EntryValue → Addressing → Option ℕ
     → Reading (Option (List LookupEntry) × List ℕ)
 lookup_if strict format addressing None = given (None, [])
 lookup_if strict format addressing (Some o) =
     mapped (λ both. (Some both.0, both.1)) (lookup_with_slots strict format addressing o)
 
--- What a record leads to: its name, its lookup table and its address table. Permissive mode takes
--- the empty name if there is none.
+-- What a descriptor leads to: its name, its lookup table and its address table. Permissive mode
+-- uses the empty name if there is none.
 unfoldable pub library_of : Bool → Format EntryValue → Addressing → ImportDirectoryEntry
     → Reading ImportedLibrary
 library_of strict format addressing r =
@@ -42,20 +42,20 @@ library_of strict format addressing r =
     beside lookup_if strict format addressing (lookup_offset addressing r)
     beside at_address addressing.offset (address_table_rva r) (address_table format))
 
--- the library of a record; permissive mode leaves out a record that leads to none
+-- the library of a descriptor; permissive mode leaves out a descriptor that leads to none
 abbrev pub kept_library : Bool → Format EntryValue → Addressing → ImportDirectoryEntry
     → Reading (List ImportedLibrary)
 kept_library strict format addressing r = or_left_out strict (library_of strict format addressing r)
 
--- The libraries of the directory at an offset: those of the records before the first that is not in
--- the file or ends the directory. Strict mode needs that record, and a library for each. Permissive
--- mode leaves out records that lead to none.
+-- The libraries of the directory at an offset: those of the descriptors before the first that is
+-- not in the file or ends the directory. Strict mode needs that descriptor, and a library for each
+-- of those before it. Permissive mode leaves out descriptors that lead to none.
 abbrev pub libraries_at : Bool → Format EntryValue → Addressing → ℕ
     → Reading (List ImportedLibrary)
 libraries_at strict format addressing o =
     table import_slots strict import_record_at (kept_library strict format addressing) o
 
--- libraries with the indexes of their records, of which there are as many
+-- libraries with the indexes of their descriptors, one index for each
 abbrev pub at_index : ℕ → ImportedLibrary → NumberedLibrary
 at_index index library = record { index = index; library = library }
 
@@ -65,25 +65,25 @@ numbered (library ∷ libraries) [] = []
 numbered (library ∷ libraries) (index ∷ indexes) =
     at_index index library ∷ numbered libraries indexes
 
--- the libraries of the directory at an offset, and the indexes of the records that are kept
+-- the libraries of the directory at an offset, and the indexes of the descriptors that are kept
 abbrev pub indexed_at : Bool → Format EntryValue → Addressing → ℕ
     → Reading (List ImportedLibrary × List ℕ)
 indexed_at strict format addressing o =
     table_with_slots import_slots strict import_record_at (kept_library strict format addressing) o
 
--- the same libraries, each with the index of its record
+-- the same libraries, each with the index of its descriptor
 unfoldable pub numbered_libraries_at : Bool → Format EntryValue → Addressing → ℕ
     → Reading (List NumberedLibrary)
 numbered_libraries_at strict format addressing o =
     mapped (λ both. numbered both.0 both.1) (indexed_at strict format addressing o)
 
--- The offset of the first record of a directory that has this offset, where it has one. Permissive
+-- The offset of the first descriptor of a directory that has this offset, if it has one. Permissive
 -- mode treats a directory at the front of the file as empty.
 abbrev pub first_record_offset : Bool → Option ℕ → Option ℕ
 first_record_offset strict None = None
 first_record_offset strict (Some o) = cond (not strict && o == 0) None (Some o)
 
--- what is read of a directory whose first record is at this offset, if it has one
+-- what is read of a directory whose first descriptor is at this offset, if it has one
 abbrev pub read_if : {A : Type 0} → (ℕ → Reading (List A)) → Option ℕ → Reading (List A)
 read_if read None = given []
 read_if read (Some o) = read o
@@ -105,7 +105,7 @@ unfoldable pub import_data : Bool → Format EntryValue → Addressing → ℕ
 import_data strict format addressing rva =
     read_directory strict addressing (libraries_at strict format addressing) rva
 
--- the same libraries, each with the index of its record
+-- the same libraries, each with the index of its descriptor
 unfoldable pub numbered_data : Bool → Format EntryValue → Addressing → ℕ
     → Reading (List NumberedLibrary)
 numbered_data strict format addressing rva =

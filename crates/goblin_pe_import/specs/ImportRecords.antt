@@ -1,4 +1,5 @@
--- The records of an import directory, and the libraries that they lead to, as values.
+-- Import descriptors, the records of an import directory, and the libraries that they lead to, as
+-- values.
 use Rattle.std.specs.Prelude.{ℕ, ◌==◌, Bool, ◌||◌, if◌then◌else◌, List, [], ◌∷◌, Option}
 use Rattle.std.specs.Option.{option_or}
 use Rattle.goblin_base.specs.declared.endian.Endian.{Endian}
@@ -12,7 +13,7 @@ use Rattle.goblin_pe_sect.specs.Addresses.{Addressing}
 
 -- Source: PE Format, "Import Directory Table".
 
--- the record in its 20 bytes
+-- the descriptor in its 20 bytes
 abbrev pub import_record : Endian → List ℕ → ImportDirectoryEntry
 import_record endian bytes = record {
   import_lookup_table_rva = number endian 4 bytes 0;
@@ -22,17 +23,17 @@ import_record endian bytes = record {
   import_address_table_rva = number endian 4 bytes 16;
 }
 
--- the fields of a record, in order
+-- the fields of a descriptor, in order
 abbrev pub import_fields : ImportDirectoryEntry → List FieldValue
 import_fields r =
     uint 4 r.import_lookup_table_rva ∷ uint 4 r.time_date_stamp ∷ uint 4 r.forwarder_chain
     ∷ uint 4 r.name_rva ∷ uint 4 r.import_address_table_rva ∷ []
 
--- a record without a name, or without an address table, ends a directory
+-- whether a descriptor ends a directory: the address of its name or of its address table is 0
 abbrev pub is_last_record : ImportDirectoryEntry → Bool
 is_last_record r = r.name_rva == 0 || r.import_address_table_rva == 0
 
--- directories of such records
+-- directories of such descriptors
 abbrev pub import_slots : SlotFormat ImportDirectoryEntry
 import_slots =
     record {
@@ -40,7 +41,7 @@ import_slots =
       is_last = is_last_record;
     }
 
--- what a record leads to
+-- what a descriptor leads to
 pub record ImportedLibrary : Type 0 where
   pub import_directory_entry : ImportDirectoryEntry
   pub name : List ℕ
@@ -48,18 +49,18 @@ pub record ImportedLibrary : Type 0 where
   pub import_lookup_slots : List ℕ
   pub import_address_table : List ℕ
 
--- the same, with the index of the record in its directory
+-- the same, with the index of the descriptor in its directory
 pub record NumberedLibrary : Type 0 where
   pub index : ℕ
   pub library : ImportedLibrary
 
--- the offset of a record's lookup table: that of its own address or, if it has none, of the address
--- table's
+-- the offset of a descriptor's lookup table: that of its own address or, if this has none, that of
+-- the address table's address
 abbrev pub lookup_offset : Addressing → ImportDirectoryEntry → Option ℕ
 lookup_offset addressing r =
     option_or (addressing.offset r.import_lookup_table_rva) (addressing.offset r.import_address_table_rva)
 
--- the address of a record's address table: that of its lookup table if it is 0
+-- the address of a descriptor's address table, or that of its lookup table if it is 0
 abbrev pub address_table_rva : ImportDirectoryEntry → ℕ
 address_table_rva r =
     if r.import_address_table_rva == 0

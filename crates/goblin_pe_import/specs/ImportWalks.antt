@@ -61,7 +61,7 @@ entries_from strict format addressing bytes o None = []
 entries_from strict format addressing bytes o (Some place) =
     table_walk (entry_slots format) strict (entry_items strict format addressing bytes o) bytes place
 
--- which cause is true if one of them is refused: that of a table from there on
+-- the cause that is true if one of them is refused: that of a table that begins there
 abbrev pub IsEntriesCause : Bool → Format EntryValue → Addressing → List ℕ → Option ℕ
     → ErrorOf → Type 0
 IsEntriesCause strict format addressing bytes None e = ⊥
@@ -76,7 +76,8 @@ place_after width (Some (Err e)) = None
 
 -- ---- the imports of a library
 
--- what an import is from: the index of the library's record in the directory, and its name
+-- what an import is from: the index of the library's import descriptor in the directory, and the
+-- library's name
 pub record Origin : Type 0 where
   pub index : ℕ
   pub dll : List ℕ
@@ -103,11 +104,11 @@ imports_of_entries strict format addressing bytes from rva o place =
     map (option_map (kept_import format.width from rva o))
     (entries_from strict format addressing bytes o place)
 
--- the name of a record's library
+-- the name of a descriptor's library
 abbrev pub library_name : Bool → Addressing → ImportDirectoryEntry → Reading (List ℕ)
 library_name strict addressing r = or_else strict [] (name_at addressing r.name_rva)
 
--- its address table
+-- the address table of a descriptor
 abbrev pub addresses_of : Format EntryValue → Addressing → ImportDirectoryEntry
     → Reading (List ℕ)
 addresses_of format addressing r =
@@ -120,7 +121,8 @@ untested_table strict format addressing None = given []
 untested_table strict format addressing (Some rva) =
     pick strict (at_address addressing.offset rva (address_table format)) (given [])
 
--- the imports of a library of this name, and a refusal where it has no address table
+-- the imports of a library of this name, then a refusal if strict mode cannot read its address
+-- table; without a name only a refusal
 abbrev pub named_items : Bool → Format EntryValue → Addressing → List ℕ → ℕ
     → ImportDirectoryEntry → Option (List ℕ) → List (Option NumberedImport)
 named_items strict format addressing bytes index r None = None ∷ []
@@ -131,14 +133,15 @@ named_items strict format addressing bytes index r (Some dll) =
     (unwrap_or table 0) table
     ++ refusal_of (addresses.value bytes)
 
--- permissive mode leaves out a library without an address table
+-- whether permissive mode leaves out a library, because its address table cannot be read
 abbrev pub is_left_out : Bool → Format EntryValue → Addressing → List ℕ
     → ImportDirectoryEntry → Bool
 is_left_out strict format addressing bytes r =
     not strict && is_none ((addresses_of format addressing r).value bytes)
 
--- What comes of the library of the record with an index: its name is needed, then its imports come,
--- then strict mode needs its address table.
+-- What comes of the library of the descriptor with an index: its name is needed, then its imports
+-- come, then strict mode needs its address table. Permissive mode needs that table first, and
+-- leaves out the library without it.
 unfoldable pub library_items : Bool → Format EntryValue → Addressing → List ℕ → ℕ
     → ImportDirectoryEntry → List (Option NumberedImport)
 library_items strict format addressing bytes index r =
@@ -148,33 +151,33 @@ library_items strict format addressing bytes index r =
 
 -- ---- all imports
 
--- the index of the record at p in a directory whose first record is at `first`
+-- the index of the descriptor at p in a directory whose first one is at `first`
 abbrev pub record_index : ℕ → ℕ → ℕ
 record_index first p = (p - first) / 20
 
--- the imports of the libraries whose records are in this directory from a place on
+-- the imports of the libraries whose descriptors are in this directory from a place on
 unfoldable pub imports_from_record : Bool → Format EntryValue → Addressing → List ℕ → ℕ → ℕ
     → List (Option NumberedImport)
 imports_from_record strict format addressing bytes first p =
     table_walk import_slots strict
     (λ p r. library_items strict format addressing bytes (record_index first p) r) bytes p
 
--- those from the next record on, if there is one
+-- the imports from the next descriptor on, if there is one
 unfoldable pub imports_next : Bool → Format EntryValue → Addressing → List ℕ → ℕ → Option ℕ
     → List (Option NumberedImport)
 imports_next strict format addressing bytes first None = []
 imports_next strict format addressing bytes first (Some p) =
     imports_from_record strict format addressing bytes first p
 
--- which cause is true if one of the libraries whose records are in the directory from a place on is
--- refused
+-- the cause that is true if one of the libraries whose descriptors are in the directory from a
+-- place on is refused
 abbrev pub IsRecordsCause : Bool → Format EntryValue → Addressing → List ℕ → ℕ → ErrorOf
     → Type 0
 IsRecordsCause strict format addressing bytes p e =
     (libraries_at strict format addressing p).IsCause bytes e
 
--- Which cause is true if a library that has a name is refused, or else what comes later: that of its
--- lookup table, of its address table, and then the later one.
+-- The cause that is true if a library that has a name is refused, or else what comes later: that of
+-- its lookup table, then that of its address table, then the later one.
 abbrev pub IsNamedCause : Bool → Format EntryValue → Addressing → List ℕ
     → ImportDirectoryEntry → (IsLater : ErrorOf → Type 0) → ErrorOf → Type 0
 IsNamedCause strict format addressing bytes r IsLater e =
@@ -184,7 +187,8 @@ IsNamedCause strict format addressing bytes r IsLater e =
     (IsEntriesCause strict format addressing bytes table)
     (λ _. FirstFault (addresses.value bytes) (addresses.IsCause bytes) (λ _. IsLater)) e
 
--- the same of the library of the record at p, where there is one
+-- the cause that is true if there is no descriptor at p, or if its library is refused, or else what
+-- comes later
 abbrev pub IsRecordCause : Bool → Format EntryValue → Addressing → List ℕ → ℕ
     → Option ImportDirectoryEntry → ErrorOf → Type 0
 IsRecordCause strict format addressing bytes p None e = (import_record_at p).IsCause bytes e
@@ -195,7 +199,7 @@ IsRecordCause strict format addressing bytes p (Some r) e =
     (λ _. IsNamedCause strict format addressing bytes r
     (IsRecordsCause strict format addressing bytes (p + 20))) e
 
--- which cause is true if what comes from the next record on is refused
+-- the cause that is true if what comes from the next descriptor on is refused
 abbrev pub IsNextCause : Bool → Format EntryValue → Addressing → List ℕ → Option ℕ → ErrorOf
     → Type 0
 IsNextCause strict format addressing bytes None e = ⊥
@@ -203,25 +207,25 @@ IsNextCause strict format addressing bytes (Some p) e = IsRecordsCause strict fo
 
 -- ---- how many more may come
 
--- no more entries come than bytes are left, and one refusal
+-- an upper bound of what comes from a slot on: an entry for each byte that is left, and one refusal
 abbrev pub slots_bound : List ℕ → Option ℕ → ℕ
 slots_bound bytes None = 0
 slots_bound bytes (Some place) = length bytes - place + 1
 
--- no more comes than a whole file of entries, a refusal of their table and one of the address
--- table, for each record that may be left from p on
+-- an upper bound of what comes from p on: for each descriptor that may be left, a whole file of
+-- entries, a refusal of their table and one of the address table
 abbrev pub records_bound : List ℕ → ℕ → ℕ
 records_bound bytes p = (length bytes + 2) * (length bytes - p + 1)
 
--- no more than this comes from the next record on
+-- an upper bound of what comes from the next descriptor on
 abbrev pub bound_next : List ℕ → Option ℕ → ℕ
 bound_next bytes None = 0
 bound_next bytes (Some p) = records_bound bytes p
 
 -- ---- the walk, by what it holds of the library that it is in
 
--- what comes once the entries of a library have come: its address table is needed where it is still
--- to be tested, and then the imports from the next record on come
+-- what comes once the entries of a library have come: a refusal if its address table is still to be
+-- tested and cannot be read, then the imports from the next descriptor on
 abbrev pub later_items : Bool → Format EntryValue → Addressing → List ℕ → Option ℕ → ℕ
     → Option ℕ → List (Option NumberedImport)
 later_items strict format addressing bytes untested first next =
@@ -248,7 +252,7 @@ no_imports = record {
   untested = None;
 }
 
--- what is still to come at a cursor, whose library has this name
+-- what is still to come at a cursor, if the library there has this name
 abbrev pub items_left : Bool → Format EntryValue → Addressing → List ℕ → List ℕ → ImportCursor
     → List (Option NumberedImport)
 items_left strict format addressing bytes dll c =
@@ -257,7 +261,7 @@ items_left strict format addressing bytes dll c =
     c.place
     ++ later_items strict format addressing bytes c.untested c.first_record c.next_record)
 
--- the name of the library that a cursor is in; none where it can't be read
+-- the name of the library that a cursor is in; empty if it can't be read
 abbrev pub name_said : Addressing → List ℕ → ImportCursor → List ℕ
 name_said addressing bytes c = unwrap_or ((name_at addressing c.name_rva).value bytes) []
 
@@ -267,7 +271,7 @@ abbrev pub cursor_left : MapOfAddresses → Format EntryValue → List ℕ → I
 cursor_left m format bytes c =
     items_left (reads_strictly m) format m.addressing bytes (name_said m.addressing bytes c) c
 
--- which cause is true if there is a refusal among it, which only strict mode has
+-- the cause that is true if a refusal is among it, which happens only in strict mode
 abbrev pub IsCursorCause : MapOfAddresses → Format EntryValue → List ℕ → ImportCursor → ErrorOf
     → Type 0
 IsCursorCause m format bytes c e =
@@ -286,7 +290,7 @@ walk_left format w =
 abbrev pub IsWalkCause : Format EntryValue → Walk → ErrorOf → Type 0
 IsWalkCause format w e = IsCursorCause (map_of w.finder) format w.bytes.now w.at e
 
--- in a library, it holds the name that its cursor says
+-- In a library, the walk holds the name that its cursor says.
 abbrev pub IsNamedAt : Option ℕ → List ℕ → List ℕ → Type 0
 IsNamedAt None dll name = Unit {0}
 IsNamedAt (Some place) dll name = dll ≡ name
@@ -295,7 +299,7 @@ abbrev pub IsNamed : Walk → Type 0
 IsNamed w =
     IsNamedAt w.at.place w.dll.now (name_said (map_of w.finder).addressing w.bytes.now w.at)
 
--- a refusal that may come where an address table is still to be tested
+-- how many refusals may come of an address table that is still to be tested
 abbrev pub one_if : Option ℕ → ℕ
 one_if None = 0
 one_if (Some rva) = 1
@@ -305,13 +309,14 @@ walk_bound w =
     slots_bound w.bytes.now w.at.place + one_if w.at.untested
     + bound_next w.bytes.now w.at.next_record
 
--- how many bytes are left for the next records
+-- an upper bound of the number of descriptors from the next one on: the bytes that are left, and
+-- one
 abbrev pub records_left : List ℕ → Option ℕ → ℕ
 records_left bytes None = 0
 records_left bytes (Some p) = length bytes - p + 1
 
 -- Once the entries of a library have come, the walk goes on at t. `later` is what is to come then,
--- and `IsCause` says which cause is true if there is a refusal among it.
+-- and `IsCause` says which cause is true if a refusal is among it.
 abbrev pub GivesLibrary : {S A : Type 0} → (S → List (Option A)) → (S → ErrorOf → Type 0)
     → List (Option A) → (ErrorOf → Type 0) → Option (Result S ErrorOf) → Type 0
 GivesLibrary left IsLeftCause later IsCause None = until_refused later ≡ []
@@ -320,7 +325,7 @@ GivesLibrary left IsLeftCause later IsCause (Some (Ok t)) =
 GivesLibrary left IsLeftCause later IsCause (Some (Err e)) =
     (until_refused later ≡ None ∷ []) × IsCause e
 
--- what a call answers, with the walk that it has led to
+-- the answer of a call, with the walk as the call has left it
 abbrev pub walk_answer : {X : Type 0} → Walk → Result X ErrorOf → Result Walk ErrorOf
 walk_answer t (Ok x) = Ok t
 walk_answer t (Err e) = Err e
@@ -331,47 +336,47 @@ walk_answer t (Err e) = Err e
 abbrev pub imports_left : {T : Type 0} → Format EntryValue → Imports T → List (Option NumberedImport)
 imports_left format it = walk_left format it.walk
 
--- which cause is true if there is a refusal among it, which only strict mode has
+-- the cause that is true if a refusal is among it, which happens only in strict mode
 abbrev pub IsImportsCause : {T : Type 0} → Format EntryValue → Imports T → ErrorOf → Type 0
 IsImportsCause format it e = IsWalkCause format it.walk e
 
--- where the walk is, in numbers
+-- the cursor of the walk
 abbrev pub cursor_of : {T : Type 0} → Imports T → ImportCursor
 cursor_of it = it.walk.at
 
--- it holds the name that its cursor says
+-- The walk holds the name that its cursor says.
 abbrev pub HasName : {T : Type 0} → Imports T → Type 0
 HasName it = IsNamed it.walk
 
--- the bytes that they are in
+-- the bytes that the walk is over
 abbrev pub imports_bytes : {T : Type 0} → Imports T → List ℕ
 imports_bytes it = it.walk.bytes.now
 
--- what finds their addresses, and the map that it finds them by
+-- the finder of the walk, and its map of addresses
 abbrev pub finder_of : {T : Type 0} → Imports T → Finder
 finder_of it = it.walk.finder
 
 abbrev pub imports_map : {T : Type 0} → Imports T → MapOfAddresses
 imports_map it = map_of (finder_of it)
 
--- the imports of these bytes, whose addresses are mapped so
+-- The walk is over these bytes, with this map of addresses.
 abbrev pub AreImportsOver : {T : Type 0} → List ℕ → MapOfAddresses → Imports T → Type 0
 AreImportsOver bytes m it = (imports_bytes it ≡ bytes) × (imports_map it ≡ m)
 
--- the walk over these bytes by this map that is at a cursor
+-- the walk over these bytes, with this map of addresses, at a cursor
 pub record IsWalkAt {T : Type 0} (m : MapOfAddresses) (bytes : List ℕ) (c : ImportCursor)
     (it : Imports T) : Type 0 where
   pub over : AreImportsOver bytes m it
   pub at : cursor_of it ≡ c
   pub named : HasName it
 
--- a walk that has given no import is at the end
+-- If the call gave no import, the walk is at the end.
 abbrev pub IsAtEnd : {T : Type 0} → Option (Result WalkedImport ErrorOf) → Imports T → Type 0
 IsAtEnd result it =
     let c = cursor_of it in
     MatchOption result (c ≡ no_imports) (λ r. IfErr r (λ e. c ≡ no_imports))
 
--- no more than this comes
+-- an upper bound of the number of imports to come
 abbrev pub imports_bound : {T : Type 0} → Imports T → ℕ
 imports_bound it = walk_bound it.walk
 
@@ -379,8 +384,8 @@ imports_bound it = walk_bound it.walk
 abbrev pub IsWalkFault : Walk → ErrorOf → Type 0
 IsWalkFault w e = (reads_strictly (map_of w.finder) ≡ true) × ¬ IsMemory e
 
--- A call of `next` gives the next import, or such an error, or else has ended the walk; it keeps
--- what is walked over.
+-- A call of `next` gives the next import, or such an error, or it has ended the walk. It keeps the
+-- bytes and the map.
 abbrev pub GivesImport : {T : Type 0} → Format EntryValue → Imports T
     → Option (Result WalkedImport ErrorOf) → Imports T → Type 0
 GivesImport format s result t =
@@ -394,15 +399,16 @@ GivesImport format s result t =
 abbrev pub walk_at : Walk → ℕ → Walk
 walk_at w place = record w { at = record w.at { place = Some place } }
 
--- the walk that plain imports come of, as it was before them
+-- the walk that plain imports come from, as it was before them
 abbrev pub plain_walk : {T : Type 0} → PlainImports T → Imports T
 plain_walk plain = plain.imports
 
--- the walk after the plain imports that have come of it
+-- the walk after the plain imports that have come from it
 abbrev pub plain_at : {T : Type 0} → PlainImports T → Imports T
 plain_at plain = record plain.imports { walk = walk_at plain.imports.walk plain.place }
 
--- A call gives what comes next of the walk as `next` does; or it gives nothing, and then all stays.
+-- A call gives the next import of the walk, as `next` does. Or it gives nothing, and all stays as
+-- it was.
 abbrev pub GivesPlain : {T : Type 0} → Format EntryValue → PlainImports T → Option WalkedImport
     → PlainImports T → Type 0
 GivesPlain format s None t = t ≡ s

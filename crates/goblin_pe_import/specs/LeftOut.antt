@@ -1,5 +1,4 @@
--- How much permissive mode leaves out of the imports of a directory, over a map of addresses to
--- file offsets.
+-- How much is left out of the imports of a directory, over a map of addresses to file offsets.
 use Rattle.std.specs.Prelude.{ℕ, zero, suc, ◌+◌, ◌==◌, Bool, false, ◌&&◌, ◌||◌, not, List, Option}
 use Rattle.std.specs.Prelude.{Some, None, if◌then◌else◌, is_none}
 use Rattle.std.specs.Int.{from_bool}
@@ -18,38 +17,40 @@ unfoldable pub sum_below : (ℕ → ℕ) → ℕ → ℕ
 sum_below f zero = 0
 sum_below f (suc n) = sum_below f n + f n
 
--- the amount of what is there, and 0 where nothing is
+-- the amount of what is there, or 0 if nothing is
 abbrev pub amount_of : {A : Type 0} → (A → ℕ) → Option A → ℕ
 amount_of amount None = 0
 amount_of amount (Some x) = amount x
 
--- the amounts of the entries before the stop of a table at o, added up
+-- the sum of the amounts of the entries before the stop of a table at o
 unfoldable pub sum_of_slots : {V : Type 0} → SlotFormat V → (V → ℕ) → List ℕ → ℕ → ℕ
 sum_of_slots slots amount bytes o =
     sum_below (λ i. amount_of amount (slot_at slots bytes o i)) (stop slots bytes o)
 
 -- ---- what is left out
 
--- An entry leads nowhere, since no offset has the address of its hint and name: both modes leave it
--- out.
+-- whether an entry leads nowhere, because the address of its hint and name has no offset; both
+-- modes leave it out
 abbrev pub is_unmapped : Addressing → EntryValue → Bool
 is_unmapped addressing entry = not entry.is_ordinal && is_none (addressing.offset entry.rva)
 
--- Of the others permissive mode leaves out an entry of which nothing is kept: its hint is not whole.
--- Of an entry by ordinal the ordinal is kept. Of a directory at the front of the file it leaves out
--- each.
+-- Whether permissive mode alone leaves out an entry: it leads somewhere, but nothing is kept of it,
+-- because its hint is not all in the file. An entry by ordinal is kept. In a directory at the front
+-- of the file, permissive mode leaves out each entry that leads somewhere.
 unfoldable pub is_entry_left_out : Bool → Addressing → List ℕ → EntryValue → Bool
 is_entry_left_out is_front addressing bytes entry =
     not (is_unmapped addressing entry)
     && (is_front || not (is_kept ((kept_entry false addressing entry).value bytes)))
 
--- a record leads to no library, which permissive mode leaves out
+-- whether a descriptor leads to no library, because its address table cannot be read; permissive
+-- mode leaves it out
 abbrev pub leads_to_none : Format EntryValue → Addressing → List ℕ → ImportDirectoryEntry
     → Bool
 leads_to_none format addressing bytes r =
     is_none ((library_of false format addressing r).value bytes)
 
--- so it does with each of a directory at the front of the file
+-- whether permissive mode leaves out the library of a descriptor, as it does with each library of a
+-- directory at the front of the file
 abbrev pub is_library_left_out : Bool → Format EntryValue → Addressing → List ℕ
     → ImportDirectoryEntry → Bool
 is_library_left_out is_front format addressing bytes r =
@@ -60,7 +61,8 @@ abbrev pub entries_of_table : (EntryValue → Bool) → Format EntryValue → Li
 entries_of_table test format bytes o =
     sum_of_slots (entry_slots format) (λ entry. from_bool (test entry)) bytes o
 
--- how many of the lookup table of a record's library do; none if the record leads to none
+-- how many entries of the lookup table of a descriptor's library pass a test; none if the
+-- descriptor leads to no library
 unfoldable pub entries_of_record : (EntryValue → Bool) → Format EntryValue → Addressing
     → List ℕ → ImportDirectoryEntry → ℕ
 entries_of_record test format addressing bytes r =
@@ -68,7 +70,7 @@ entries_of_record test format addressing bytes r =
     then 0
     else amount_of (entries_of_table test format bytes) (lookup_offset addressing r)
 
--- how many of the lookup tables of the directory at an offset do
+-- how many entries of the lookup tables of the directory at an offset pass a test
 abbrev pub entries_of_directory : (EntryValue → Bool) → Format EntryValue → Addressing
     → List ℕ → ℕ → ℕ
 entries_of_directory test format addressing bytes o =
@@ -89,7 +91,7 @@ abbrev pub unmapped_of_directory : Format EntryValue → Addressing → List ℕ
 unmapped_of_directory format addressing bytes o =
     entries_of_directory (is_unmapped addressing) format addressing bytes o
 
--- the same of the directory at an address: nothing if that has no offset
+-- the same for the directory at an address; nothing if the address has no offset
 abbrev pub libraries_left_out : Format EntryValue → Addressing → List ℕ → ℕ → ℕ
 libraries_left_out format addressing bytes rva =
     amount_of (libraries_of_directory format addressing bytes) (addressing.offset rva)

@@ -24,7 +24,7 @@ use Rattle.goblin_pe_import.specs.declared.import.library_walk.WalkedLibrary.{Wa
 
 -- ---- a library
 
--- the text at an offset of this address, up to a limit, or why there is none
+-- the text at the offset of an address, up to a limit, or why there is none
 abbrev pub text_or_cause : Option ℕ → List ℕ → ℕ → Option ℕ → Result (List ℕ) ErrorOf
 text_or_cause longest bytes rva None = Err (Malformed (Unmapped rva))
 text_or_cause longest bytes rva (Some p) =
@@ -35,25 +35,26 @@ abbrev pub name_or_cause : Addressing → List ℕ → ℕ → Result (List ℕ)
 name_or_cause addressing bytes rva =
     text_or_cause addressing.longest bytes rva (addressing.offset rva)
 
--- an item comes first, and not a refusal
+-- whether an item comes first, not a refusal
 abbrev pub has_first : {A : Type 0} → List (Option A) → Bool
 has_first [] = false
 has_first (None ∷ items) = false
 has_first (Some x ∷ items) = true
 
--- an entry comes first of the lookup table of a record, and not its end or a refusal
+-- whether an entry comes first in the lookup table of a descriptor, not its end or a refusal
 abbrev pub has_imports : Bool → Format EntryValue → Addressing → List ℕ → ImportDirectoryEntry
     → Bool
 has_imports strict format addressing bytes r =
     let table = lookup_offset addressing r in
     has_first (entries_from strict format addressing bytes (unwrap_or table 0) table)
 
--- the cursor before the record at p, in a directory whose first record is at `first`
+-- the cursor before the descriptor at p, in a directory whose first one is at `first`
 abbrev pub at_record : ℕ → ℕ → ImportCursor
 at_record first p = record no_imports { first_record = first; next_record = Some p }
 
--- A library: the index and the place of its record, and this itself; its name; whether permissive
--- mode leaves it out, and whether it has imports; and the cursor where these begin.
+-- A library: the index and the offset of its import descriptor, and the descriptor itself; its
+-- name; whether its address table cannot be read; whether it has imports; and the cursor before
+-- these.
 pub record LibraryValue : Type 0 where
   pub index : ℕ
   pub offset : ℕ
@@ -63,7 +64,7 @@ pub record LibraryValue : Type 0 where
   pub has_imports : Bool
   pub cursor : ImportCursor
 
--- that of the record at p, in a directory whose first record is at `first`
+-- the library of the descriptor at p, in a directory whose first one is at `first`
 abbrev pub library_at : Bool → Format EntryValue → Addressing → List ℕ → ℕ → ℕ
     → ImportDirectoryEntry → LibraryValue
 library_at strict format addressing bytes first p r = record {
@@ -90,33 +91,33 @@ library_value x = record {
 
 -- ---- all libraries
 
--- One for each record of a directory from a place on, up to the first that is not in the file or
--- ends the directory. Strict mode needs that record.
+-- One library for each descriptor of a directory from a place on, before the first that is not in
+-- the file or ends the directory. Strict mode needs that descriptor.
 unfoldable pub libraries_from_record : Bool → Format EntryValue → Addressing → List ℕ → ℕ → ℕ
     → List (Option LibraryValue)
 libraries_from_record strict format addressing bytes first p =
     table_walk import_slots strict
     (λ p r. Some (library_at strict format addressing bytes first p r) ∷ []) bytes p
 
--- those from the next record on, if there is one
+-- the libraries from the next descriptor on, if there is one
 unfoldable pub libraries_next : Bool → Format EntryValue → Addressing → List ℕ → ℕ → Option ℕ
     → List (Option LibraryValue)
 libraries_next strict format addressing bytes first None = []
 libraries_next strict format addressing bytes first (Some p) =
     libraries_from_record strict format addressing bytes first p
 
--- those whose records come at a cursor: a library that it is in has come
+-- the libraries whose descriptors come next at a cursor; a library that the cursor is in has come
 abbrev pub cursor_libraries : MapOfAddresses → Format EntryValue → List ℕ → ImportCursor
     → List (Option LibraryValue)
 cursor_libraries m format bytes c =
     libraries_next (reads_strictly m) format m.addressing bytes c.first_record c.next_record
 
--- The records of a directory from a place on: those before the first that is not in the file or ends
--- the directory. Strict mode needs that record.
+-- The descriptors of a directory from a place on, before the first that is not in the file or ends
+-- the directory. Strict mode needs that descriptor.
 abbrev pub directory_records : Bool → ℕ → Reading (List ImportDirectoryEntry)
 directory_records strict p = table import_slots strict import_record_at (λ r. given (r ∷ [])) p
 
--- which cause is true if there is a refusal among them: the directory reaches the end of the file
+-- the cause that is true if a refusal is among them: the directory reaches the end of the file
 abbrev pub IsEndCause : Bool → List ℕ → Option ℕ → ErrorOf → Type 0
 IsEndCause strict bytes None e = ⊥
 IsEndCause strict bytes (Some p) e = (directory_records strict p).IsCause bytes e
@@ -139,7 +140,7 @@ libraries_map it = map_of it.finder
 abbrev pub libraries_bytes : Libraries → List ℕ
 libraries_bytes it = it.bytes.now
 
--- where the walk is
+-- the cursor of the walk
 abbrev pub libraries_cursor : Libraries → ImportCursor
 libraries_cursor it = it.at
 
@@ -153,29 +154,30 @@ abbrev pub IsLibrariesCause : Libraries → ErrorOf → Type 0
 IsLibrariesCause it e =
     IsCursorEndCause (libraries_map it) (libraries_bytes it) (libraries_cursor it) e
 
--- no more than this comes
+-- an upper bound of the number of libraries to come
 abbrev pub libraries_bound : Libraries → ℕ
 libraries_bound it = records_left (libraries_bytes it) (libraries_cursor it).next_record
 
--- the walk over these bytes, by this map and with such entries
+-- the walk over these bytes, with this map of addresses and such entries
 pub record AreLibrariesOver (m : MapOfAddresses) (format : Format EntryValue) (bytes : List ℕ)
     (it : Libraries) : Type 0 where
   pub bytes_are : libraries_bytes it ≡ bytes
   pub map_is : libraries_map it ≡ m
   pub format_is : libraries_format it ≡ format
 
--- it is at this cursor
+-- It is such a walk, and it is at this cursor.
 abbrev pub AreLibrariesAt : MapOfAddresses → Format EntryValue → List ℕ → ImportCursor → Libraries
     → Type 0
 AreLibrariesAt m format bytes c it =
     AreLibrariesOver m format bytes it × (libraries_cursor it ≡ c)
 
--- the cursor after a library: before the record that follows its own
+-- the cursor after a library: before the descriptor that follows its own
 abbrev pub after_library : LibraryValue → ImportCursor
 after_library library = at_record library.cursor.first_record (library.offset + 20)
 
--- A call of `next` gives the next library, and is then after it, or has ended the walk, or is refused
--- since the directory reaches the end of the file, in strict mode; it keeps what is walked over.
+-- A call of `next` gives the next library, and the walk is then after it. Or it has ended the walk.
+-- Or it is refused in strict mode, because the directory reaches the end of the file. It keeps the
+-- bytes and the map.
 abbrev pub GivesNextLibrary : Libraries → Option (Result WalkedLibrary ErrorOf) → Libraries → Type 0
 GivesNextLibrary s result t =
     GivesNext library_value libraries_left IsLibrariesCause s result t

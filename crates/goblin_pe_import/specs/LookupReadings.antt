@@ -23,7 +23,7 @@ hint_name strict longest p =
     beside or_else strict [] (text_within longest (p + 2)))
 
 -- What is kept of an entry whose address has this offset: the hint and the name there, up to a
--- limit. Nothing is kept if the address has none.
+-- limit. Nothing is kept if the address has no offset.
 abbrev pub kept_name : Bool → Option ℕ → ℕ → Option ℕ → Reading (List LookupEntry)
 kept_name strict longest rva None = given []
 kept_name strict longest rva (Some p) =
@@ -40,8 +40,8 @@ abbrev pub lookup_entry_at : Format EntryValue → ℕ → Reading EntryValue
 lookup_entry_at format p = because (LookupEnd p) (entry_value_at format p)
 
 -- The lookup table at an offset: what is kept of the entries before the first slot that is not in
--- the file or has number 0. Strict mode needs that slot. With it come the indexes of the slots
--- whose entries are kept.
+-- the file or has number 0. Strict mode needs that slot. The indexes of the slots whose entries are
+-- kept come with the table.
 abbrev pub lookup_with_slots : Bool → Format EntryValue → Addressing → ℕ
     → Reading (List LookupEntry × List ℕ)
 lookup_with_slots strict format addressing o =

@@ -1,4 +1,5 @@
--- What a walk over imports looks at, in steps: slots and records, whether or not they give something.
+-- What a walk over imports looks at, in steps: slots and import descriptors, whether or not they
+-- give something.
 use Rattle.std.specs.Prelude.{◌≡◌, ◌⊎◌, ◌≤◌, ℕ, ◌+◌, ◌-◌, Bool, if◌then◌else◌, List, length, ⊤}
 use Rattle.std.specs.Prelude.{Option, Some, None, option_map, Result, Ok, Err, IfErr, IfSome}
 use Rattle.goblin_base.specs.declared.error.ErrorOf.{ErrorOf}
@@ -25,22 +26,22 @@ use Rattle.goblin_pe_import.specs.declared.import.imports.WalkedImport.{WalkedIm
 abbrev pub slots_ahead : Format EntryValue → List ℕ → Option ℕ → ℕ
 slots_ahead format bytes place = amount_of (stop (entry_slots format) bytes) place
 
--- those of the table at an address
+-- how many slots the table at an address has
 abbrev pub slots_at_address : Format EntryValue → Addressing → List ℕ → ℕ → ℕ
 slots_at_address format addressing bytes rva = slots_ahead format bytes (addressing.offset rva)
 
--- those of an address table that is tested after its library's entries, as strict mode does
+-- how many slots an address table has that is tested after its library's entries, as in strict mode
 abbrev pub untested_ahead : Bool → Format EntryValue → Addressing → List ℕ → Option ℕ → ℕ
 untested_ahead strict format addressing bytes untested =
     if strict then amount_of (slots_at_address format addressing bytes) untested else 0
 
--- those of an address table that is tested before them, as permissive mode does
+-- how many slots an address table has that is tested before them, as in permissive mode
 abbrev pub tested_ahead : Bool → Format EntryValue → Addressing → List ℕ → ℕ → ℕ
 tested_ahead strict format addressing bytes rva =
     if strict then 0 else slots_at_address format addressing bytes rva
 
--- A record is one step; then come the slots of its library's address table, and, where that is not
--- left out, those of its lookup table.
+-- A descriptor is one step. Then come the slots of its library's address table and, if the library
+-- is not left out, those of its lookup table.
 unfoldable pub record_steps : Bool → Format EntryValue → Addressing → List ℕ
     → ImportDirectoryEntry → ℕ
 record_steps strict format addressing bytes r =
@@ -49,12 +50,12 @@ record_steps strict format addressing bytes r =
     else slots_ahead format bytes (lookup_offset addressing r)
     + untested_ahead strict format addressing bytes (Some (address_table_rva r)))
 
--- those of the records of a directory, from the next one on
+-- the steps of the descriptors of a directory, from the next one on
 abbrev pub records_ahead : Bool → Format EntryValue → Addressing → List ℕ → Option ℕ → ℕ
 records_ahead strict format addressing bytes next =
     amount_of (sum_of_slots import_slots (record_steps strict format addressing bytes) bytes) next
 
--- once the entries of a library have come
+-- how many steps are ahead once the entries of a library have come
 abbrev pub later_ahead : Bool → Format EntryValue → Addressing → List ℕ → Option ℕ → Option ℕ
     → ℕ
 later_ahead strict format addressing bytes untested next =
@@ -73,13 +74,13 @@ walk_ahead format w = cursor_ahead (map_of w.finder) format w.bytes.now w.at
 abbrev pub imports_ahead : {T : Type 0} → Format EntryValue → Imports T → ℕ
 imports_ahead format it = walk_ahead format it.walk
 
--- ---- a limit of steps, if there is one
+-- ---- a budget of steps, if there is one
 
--- what is left of it after so many steps
+-- what is left of a budget after so many steps
 abbrev pub spent : Option ℕ → ℕ → Option ℕ
 spent steps n = option_map (λ left. left - n) steps
 
--- it has steps left, or has none
+-- The budget has steps left, as it always has without a limit. Or it has run out.
 abbrev pub HasSteps : Option ℕ → Type 0
 HasSteps None = ⊤
 HasSteps (Some left) = 1 ≤ left
@@ -88,54 +89,55 @@ abbrev pub IsOut : Option ℕ → Type 0
 IsOut None = ⊥
 IsOut (Some left) = left ≡ 0
 
--- Of a limit are gone as many steps as are no longer ahead.
+-- The budget has fallen by as many steps as are no longer ahead.
 abbrev pub AreCounted : Option ℕ → Option ℕ → ℕ → ℕ → Type 0
 AreCounted None new before after = new ≡ None
 AreCounted (Some a) None before after = ⊥
 AreCounted (Some a) (Some b) before after = before + b ≡ after + a
 
--- All are gone, and at most n steps more, as the slots of an address table are looked at in one go.
+-- The budget is spent. The call has taken as many steps as the budget had, or at most n more,
+-- because the slots of an address table are looked at in one go.
 abbrev pub HaveRunOut : ℕ → Option ℕ → Option ℕ → ℕ → ℕ → Type 0
 HaveRunOut n None new before after = ⊥
 HaveRunOut n (Some a) None before after = ⊥
 HaveRunOut n (Some a) (Some b) before after =
     (b ≡ 0) × (after + a ≤ before) × (before ≤ after + a + n)
 
--- No more than n are gone over what is counted.
+-- The call has taken at most n steps more than the budget has fallen by.
 abbrev pub AreBounded : ℕ → Option ℕ → Option ℕ → ℕ → ℕ → Type 0
 AreBounded n None new before after = new ≡ None
 AreBounded n (Some a) None before after = ⊥
 AreBounded n (Some a) (Some b) before after = before + b ≤ after + a + n
 
--- ---- a call that ends after so many steps
+-- ---- a call with a budget of steps
 
--- A call gives what comes next, as `GivesNext` says; or it gives nothing, and the same is still to
+-- A call gives what comes next, as `GivesNext` says. Or it gives nothing, and the same is still to
 -- come.
 abbrev pub GivesWithin : {S X A : Type 0} → (X → A) → (S → List (Option A))
     → (S → ErrorOf → Type 0) → S → Option (Result X ErrorOf) → S → Type 0
 GivesWithin view left IsCause s None t = (left s ≡ left t) × ((e : ErrorOf) → IsCause t e → IsCause s e)
 GivesWithin view left IsCause s (Some r) t = GivesNext view left IsCause s (Some r) t
 
--- something holds where a call is not refused
+-- This holds if a call is not refused.
 abbrev pub UnlessErr : {X : Type 0} → Option (Result X ErrorOf) → Type 0 → Type 0
 UnlessErr None Holds = Holds
 UnlessErr (Some (Ok x)) Holds = Holds
 UnlessErr (Some (Err e)) Holds = ⊤
 
--- What it has looked at, unless it is refused.
+-- What a call has looked at, unless it is refused.
 abbrev pub LooksAt : {X : Type 0} → ℕ → Option (Result X ErrorOf) → Option ℕ → Option ℕ → ℕ → ℕ
     → Type 0
 LooksAt n None old new before after = AreBounded n old new before after
 LooksAt n (Some (Ok x)) old new before after = AreCounted old new before after
 LooksAt n (Some (Err e)) old new before after = ⊤
 
--- One that gives nothing is at the end, or its limit has run out.
+-- A call that gives nothing has reached the end, or its budget is spent.
 abbrev pub EndsWithin : {X : Type 0} → Option (Result X ErrorOf) → ImportCursor → Type 0 → Type 0
 EndsWithin None c RunOut = (c ≡ no_imports) ⊎ RunOut
 EndsWithin (Some (Ok x)) c RunOut = ⊤
 EndsWithin (Some (Err e)) c RunOut = c ≡ no_imports
 
--- A call of `next_within` of a walk over imports, which keeps what is walked over.
+-- A call of `next_within` of a walk over imports, which keeps the bytes and the map.
 pub record GivesImportWithin {T : Type 0} (format : Format EntryValue) (s : Imports T)
     (old : Option ℕ) (result : Option (Result WalkedImport ErrorOf)) (t : Imports T)
     (new : Option ℕ) : Type 0 where

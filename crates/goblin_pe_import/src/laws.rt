@@ -1,4 +1,4 @@
-//! Laws about two reads of imports, and the bytes of a file that these depend on;
+//! Laws about two reads of imports, and the positions of a file on which these depend.
 //! `goblin_pe::laws` explains them.
 
 mod footprint;

@@ -1,4 +1,4 @@
--- What is at an address, over a map of addresses to file offsets.
+-- Readings at an address, over a map from addresses to file offsets.
 use Rattle.std.specs.Prelude.{ℕ, Bool, List, Option, None, Some}
 use Rattle.goblin_base.specs.declared.endian.Endian.{Endian}
 use Rattle.goblin_base.specs.declared.endian.Endian.TheVariants.{Little}
@@ -11,11 +11,11 @@ use Rattle.readings.specs.Reads.{value_at}
 use Rattle.goblin_pe_sect.specs.Addresses.{Addressing}
 use Rattle.goblin_pe_sect.specs.declared.data_directories.DataDirectory.{DataDirectory}
 
--- the offset of an address
+-- the file offset of an address
 abbrev pub offset_at : (ℕ → Option ℕ) → ℕ → Reading ℕ
 offset_at offset_of rva = needs (offset_of rva) (Unmapped rva)
 
--- what is at an address, by a reading at its offset
+-- a reading at the file offset of an address
 abbrev pub at_address : {A : Type 0} → (ℕ → Option ℕ) → ℕ → (ℕ → Reading A) → Reading A
 at_address offset_of rva read = offset_at offset_of rva >>= read
 
@@ -23,7 +23,7 @@ at_address offset_of rva read = offset_at offset_of rva >>= read
 unfoldable pub text_at_address : (ℕ → Option ℕ) → ℕ → Reading (List ℕ)
 text_at_address offset_of rva = at_address offset_of rva text_at
 
--- the text at an offset, up to a limit; where there is none, the cause is `NameRead`
+-- the text at an offset, cut if there is a limit; if there is no text, the cause is `NameRead`
 abbrev pub name_here : Option ℕ → ℕ → Reading (List ℕ)
 name_here longest p = because (NameRead p) (text_within longest p)
 
@@ -31,19 +31,20 @@ name_here longest p = because (NameRead p) (text_within longest p)
 unfoldable pub name_at : Addressing → ℕ → Reading (List ℕ)
 name_at addressing rva = at_address addressing.offset rva (name_here addressing.longest)
 
--- the name at an address; permissive mode takes nothing where there is none
+-- the name at an address, as an option; if there is no name, strict mode refuses, and permissive
+-- mode has none
 abbrev pub name_or_none : Bool → Addressing → ℕ → Reading (Option (List ℕ))
 name_or_none strict addressing rva =
     or_else strict None (mapped (λ name. Some name) (name_at addressing rva))
 
--- the value of a type at an address, little-endian; `refusal` says which causes are true where the
+-- the value of a type at an address, little-endian; `refusal` says which causes are true if the
 -- type refuses the bytes
 unfoldable pub data_at : {Y : Type 0} → (ℕ → Option ℕ) → (Endian → List ℕ → Option (Y × ℕ))
     → (refusal : Endian → List ℕ → ErrorOf → Type 0) → ℕ → Reading Y
 data_at offset_of value_of refusal rva =
     at_address offset_of rva (value_at value_of refusal Little)
 
--- the bytes of a directory of base relocations
+-- the bytes of a base relocation directory
 unfoldable pub relocation_data : (ℕ → Option ℕ) → DataDirectory → Reading (List ℕ)
 relocation_data offset_of d =
     at_address offset_of d.virtual_address

@@ -1,5 +1,5 @@
--- The base relocations of an image: the bytes of their directory, its blocks, and the words of a
--- block.
+-- The base relocations of an image: the bytes of their directory, the blocks of the directory, and
+-- the words of a block.
 use Rattle.std.specs.Prelude.{◌≡◌, ◌≤◌, ◌<◌, ℕ, zero, suc, ◌+◌, ◌-◌, min, nat_lt, if◌then◌else◌}
 use Rattle.std.specs.Prelude.{List, [], ◌∷◌, ◌++◌, length, map, flat_map, slice_range, Option, Some}
 use Rattle.std.specs.Prelude.{None, Result, Ok, Err}
@@ -27,7 +27,7 @@ relocation_bytes relocations = relocations.bytes.now
 
 -- ---- blocks
 
--- a block, its words as their bytes
+-- a block, with the bytes of its words
 pub record Block : Type 0 where
   pub rva : ℕ
   pub size : ℕ
@@ -41,13 +41,14 @@ abbrev pub block_item : Result RelocationBlock ErrorOf → Result Block ErrorOf
 block_item (Ok b) = Ok (block_value b)
 block_item (Err e) = Err e
 
--- a block of this head, and of these words that begin at p
+-- the block with this header and these words, which begin at p; if the words are missing, the error
 abbrev pub with_words : List ℕ → ℕ → Option (List ℕ) → Result Block ErrorOf
 with_words head p (Some words) =
     Ok (record { rva = number Little 4 head 0; size = number Little 4 head 4; words = words })
 with_words head p None = Err (Malformed (BlockRange p (number Little 4 head 4 - 8)))
 
--- a block of this head, whose words begin at p
+-- the block with this header, whose words begin at p; if the header is missing or its size is below
+-- 8, the error
 abbrev pub with_head : List ℕ → ℕ → Option (List ℕ) → Result Block ErrorOf
 with_head directory p (Some head) =
     if nat_lt (number Little 4 head 4) 8
@@ -55,19 +56,19 @@ with_head directory p (Some head) =
     else with_words head p (slice_at directory p (number Little 4 head 4 - 8))
 with_head directory p None = Err (Read TooBig)
 
--- the block at p of a directory: a head of eight bytes with its address and size, and then its
--- words up to that size; or the error
+-- the block at p of a directory: a header of eight bytes with the address and the size, and then
+-- the words up to that size; or the error
 unfoldable pub block_at : List ℕ → ℕ → Result Block ErrorOf
 block_at directory p = with_head directory (p + 8) (slice_at directory p 8)
 
--- an item, and after a block the items from its end on
+-- an item; if it is a block, the items from its end on follow
 abbrev pub then_items : (ℕ → List (Result Block ErrorOf)) → ℕ → Result Block ErrorOf
     → List (Result Block ErrorOf)
 then_items items p (Ok b) = Ok b ∷ items (p + b.size)
 then_items items p (Err e) = Err e ∷ []
 
--- the items of a directory from p on, at most n of them: blocks, and one error if bytes are left
--- over
+-- the items of a directory from p on, at most n of them: blocks, and then one error if the last
+-- bytes are not a block
 unfoldable pub first_items : ℕ → List ℕ → ℕ → List (Result Block ErrorOf)
 first_items zero directory p = []
 first_items (suc n) directory p =
@@ -75,25 +76,25 @@ first_items (suc n) directory p =
     then then_items (first_items n directory) p (block_at directory p)
     else []
 
--- all items of a directory from p on; each takes a byte at least
+-- all items of a directory from p on; each item has at least one byte
 abbrev pub block_items : List ℕ → ℕ → List (Result Block ErrorOf)
 block_items directory p = first_items (length directory - p) directory p
 
--- What is found at p of a directory: nothing where nothing comes, else the next item, and after a
--- block come the items from its end on.
+-- What a call finds at p of a directory: nothing if no items follow, else the next item. If that is
+-- a block, the items from its end on follow.
 abbrev pub FindsItem : List ℕ → ℕ → Option (Result RelocationBlock ErrorOf) → Type 0
 FindsItem directory p None = block_items directory p ≡ []
 FindsItem directory p (Some found) =
     block_items directory p ≡ then_items (block_items directory) p (block_item found)
 
--- what an iterator over blocks has left
+-- the items that an iterator over blocks has yet to yield
 abbrev pub blocks_left : RelocationBlockIterator → List (Result Block ErrorOf)
 blocks_left it = block_items it.bytes.now it.offset
 
--- ---- blocks by the bytes of their directory
+-- ---- blocks, defined by the bytes of their directory
 
--- this block is at p of a directory: it has at least its head, all of it is there, and a block of
--- size 8 has a byte after it
+-- this block is at p of a directory: its size covers at least its header, all of it is there, and a
+-- byte follows a block of size 8
 pub record IsBlockAt (directory : List ℕ) (p : ℕ) (b : Block) : Type 0 where
   pub large : 8 ≤ b.size
   pub within : p + b.size ≤ length directory
@@ -112,8 +113,9 @@ AreBlocks directory p (b ∷ blocks) end =
 abbrev pub block_fields : Block → List FieldValue
 block_fields b = uint 4 b.rva ∷ uint 4 b.size ∷ octets b.words ∷ []
 
--- The items are the longest list of consecutive blocks at the front of the directory, and one error
--- if bytes are left over after them. The encodings of the blocks, joined, are that front.
+-- The items are the longest list of consecutive blocks at the front of the directory, and then one
+-- error if bytes are left over after the blocks. The encodings of the blocks, joined, are that
+-- front.
 pub record AreBlocksOf (directory : List ℕ) (items : List (Result Block ErrorOf)) : Type 0 where
   pub blocks : List Block
   pub end : ℕ
@@ -128,7 +130,7 @@ pub record AreBlocksOf (directory : List ℕ) (items : List (Result Block ErrorO
 
 -- ---- words
 
--- the word in a record's 2 bytes
+-- the word in 2 bytes
 abbrev pub word_record : Endian → List ℕ → RelocationWord
 word_record endian bytes = record {
   value = number endian 2 bytes 0;
@@ -138,10 +140,10 @@ word_record endian bytes = record {
 abbrev pub word_fields : RelocationWord → List FieldValue
 word_fields r = uint 2 r.value ∷ []
 
--- the words of a block: the whole pairs of its bytes, and one error where a byte is left
+-- the words of a block: its whole pairs of bytes, and then one error if a byte is left over
 unfoldable pub word_items : List ℕ → List (Result RelocationWord ErrorOf)
 word_items bytes = record_items 2 (word_record Little) bytes
 
--- what an iterator over words has left
+-- the words that an iterator over words has yet to yield, and the error, if one comes last
 abbrev pub words_left : RelocationWordIterator → List (Result RelocationWord ErrorOf)
 words_left it = word_items it.bytes.now

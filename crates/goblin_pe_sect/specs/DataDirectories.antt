@@ -1,4 +1,5 @@
--- The data directories of an optional header: what is in its bytes, and what is written of it.
+-- The data directories of an optional header: the values in their bytes, and the bytes that are
+-- written.
 use Rattle.std.specs.Prelude.{◌≡◌, ℕ, ◌==◌, ◌&&◌, if◌then◌else◌, List, [], ◌∷◌, drop}
 use Rattle.std.specs.Prelude.{slice_get, Option, Some, None, option_map}
 use Rattle.std.specs.Prelude.{option_and_then, zip, filter_map, flat_map}
@@ -15,26 +16,27 @@ use Rattle.goblin_pe_sect.specs.declared.data_directories.DataDirectoryType.TheV
 
 -- Source: PE Format, "Optional Header Data Directories (Image Only)".
 
--- the directory in a record's 8 bytes
+-- the data directory in a record's 8 bytes
 abbrev pub directory_record : Endian → List ℕ → DataDirectory
 directory_record endian bytes = record {
   virtual_address = number endian 4 bytes 0;
   size = number endian 4 bytes 4;
 }
 
--- the fields of a directory, in order
+-- the fields of a data directory, in order
 abbrev pub directory_fields : DataDirectory → List FieldValue
 directory_fields d = uint 4 d.virtual_address ∷ uint 4 d.size ∷ []
 
--- a directory paired with the offset of its end; one of zeros is none
+-- the entry of a data directory: the directory paired with the offset just past it, or none if it
+-- is all zeros
 abbrev pub entry_ending : ℕ → DataDirectory → Option (ℕ × DataDirectory)
 entry_ending end d = if d.virtual_address == 0 && d.size == 0 then None else Some (end, d)
 
--- a directory of zeros
+-- the data directory that is all zeros
 abbrev pub no_directory : DataDirectory
 no_directory = record { virtual_address = 0; size = 0 }
 
--- the directory of an entry, zeros where there is none
+-- the directory of an entry, or zeros if the entry is none
 abbrev pub directory_or_zeros : Option (ℕ × DataDirectory) → DataDirectory
 directory_or_zeros None = no_directory
 directory_or_zeros (Some entry) = entry.1
@@ -56,22 +58,22 @@ kinds =
     ∷ dir.GlobalPtr ∷ dir.TlsTable ∷ dir.LoadConfigTable ∷ dir.BoundImportTable
     ∷ dir.ImportAddressTable ∷ dir.DelayImportDescriptor ∷ dir.ClrRuntimeHeader ∷ []
 
--- which cause is true of an index that has no kind
+-- which cause is true if an index has no kind
 abbrev pub IsNoKind : ℕ → ErrorOf → Type 0
 IsNoKind i (Malformed (DirectoryIndex n)) = n ≡ i
 IsNoKind i e = ⊥
 
--- a kind paired with its directory, where there is one
+-- a kind paired with its directory, if the entry has one
 abbrev pub with_kind : DataDirectoryType × Option (ℕ × DataDirectory)
     → Option (DataDirectoryType × DataDirectory)
 with_kind (kind, entry) = option_map (λ e. (kind, e.1)) entry
 
--- the directories from index i on, each paired with its kind, in order, without absent ones; the
+-- the directories that are there from index i on, each paired with its kind, in order; the
 -- sixteenth entry has no kind
 abbrev pub present_from : ℕ → List (Option (ℕ × DataDirectory))
     → List (DataDirectoryType × DataDirectory)
 present_from i entries = filter_map with_kind (drop i (zip kinds entries))
 
--- what an iterator over the directories has left
+-- the directories that an iterator has yet to yield
 abbrev pub dirs_left : Dirs → List (DataDirectoryType × DataDirectory)
 dirs_left dirs = present_from dirs.index dirs.directories.data_directories

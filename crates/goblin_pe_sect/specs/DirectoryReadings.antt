@@ -11,24 +11,25 @@ use Rattle.readings.specs.Reads.{each, mapped, needs, pick, record_at}
 use Rattle.goblin_pe_sect.specs.declared.data_directories.DataDirectory.{DataDirectory}
 use Rattle.goblin_pe_sect.specs.DataDirectories.{directory_record, entries_fields, entry_ending}
 
--- the directory at index i of consecutive ones from p on
+-- the directory at index i of consecutive directories from p on
 abbrev pub directory_at : ℕ → ℕ → Reading DataDirectory
 directory_at p i = record_at 8 (directory_record Little) (p + 8 * i)
 
--- the sixteen entries of the directories from p on, each with the offset just past it; entries past
--- the last directory are none
+-- the sixteen entries of the directories from p on; each has the offset just past its directory,
+-- and the entries after the last directory are none
 abbrev pub sixteen : ℕ → List DataDirectory → List (Option (ℕ × DataDirectory))
 sixteen p directories =
     map (λ i. option_and_then (entry_ending (p + 8 * i + 8)) (slice_get directories i))
     (range_with_len 0 16)
 
--- the sixteen entries, `count` of them from p on; more than sixteen are refused
+-- the sixteen entries, of which the file has `count` from p on; a count above sixteen is refused
 unfoldable pub directories_at : ℕ → ℕ → Reading (List (Option (ℕ × DataDirectory)))
 directories_at count p =
     pick (nat_le count 16) (mapped (sixteen p) (each (directory_at p) count))
     (needs None (DirectoryCount count))
 
--- Entries that were read are written back unchanged, with zeros after them up to the sixteenth.
+-- Entries that were read are written back unchanged. The entries after them, up to the sixteenth,
+-- are written as zeros.
 abbrev pub EntriesWriteBack : Type 0
 EntriesWriteBack =
     (count : ℕ) (bytes : List ℕ) (p : ℕ) (entries : List (Option (ℕ × DataDirectory)))

@@ -1,4 +1,4 @@
--- How an address in memory maps to an offset in the file.
+-- The map from addresses in memory to file offsets.
 use Rattle.std.specs.Prelude.{IsTrue, ℕ, ◌+◌, ◌-◌, ◌==◌, ◌≡◌, ◌<◌, ◌≤◌, min, Bool, ◌&&◌, nat_le}
 use Rattle.std.specs.Prelude.{false, nat_lt, if◌then◌else◌, List, Option, Some, None, find}
 use Rattle.std.specs.Prelude.{position, slice_get, option_map, option_and_then}
@@ -12,14 +12,14 @@ use Rattle.goblin_pe_sect.specs.declared.options.RawPointerRule.TheVariants.{AsS
 use Rattle.goblin_pe_sect.specs.Multiples.{greatest_multiple, least_multiple}
 use Rattle.goblin_pe_sect.specs.SectionTable.{Section}
 
--- PE Format leaves the mapping of addresses to loaders. The windows defined here are goblin's; the
--- rule that rounds raw pointers is the Windows loader's for images whose section alignment is 4,096
--- or more.
+-- PE Format leaves the mapping of addresses to loaders. The windows defined here are goblin's. The
+-- rule that rounds raw pointers is that of the Windows loader for images whose section alignment is
+-- 4,096 or more.
 
--- how many bytes of a section are read from the file at this file alignment: none where it has no
--- raw data; else those from the greatest multiple of 512 that is at most its raw pointer to the
--- least multiple of the alignment that is at least its raw data's end; at most the raw size in
--- whole pages, and at most the virtual size in whole pages, where that is given
+-- How many bytes of a section are read from the file at this file alignment. There are none if it
+-- has no raw data. Otherwise they run from the raw pointer rounded down to 512 to the end of the
+-- raw data rounded up to the alignment; but there are at most as many as the raw size in whole
+-- pages, and at most as many as the virtual size in whole pages, if that is not 0.
 unfoldable pub read_size : Section → ℕ → ℕ
 read_size s alignment =
     let raw = s.size_of_raw_data in
@@ -33,11 +33,12 @@ read_size s alignment =
     then stored
     else min stored (least_multiple 4096 s.virtual_size))
 
--- the first address after a section's window, which begins at the section's address
+-- the first address after a section's window; the window begins at the section's address
 abbrev pub window_end : Section → ℕ → ℕ
 window_end s alignment = s.virtual_address + read_size s alignment
 
--- the start and the end of a section's window; there is none if the alignment is not a power of two
+-- the start and the end of a section's window; there is no window if the alignment is not a power
+-- of two
 abbrev pub window_of : Section → ℕ → Option (ℕ × ℕ)
 window_of s alignment =
     if is_power_of_two alignment then Some (s.virtual_address, window_end s alignment) else None
@@ -46,22 +47,24 @@ window_of s alignment =
 abbrev pub is_in_window : ℕ → ℕ → Section → Bool
 is_in_window alignment rva s = nat_le s.virtual_address rva && nat_lt rva (window_end s alignment)
 
--- where raw data with this raw pointer begins for the mapping of addresses, by a rule: at the
--- pointer as it is stored, or at the greatest multiple of 512 that is at most it
+-- the file offset at which raw data with this raw pointer begins, by a rule: the pointer as stored,
+-- or the greatest multiple of 512 that is at most the pointer
 abbrev pub ruled : RawPointerRule → ℕ → ℕ
 ruled AsStored pointer = pointer
 ruled RoundedTo512 pointer = greatest_multiple 512 pointer
 
--- where a section's raw data begins for the mapping of addresses, by the rule of the options
+-- the file offset at which a section's raw data begins, by the rule of the options
 abbrev pub raw_begin : ParseOptions → Section → ℕ
 raw_begin opts s = ruled opts.raw_pointer_rule s.pointer_to_raw_data
 
--- the file offset of an address in a section's window: as far after the raw data's start
+-- the file offset of an address in a section's window: it is as far from the start of the raw data
+-- as the address is from the section's address
 abbrev pub offset_in : ParseOptions → Section → ℕ → ℕ
 offset_in opts s rva = raw_begin opts s + (rva - s.virtual_address)
 
--- the file offset of an address: that of the first section whose window holds it; and the address
--- itself where addresses are not mapped. No address has one if the alignment is not a power of two.
+-- The file offset of an address, by the first section whose window holds it. If addresses are not
+-- mapped, the offset is the address itself. Otherwise no address has one if the alignment is not a
+-- power of two.
 unfoldable pub file_offset : ParseOptions → List Section → ℕ → ℕ → Option ℕ
 file_offset opts sections alignment rva =
     if opts.resolve_rva
@@ -77,15 +80,15 @@ abbrev pub section_at : ℕ → ℕ → List Section → Option Section
 section_at alignment rva sections =
     if is_power_of_two alignment then find (is_in_window alignment rva) sections else None
 
--- its index
+-- the index of the first section whose window holds the address
 abbrev pub section_index : ℕ → ℕ → List Section → Option ℕ
 section_index alignment rva sections =
     if is_power_of_two alignment then position (is_in_window alignment rva) sections else None
 
 -- ---- the address of a file offset
 
--- the address that a section's window has at a file offset; none if the window reaches no address
--- there, or the alignment is not a power of two
+-- the address that a section's window has at a file offset; none if the window has no address
+-- there, or if the alignment is not a power of two
 abbrev pub rva_in : ParseOptions → ℕ → ℕ → Section → Option ℕ
 rva_in opts alignment p s =
     let begin = raw_begin opts s in
@@ -94,7 +97,7 @@ rva_in opts alignment p s =
     then Some (s.virtual_address + (p - begin))
     else None
 
--- there is an offset, and it is this one
+-- an offset was found, and it is this one
 abbrev pub is_at : ℕ → Option ℕ → Bool
 is_at p None = false
 is_at p (Some found) = found == p
@@ -105,8 +108,8 @@ maps_to opts sections alignment p None = false
 maps_to opts sections alignment p (Some rva) =
     is_at p (file_offset opts sections alignment rva)
 
--- the address of a file offset: that in the first section whose window has an address there that
--- the sections map back to the offset; and the offset itself where addresses are not mapped
+-- The address of a file offset: the one in the first section whose window has an address there that
+-- the sections map back to the offset. If addresses are not mapped, it is the offset itself.
 unfoldable pub file_address : ParseOptions → List Section → ℕ → ℕ → Option ℕ
 file_address opts sections alignment p =
     if opts.resolve_rva
@@ -119,13 +122,13 @@ abbrev pub IsMappedFromNowhere : ParseOptions → List Section → ℕ → ℕ �
 IsMappedFromNowhere opts sections alignment p =
     (rva : ℕ) → ¬ (file_offset opts sections alignment rva ≡ Some p)
 
--- ---- what a file offset says about an address
+-- ---- what holds of the file offset of an address
 
 -- the section's window holds the address
 abbrev pub InWindow : ℕ → ℕ → Section → Type 0
 InWindow alignment rva s = (s.virtual_address ≤ rva) × (rva < window_end s alignment)
 
--- the section at the index holds the address in its window, and none before it does
+-- the window of the section at this index holds the address, and no earlier section's window does
 pub record IsFirstWindow (sections : List Section) (alignment rva index : ℕ) : Type 0 where
   pub section : Section
   pub is : slice_get sections index ≡ Some section
@@ -142,7 +145,8 @@ OffsetsApart opts sections alignment =
     → file_offset opts sections alignment first ≡ file_offset opts sections alignment second
     → first ≡ second
 
--- the offset is that of the section with the least index among those whose windows hold the address
+-- the offset is the one by the section with the least index among those whose windows hold the
+-- address
 abbrev pub MapsTo : ParseOptions → List Section → ℕ → ℕ → ℕ → Type 0
 MapsTo opts sections alignment rva offset =
     (index : ℕ) × (first : IsFirstWindow sections alignment rva index)
@@ -153,7 +157,7 @@ abbrev pub MapsNowhere : List Section → ℕ → ℕ → Type 0
 MapsNowhere sections alignment rva =
     (k : ℕ) (s : Section) → slice_get sections k ≡ Some s → ¬ InWindow alignment rva s
 
--- the refusal has this message
+-- the cause is this message
 abbrev pub IsMessage : List ℕ → ErrorOf → Type 0
 IsMessage message (Malformed (Message text)) = text.now ≡ message
 IsMessage message e = ⊥

@@ -1,4 +1,4 @@
--- The multiples of a number that are nearest to another.
+-- The multiples of a number that are nearest to another number.
 use Rattle.std.specs.Prelude.{ℕ, zero, suc, ◌+◌, ◌%◌, ◌==◌, ◌&&◌, Bool, nat_le, if◌then◌else◌}
 use Rattle.goblin_base.specs.Tables.{least}
 
@@ -6,7 +6,7 @@ use Rattle.goblin_base.specs.Tables.{least}
 abbrev pub is_multiple : ℕ → ℕ → Bool
 is_multiple step m = m % step == 0
 
--- the greatest number up to n that passes the test, or 0 where none does
+-- the greatest number up to n that passes the test, or 0 if none does
 unfoldable pub greatest : (ℕ → Bool) → ℕ → ℕ
 greatest test zero = zero
 greatest test (suc n) = if test (suc n) then suc n else greatest test n

@@ -1,4 +1,4 @@
--- Options with a name.
+-- Named options, and the meaning of a file alignment, a view and a parse mode.
 use Rattle.std.specs.Prelude.{ℕ, Bool, true, false, if◌then◌else◌, nat_lt, Option, None, Some}
 use Rattle.goblin_base.specs.declared.permissive.ParseMode.{ParseMode}
 use Rattle.goblin_base.specs.declared.permissive.ParseMode.TheVariants.{Strict, Permissive}
@@ -8,8 +8,8 @@ use Rattle.goblin_pe_sect.specs.declared.options.RawPointerRule.TheVariants.{AsS
 use Rattle.goblin_pe_sect.specs.declared.options.View.{View}
 use Rattle.goblin_pe_sect.specs.declared.options.View.TheVariants.{Loader, Sections}
 
--- the options of a file on disk: everything is read, strictly, and addresses are mapped by the
--- sections, from their raw pointers as stored
+-- the options for a file on disk: everything is read in strict mode, and addresses are mapped by
+-- the sections, from their raw pointers as stored
 abbrev pub default_options : ParseOptions
 default_options = record {
   resolve_rva = true;
@@ -21,7 +21,7 @@ default_options = record {
   raw_pointer_rule = AsStored;
 }
 
--- the options of a TE image: addresses are offsets, and there are no certificates
+-- the options for a TE image: addresses are offsets, and there are no certificates
 abbrev pub te_options : ParseOptions
 te_options = record default_options { resolve_rva = false; parse_attribute_certificates = false }
 
@@ -29,8 +29,8 @@ te_options = record default_options { resolve_rva = false; parse_attribute_certi
 abbrev pub rule_by_alignment : ℕ → RawPointerRule
 rule_by_alignment alignment = if nat_lt alignment 512 then AsStored else RoundedTo512
 
--- how many bytes of the file's front map addresses, where the headers have so many: all of them in
--- the loader's view, and else none are mapped
+-- the size of the headers if the file's front is mapped, which is so in the loader's view only; the
+-- window of `front_section` says how many bytes of the front are mapped for this size
 abbrev pub front_of : View → ℕ → Option ℕ
 front_of Sections size_of_headers = None
 front_of Loader size_of_headers = Some size_of_headers

@@ -30,12 +30,12 @@ relocation_record endian bytes = record {
 abbrev pub relocation_fields : Relocation → List FieldValue
 relocation_fields r = uint 4 r.virtual_address ∷ uint 4 r.symbol_table_index ∷ uint 2 r.typ ∷ []
 
--- the relocations of these bytes
+-- the relocations in these bytes
 abbrev pub relocations_in : List ℕ → List Relocation
 relocations_in bytes = records_in 10 (relocation_record Little) bytes
 
--- which cause is true of bytes without n relocations at p: they run past the end, or their size
--- overflows 64 bits
+-- which cause is true if the bytes have no n relocations at p: their size overflows 64 bits, or
+-- they begin at or past the end, or run past it
 abbrev pub IsRelocationsFault : List ℕ → ℕ → ℕ → ErrorOf → Type 0
 IsRelocationsFault bytes p n (Malformed Overflow) = 2 ^ 64 ≤ 10 * n
 IsRelocationsFault bytes p n (Read fault) =
@@ -49,6 +49,6 @@ relocations_at p n =
     (λ bytes. by_cases-not_memory (IsRelocationsFault bytes p n) (λ m h. h))
     (mapped relocations_in (slice_at p (10 * n)))
 
--- what an iterator over relocations has left
+-- the relocations that an iterator has yet to yield
 abbrev pub relocations_left : Relocations → List Relocation
 relocations_left it = relocations_in it.relocations.now

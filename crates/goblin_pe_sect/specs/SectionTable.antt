@@ -1,4 +1,4 @@
--- What contracts see of a section, and the section record.
+-- What contracts see of a section, and the section header.
 use Rattle.std.specs.Prelude.{◌≡◌, ℕ, ◌+◌, ◌<◌, Bool, List, [], ◌∷◌, Option, None, Some, nat_eq}
 use Rattle.std.specs.Prelude.{◌++◌, replicate, slice_range}
 use Rattle.std.specs.Option.{option_eq}
@@ -19,7 +19,7 @@ use Rattle.goblin_pe_sect.specs.declared.section_table.records.SectionRecords.{S
 
 -- Source: PE Format, "Section Table (Section Headers)" and "Section Data".
 
--- a section, its texts as their bytes
+-- a section, with the bytes of its texts
 pub record Section : Type 0 where
   pub name : List ℕ
   pub real_name : Option (List ℕ)
@@ -33,7 +33,7 @@ pub record Section : Type 0 where
   pub number_of_linenumbers : ℕ
   pub characteristics : ℕ
 
--- the section in a record's 40 bytes
+-- the section in the 40 bytes of a section header
 abbrev pub section_record : Endian → List ℕ → Section
 section_record endian bytes = record {
   name = slice_range bytes 0 8;
@@ -49,7 +49,7 @@ section_record endian bytes = record {
   characteristics = number endian 4 bytes 36;
 }
 
--- the fields of a section record, in order
+-- the fields of a section header, in order
 abbrev pub section_fields : Section → List FieldValue
 section_fields s =
     octets s.name ∷ uint 4 s.virtual_size ∷ uint 4 s.virtual_address ∷ uint 4 s.size_of_raw_data
@@ -62,24 +62,25 @@ section_fields s =
 abbrev pub unnamed : Section → Section
 unnamed s = record s { real_name = None }
 
--- A section that is written, whatever its fields are, reads back from what was written, in the same
--- byte order, without its real name, which is not part of the record.
+-- A section that is written reads back from what was written, in the same byte order, whatever its
+-- fields are. Its real name, which is not part of the section header, is then missing.
 unfoldable pub SectionReadsBack : Section → Type 0
 SectionReadsBack s =
     (endian : Endian)
     → record_at 40 (section_record endian) (encoding endian (section_fields s)) 0
     ≡ Some (unnamed s)
 
--- the sections of the records in these bytes, without their names from the string table
+-- the sections whose headers are in these bytes, without their names from the string table
 abbrev pub sections_in : List ℕ → List Section
 sections_in bytes = records_in 40 (section_record Little) bytes
 
--- the sections of the records as a reader gives them
+-- the sections of these section headers
 abbrev pub recorded_sections : SectionRecords → List Section
 recorded_sections r = sections_in r.records.now
 
--- The front of a file as a section: the Windows loader maps the headers, which have so many bytes, at
--- the image's base.
+-- The front of a file as a section at address 0, since the Windows loader maps the headers at the
+-- image's base. `size` is the size of the headers. The window of the front has `size` rounded up to
+-- the file alignment, but to no more than whole pages.
 abbrev pub front_section : ℕ → Section
 front_section size = record {
   name = replicate 8 0;
@@ -95,46 +96,47 @@ front_section size = record {
   characteristics = 0;
 }
 
--- what addresses are mapped by: the sections and, where it is mapped, the file's front after them
+-- the sections by which addresses are mapped; if the file's front is mapped, it comes after them
 abbrev pub with_front : Option ℕ → List Section → List Section
 with_front None sections = sections
 with_front (Some size) sections = sections ++ front_section size ∷ []
 
--- the same of records
+-- the same sections, of section headers
 abbrev pub mapped_sections : MappedRecords → List Section
 mapped_sections r = with_front r.front (recorded_sections r.records)
 
--- what the addresses of a file's tables are mapped by: the sections, and how many bytes of the file's
--- front, if they map any
+-- what maps the addresses in a file's tables: the sections and, if the file's front is mapped, the
+-- size of the headers
 pub record MappedSections : Type 0 where
   pub sections : List Section
   pub front : Option ℕ
 
--- the same of records
+-- the same, of section headers
 abbrev pub mapped_of : MappedRecords → MappedSections
 mapped_of r = record { sections = recorded_sections r.records; front = r.front }
 
--- such records are nothing but their bytes
+-- section headers keep only their bytes
 abbrev pub AreBytesAlone : Type 0
 AreBytesAlone = (r s : SectionRecords) → r.records ≡ s.records → r ≡ s
 
--- the name to use: that of the string table, else the text of the eight bytes
+-- the name of a section: the one from the string table or, if there is none, the text of the eight
+-- bytes
 abbrev pub name_of : Option (List ℕ) → List ℕ → Option (List ℕ)
 name_of (Some real_name) name = Some real_name
 name_of None name = bounded_text_at name 0 8
 
--- which cause is true of a section without a name to use
+-- which cause is true if a section has no name
 abbrev pub IsNoName : Option (List ℕ) → List ℕ → ErrorOf → Type 0
 IsNoName (Some real_name) name e = ⊥
 IsNoName None name e = IsBoundedTextFault name 0 8 e
 
--- the raw data of two sections overlaps: neither ends at or before the other's pointer
+-- the raw data of two sections overlaps: neither ends at or before the raw pointer of the other
 abbrev pub OverlapRawData : Section → Section → Type 0
 OverlapRawData a b =
     (a.pointer_to_raw_data < b.pointer_to_raw_data + b.size_of_raw_data)
     × (b.pointer_to_raw_data < a.pointer_to_raw_data + a.size_of_raw_data)
 
--- all fields are the same, texts by their bytes
+-- all fields are equal; texts are compared by their bytes
 abbrev pub section_eq : Section → Section → Bool
 section_eq =
     eq_of_both (on (λ (s : Section). s.name) (pointwise nat_eq))

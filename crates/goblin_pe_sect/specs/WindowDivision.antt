@@ -1,4 +1,4 @@
--- The pieces of the address space with their owners, as they are made of the windows of sections.
+-- The pieces of the address space with their owners, as made from the windows of sections.
 use Rattle.std.specs.Prelude.{ℕ, ◌+◌, ◌≡◌, ◌≤◌, List, Vec, map, vec_capacity, vec_len}
 use Rattle.std.specs.Global.{Global}
 use Rattle.goblin_pe_sect.specs.declared.options.ParseOptions.{ParseOptions}
@@ -6,13 +6,14 @@ use Rattle.goblin_pe_sect.specs.declared.windows.bounds.Piece.{Piece}
 use Rattle.goblin_pe_sect.specs.SectionTable.{Section}
 use Rattle.goblin_pe_sect.specs.WindowIndex.{AreNear, IsCut, begins_of, first_owner, owners_of}
 
--- the pieces are those of the sections' windows, each with what is kept of its first section
+-- the pieces are those of the sections' windows; each has what is kept of the first section whose
+-- window covers it
 pub record IsDivision (opts : ParseOptions) (sections : List Section) (alignment : ℕ)
     (pieces : List Piece) : Type 0 where
   pub cut : IsCut sections alignment (begins_of pieces)
   pub near : AreNear sections alignment
   pub owned : owners_of pieces ≡ map (first_owner opts sections alignment) (begins_of pieces)
 
--- there is room for this many pieces more
+-- there is room for this many more pieces
 abbrev pub HasPieceRoom : Vec Piece Global → ℕ → Type 0
 HasPieceRoom pieces more = vec_len pieces + more ≤ vec_capacity pieces

@@ -1,5 +1,5 @@
--- The address space, cut into pieces at the windows of sections, and what an index of the pieces
--- returns.
+-- The address space, cut into pieces at the windows of sections, and the answers of an index of the
+-- pieces.
 use Rattle.std.specs.Prelude.{ℕ, zero, suc, ◌+◌, ◌-◌, ◌*◌, ◌/◌, ◌≡◌, ◌<◌, ◌≤◌, ◌^◌, ◌==◌, ◌⊎◌, Bool}
 use Rattle.std.specs.Prelude.{false, nat_le, nat_lt, if◌then◌else◌, List, [], Option, Some, None}
 use Rattle.std.specs.Prelude.{length, map, slice_index, slice_index_or, slice_get, Contains}
@@ -14,41 +14,42 @@ use Rattle.goblin_pe_sect.specs.Mapping.{read_size, window_end, is_in_window, ra
 use Rattle.goblin_pe_sect.specs.SectionTable.{Section}
 
 -- an index: whether it maps addresses at all, where each piece begins, and what is kept of the
--- section that each piece belongs to
+-- section to which each piece belongs
 pub record Pieces : Type 0 where
   pub resolves : Bool
   pub begins : List ℕ
   pub owners : List (Option Owner)
 
--- where each of these pieces begins, and what is kept of the section that each belongs to
+-- where each of these pieces begins, and what is kept of the section to which each belongs
 abbrev pub begins_of : List Piece → List ℕ
 begins_of pieces = map (λ (p : Piece). p.begin) pieces
 
 abbrev pub owners_of : List Piece → List (Option Owner)
 owners_of pieces = map (λ (p : Piece). p.owner) pieces
 
--- an index has pieces: addresses are mapped, by an alignment that is a power of two
+-- an index has pieces: addresses are mapped, and the alignment is a power of two
 abbrev pub HasPieces : ParseOptions → ℕ → Type 0
 HasPieces opts alignment = IsTrue opts.resolve_rva × IsTrue (is_power_of_two alignment)
 
 -- ---- the pieces
 
--- a place where the address space is cut: 0, and each start and end of a window that is not empty
+-- x is a place where the address space is cut: 0, or a start or an end of a window that is not
+-- empty
 abbrev pub IsBorder : List Section → ℕ → ℕ → Type 0
 IsBorder sections alignment x =
     (x ≡ 0)
     ⊎ ((k : ℕ) × (s : Section) × (slice_get sections k ≡ Some s) × (0 < read_size s alignment)
     × ((x ≡ s.virtual_address) ⊎ (x ≡ window_end s alignment)))
 
--- the pieces begin where the address space is cut, in rising order: at most two for each section,
--- and the one at 0
+-- the pieces begin where the address space is cut, in rising order; there are at most two for each
+-- section, and the one at 0
 pub record IsCut (sections : List Section) (alignment : ℕ) (begins : List ℕ) : Type 0 where
   pub rising : IsStrictlyIncreasing begins
   pub all : (x : ℕ) → IsBorder sections alignment x → Contains begins x
   pub only : (x : ℕ) → Contains begins x → IsBorder sections alignment x
   pub few : length begins ≤ 2 * length sections + 1
 
--- what an index of windows keeps of a section, by its number in the table
+-- what an index of windows keeps of a section, with the index of the section in the table
 abbrev pub owner_of_section : ParseOptions → ℕ → ℕ → Section → Owner
 owner_of_section opts alignment i s =
     record { index = i; address = s.virtual_address; pointer = raw_begin opts s }
@@ -66,8 +67,8 @@ first_owner opts sections alignment rva =
 abbrev pub reached : List ℕ → ℕ → ℕ
 reached begins rva = prefix_len (λ b. nat_le b rva) begins
 
--- the comparisons that `halvings` counts, up to `most` of them: none among no numbers, else one
--- with the number in the middle, and those among the half that is left
+-- the comparisons that `halvings` counts, up to `most` of them: none if there are no numbers; else
+-- one with the number in the middle, and those in the half that is left
 unfoldable pub halvings_within : ℕ → ℕ → ℕ → ℕ
 halvings_within zero n k = 0
 halvings_within (suc most) n k =
@@ -75,8 +76,8 @@ halvings_within (suc most) n k =
     else if nat_lt (n / 2) k then 1 + halvings_within most (n - n / 2 - 1) (k - n / 2 - 1)
     else 1 + halvings_within most (n / 2) k
 
--- The number of comparisons that a binary search makes to find that k of n rising numbers lie at or
--- before the one sought, if it splits evenly with the larger half below; it is at most n.
+-- The number of comparisons that a binary search makes to find that k of n rising numbers are at
+-- most the number sought, if it splits evenly, with the larger half below. It is at most n.
 unfoldable pub halvings : ℕ → ℕ → ℕ
 halvings n k = halvings_within n n k
 
@@ -85,12 +86,11 @@ abbrev pub last_owner : List (Option Owner) → ℕ → Option Owner
 last_owner owners zero = None
 last_owner owners (suc k) = slice_index_or owners k None
 
--- the file offset of an address of a piece with this owner
+-- the file offset of an address in a piece with this owner
 abbrev pub owner_offset : ℕ → Owner → ℕ
 owner_offset rva o = o.pointer + (rva - o.address)
 
--- the file offset of an address by an index: by the owner of the last piece that begins at or
--- before it
+-- the file offset of an address, by the owner of the last piece that begins at or before it
 unfoldable pub located : Pieces → ℕ → Option ℕ
 located w rva =
     if w.resolves
@@ -99,8 +99,9 @@ located w rva =
 
 -- ---- what is true of every index
 
--- the begins rise, one owner each; a piece with an owner lies after its address, and ends within
--- reach of it; there is no piece where addresses are not mapped
+-- The begins rise, and each piece has one entry among the owners. A piece with an owner begins at
+-- or after the owner's address, and ends at most 2 ^ 33 after it. There are no pieces if addresses
+-- are not mapped.
 pub record IsIndex (resolves : Bool) (begins : List ℕ) (owners : List (Option Owner)) : Type 0 where
   pub rising : IsStrictlyIncreasing begins
   pub one_each : length owners ≡ length begins
@@ -110,7 +111,7 @@ pub record IsIndex (resolves : Bool) (begins : List ℕ) (owners : List (Option 
       → (k + 1 < length begins) × (slice_index begins (k + 1) ≤ o.address + 2 ^ 33)
   pub unmapped : resolves ≡ false → begins ≡ []
 
--- every section's window ends within reach of its address
+-- every section's window has at most 2 ^ 33 bytes
 abbrev pub AreNear : List Section → ℕ → Type 0
 AreNear sections alignment =
     (k : ℕ) (s : Section) → slice_get sections k ≡ Some s → read_size s alignment ≤ 2 ^ 33

@@ -1,15 +1,15 @@
--- Tables of sections that differ only in the order of their sections.
+-- Tables of sections that differ only in the order of the sections.
 use Rattle.std.specs.Prelude.{IsTrue, ℕ, List, AllPairs, IsPermutation}
 use Rattle.std.specs.Int.{is_power_of_two}
 use Rattle.goblin_pe_sect.specs.SectionTable.{Section}
 use Rattle.goblin_pe_sect.specs.Mapping.{InWindow}
 
--- no address lies in the windows of both
+-- no address lies in the windows of both sections
 abbrev pub HaveDisjointWindows : ℕ → Section → Section → Type 0
 HaveDisjointWindows alignment s t =
     (rva : ℕ) → InWindow alignment rva s → ¬ InWindow alignment rva t
 
--- The second table has the sections of the first in any order, and the windows of any two of them
+-- The second table has the sections of the first, in any order, and the windows of any two sections
 -- are disjoint. If the alignment is not a power of two, there are no windows.
 pub record IsReordering (alignment : ℕ) (first second : List Section) : Type 0 where
   pub moved : IsPermutation first second

@@ -1,4 +1,4 @@
--- The windows of sections, as they are passed down from a range of the address space to its halves.
+-- The windows of sections, as they are passed on from a range of the address space to its halves.
 use Rattle.std.specs.Prelude.{ℕ, ◌≡◌, ◌≤◌, ◌<◌, Bool, ◌&&◌, nat_le, nat_lt, List, Option, find}
 use Rattle.std.specs.Prelude.{length, map, slice_index, option_map}
 use Rattle.std.specs.List.{enumerate_from}
@@ -14,7 +14,7 @@ use Rattle.goblin_pe_sect.specs.WindowIndex.{owner_of_section}
 abbrev pub window_holds : ℕ → Window → Bool
 window_holds rva w = nat_le w.begin rva && nat_lt rva w.end
 
--- a window holds each address from first to last, and a window may hold some of them
+-- a window holds each address from first to last; and a window may hold some of them
 abbrev pub window_covers : ℕ → ℕ → Window → Bool
 window_covers first last w = nat_le w.begin first && nat_lt last w.end
 
@@ -30,14 +30,14 @@ abbrev pub piece_among : List Window → ℕ → Piece
 piece_among windows begin = record { begin = begin; owner = owner_among windows begin }
 
 -- for each address from first to last, the first window that holds it is the same among the fewer
--- windows
+-- windows as among all
 abbrev pub FindTheSame : ℕ → ℕ → List Window → List Window → Type 0
 FindTheSame first last fewer windows =
     (rva : ℕ) → first ≤ rva → rva ≤ last
     → find (window_holds rva) fewer ≡ find (window_holds rva) windows
 
--- the window of the section at this index of the table, and those of all sections, in the table's
--- order
+-- the window of the section at this index of the table; and the windows of all sections, in the
+-- order of the table
 abbrev pub section_window_at : ParseOptions → ℕ → ℕ → Section → Window
 section_window_at opts alignment i s =
     record {

@@ -1,4 +1,4 @@
-//! The data directories of an optional header: where the tables of an image lie.
+//! The data directories of an optional header, which say where the tables of an image lie.
 
 ghost use Rattle.std.specs.Prelude.{◌≡◌, ◌+◌, ◌-◌, ◌*◌, ◌<◌, ◌≤◌, Some, length, slice_get};
 ghost use Rattle.std.specs.Prelude.{None, option_map, replicate, IfErr, IfOk, IfSome, OnOk, OnErr};
@@ -21,17 +21,17 @@ use goblin_base::{
     put_bytes, put_fields, pwrite_slice,
 };
 
-/// The size of a directory's record, in bytes.
+/// The size of a data directory's record, in bytes.
 pub const SIZEOF_DATA_DIRECTORY: usize = 8;
 
 const _: () = prove!(SIZEOF_DATA_DIRECTORY == 8);
 
-/// How many entries the table has.
+/// How many entries the table of data directories has.
 pub const NUM_DATA_DIRECTORIES: usize = 16;
 
 const _: () = prove!(NUM_DATA_DIRECTORIES == 16);
 
-// The kinds of directories, each at its index.
+// The kinds of data directories, each at its index.
 const KINDS: [DataDirectoryType; 15] = [
     DataDirectoryType::ExportTable,
     DataDirectoryType::ImportTable,
@@ -50,19 +50,20 @@ const KINDS: [DataDirectoryType; 15] = [
     DataDirectoryType::ClrRuntimeHeader,
 ];
 
-/// Where a table of an image lies.
+/// A data directory: where a table of an image lies.
 ///
-/// Source: PE Format, "Optional Header Data Directories (Image Only)". Numbers are as stored; the
-/// record has 8 bytes, and `at` gives a field's offset in it.
+/// Source: PE Format, "Optional Header Data Directories (Image Only)". Numbers are as stored. The
+/// record has 8 bytes, and `at` gives the offset of a field in it.
 #[repr(C)]
 #[derive(Debug, PartialEq, Copy, Clone, Default)]
 pub struct DataDirectory {
-    /// The table's address, relative to the image's base, at 0. That of the certificates is a file
-    /// offset, since they are not loaded.
+    /// The table's address, relative to the image's base, at 0. For the certificates it is a file
+    /// offset, because they are not loaded.
     pub virtual_address: u32,
-    /// The table's size in bytes, at 4. An import directory ends at its own last record, and a
-    /// value at an address by its own type, whatever the size; of an export directory the size says
-    /// which addresses are forwarders, of base relocations where the blocks end.
+    /// The table's size in bytes, at 4. In an export directory it says which addresses are
+    /// forwarders, and in a base relocation directory where the blocks end. An import directory
+    /// ends at its own last record, and the type of a value at an address says where the value
+    /// ends, whatever the size.
     pub size: u32,
 }
 
@@ -127,7 +128,8 @@ impl DataDirectory {
     }
 }
 
-/// What the table of a directory is: the kinds, in the order of their indexes 0 to 14.
+/// The kind of table that a data directory locates. The kinds are in the order of their indexes, 0
+/// to 14.
 ///
 /// Source: PE Format, "Optional Header Data Directories (Image Only)". The sixteenth entry is
 /// reserved and has no kind.
@@ -135,23 +137,24 @@ impl DataDirectory {
 pub enum DataDirectoryType {
     /// The exports (`.edata`), at index 0: what other images may import from this one.
     ExportTable,
-    /// The import directory (`.idata`), at index 1: what the loader takes from which libraries.
+    /// The import directory (`.idata`), at index 1: what this image imports, and from which
+    /// libraries.
     ImportTable,
     /// The resources (`.rsrc`), at index 2.
     ResourceTable,
-    /// How exceptions are handled (`.pdata`), at index 3.
+    /// The exception table (`.pdata`), at index 3: how exceptions are handled.
     ExceptionTable,
-    /// The attribute certificates, at index 4. They are not part of the image in memory: the
+    /// The attribute certificates, at index 4. They are not part of the image in memory, so the
     /// address is a file offset.
     CertificateTable,
-    /// The base relocations (`.reloc`), at index 5: what the loader changes where it can't load the
-    /// image at its base.
+    /// The base relocations (`.reloc`), at index 5: what the loader changes if it can't load the
+    /// image at its preferred address.
     BaseRelocationTable,
     /// The debug data (`.debug`), at index 6.
     DebugTable,
     /// Reserved, at index 7.
     Architecture,
-    /// The address of the value for the global pointer register, at index 8. Its size must be 0.
+    /// The address of the value for the global pointer register, at index 8. The size must be 0.
     GlobalPtr,
     /// The thread local storage (`.tls`), at index 9. Its callbacks run before the entry point.
     TlsTable,
@@ -159,8 +162,8 @@ pub enum DataDirectoryType {
     LoadConfigTable,
     /// The bound imports, at index 11.
     BoundImportTable,
-    /// The import address table, at index 12, which the loader fills. Readers find it by the import
-    /// directory.
+    /// The import address table, at index 12, which the loader fills. Readers find it through the
+    /// import directory.
     ImportAddressTable,
     /// The delayed imports, at index 13: libraries that are loaded at the first call.
     DelayImportDescriptor,
@@ -191,10 +194,10 @@ impl TryFrom<usize> for DataDirectoryType {
 
     ghost try_from_gives = { λ i r. Answers (λ kind. kind) r (slice_get kinds i) (IsNoKind i) };
 
-    /// The kind with this index.
+    /// The kind of data directory with this index.
     ///
     /// # Errors
-    /// [`Error::Malformed`] with [`Cause::DirectoryIndex`] if no kind has it.
+    /// [`Error::Malformed`] with [`Cause::DirectoryIndex`] if no kind has this index.
     #[tactic(auto, unfolding(crate::specs::DataDirectories::kinds))]
     fn try_from(index: usize) -> Result<DataDirectoryType> {
         match KINDS.get(index) {
@@ -204,19 +207,19 @@ impl TryFrom<usize> for DataDirectoryType {
     }
 }
 
-/// The data directories of an optional header: sixteen entries, one after the other.
+/// The data directories of an optional header: sixteen entries in the order of their indexes.
 ///
-/// Source: PE Format, "Optional Header Data Directories (Image Only)". A file may have fewer; the
-/// others are then `None`, as is an entry of zeros.
+/// Source: PE Format, "Optional Header Data Directories (Image Only)". A file may have fewer
+/// entries; the others are then `None`. An entry of zeros is `None` too.
 #[derive(Debug, PartialEq, Copy, Clone, Default)]
 pub struct DataDirectories {
-    /// The directories by their indexes, each as (the offset just past its record, the record).
-    /// Offsets count like the one passed to [`DataDirectories::parse`]: inside an optional header,
-    /// from its front. `None` if the file has no such entry or it is all zeros.
+    /// The data directories by their indexes, each as (the offset just past its record, the
+    /// record). Offsets count like the one passed to [`DataDirectories::parse`]: inside an optional
+    /// header, from its front. An entry is `None` if the file does not have it or it is all zeros.
     pub data_directories: [Option<(usize, DataDirectory)>; 16],
 }
 
-// Refuses entries that run past the end, as a read of the first of them that does.
+// Refuses entries that run past the end, with the error of a read of the first one that does.
 #[tactic(auto, using(crate::proofs::DirectoryReadings::refusals))]
 fn test_room(bytes: &[u8], count: usize, offset: usize) -> Result<()>
     requires { count ≤ 16 }
@@ -234,7 +237,7 @@ fn test_room(bytes: &[u8], count: usize, offset: usize) -> Result<()>
     Err(Error::Read(ReadFault::TooBig))
 }
 
-// Fills an entry that is `None` with a directory whose record ends at an offset, if it is not all
+// Fills an entry that is `None` with `directory`, whose record ends at `end`, unless it is all
 // zeros.
 #[inline(always)]
 fn fill_entry(entry: &mut Option<(usize, DataDirectory)>, end: usize, directory: DataDirectory)
@@ -276,7 +279,7 @@ fn fill(
     }
 }
 
-// The directory of an entry, zeros where there is none.
+// The directory of an entry, or zeros if the entry is `None`.
 fn directory(entry: Option<(usize, DataDirectory)>) -> DataDirectory
     ensures { result ≡ directory_or_zeros entry }
 {
@@ -288,11 +291,11 @@ fn directory(entry: Option<(usize, DataDirectory)>) -> DataDirectory
 
 impl DataDirectories {
     /// Reads `count` entries, which follow one another from `offset` on, and moves `offset` past
-    /// them. None are read at any offset.
+    /// them. If `count` is 0, any offset will do.
     ///
     /// # Errors
-    /// [`Error::Malformed`] with [`Cause::DirectoryCount`] if there are more than sixteen;
-    /// [`Error::Read`] if they run past the end. `offset` is then unchanged.
+    /// [`Error::Malformed`] with [`Cause::DirectoryCount`] if `count` is above sixteen;
+    /// [`Error::Read`] if the entries run past the end. `offset` is then unchanged.
     #[inline(always)]
     pub fn parse(bytes: &[u8], count: usize, offset: &mut usize) -> Result<DataDirectories>
         ensures value { Reads (λ d. d.data_directories) result
@@ -325,10 +328,10 @@ impl DataDirectories {
         test_room(bytes, count, offset)
     }
 
-    /// Reads `count` entries, which follow one another from `offset` on, in place of these, so that
-    /// the entries, which are large, are not moved. There must be at most sixteen, all inside
-    /// `bytes`: [`DataDirectories::test`] tests that.
-    // (Out of line, as a caller has no registers left for its pointers.)
+    /// Replaces these entries with the `count` entries that follow one another from `offset` on. So
+    /// the entries, which are large, need not be moved. There must be at most sixteen, all inside
+    /// `bytes`; [`DataDirectories::test`] tests that.
+    // (This is not inlined, because a caller has no registers left for its pointers.)
     #[inline(never)]
     #[tactic(auto, using(crate::proofs::DirectoryReadings::absences))]
     pub fn read(&mut self, bytes: &[u8], count: usize, offset: usize)
@@ -338,9 +341,9 @@ impl DataDirectories {
     {
         self.data_directories = [None; NUM_DATA_DIRECTORIES];
         match count {
-            // Where there are none, `offset` may lie past the end.
+            // If there are no entries, `offset` may lie past the end.
             0 => {}
-            // Most files have sixteen entries, and a loop over a constant count is unrolled, which
+            // Most files have sixteen entries. A loop over a constant count is unrolled, which
             // takes fewer steps.
             NUM_DATA_DIRECTORIES => {
                 fill(
@@ -354,8 +357,8 @@ impl DataDirectories {
         }
     }
 
-    /// The bytes of all sixteen entries, those that are `None` as zeros. In little-endian order,
-    /// entries that were read are written back unchanged.
+    /// The 128 bytes of all sixteen entries. An entry that is `None` is written as zeros. In
+    /// little-endian order, entries that were read are written back unchanged.
     #[tactic(auto, using(crate::proofs::DataDirectoriesRoundTrip::entries_back))]
     pub fn to_bytes(self, endian: Endian) -> [u8; 128]
         ensures bytes { result ≡ encoding endian (entries_fields self.data_directories) }
@@ -372,8 +375,8 @@ impl DataDirectories {
         table
     }
 
-    /// Writes all sixteen entries to the front of `bytes`, those that are `None` as zeros, and
-    /// returns their size, 128.
+    /// Writes all sixteen entries to the front of `bytes`, and returns their size, 128. An entry
+    /// that is `None` is written as zeros.
     ///
     /// # Errors
     /// [`Error::Read`] if there is no room for 128 bytes; `bytes` is then unchanged.
@@ -388,7 +391,7 @@ impl DataDirectories {
         Ok(table.len())
     }
 
-    // The directory at an index.
+    // The data directory at an index, or `None` if the entry is `None`.
     fn get(&self, index: usize) -> Option<&DataDirectory>
         requires { index < 16 }
         ensures { option_map (λ d. d.now) result ≡ directory_in self.now.data_directories index }
@@ -399,8 +402,8 @@ impl DataDirectories {
         }
     }
 
-    /// Where the exports lie (index 0). This getter and the others return `None` if the file has no
-    /// such entry or it is all zeros.
+    /// Where the exports lie (index 0). This getter and the others return `None` if the file does
+    /// not have the entry or it is all zeros.
     pub fn get_export_table(&self) -> Option<&DataDirectory>
         ensures { option_map (λ d. d.now) result ≡ directory_in self.now.data_directories 0 }
     {
@@ -449,7 +452,7 @@ impl DataDirectories {
         self.get(6)
     }
 
-    /// The entry of architecture data (index 7), which is reserved.
+    /// The entry for architecture data (index 7), which is reserved.
     pub fn get_architecture(&self) -> Option<&DataDirectory>
         ensures { option_map (λ d. d.now) result ≡ directory_in self.now.data_directories 7 }
     {
@@ -505,8 +508,8 @@ impl DataDirectories {
         self.get(14)
     }
 
-    /// The directories that are there, as pairs (kind, directory), in the order of their indexes.
-    /// The sixteenth has no kind and is left out.
+    /// The data directories that are there, as pairs (kind, data directory), in the order of their
+    /// indexes. The sixteenth entry has no kind and is left out.
     pub fn dirs(&self) -> Dirs
         ensures { dirs_left result ≡ present_from 0 self.now.data_directories }
     {
@@ -517,7 +520,8 @@ impl DataDirectories {
     }
 }
 
-/// The directories that are there, as pairs (kind, directory), in the order of their indexes.
+/// The data directories that are there, as pairs (kind, data directory), in the order of their
+/// indexes.
 #[derive(Debug, Clone, Drop)]
 pub struct Dirs {
     directories: DataDirectories,
@@ -541,7 +545,7 @@ impl Iterator for Dirs {
         None
     }
 
-    /// No more come than there are kinds left.
+    /// The upper bound is the number of kinds that are left.
     #[tactic(auto, using(crate::proofs::Entries::walk_most))]
     fn size_hint(&self) -> (usize, Option<usize>)
         ensures lower { IsWithinCount result.0 (at_most (15 - self.now.index)) }

@@ -10,14 +10,14 @@ const DECIMAL: [u8; 10] = *b"0123456789";
 
 const BASE64: [u8; 64] = *b"ABCDEFGHIJKLMNOPQRSTUVWXYZabcdefghijklmnopqrstuvwxyz0123456789+/";
 
-/// The digits of a number in a section name, the most significant first.
+/// The digits in which a section name gives a number, the most significant first.
 #[derive(Clone, Copy)]
 pub(crate) enum Digits {
     Decimal,
     Base64,
 }
 
-// The first position of a byte.
+// The position of the first `byte` in `bytes`.
 fn place(bytes: &[u8], byte: u8) -> Option<usize>
     ensures { result ≡ position (λ b. b == byte) bytes.now }
 {
@@ -25,7 +25,7 @@ fn place(bytes: &[u8], byte: u8) -> Option<usize>
 }
 
 impl Digits {
-    // The digits, in the order of their values.
+    // All digits, in the order of their values.
     #[tactic(auto, unfolding(crate::specs::Digits::alphabet))]
     fn alphabet(self) -> &'static [u8]
         ensures { result.now ≡ alphabet self }
@@ -43,7 +43,7 @@ impl Digits {
         self.alphabet().len()
     }
 
-    // The value of a digit.
+    // The value of a digit, or `None` if the byte is not a digit.
     fn digit(self, byte: u8) -> Option<usize>
         ensures value { IfSome result (λ value. value ≡ digit self byte) }
         ensures below { IfSome result (λ value. value < radix self) }
@@ -60,7 +60,8 @@ impl Digits {
         self.alphabet()[value]
     }
 
-    /// The number in a text of at most seven digits.
+    /// The number in a text of at most seven digits, or `None` if a byte is not a digit. An empty
+    /// text is 0.
     pub(crate) fn numeral(self, text: &[u8]) -> Option<usize>
         requires { length text.now ≤ 7 }
         ensures { result ≡ numeral self text.now }
@@ -73,7 +74,7 @@ impl Digits {
         Some(number)
     }
 
-    // Writes the last `count` digits of a number at `from`.
+    // Writes the last `count` digits of a number to `name`, from the index `from` on.
     fn write(self, name: &mut [u8; 8], from: usize, count: usize, number: usize)
         requires { from + count ≤ 8 }
         ensures { name.new
@@ -90,7 +91,8 @@ impl Digits {
     }
 }
 
-/// The decimal number in a text of at most seven bytes: an optional plus, then digits.
+/// The decimal number in a text of at most seven bytes: an optional plus, then at least one digit.
+/// `None` if the text is something else.
 pub(crate) fn decimal_number(text: &[u8]) -> Option<usize>
     requires { length text.now ≤ 7 }
     ensures { result ≡ decimal_number text.now }
@@ -120,7 +122,8 @@ fn decimal_width(number: usize) -> usize
     }
 }
 
-/// The eight bytes of the name that holds a number, if one can.
+/// The eight bytes of the name that holds a number, or `None` if no name can, because the number is
+/// 64^6 or above.
 #[tactic(auto, unfolding(crate::specs::SectionName::indirect_name, crate::specs::Digits::alphabet))]
 pub(crate) fn indirect_name(number: usize) -> Option<[u8; 8]>
     ensures value { result ≡ indirect_name number }

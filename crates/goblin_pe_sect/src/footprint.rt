@@ -1,4 +1,4 @@
-//! Marks which positions of a file data directories and sections depend on.
+//! Marks the positions of a file on which data directories and sections depend.
 
 ghost use Rattle.std.specs.Prelude.{◌≡◌};
 ghost use Rattle.goblin_base.specs.Footprints.{led_to};
@@ -14,8 +14,8 @@ use crate::section_table::{SIZEOF_SECTION_TABLE, name_in_record};
 use goblin_base::footprint::{Marks, add_slice, add_stretch, add_text};
 use goblin_base::pread_slice;
 
-/// Marks the records of `count` data directories, which follow one another from `offset` on; those
-/// of more than sixteen are not read.
+/// Marks the records of `count` data directories, which follow one another from the file offset
+/// `offset` on. Marks nothing if there are more than sixteen, because these are not read.
 #[tactic(auto, unfolding(crate::specs::DirectoryReadings::directories_at), using(goblin_base::proofs::Marks::marking))]
 pub fn add_directories(marks: &mut Marks, bytes: &[u8], count: usize, offset: usize)
     ensures { let reached = (directories_at count offset).reaches bytes.now in
@@ -30,7 +30,7 @@ pub fn add_directories(marks: &mut Marks, bytes: &[u8], count: usize, offset: us
     }
 }
 
-/// Marks the text at a place, where there is one, as far as
+/// Marks the text at the file offset `place`, if there is a place, as far as
 /// [`pread_str_within`](goblin_base::pread_str_within) reads it.
 #[tactic(auto, using(goblin_base::proofs::Marks::marking))]
 pub fn add_text_at(marks: &mut Marks, bytes: &[u8], place: Option<usize>, longest: Option<u32>)
@@ -55,8 +55,9 @@ fn add_name(marks: &mut Marks, bytes: &[u8], string_table_offset: usize, value: 
     }
 }
 
-/// Marks the footprint of the section record at the file offset `offset`: the record, and the text
-/// that its name points to in the string table at `string_table_offset`, if it points there.
+/// Marks the footprint of the section whose header is at the file offset `offset`: the header, and
+/// the text to which its name points in the string table at `string_table_offset`, if it points
+/// there.
 #[tactic(auto, unfolding(crate::specs::SectionReadings::named_section_at), using(goblin_base::proofs::Marks::marking))]
 pub fn add_section(
     marks: &mut Marks,

@@ -1,6 +1,6 @@
 //! The sections of a PE file, its data directories and relocations, the mapping of addresses to
-//! file offsets, and tables of entries. `goblin_pe` re-exports its modules, except for `footprint`
-//! and `mapping`.
+//! file offsets, and tables of entries. `goblin_pe` re-exports the modules of this crate, except
+//! `footprint` and `mapping`.
 #![tactic(auto)]
 
 pub mod address_map;

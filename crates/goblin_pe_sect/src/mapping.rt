@@ -1,4 +1,5 @@
-//! How sections map addresses, and offsets back to them, in whatever records they stand.
+//! How sections map addresses to file offsets, and file offsets back to addresses. The sections may
+//! be of any type that is [`ToSection`].
 
 ghost use Rattle.std.specs.Prelude.{[], ◌≡◌, ◌<◌, IfSome, find, map, option_and_then};
 ghost use Rattle.std.specs.Prelude.{position};
@@ -13,7 +14,7 @@ use crate::options::ParseOptions;
 use crate::section_table::SectionTable;
 use crate::utils::{is_in_range, raw_begin, rva_in, section_window};
 
-/// A section, in whatever record it stands.
+/// A type that holds a section.
 pub trait ToSection {
     // The section.
     ghost section: { Self → Section };
@@ -34,7 +35,7 @@ impl ToSection for SectionTable {
     }
 }
 
-// Whether the section's window holds the address.
+// Whether the window of the section holds the address.
 #[tactic(auto, unfolding(crate::specs::Mapping::read_size))]
 fn is_in_window<S: ToSection>(rva: usize, section: &S, file_alignment: u32) -> bool
     requires { 0 < file_alignment }
@@ -44,7 +45,7 @@ fn is_in_window<S: ToSection>(rva: usize, section: &S, file_alignment: u32) -> b
     is_in_range(rva, begin, end)
 }
 
-// The first record of a section whose window holds the address.
+// The first section whose window holds the address.
 #[tactic(auto, using(crate::proofs::Mapped::found_record))]
 fn first_in_window<S: ToSection>(rva: usize, sections: &[S], file_alignment: u32) -> Option<&S>
     requires { 0 < file_alignment }
@@ -57,7 +58,7 @@ fn first_in_window<S: ToSection>(rva: usize, sections: &[S], file_alignment: u32
         .find(|section| is_in_window(rva, *section, file_alignment))
 }
 
-// Its index.
+// The index of the first section whose window holds the address.
 fn first_index<S: ToSection>(rva: usize, sections: &[S], file_alignment: u32) -> Option<usize>
     requires { 0 < file_alignment }
     ensures { result
@@ -68,7 +69,8 @@ fn first_index<S: ToSection>(rva: usize, sections: &[S], file_alignment: u32) ->
         .position(|section| is_in_window(rva, section, file_alignment))
 }
 
-/// The record of the section that an address lies in, as [`section_at`](crate::utils::section_at).
+/// The section in whose window an address lies, as [`section_at`](crate::utils::section_at) finds
+/// it.
 #[tactic(auto, using(crate::proofs::Mapped::power_positive, crate::proofs::First::find_viewed))]
 pub fn section_at<S: ToSection>(rva: usize, sections: &[S], file_alignment: u32) -> Option<&S>
     ensures { option_map S.section (option_copied result)
@@ -81,7 +83,7 @@ pub fn section_at<S: ToSection>(rva: usize, sections: &[S], file_alignment: u32)
     }
 }
 
-/// The index of the record that [`section_at`] gives.
+/// The index of the section that [`section_at`] returns.
 #[tactic(auto, using(crate::proofs::Mapped::power_positive, crate::proofs::First::position_viewed))]
 pub fn section_index<S: ToSection>(rva: usize, sections: &[S], file_alignment: u32) -> Option<usize>
     ensures { result ≡ section_index file_alignment rva (map S.section sections.now) }
@@ -93,7 +95,7 @@ pub fn section_index<S: ToSection>(rva: usize, sections: &[S], file_alignment: u
     }
 }
 
-// The file offset of an address in the section's window.
+// The file offset of an address in the window of the section.
 #[tactic(auto, using(crate::proofs::Mapped::read_size_le))]
 fn offset_in<S: ToSection>(
     rva: usize,
@@ -128,7 +130,8 @@ fn offset_in_sections<S: ToSection>(
     Some(offset_in(rva, section, file_alignment, opts))
 }
 
-// The file offset of an address in the file's front, where that is mapped.
+// The file offset of an address in the file's front. `None` if the front is not mapped, or if its
+// window does not hold the address.
 fn offset_in_front(
     rva: usize,
     front: Option<u32>,
@@ -148,8 +151,8 @@ fn offset_in_front(
     }
 }
 
-/// The file offset of an address, as [`find_offset`](crate::utils::find_offset), by the sections
-/// and the file's front after them, where that is mapped.
+/// The file offset of an address, as [`find_offset`](crate::utils::find_offset) returns it for
+/// these sections and, if it is mapped, the file's front after them.
 #[tactic(auto, using(crate::proofs::Mapped::power_positive, crate::proofs::First::find_with_front), unfolding(crate::specs::Mapping::file_offset))]
 pub fn file_offset<S: ToSection>(
     rva: usize,
@@ -173,7 +176,7 @@ pub fn file_offset<S: ToSection>(
     }
 }
 
-// The address that the section's window has at the file offset.
+// The address that the window of the section has at the file offset, if it has one.
 #[tactic(auto, unfolding(crate::specs::Mapping::read_size))]
 fn address_in<S: ToSection>(
     offset: usize,
@@ -186,7 +189,7 @@ fn address_in<S: ToSection>(
     rva_in(offset, &section.to_section(), file_alignment, opts)
 }
 
-// Whether there is an offset, and it is this one.
+// Whether an offset was found, and it is this one.
 fn is_at(offset: usize, found: Option<usize>) -> bool
     ensures { result ≡ is_at offset found }
 {
@@ -236,7 +239,7 @@ fn first_back<'s, S: ToSection>(
     })
 }
 
-// The address in the file's front that is mapped back to the file offset.
+// The address in the file's front that is mapped back to the file offset, if there is one.
 fn address_in_front<S: ToSection>(
     offset: usize,
     sections: &[S],
@@ -259,8 +262,8 @@ fn address_in_front<S: ToSection>(
     }
 }
 
-/// The address of a file offset, as [`find_rva`](crate::utils::find_rva), by the sections and the
-/// file's front after them, where that is mapped.
+/// The address of a file offset, as [`find_rva`](crate::utils::find_rva) returns it for these
+/// sections and, if it is mapped, the file's front after them.
 #[tactic(auto, using(crate::proofs::First::find_viewed, crate::proofs::First::find_with_front), unfolding(crate::specs::Mapping::file_address))]
 pub fn file_address<S: ToSection>(
     offset: usize,

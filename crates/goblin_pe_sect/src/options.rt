@@ -6,25 +6,25 @@ ghost use Rattle.goblin_pe_sect.specs.Options.{te_options};
 
 pub use goblin_base::ParseMode;
 
-/// Where the raw data of a section begins for the mapping of addresses.
+/// The rule for where the raw data of a section begins when addresses are mapped.
 ///
-/// Where the raw pointer is a multiple of 512, as the PE/COFF specification asks for the usual file
-/// alignments, both rules say the same. Else rounding is right where `section_alignment` is 4,096
-/// or more, and pointers as stored where it is less, since the Windows loader maps such an image as
-/// one flat view of the file. [`RawPointerRule::by_file_alignment`] says which of both is right for
-/// a lawful image.
+/// Both rules give the same offset if the raw pointer is a multiple of 512, as the PE/COFF
+/// specification requires for the usual file alignments. For other raw pointers the right rule
+/// depends on `section_alignment`. If it is 4,096 or more, rounding is right. If it is less, the
+/// pointer as stored is right, because the Windows loader maps such an image as one flat view of
+/// the file. For a lawful image, [`RawPointerRule::by_file_alignment`] gives the right rule.
 #[derive(Debug, PartialEq, Copy, Clone)]
 pub enum RawPointerRule {
-    /// At the raw pointer, as goblin maps.
+    /// The raw data begins at the raw pointer, as in goblin.
     AsStored,
-    /// At the greatest multiple of 512 that is at most the raw pointer.
+    /// The raw data begins at the raw pointer rounded down to a multiple of 512.
     RoundedTo512,
 }
 
 impl RawPointerRule {
-    /// The rule by which pefile maps an image with this file alignment: rounded where that is 512
-    /// or more, else as stored. In a lawful image it is below 512 only where it equals a
-    /// `section_alignment` below 4,096, so this is the right rule for each such image.
+    /// The rule by which pefile maps an image with this file alignment: rounded if the alignment is
+    /// 512 or more, else as stored. It is the right rule for every lawful image, because there the
+    /// file alignment is below 512 only if it equals a `section_alignment` below 4,096.
     pub fn by_file_alignment(file_alignment: u32) -> RawPointerRule
         ensures { result ≡ rule_by_alignment file_alignment }
     {
@@ -39,17 +39,19 @@ impl RawPointerRule {
 /// What maps the addresses of an image.
 #[derive(Debug, PartialEq, Copy, Clone)]
 pub enum View {
-    /// Its sections, as goblin maps.
+    /// The sections, as in goblin.
     Sections,
-    /// Its sections and, where the window of none holds an address, the file's front: the Windows
-    /// loader maps the headers at the image's base, as many bytes as `size_of_headers` says. Where a
-    /// table says address 0, nothing is there all the same.
+    /// The sections and, for an address that no section's window holds, the front of the file,
+    /// since the Windows loader maps the headers at the image's base. The window of the front has
+    /// `size_of_headers` bytes, rounded up to the file alignment, but to no more than whole pages
+    /// of 4,096 bytes. An address 0 in a table still means that there is nothing.
     Loader,
 }
 
 impl View {
-    /// How many bytes of the file's front are mapped, where the headers have so many; `None` where
-    /// the front is not mapped.
+    /// The size of the headers, if the file's front is mapped, or `None` if it is not.
+    /// [`front_section`](crate::address_map::front_section) says how many bytes of the front are
+    /// mapped for this size.
     #[inline(always)]
     pub fn front(self, size_of_headers: u32) -> Option<u32>
         ensures { result ≡ front_of self size_of_headers }
@@ -61,33 +63,41 @@ impl View {
     }
 }
 
-/// What a reader does and leaves out.
+/// What a reader reads, and how.
 #[derive(Debug, Copy, Clone)]
 pub struct ParseOptions {
-    /// Whether an address is mapped to a file offset by the sections; where not, it is the offset,
-    /// as in a memory image or a Terse Executable. By default it is mapped.
+    /// Whether addresses are mapped to file offsets by the sections; true by default. If it is
+    /// false, an address is a file offset itself, as in a memory image or a Terse Executable.
     pub resolve_rva: bool,
-    /// Whether attribute certificates are read; true by default. It changes no answer: no reader of
-    /// these crates reads them.
+    /// Whether attribute certificates are read; true by default. The option changes no answer,
+    /// because no reader of these crates reads them.
     pub parse_attribute_certificates: bool,
-    /// Whether thread local storage is read; true by default. It changes no answer: no reader of
-    /// these crates reads it.
+    /// Whether thread local storage is read; true by default. The option changes no answer, because
+    /// no reader of these crates reads it.
     pub parse_tls_data: bool,
-    /// Whether resources are read; true by default. It changes no answer: no reader of these crates
-    /// reads them.
+    /// Whether resources are read; true by default. The option changes no answer, because no reader
+    /// of these crates reads them.
     pub parse_resources: bool,
-    /// What to do with damaged parts; by default strict: the first one refuses the whole.
-    /// Permissive mode passes over them. An import directory at file offset 0 is an empty list
-    /// there, whatever it holds; the damage of a file tells what strict mode would refuse of it, and
-    /// how much is left out. Neither mode passes over more than sixteen data directories, an odd
-    /// magic, a header or a section table that is cut, a section's name of a slash and a text that
-    /// is no number, or a Rich marker without its start.
+    /// What to do with damaged parts; strict by default. Strict mode refuses the whole because of
+    /// the first damaged part. Permissive mode passes over damaged parts.
+    ///
+    /// In permissive mode, an import directory at file offset 0 is an empty list, whatever it
+    /// holds. The damage of a file says what strict mode would refuse, and how much permissive mode
+    /// leaves out.
+    ///
+    /// Some damage is refused in both modes, for example:
+    ///
+    /// - a header or a section table that the end of the file cuts;
+    /// - an optional header whose magic is unknown;
+    /// - more than sixteen data directories;
+    /// - a section name such as `/abc`, which is a slash and a text that is no number;
+    /// - the marker `Rich` without the marker `DanS` before it.
     pub parse_mode: ParseMode,
     /// Whether the reader of a whole file reads the imports; true by default.
     pub parse_imports: bool,
-    /// Where a section's raw data begins for the mapping of addresses: by default at the raw
-    /// pointer as it is stored, as in goblin. [`RawPointerRule`] says for which images each rule is
-    /// right. Every reader that maps addresses follows this;
+    /// Where a section's raw data begins when addresses are mapped. By default it begins at the raw
+    /// pointer as stored, as in goblin. [`RawPointerRule`] says for which images each rule is
+    /// right. Every reader that maps addresses uses this rule.
     /// [`SectionTable::data`](crate::SectionTable::data) maps none.
     pub raw_pointer_rule: RawPointerRule,
 }
@@ -95,7 +105,7 @@ pub struct ParseOptions {
 impl Default for ParseOptions {
     ghost is_default = { λ options. options ≡ default_options };
 
-    /// Everything is read, strictly, and addresses are mapped by the sections, from their raw
+    /// Everything is read in strict mode. Addresses are mapped by the sections, from their raw
     /// pointers as stored.
     fn default() -> ParseOptions {
         ParseOptions {
@@ -111,7 +121,7 @@ impl Default for ParseOptions {
 }
 
 impl ParseOptions {
-    /// The options for a Terse Executable, whose addresses are offsets already and which has no
+    /// The options for a Terse Executable. Its addresses are file offsets already, and it has no
     /// certificates.
     pub fn te() -> ParseOptions
         ensures { result ≡ te_options }
@@ -123,7 +133,7 @@ impl ParseOptions {
         }
     }
 
-    /// The same options with this mode.
+    /// The same options with this parse mode.
     pub fn with_parse_mode(mut self, parse_mode: ParseMode) -> ParseOptions
         ensures { result ≡ record self { parse_mode = parse_mode } }
     {
@@ -155,7 +165,7 @@ impl ParseOptions {
         self
     }
 
-    /// The same options, with addresses mapped by this rule.
+    /// The same options with this rule for raw pointers.
     pub fn with_raw_pointer_rule(mut self, raw_pointer_rule: RawPointerRule) -> ParseOptions
         ensures { result ≡ record self { raw_pointer_rule = raw_pointer_rule } }
     {

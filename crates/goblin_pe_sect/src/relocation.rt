@@ -1,5 +1,5 @@
-//! The relocations of a PE file: those of an object's sections, for linkers, and the base
-//! relocations of an image, for loaders.
+//! The relocations of a PE file. The sections of an object have relocations for linkers, and an
+//! image has base relocations for loaders.
 
 ghost use Rattle.std.specs.Prelude.{◌≡◌, ◌/◌, Some, length, IfSome};
 ghost use Rattle.std.specs.Iterator.{UpTo, YieldsFirst, at_most};
@@ -140,21 +140,22 @@ pub const COFF_RELOCATION_SIZE: usize = 10;
 
 const _: () = prove!(COFF_RELOCATION_SIZE == 10);
 
-/// A relocation of a COFF object: which bytes of a section a linker changes, and how.
+/// A relocation of a COFF object. It says which bytes of a section a linker changes, and how.
 ///
-/// Source: PE Format, "COFF Relocations (Object Only)". Numbers are as stored; the record has 10
-/// bytes, and `at` gives a field's offset in it.
+/// Source: PE Format, "COFF Relocations (Object Only)". Numbers are as stored. The record has 10
+/// bytes, and `at` gives the offset of a field in it.
 #[repr(C)]
 #[derive(Debug, PartialEq, Copy, Clone, Default)]
 pub struct Relocation {
-    /// Where the bytes that are changed begin, at 0: their offset in the section, in bytes, plus
-    /// the section's own address, which is mostly 0. Of the first relocation of a section with
+    /// The address of the bytes that are changed, at 0: their offset in the section, in bytes, plus
+    /// the section's own address, which is mostly 0. In the first relocation of a section with
     /// [`IMAGE_SCN_LNK_NRELOC_OVFL`](crate::section_table::IMAGE_SCN_LNK_NRELOC_OVFL) it is the
-    /// number of all.
+    /// number of relocations.
     pub virtual_address: u32,
-    /// The index in the symbol table of the symbol whose address is put there, at 4.
+    /// The index in the symbol table of the symbol whose address the linker puts there, at 4.
     pub symbol_table_index: u32,
-    /// How it is put there, at 8: an `IMAGE_REL_*` of the machine that the COFF header names.
+    /// How the linker puts it there, at 8: an `IMAGE_REL_*` of the machine that the COFF header
+    /// names.
     pub typ: u16,
 }
 
@@ -210,7 +211,7 @@ impl Relocation {
     }
 }
 
-/// The relocations of a section of an object, in the order of their records.
+/// An iterator over the relocations of a section of an object, in the order of their records.
 ///
 /// Source: PE Format, "COFF Relocations (Object Only)".
 #[derive(Default, Drop)]
@@ -219,12 +220,13 @@ pub struct Relocations<'a> {
 }
 
 impl<'a> Relocations<'a> {
-    /// The `number` relocations at the file offset `offset`, one after the other. A section's
-    /// record says both.
+    /// The `number` relocations that follow one another from the file offset `offset` on. A section
+    /// header gives both `offset` and `number`.
     ///
     /// # Errors
-    /// [`Error::Read`] if they run past the end of the file, or begin at it, even where there are
-    /// none; [`Error::Malformed`] with [`Cause::Overflow`] if their size overflows 64 bits.
+    /// [`Error::Read`] if the relocations run past the end of the file, or begin at or past it,
+    /// even if there are none; [`Error::Malformed`] with [`Cause::Overflow`] if their size
+    /// overflows 64 bits.
     pub fn parse(bytes: &'a [u8], offset: usize, number: usize) -> Result<Relocations<'a>>
         ensures { Reads relocations_left result (relocations_at offset number) bytes.now }
     {

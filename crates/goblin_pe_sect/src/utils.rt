@@ -1,4 +1,4 @@
-//! Addresses in memory, their offsets in the file, and texts and values there.
+//! The map from addresses in memory to file offsets, and the texts and values at an address.
 //!
 //! Addresses are relative to the image's base (RVAs); offsets are file offsets. Both are in bytes.
 
@@ -29,8 +29,8 @@ mod rva;
 
 pub use rva::{find_rva, rva_in};
 
-/// Whether the address `rva` lies in the range from `r1` up to, and without, `r2`. It lies in none
-/// where `r2` is at most `r1`.
+/// Whether the address `rva` lies in the range from `r1` up to, but not including, `r2`. The range
+/// is empty if `r2` is at most `r1`.
 pub fn is_in_range(rva: usize, r1: usize, r2: usize) -> bool
     ensures { IsTrue result ↔ ((r1 ≤ rva) × (rva < r2)) }
 {
@@ -78,7 +78,7 @@ fn read_size(section: &SectionTable, file_alignment: u32) -> usize
     }
 }
 
-// The start and the end of the section's window.
+// The start and the end of the section's window. The end is the first address after it.
 pub(crate) fn section_window(section: &SectionTable, file_alignment: u32) -> (usize, usize)
     requires { 0 < file_alignment }
     ensures begin { result.0 ≡ section.now.virtual_address }
@@ -89,8 +89,8 @@ pub(crate) fn section_window(section: &SectionTable, file_alignment: u32) -> (us
     (begin, begin + read_size(section, file_alignment))
 }
 
-// An address that the section's window does not reach, whatever the file alignment, as no more than
-// the raw size in whole pages is read. It takes fewer steps than the window.
+// An upper bound of the end of the section's window, for any file alignment. It holds because no
+// more than the raw size in whole pages is read. It takes fewer steps than the window itself.
 #[inline(always)]
 #[tactic(auto, using(crate::proofs::Mapped::window_below))]
 pub(crate) fn past_window(section: &SectionTable) -> usize
@@ -100,13 +100,17 @@ pub(crate) fn past_window(section: &SectionTable) -> usize
     section.virtual_address as usize + round_up(section.size_of_raw_data as usize, 4096)
 }
 
-/// The addresses that the section maps, as the pair (start, end), the end not among them; `None` if
-/// `file_alignment` is not a power of two.
+/// The window of the section: the addresses that it maps, as the pair (start, end). The end is the
+/// first address after the window. `None` if `file_alignment` is not a power of two.
 ///
-/// The window begins at the section's address. It is empty where the raw size is 0; else it has the
-/// least of these: the raw data's end rounded up to `file_alignment`, less its start rounded down
-/// to 512; the raw size rounded up to 4,096; and, where the virtual size is not 0, that rounded up
-/// to 4,096. It may extend past the raw data and the file.
+/// The window begins at the section's address. It is empty if the raw size is 0. Otherwise its size
+/// is the least of these:
+///
+/// - the end of the raw data rounded up to `file_alignment`, minus its start rounded down to 512;
+/// - the raw size rounded up to 4,096;
+/// - if the virtual size is not 0, the virtual size rounded up to 4,096.
+///
+/// The window may extend past the raw data and past the end of the file.
 ///
 /// Source: none; PE Format leaves the mapping to loaders. These are goblin's windows.
 #[tactic(auto, using(crate::proofs::Mapped::power_positive))]
@@ -120,8 +124,9 @@ pub fn window(section: &SectionTable, file_alignment: u32) -> Option<(usize, usi
     }
 }
 
-/// The section that an address lies in: the first whose window holds it, by which [`find_offset`]
-/// maps it. None does if `file_alignment` is not a power of two.
+/// The section in which an address lies: the first whose window holds it. [`find_offset`] maps the
+/// address by this section. `None` if no window holds the address, or `file_alignment` is not a
+/// power of two.
 #[tactic(auto, using(crate::proofs::First::as_given, crate::proofs::First::found_as_given))]
 pub fn section_at(
     rva: usize,
@@ -133,8 +138,8 @@ pub fn section_at(
     mapping::section_at(rva, sections, file_alignment)
 }
 
-/// The file offset at which the section's raw data begins for the mapping of addresses: its raw
-/// pointer, as stored or rounded down to 512, by the rule of `opts`.
+/// The file offset at which the section's raw data begins when addresses are mapped. It is the raw
+/// pointer, as stored or rounded down to a multiple of 512, by the rule of `opts`.
 ///
 /// Source: none; [`RawPointerRule`] says for which images each rule is right.
 pub fn raw_begin(section: &SectionTable, opts: &ParseOptions) -> u32
@@ -147,14 +152,15 @@ pub fn raw_begin(section: &SectionTable, opts: &ParseOptions) -> u32
     }
 }
 
-/// The file offset of the address `rva`: that of the first section whose window holds it, in the
-/// order of the table. Where windows overlap, the first hides the others.
+/// The file offset of the address `rva`, by the first section, in the order of the table, whose
+/// window holds the address. If windows overlap, the first hides the others.
 ///
 /// The windows are those that [`window`] returns. The offset is the raw pointer, as stored or
-/// rounded down to 512 by the rule of `opts`, plus the distance from the section's address; it may
-/// lie past the file, so test it before reading there. If `opts` says that addresses are offsets,
-/// the result is the address itself. Otherwise it is `None` if no window holds the address or
-/// `file_alignment` is not a power of two.
+/// rounded down to a multiple of 512 by the rule of `opts`, plus the distance of `rva` from the
+/// section's address. It may lie past the end of the file, so test it before you read there.
+///
+/// If `opts` says that addresses are offsets, the result is the address itself. Otherwise it is
+/// `None` if no window holds the address, or if `file_alignment` is not a power of two.
 ///
 /// Source: none, as for [`window`]; [`RawPointerRule`] says for which images each rule for raw
 /// pointers is right.
@@ -177,7 +183,7 @@ pub fn find_offset(
 /// The file offset of the address `rva`, as [`find_offset`] returns it.
 ///
 /// # Errors
-/// [`Error::Malformed`] with [`Cause::Message`] of `msg` where there is none.
+/// [`Error::Malformed`] with [`Cause::Message`] of `msg` if the address has no file offset.
 pub fn find_offset_or(
     rva: usize,
     sections: &[SectionTable],
@@ -213,8 +219,8 @@ pub fn try_name<'a>(
     }
 }
 
-/// The text at the address `rva`, as [`try_name`] returns it; `None`, only in permissive mode, if
-/// there is none.
+/// The text at the address `rva`, as [`try_name`] returns it. In permissive mode it is `None` if
+/// there is no text.
 ///
 /// # Errors
 /// In strict mode [`Error::Malformed`]: [`Cause::Unmapped`] if the address has no file offset,
@@ -235,9 +241,9 @@ pub fn safe_try_name<'a>(
     safe_name_at(bytes, rva, offset, opts)
 }
 
-/// The text at `offset`, the file offset of the address `rva`, as [`safe_try_name`] returns it; for
-/// callers that have mapped the address before. `None` as an offset means that the address has
-/// none, and therefore no text.
+/// The text at `offset`, the file offset of the address `rva`, as [`safe_try_name`] returns it. It
+/// is for callers that have already mapped the address. If `offset` is `None`, the address has no
+/// file offset and so no text.
 ///
 /// # Errors
 /// As [`safe_try_name`].
@@ -255,7 +261,7 @@ pub fn safe_name_at<'a, 'e>(
     name_within(bytes, rva, offset, None, opts)
 }
 
-// The text at an offset, as `safe_name_at` returns it, up to a limit.
+// The text at an offset, as `safe_name_at` returns it, but cut if there is a limit.
 #[inline(always)]
 #[tactic(auto, unfolding(crate::specs::AddressReadings::name_at))]
 pub(crate) fn name_within<'a, 'e>(
@@ -283,8 +289,8 @@ pub(crate) fn name_within<'a, 'e>(
     }
 }
 
-/// The value at the address of `directory`, read in little-endian order from its file offset on, as
-/// [`get_data_with_opts`] reads it by the default options.
+/// The value at the address of `directory`, as [`get_data_with_opts`] reads it with the default
+/// options.
 ///
 /// # Errors
 /// As [`get_data_with_opts`].
@@ -307,12 +313,14 @@ pub fn get_data<'a, 'e, T: TryFromCtx<'a>>(
     )
 }
 
-/// The value at the address of `directory`, read in little-endian order from its file offset on. It
-/// may take bytes up to the end of the file, whatever the directory's size.
+/// The value at the address of `directory`, read in little-endian order from the file offset of the
+/// address on. It may take all bytes up to the end of the file, whatever the size of the data
+/// directory.
 ///
 /// # Errors
 /// In both modes: [`Error::Malformed`] with [`Cause::Unmapped`] if the address has no file offset,
-/// [`Error::Read`] with `BadOffset` if that lies at or past the end, and else what `T` refuses.
+/// [`Error::Read`] with `BadOffset` if the offset lies at or past the end of the file, otherwise
+/// the error with which `T` refuses the bytes.
 #[tactic(auto, unfolding(crate::specs::AddressReadings::data_at))]
 pub fn get_data_with_opts<'a, 'e, T: TryFromCtx<'a>>(
     bytes: &'a [u8],

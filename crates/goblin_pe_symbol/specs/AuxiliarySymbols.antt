@@ -11,7 +11,7 @@ use Rattle.goblin_pe_symbol.specs.declared.symbol.auxiliary.AuxWeakExternal.{Aux
 
 -- Source: PE Format, "Auxiliary Symbol Records".
 
--- what follows a symbol that defines a function, in a record's 18 bytes
+-- the auxiliary record of a symbol that defines a function, in its 18 bytes
 abbrev pub function_definition_record : Endian → List ℕ → AuxFunctionDefinition
 function_definition_record endian bytes = record {
   tag_index = number endian 4 bytes 0;
@@ -27,7 +27,7 @@ function_definition_fields r =
     uint 4 r.tag_index ∷ uint 4 r.total_size ∷ uint 4 r.pointer_to_line_number
     ∷ uint 4 r.pointer_to_next_function ∷ octets r.unused ∷ []
 
--- what follows a symbol of a function's start or end, in a record's 18 bytes
+-- the auxiliary record of a symbol for the start or the end of a function, in its 18 bytes
 abbrev pub begin_and_end_function_record : Endian → List ℕ → AuxBeginAndEndFunction
 begin_and_end_function_record endian bytes = record {
   unused1 = slice_range bytes 0 4;
@@ -43,7 +43,7 @@ begin_and_end_function_fields r =
     octets r.unused1 ∷ uint 2 r.line_number ∷ octets r.unused2 ∷ uint 4 r.pointer_to_next_function
     ∷ octets r.unused3 ∷ []
 
--- what follows a symbol that another may replace, in a record's 18 bytes
+-- the auxiliary record of a symbol that another may replace, in its 18 bytes
 abbrev pub weak_external_record : Endian → List ℕ → AuxWeakExternal
 weak_external_record endian bytes = record {
   tag_index = number endian 4 bytes 0;
@@ -55,7 +55,7 @@ weak_external_record endian bytes = record {
 abbrev pub weak_external_fields : AuxWeakExternal → List FieldValue
 weak_external_fields r = uint 4 r.tag_index ∷ uint 4 r.characteristics ∷ octets r.unused ∷ []
 
--- what follows a symbol that defines a section, in a record's 18 bytes
+-- the auxiliary record of a symbol that defines a section, in its 18 bytes
 abbrev pub section_definition_record : Endian → List ℕ → AuxSectionDefinition
 section_definition_record endian bytes = record {
   length = number endian 4 bytes 0;

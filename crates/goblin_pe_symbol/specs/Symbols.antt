@@ -47,24 +47,24 @@ symbol_fields s =
 abbrev pub inline_name : List ℕ → Option (List ℕ)
 inline_name bytes = if slice_index bytes 0 == 0 then None else bounded_text_at bytes 0 8
 
--- the symbol in a record's bytes, after the name in it
+-- the name in a record's bytes, and the symbol
 abbrev pub name_and_symbol : List ℕ → Option (List ℕ) × Symbol
 name_and_symbol bytes = (inline_name bytes, symbol_record Little bytes)
 
--- the symbol at an offset, after the name in it
+-- the name in the record at an offset, and the symbol
 abbrev pub symbol_at : ℕ → Reading (Option (List ℕ) × Symbol)
 symbol_at p = record_at 18 name_and_symbol p
 
--- what contracts see of a symbol and the name in it: the name by its bytes
+-- a name and a symbol as contracts see them: the name as its bytes
 abbrev pub named_value : Option (Bor (List ℕ)) × Symbol → Option (List ℕ) × Symbol
 named_value x = (option_map (λ s. s.now) x.0, x.1)
 
--- the number stored in place of a name: that of the last four of the eight bytes, if the first is 0
+-- the number that is stored in place of a name: the last four of the eight bytes, if the first is 0
 abbrev pub stored_number : List ℕ → Option ℕ
 stored_number name = if slice_index name 0 == 0 then Some (number Little 4 name 4) else None
 
--- the offset in the string table of a stored number, which also counts the four bytes of the
--- table's length in front
+-- the offset in the string table for a stored number, which also counts the four bytes of the
+-- table's length
 abbrev pub stored_offset : ℕ → Option ℕ
 stored_offset n = if nat_le 4 n then Some (n - 4) else None
 
@@ -76,8 +76,8 @@ name_offset_of name = stored_number name >>= stored_offset
 abbrev pub offset_name : ℕ → List ℕ
 offset_name n = replicate 4 0 ++ number_bytes Little 4 n
 
--- the name of a symbol: if a number is stored in its place, what the string table has at that
--- offset, else the text of the eight bytes
+-- the name of a symbol: if a number is stored in its place, the text that the string table has at
+-- that offset, else the text of the eight bytes
 abbrev pub symbol_name : List ℕ → List ℕ → Option (List ℕ)
 symbol_name table name =
     if slice_index name 0 == 0
@@ -126,8 +126,8 @@ record_of table i = slice_range table (18 * i) (18 * i + 18)
 abbrev pub aux : List ℕ → ℕ → ℕ
 aux table i = (symbol_record Little (record_of table i)).number_of_aux_symbols
 
--- The heads of a table of n records, which are its symbols: the least set that holds 0 where there
--- is a record, and with a head the record after its auxiliary ones where there is one.
+-- The heads of a table of n records, which are its symbols. They are the least set that contains 0,
+-- if there is a record, and for each head the record after its auxiliary records, if there is one.
 pub data IsHead (table : List ℕ) (n : ℕ) : ℕ → Type 0 where
   first : 0 < n → IsHead table n 0
   next : (h : ℕ) → IsHead table n h → h + 1 + aux table h < n → IsHead table n (h + 1 + aux table h)
@@ -140,8 +140,8 @@ SymbolItem = ℕ × Option (List ℕ) × Symbol
 abbrev pub symbol_of : List ℕ → ℕ → SymbolItem
 symbol_of table i = (i, inline_name (record_of table i), symbol_record Little (record_of table i))
 
--- the symbols among the m records from record i on, of which the first `skipped` are auxiliary ones
--- of a symbol before them
+-- the symbols among the m records from record i on; the first `skipped` of these are auxiliary
+-- records of a symbol before them
 unfoldable pub symbols_from : ℕ → ℕ → List ℕ → ℕ → List SymbolItem
 symbols_from zero skipped table i = []
 symbols_from (suc m) zero table i = symbol_of table i ∷ symbols_from m (aux table i) table (i + 1)
@@ -151,7 +151,7 @@ symbols_from (suc m) (suc skipped) table i = symbols_from m skipped table (i + 1
 abbrev pub symbols_in : List ℕ → List SymbolItem
 symbols_in table = symbols_from (length table / 18) 0 table 0
 
--- what an iterator has left, and an item that it yields, the name by its bytes
+-- the symbols that an iterator has left, and an item that it yields, with the name as its bytes
 abbrev pub symbols_left : SymbolIterator → List SymbolItem
 symbols_left s = symbols_from (length s.symbols.now / 18 - s.index) 0 s.symbols.now s.index
 

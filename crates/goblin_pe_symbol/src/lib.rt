@@ -1,5 +1,5 @@
-//! The symbols of objects and PE files: their records, names and tables. They need nothing of
-//! sections, so this crate is proved beside `goblin_pe_sect`.
+//! The symbols of objects and PE files: their records, names and tables. This crate does not depend
+//! on `goblin_pe_sect`, so the two are proved side by side.
 #![tactic(auto)]
 
 pub mod symbol;

@@ -59,8 +59,8 @@ pub const COFF_SYMBOL_SIZE: usize = 18;
 
 const _: () = prove!(COFF_SYMBOL_SIZE == 18);
 
-// How many bytes before the texts of a string table say its length. The offsets that symbols store
-// count them.
+// The size of the length field at the front of a string table, in bytes. The offsets that symbols
+// store count these bytes.
 const LENGTH_FIELD_SIZE: u32 = 4;
 
 /// A symbol, as its record describes it.
@@ -70,18 +70,18 @@ const LENGTH_FIELD_SIZE: u32 = 4;
 #[repr(C)]
 #[derive(Debug, PartialEq, Copy, Clone, Default)]
 pub struct Symbol {
-    /// The eight bytes of the name, padded with NULs, at 0. Where the first is 0, the name is in
-    /// the string table, at the number in the last four, which counts from the table's length
-    /// field.
+    /// The eight bytes of the name, padded with NULs, at 0. If the first byte is 0, the name is in
+    /// the string table, and the last four bytes are its offset there, counted from the table's
+    /// length field.
     pub name: [u8; 8],
-    /// What the symbol stands for, by its section and class, at 8: mostly an offset in its section,
-    /// in bytes.
+    /// The value of the symbol, at 8. Its section and class say what it means; mostly it is an
+    /// offset in the section, in bytes.
     pub value: u32,
     /// The number of its section, counted from 1, at 12; or [`IMAGE_SYM_UNDEFINED`] (0),
     /// [`IMAGE_SYM_ABSOLUTE`] (-1) or [`IMAGE_SYM_DEBUG`] (-2).
     pub section_number: i16,
     /// Its type, at 14: an `IMAGE_SYM_TYPE_*` in the low four bits, an `IMAGE_SYM_DTYPE_*` above
-    /// them. Microsoft's tools store 0x20 of a function, else 0.
+    /// them. Microsoft's tools store 0x20 for a function, else 0.
     pub typ: u16,
     /// Its class, an `IMAGE_SYM_CLASS_*`, at 16.
     pub storage_class: u8,
@@ -126,9 +126,9 @@ impl Record for Symbol {
 }
 
 impl Symbol {
-    /// The record at the file offset `offset`, as the pair (name in it, symbol). The name is the
-    /// text of the record's first eight bytes; `None` if the first byte is 0, and so the name is in
-    /// the string table, or where they are not UTF-8 up to a NUL.
+    /// Reads the record at the file offset `offset`, and returns the pair (name in it, symbol). The
+    /// name is the text of the record's first eight bytes. It is `None` if the first byte is 0,
+    /// since the name is then in the string table, or if the bytes are not UTF-8 up to a NUL.
     ///
     /// Source: PE Format, "Symbol Name Representation".
     ///
@@ -142,8 +142,8 @@ impl Symbol {
         Ok(Symbol::named(record))
     }
 
-    /// The symbol of a record's 18 bytes, as the pair that [`Symbol::parse`] reads: (name in it,
-    /// symbol).
+    /// The symbol in `bytes`, which are the 18 bytes of a record, as the pair that
+    /// [`Symbol::parse`] returns: (name in it, symbol).
     #[inline(always)]
     pub fn named(bytes: &[u8]) -> (Option<&str>, Symbol)
         requires { length bytes.now ≡ 18 }
@@ -152,7 +152,7 @@ impl Symbol {
         (inline_name(bytes), Symbol::in_record(bytes, Endian::Little))
     }
 
-    // The number stored in place of a name.
+    // The number that is stored in place of a name, if there is one.
     fn stored_number(&self) -> Option<u32>
         ensures { result ≡ stored_number self.now.name }
     {
@@ -163,15 +163,15 @@ impl Symbol {
         }
     }
 
-    /// The symbol's name: where its first byte is 0, the text that `strtab` has at
-    /// [`Symbol::name_offset`], and else the text of the eight bytes.
+    /// The symbol's name. If the first of the eight bytes is 0, it is the text that `strtab` has at
+    /// [`Symbol::name_offset`]. Else it is the text of the eight bytes.
     ///
     /// Source: PE Format, "Symbol Name Representation".
     ///
     /// # Errors
-    /// [`Error::Malformed`] with [`Cause::SymbolName`] of the offset where `strtab` has no text
-    /// there, and of the stored number where that is below 4; [`Error::Read`] with `BadInput` if
-    /// the eight bytes are the name and are not UTF-8 up to a NUL.
+    /// [`Error::Malformed`] with [`Cause::SymbolName`], which holds the stored number if that is
+    /// below 4, or the offset if `strtab` has no text there; [`Error::Read`] with `BadInput` if the
+    /// eight bytes are the name and are not UTF-8 up to a NUL.
     pub fn name<'a>(&'a self, strtab: &'a Strtab) -> Result<&'a str>
         ensures { Answers (λ s. s.now) result (symbol_name strtab.now self.now.name)
             (IsNoSymbolName strtab.now self.now.name) }
@@ -188,18 +188,18 @@ impl Symbol {
         }
     }
 
-    /// The offset of the symbol's name in the string table, in bytes after the four that say the
-    /// table's length, so that [`Strtab::get_at`] takes it. `None` if the name's first byte is not
-    /// 0, and so the name is in the record, or where the stored number, which counts those four, is
-    /// below 4.
+    /// The offset of the symbol's name in the string table, in bytes after the four of the table's
+    /// length, as [`Strtab::get_at`] expects it. It is `None` if the first byte of the name is not
+    /// 0, since the name is then in the record, or if the stored number, which counts those four
+    /// bytes, is below 4.
     pub fn name_offset(&self) -> Option<u32>
         ensures { result ≡ name_offset_of self.now.name }
     {
         self.stored_number()?.checked_sub(LENGTH_FIELD_SIZE)
     }
 
-    /// Stores `offset` in place of the name. It counts the four bytes of the string table's length,
-    /// so [`Symbol::name_offset`] is then 4 less, and `None` if it is below 4.
+    /// Stores `offset` in place of the name. `offset` counts the four bytes of the string table's
+    /// length, so [`Symbol::name_offset`] is then 4 less, or `None` if `offset` is below 4.
     #[tactic(auto, using(crate::proofs::SymbolsRoundTrip::offset_names))]
     pub fn set_name_offset(&mut self, offset: u32)
         ensures name { self.new ≡ record self.old { name = offset_name offset } }
@@ -237,8 +237,8 @@ impl Symbol {
             && self.section_number > 0
     }
 
-    /// Whether the symbol's storage class is weak external (105): another symbol replaces it if it
-    /// is not found. An [`AuxWeakExternal`] then follows.
+    /// Whether the symbol's storage class is weak external (105). If such a symbol is not found,
+    /// another one replaces it. An [`AuxWeakExternal`] then follows.
     ///
     /// Source: PE Format, "Storage Class".
     pub fn is_weak_external(&self) -> bool
@@ -247,8 +247,8 @@ impl Symbol {
         self.storage_class == IMAGE_SYM_CLASS_WEAK_EXTERNAL
     }
 
-    /// Whether the symbol's storage class is file (103): it stands for a source file, whose name is
-    /// in the auxiliary records that follow, as [`SymbolTable::aux_file`] reads it.
+    /// Whether the symbol's storage class is file (103). Such a symbol represents a source file,
+    /// whose name is in the auxiliary records that follow; [`SymbolTable::aux_file`] reads it.
     ///
     /// Source: PE Format, "Auxiliary Format 4: Files".
     pub fn is_file(&self) -> bool
@@ -289,7 +289,7 @@ impl Symbol {
     }
 }
 
-// The name that the first eight bytes of a record are, also where it is not ASCII.
+// The name in the first eight bytes of a record, even if it is not ASCII.
 #[inline(never)]
 fn any_name(bytes: &[u8]) -> Option<&str>
     requires { length bytes.now ≡ 18 }
@@ -316,8 +316,8 @@ fn inline_name(bytes: &[u8]) -> Option<&str>
 /// The symbol table of a file: records of 18 bytes, one after the other. Each symbol is followed by
 /// its auxiliary records.
 ///
-/// Source: PE Format, "COFF Symbol Table" and "Auxiliary Symbol Records". Indexes count records,
-/// also the auxiliary ones.
+/// Source: PE Format, "COFF Symbol Table" and "Auxiliary Symbol Records". Indexes count all
+/// records, auxiliary ones included.
 #[derive(Drop)]
 pub struct SymbolTable<'a> {
     symbols: &'a [u8],
@@ -327,8 +327,9 @@ impl<'a> SymbolTable<'a> {
     /// The table of the `number` records at the file offset `offset`.
     ///
     /// # Errors
-    /// [`Error::Read`] if they run past the end of the file, or begin at it, even where there are
-    /// none; [`Error::Malformed`] with [`Cause::Overflow`] if their size overflows 64 bits.
+    /// [`Error::Read`] if the records begin at or past the end of the file, even if there are none,
+    /// or run past it; [`Error::Malformed`] with [`Cause::Overflow`] if their size overflows 64
+    /// bits.
     pub fn parse(bytes: &'a [u8], offset: usize, number: usize) -> Result<SymbolTable<'a>>
         ensures { Reads symbol_bytes result (symbol_table offset number) bytes.now }
     {
@@ -357,9 +358,8 @@ impl<'a> SymbolTable<'a> {
         pread_slice(self.symbols, offset, COFF_SYMBOL_SIZE).ok()
     }
 
-    /// The record at `index`, read as a symbol whether or not it is an auxiliary one: the pair
-    /// (name in it, symbol), as [`Symbol::parse`] returns them. `None` if the table has no such
-    /// record.
+    /// The record at `index`, read as a symbol even if it is an auxiliary record: the pair (name in
+    /// it, symbol), as [`Symbol::parse`] returns it. `None` if the table has no such record.
     pub fn get(&self, index: usize) -> Option<(Option<&'a str>, Symbol)>
         ensures { option_map named_value result
             ≡ record_at 18 name_and_symbol (symbol_bytes self.now) (18 * index) }
@@ -411,8 +411,9 @@ impl<'a> SymbolTable<'a> {
         Some(AuxSectionDefinition::in_record(record, Endian::Little))
     }
 
-    /// The name of a source file, from the `number` records from `index` on: their text up to a
-    /// NUL. `None` if these run past the end of the table, begin at it, or are not UTF-8.
+    /// The name of a source file: the text, up to a NUL, in the `number` records from `index` on.
+    /// `None` if the records begin at or past the end of the table or run past it, or if the text
+    /// is not UTF-8.
     ///
     /// Source: PE Format, "Auxiliary Format 4: Files".
     pub fn aux_file(&self, index: usize, number: usize) -> Option<&'a str>
@@ -424,9 +425,9 @@ impl<'a> SymbolTable<'a> {
         pread_str_until(self.symbols, offset, size).ok()
     }
 
-    /// The symbols as triples (index of the record, name in it, symbol), in order, without the
-    /// auxiliary records. The name is `None` if it is in the string table, or is not UTF-8:
-    /// [`Symbol::name`] finds the first.
+    /// A walk over the symbols in order, without the auxiliary records, as triples (index of the
+    /// record, name in it, symbol). The name is `None` if it is in the string table, where
+    /// [`Symbol::name`] finds it, or if it is not UTF-8.
     pub fn iter(&self) -> SymbolIterator<'a>
         ensures items { symbols_left result ≡ symbols_in (symbol_bytes self.now) }
         ensures heads { AreSymbolsOf (symbol_bytes self.now) (symbols_in (symbol_bytes self.now)) }
@@ -441,7 +442,7 @@ impl<'a> SymbolTable<'a> {
     /// their size in bytes.
     ///
     /// # Errors
-    /// [`Error::Read`] if there is no room, or `bytes` is empty; it is then unchanged.
+    /// [`Error::Read`] if there is no room, or if `bytes` is empty. `bytes` is then unchanged.
     pub fn try_into_ctx(self, bytes: &mut [u8], _endian: Endian) -> Result<usize>
         ensures size { IfOk result (λ n. n ≡ length (symbol_bytes self.entry)) }
         ensures written { Writes result (overwritten bytes.old 0 (symbol_bytes self.entry))
@@ -452,7 +453,8 @@ impl<'a> SymbolTable<'a> {
     }
 }
 
-/// The symbols of a table as triples (index of the record, name in it, symbol), in order.
+/// A walk over the symbols of a table in order, as triples (index of the record, name in it,
+/// symbol).
 #[derive(Default, Drop)]
 pub struct SymbolIterator<'a> {
     symbols: &'a [u8],
@@ -478,7 +480,7 @@ impl<'a> Iterator for SymbolIterator<'a> {
         Some((index, name, symbol))
     }
 
-    /// No more come than there are records left.
+    /// At most as many symbols come as there are records left.
     #[tactic(auto, using(crate::proofs::SymbolHeads::symbols_most))]
     fn size_hint(&self) -> (usize, Option<usize>)
         ensures lower { IsWithinCount result.0

@@ -1,22 +1,26 @@
-//! Audits a PE file on standard input, read strictly:
+//! Audits a PE file on standard input, in strict mode:
 //!
 //! ```text
 //! pe_audit LIBRARY < FILE
 //! ```
 //!
-//! It says, a line each:
+//! It prints these lines:
 //!
-//! | Line | What it tells |
+//! | Line | What it says |
 //! |---|---|
 //! | `imports from LIBRARY: yes` or `no` | whether the file imports from the library |
 //! | `forwarders: D` | how many of its exports are forwarders |
-//! | `entered in code: yes` or `no` | whether its entry point lies in a section that may be executed |
-//! | `writable code: N` | each section that may be written and executed, by its name, as `pe_list` shows names |
-//! | `header: D bytes` | how many bytes its header takes with another time stamp |
-//! | `known by its key: yes` or `no` | whether a verdict on it, kept with its key, is found again to be on it |
+//! | `entered in code: yes` or `no` | whether its entry point lies in an executable section |
+//! | `writable code: N` | the name of a section that is writable and executable |
+//! | `header: D bytes` | the size of its header, written with another time stamp |
+//! | `known by its key: yes` or `no` | whether the key of a verdict on the file fits the file |
 //!
-//! Of a file that is refused it says why, on standard error. The status is 0 after an audit, 1
-//! where the file is refused, memory is, or input or output fails, and 2 after a wrong use.
+//! There is one line `writable code` for each such section. N is its name, in which bytes are
+//! escaped as `pe_list` escapes them. A name that is not UTF-8 is printed as an empty one.
+//!
+//! If the file is refused, the cause is printed on standard error. The status is 0 after an audit.
+//! It is 1 if the file is refused, if memory is, or if input or output fails. It is 2 after a wrong
+//! use. An argument that is not UTF-8 ends the program with status 1 and without a line.
 #![tactic(auto)]
 
 use goblin_pe::header::Header;
@@ -36,7 +40,7 @@ use std::io::{ErrorKind, Read};
 use std::process::ExitCode;
 use std::{env, io};
 
-// What comes of an audit.
+// The outcome of an audit.
 enum Outcome {
     Audited,
     Refused,
@@ -50,7 +54,7 @@ fn main(rt: HostRuntime) -> ExitCode {
         Ok(Outcome::WrongUse) => complain(&rt, "usage: pe_audit LIBRARY", 2),
         Err(error) => match error.kind() {
             ErrorKind::OutOfMemory => complain(&rt, "out of memory", 1),
-            // (the cause was told)
+            // (The cause was printed already; an argument that is not UTF-8 has none.)
             ErrorKind::InvalidData => ExitCode::from(1),
             _ => complain(&rt, "input or output failed", 1),
         },
@@ -78,7 +82,8 @@ fn audit(rt: &HostRuntime) -> io::Result<Outcome> {
     Ok(Outcome::Refused)
 }
 
-// What a call answers. Why it refuses, where not for memory, is told on standard error.
+// The value of an answer. The cause of a refusal is printed on standard error, unless memory was
+// refused.
 fn kept<T>(rt: &impl Eprint, answer: Answer<T>) -> io::Result<T> {
     match answer {
         Ok(value) => Ok(value),
@@ -113,15 +118,15 @@ fn word(yes: bool) -> &'static str {
     if yes { "yes" } else { "no" }
 }
 
-// The line of a section that may be written and executed. What its name has could be a line of its
-// own, or a command to a terminal, so it is escaped.
+// The line of a section that may be written and executed. The name is escaped, because it could
+// hold a line of its own, or a command to a terminal.
 fn section_line(alloc: Global, section: &SectionTable) -> io::Result<String> {
     let mut line = String::new(alloc);
     push_name(&mut line, "writable code: ", section.name().unwrap_or(""))?;
     Ok(line)
 }
 
-// How many bytes the header takes that is written with another time stamp: with sixteen data
+// The size in bytes of the header, written with another time stamp. It is written with sixteen data
 // directories, so it can be longer than the file.
 fn stamped_size(alloc: Global, bytes: &[u8]) -> Answer<usize> {
     let size = Header::parse(bytes)?.size_with(Endian::Little)?;
@@ -129,7 +134,7 @@ fn stamped_size(alloc: Global, bytes: &[u8]) -> Answer<usize> {
     stamp(bytes, 0x1122_3344, &mut out)
 }
 
-// Whether the verdict on the file is known again to be on it.
+// Whether the key of a verdict on the file fits the file.
 fn is_known(alloc: Global, bytes: &[u8]) -> Answer<bool> {
     let verdict = Verdict::of(alloc, bytes)?;
     Ok(verdict.again(bytes) == Some(true))

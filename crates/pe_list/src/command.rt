@@ -7,11 +7,12 @@ ghost use Rattle.pe_list.specs.Command.{mode_of_words};
 use goblin_pe::options::ParseMode;
 use std::env::Args;
 
-/// The line that answers a wrong use.
+/// The line that is printed after a wrong use.
 pub const USAGE: &str = "usage: pe_list [--permissive]";
 
-/// The mode that the words ask for, of which the first is the program's name: strict with no other
-/// word, permissive with the one word `--permissive`, and none where they are a wrong use.
+/// The mode that the words ask for. The first word is the program's name. The mode is strict
+/// without another word, and permissive with the one word `--permissive`. It is `None` after a
+/// wrong use.
 pub fn mode_of(mut words: Args) -> Option<ParseMode>
     ensures { result ≡ mode_of_words (map string_bytes (into_iter_items words)) }
 {

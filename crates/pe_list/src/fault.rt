@@ -18,7 +18,7 @@ pub enum RunFault {
 impl RunFault {
     ghost use Rattle.pe_list.specs.Run.{fault_line};
 
-    /// The line that says so.
+    /// The line on standard error that says why.
     pub fn line(&self) -> &'static str
         ensures { result.now ≡ fault_line self.now }
     {

@@ -35,7 +35,8 @@ fn main(rt: HostRuntime) -> ExitCode {
     }
 }
 
-// One line on standard error, and the status; a line that can't be written changes nothing.
+// Prints one line on standard error, and returns the status. A line that can't be written changes
+// nothing.
 fn complain(rt: &impl Eprint, line: &str, status: u8) -> ExitCode {
     let _ = rt.eprintln(line);
     ExitCode::from(status)

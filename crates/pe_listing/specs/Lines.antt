@@ -17,7 +17,7 @@ use Rattle.goblin_pe.specs.Imports.{ImportValue}
 use Rattle.goblin_pe.specs.Whole.{WholeFile}
 use Rattle.pe_listing.specs.Text.{decimal_field, hex_field, name_field}
 
--- what is printed of a value, and nothing where there is none
+-- what is printed of a value, or nothing if there is none
 abbrev pub if_there : {A : Type 0} → (A → List ℕ) → Option A → List ℕ
 if_there field None = []
 if_there field (Some x) = field x
@@ -65,15 +65,14 @@ import_line i = concat (
     ∷ codes "\n"
     ∷ [])
 
--- what an export stands for in another library: the library, and after a dot the name, or `#` and
--- the ordinal
+-- the field of a forwarder: the library, and after a dot the name, or `#` and the ordinal
 unfoldable pub forward_field : Forwarder → List ℕ
 forward_field (ByName export lib) =
     name_field (codes " forward=") lib ++ name_field (codes ".") export
 forward_field (ByOrdinal ordinal lib) =
     name_field (codes " forward=") lib ++ decimal_field (codes ".#") ordinal
 
--- the line of an export, without what it lacks
+-- the line of an export, without the fields that it lacks
 unfoldable pub export_line : ExportRow → List ℕ
 export_line e = concat (
     hex_field (codes "export rva=") e.rva
@@ -83,8 +82,8 @@ export_line e = concat (
     ∷ codes "\n"
     ∷ [])
 
--- the line of a block of base relocations, with the number of its words; or that the blocks end
--- with one that is refused
+-- the line of a block of base relocations, with the number of its words, or of a block that is
+-- refused
 unfoldable pub block_line : Result Block ErrorOf → List ℕ
 block_line (Ok b) = concat (
     hex_field (codes "block rva=") b.rva
@@ -100,7 +99,8 @@ block_count [] = 0
 block_count (Ok b ∷ items) = suc (block_count items)
 block_count (Err e ∷ items) = block_count items
 
--- the lines of a table: that it is absent or refused, or how many entries it has, and then theirs
+-- the lines of a table: that it is absent or refused, or how many entries it has, followed by their
+-- lines
 unfoldable pub part_lines : {A : Type 0} → List ℕ → (A → ℕ) → (A → List ℕ) → Part A → List ℕ
 part_lines label count lines Absent = label ++ codes " absent\n"
 part_lines label count lines (Read table) =

@@ -31,10 +31,10 @@ trait Listed {
         ensures { OnOk result (string_bytes text.new ≡ string_bytes text.old ++ line self.now) };
 }
 
-/// Adds the lines of a whole file.
+/// Appends the lines of a whole file.
 ///
 /// # Errors
-/// Where memory is refused.
+/// If memory is refused.
 pub fn push_whole(text: &mut String, whole: &Whole) -> Result<(), AllocError>
     ensures { OnOk result (string_bytes text.new ≡ string_bytes text.old ++ whole_lines whole.now) }
 {
@@ -87,7 +87,7 @@ impl Listed for SectionTable {
     }
 }
 
-// The bytes of a section's name that are printed.
+// The name of a section that is printed.
 #[tactic(auto, unfolding(crate::specs::Lines::shown_name))]
 fn shown_name(section: &SectionTable) -> &[u8]
     ensures { result.now ≡ shown_name section.now }
@@ -224,7 +224,7 @@ fn push_relocations(text: &mut String, part: &Part<RelocationData>) -> Result<()
     Ok(())
 }
 
-// How many blocks come without error.
+// How many blocks are read without an error.
 #[tactic(auto, unfolding(crate::specs::Lines::block_count), using(crate::proofs::Blocks::block_count_below))]
 fn block_count(relocations: &RelocationData) -> usize
     ensures { result ≡ block_count (block_items (relocation_bytes relocations.now) 0) }

@@ -38,8 +38,8 @@ fn push_decimal_digits(text: &mut String, number: u64) -> Result<(), AllocError>
     push_digits(text, 10, number)
 }
 
-// Appends the digits of a number, without leading zeros: all at once, since each call tests for
-// room. The base is a literal where this is inlined.
+// Appends the digits of a number, without leading zeros. All are appended at once, because each
+// call tests for room. The base is a literal where this is inlined.
 #[tactic(auto, using(crate::proofs::Digits::one_digit, crate::proofs::Digits::digits_are_text))]
 #[inline(always)]
 fn push_digits(text: &mut String, base: u64, number: u64) -> Result<(), AllocError>
@@ -104,8 +104,8 @@ pub fn push_decimal(text: &mut String, label: &str, number: u64) -> Result<(), A
     Ok(())
 }
 
-/// Appends a label, and a name. A byte that is no printable ASCII character, and the backslash, is
-/// `\x` and two lower-case hexadecimal digits.
+/// Appends a label, and a name. The backslash, and each byte that is no printable ASCII character,
+/// becomes `\x` and two lower-case hexadecimal digits.
 #[tactic(auto, unfolding(crate::specs::Text::name_field))]
 #[inline(always)]
 pub fn push_name(text: &mut String, label: &str, name: &str) -> Result<(), AllocError>
@@ -117,7 +117,7 @@ pub fn push_name(text: &mut String, label: &str, name: &str) -> Result<(), Alloc
     Ok(())
 }
 
-/// As [`push_name`], of a name that need not be text.
+/// As [`push_name`], for a name that need not be text.
 #[tactic(auto, unfolding(crate::specs::Text::name_field))]
 pub fn push_name_bytes(text: &mut String, label: &str, name: &[u8]) -> Result<(), AllocError>
     ensures { OnOk result
@@ -128,7 +128,7 @@ pub fn push_name_bytes(text: &mut String, label: &str, name: &[u8]) -> Result<()
     Ok(())
 }
 
-// Appends a name, as it is printed: at once where nothing in it is escaped.
+// Appends a name as it is printed: at once if nothing in it is escaped.
 #[tactic(auto, using(crate::proofs::PlainNames::plain_name))]
 fn push_escaped(text: &mut String, name: &str) -> Result<(), AllocError>
     ensures { OnOk result (string_bytes text.new ≡ string_bytes text.old ++ escaped name.now) }
@@ -141,8 +141,8 @@ fn push_escaped(text: &mut String, name: &str) -> Result<(), AllocError>
     Ok(())
 }
 
-// Whether every byte stands for itself. All are looked at, which is faster than to stop at the
-// first.
+// Whether every byte is printed as it is. All are looked at, which is faster than stopping at the
+// first that is not.
 fn is_plain_name(name: &[u8]) -> bool
     ensures { result ≡ list_all is_plain name.now }
 {
@@ -175,7 +175,7 @@ fn push_escaped_byte(text: &mut String, byte: u8) -> Result<(), AllocError>
     Ok(())
 }
 
-// Whether a byte stands for itself: a printable ASCII character but the backslash.
+// Whether a byte is printed as it is: a printable ASCII character other than the backslash.
 #[tactic(auto, using(std::proofs::lemmas::Bool::Decides::nat_tests))]
 fn is_plain(byte: u8) -> bool
     ensures value { result ≡ is_plain byte }

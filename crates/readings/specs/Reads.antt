@@ -1,5 +1,5 @@
--- How readings are put together. Each word keeps the laws of a reading, so a definition with these
--- words needs no proof of them.
+-- How readings are put together. Each of these definitions proves the laws of a reading, so a
+-- definition made of them needs no proof of the laws.
 use Rattle.std.specs.Prelude.{◌≡◌, ℕ, Bool, true, false, List, [], ◌++◌, length, Option, Some, None}
 use Rattle.std.specs.Prelude.{option_map, option_to_list, refl, ◌+◌, drop, slice_range}
 use Rattle.std.proofs.Common.{ap, ◌∙◌, cond}
@@ -40,9 +40,9 @@ use Rattle.goblin_base.proofs.Readings.{malformed-not_memory, slice-not_memory, 
 use Rattle.goblin_base.proofs.Readings.{table-local, table-not_memory, text-not_memory, then-inside}
 use Rattle.goblin_base.proofs.Readings.{then-local, then-not_memory, value-local}
 
--- ---- what reads nothing
+-- ---- readings that reach nothing
 
--- a value that may be missing; which cause is then true, and that this cause is not Memory
+-- a value that may be missing, the causes that are true if it is, and a proof that none is Memory
 abbrev pub needs_by : {A : Type 0} → Option A → (IsCause : ErrorOf → Type 0)
     → ((e : ErrorOf) → IsCause e → ¬ IsMemory e) → Reading A
 needs_by value IsCause not_memory = record {
@@ -54,19 +54,19 @@ needs_by value IsCause not_memory = record {
   not_memory = λ bytes. not_memory;
 }
 
--- a value that may be missing, and the one cause that is then true
+-- a value that may be missing, and the one cause that is true if it is
 abbrev pub needs : {A : Type 0} → Option A → CauseOf → Reading A
 needs value cause = needs_by value (λ e. e ≡ Malformed cause) (malformed-not_memory cause)
 
--- a value that is there
+-- a value that is always there
 abbrev pub given : {A : Type 0} → A → Reading A
 given x = needs_by (Some x) (λ e. ⊥) (λ e h. absurd h)
 
--- a value that may be missing, without a cause: only for uses that never refuse because of it
+-- a value that may be missing, without a cause: only for uses that are never refused because of it
 abbrev pub taken : {A : Type 0} → Option A → Reading A
 taken value = needs_by value (λ e. ⊥) (λ e h. absurd h)
 
--- how many bytes the file has; files that agree always have the same length
+-- how many bytes the file has; files that agree, even on nothing, have the same length
 abbrev pub file_length : Reading ℕ
 file_length = record {
   value = λ bytes. Some (length bytes);
@@ -77,9 +77,9 @@ file_length = record {
   not_memory = λ bytes e h. absurd h;
 }
 
--- ---- what is at an offset
+-- ---- readings at an offset
 
--- the number of the n bytes at p
+-- the number in the n bytes at p
 abbrev pub number_at : Endian → ℕ → ℕ → Reading ℕ
 number_at endian n p = record {
   value = λ bytes. bytes_of.number_at endian n bytes p;
@@ -123,8 +123,8 @@ text_at p = record {
   not_memory = λ bytes. text-not_memory bytes p;
 }
 
--- The text at p, whole or, where there is a limit, cut there. A character has at most four bytes, so
--- of a text that is cut no more is reached than the limit and four bytes.
+-- The text at p, whole if there is no limit, else cut at the limit. A character has at most four
+-- bytes, so with a limit no more is reached than the limit and four bytes.
 abbrev pub text_within : Option ℕ → ℕ → Reading (List ℕ)
 text_within longest p = record {
   value = λ bytes. bytes_of.text_within longest bytes p;
@@ -146,7 +146,8 @@ string_table p n = record {
   not_memory = λ bytes. string_table-not_memory bytes p n;
 }
 
--- the bytes from `begin` up to `end`; there may be none. Give it a cause by `because`.
+-- the bytes from `begin` up to `end`; there may be none. The reading has no cause: add one with
+-- `because`.
 abbrev pub bytes_between : ℕ → ℕ → Reading (List ℕ)
 bytes_between begin end = record {
   value = λ bytes. parts.bytes_between bytes begin end;
@@ -157,9 +158,9 @@ bytes_between begin end = record {
   not_memory = λ bytes e h. absurd h;
 }
 
--- The least place at which the number of n bytes passes the test, with `more` bytes after it, and
--- the bytes up to the end of those. It reaches these, or all bytes if there is no such place. Give
--- it a cause by `because`, or read it by `or_none`.
+-- The least place at which the number in n bytes passes the test and `more` bytes follow, and all
+-- bytes up to the end of the bytes that follow. The reading reaches these, or all bytes if there is
+-- no such place. It has no cause: add one with `because`, or use `or_none`.
 abbrev pub front_through : Endian → ℕ → ℕ → (ℕ → Bool) → Reading (ℕ × List ℕ)
 front_through endian n more test = record {
   value = parts.front_through endian n more test;
@@ -171,8 +172,8 @@ front_through endian n more test = record {
   not_memory = λ bytes e h. absurd h;
 }
 
--- The value of a type at p; it reaches all bytes from p on. `refusal` says which causes are true if
--- the bytes from p on are refused. None of them is Memory.
+-- The value of a type at p. The reading reaches all bytes from p on. `refusal` says which causes
+-- are true if the type refuses the bytes from p on. None of them is Memory.
 abbrev pub value_at : {Y : Type 0} → (Endian → List ℕ → Option (Y × ℕ))
     → (refusal : Endian → List ℕ → ErrorOf → Type 0) → Endian → ℕ → Reading Y
 value_at value_of refusal endian p = record {
@@ -186,7 +187,7 @@ value_at value_of refusal endian p = record {
 
 -- ---- one reading
 
--- what is made of the value, or of its lack; the cause stays
+-- what `f` makes of the value, or of its absence; the cause stays
 abbrev pub turned : {A B : Type 0} → (Option A → Option B) → Reading A → Reading B
 turned f r = record {
   value = λ bytes. f (r.value bytes);
@@ -197,31 +198,32 @@ turned f r = record {
   not_memory = r.not_memory;
 }
 
--- what is made of the value
+-- what `f` makes of the value
 abbrev pub mapped : {A B : Type 0} → (A → B) → Reading A → Reading B
 mapped f r = turned (option_map f) r
 
--- the value as an option: it is never refused
+-- the value as an option: this reading always has a value
 abbrev pub or_none : {A : Type 0} → Reading A → Reading (Option A)
 or_none r = record (turned (λ x. Some x) r) {
   IsCause = λ bytes e. ⊥;
   not_memory = λ bytes e h. absurd h;
 }
 
--- a read, with this cause if it is refused
+-- a reading, with this cause if it is refused
 abbrev pub because : {A : Type 0} → CauseOf → Reading A → Reading A
 because cause r = record r {
   IsCause = λ bytes e. e ≡ Malformed cause;
   not_memory = λ bytes. malformed-not_memory cause;
 }
 
--- A read with a predicate that says which causes are true if it is refused. None of them is Memory.
+-- A reading, with a predicate that says which causes are true if it is refused. None of them is
+-- Memory.
 abbrev pub because_by : {A : Type 0} → (IsCause : List ℕ → ErrorOf → Type 0)
     → ((bytes : List ℕ) (e : ErrorOf) → IsCause bytes e → ¬ IsMemory e) → Reading A → Reading A
 because_by IsCause not_memory r = record r { IsCause = IsCause; not_memory = not_memory }
 
--- What `f` makes of the value, if anything; else the true causes are those for which `IsRefused`
--- holds of the value. None of them is Memory.
+-- What `f` makes of the value. If `f` makes nothing of it, the true causes are those for which
+-- `IsRefused` holds of the value. None of them is Memory.
 abbrev pub checked : {A B : Type 0} → (A → Option B) → (IsRefused : A → ErrorOf → Type 0)
     → ((x : A) (e : ErrorOf) → IsRefused x e → ¬ IsMemory e) → Reading A → Reading B
 checked f IsRefused not_memory r = record {
@@ -238,7 +240,7 @@ in_its_place strict d (Some x) = Some x
 in_its_place true d None = None
 in_its_place false d None = Some d
 
--- strict mode refuses what is missing, permissive mode takes d instead
+-- the value; if there is none, strict mode refuses, and permissive mode has d instead
 abbrev pub or_else : {A : Type 0} → Bool → A → Reading A → Reading A
 or_else strict d r = turned (in_its_place strict d) r
 
@@ -249,7 +251,7 @@ or_left_out strict r = turned (tables.or_left_out strict) r
 -- ---- two readings
 
 infixl 10 ◌>>=◌
--- a read, and one that depends on its value
+-- a reading, and then a reading that depends on its value
 abbrev pub ◌>>=◌ : {A B : Type 0} → Reading A → (A → Reading B) → Reading B
 r >>= f = record {
   value = λ bytes. answers.◌>>=◌ (r.value bytes) (λ x. (f x).value bytes);
@@ -266,8 +268,8 @@ pair_of (Some x) None = None
 pair_of (Some x) (Some y) = Some (x, y)
 
 infixl 10 ◌beside◌
--- Two reads whose places are known. Each is read even if the other is refused. The cause is that of
--- the first if it is refused, else that of the second.
+-- Two readings at known places. Each is read even if the other is refused. The cause is that of the
+-- first if it is refused, else that of the second.
 abbrev pub ◌beside◌ : {A B : Type 0} → Reading A → Reading B → Reading (A × B)
 r beside s = record {
   value = λ bytes. pair_of (r.value bytes) (s.value bytes);
@@ -278,7 +280,7 @@ r beside s = record {
   not_memory = then-not_memory r (λ x. s);
 }
 
--- the one reading if the test is true, the other if it is false
+-- the first reading if the test is true, the second if it is false
 abbrev pub pick : {A : Type 0} → Bool → Reading A → Reading A → Reading A
 pick test r s = record {
   value = λ bytes. cond test (r.value bytes) (s.value bytes);
@@ -289,9 +291,9 @@ pick test r s = record {
   not_memory = pick-not_memory r s test;
 }
 
--- ---- parts of the bytes, as bytes of their own
+-- ---- readings of a part of the bytes
 
--- a read of the bytes from p on
+-- a reading of the bytes from p on, as if they were the file
 abbrev pub in_rest : {A : Type 0} → ℕ → Reading A → Reading A
 in_rest p r = record {
   value = λ bytes. r.value (drop p bytes);
@@ -304,7 +306,8 @@ in_rest p r = record {
   not_memory = λ bytes. r.not_memory (drop p bytes);
 }
 
--- a read of the bytes from `begin` up to `end`, or to the end of the file if that comes first
+-- a reading of the bytes from `begin` up to `end`, or to the end of the file if that comes first,
+-- as if they were the file
 abbrev pub in_slice : {A : Type 0} → ℕ → ℕ → Reading A → Reading A
 in_slice begin end r = record {
   value = λ bytes. r.value (slice_range bytes begin end);
@@ -319,9 +322,9 @@ in_slice begin end r = record {
   not_memory = λ bytes. r.not_memory (slice_range bytes begin end);
 }
 
--- ---- lists of reads
+-- ---- lists of readings
 
--- n reads, one for each index: all are read, and the cause is that of the first that is refused
+-- n readings, one for each index: all are read, and the cause is that of the first that is refused
 abbrev pub each : {A : Type 0} → (ℕ → Reading A) → ℕ → Reading (List A)
 each read n = record {
   value = λ bytes. all_at (λ i. (read i).value bytes) n;
@@ -337,7 +340,7 @@ each read n = record {
   not_memory = λ bytes e h. (read h.0).not_memory bytes e h.4;
 }
 
--- n reads, one for each index: what is refused is left out, but reached
+-- n readings, one for each index: those that are refused are left out, but what they reach counts
 abbrev pub each_kept : {A : Type 0} → (ℕ → Reading A) → ℕ → Reading (List A)
 each_kept read n = record {
   value = λ bytes. Some (concat_below (λ i. option_to_list ((read i).value bytes)) n);
@@ -357,8 +360,8 @@ each_kept read n = record {
 
 -- ---- tables of a given count
 
--- The entries of a table of `count` at a place, cut at the first incomplete one. A table without a
--- place has no entries.
+-- The entries of a table of `count` entries at a place, cut at the first incomplete entry. A table
+-- without a place has no entries.
 abbrev pub counted_if : {V : Type 0} → Format V → ℕ → Option ℕ → Reading (List V)
 counted_if format count place = record {
   value = λ bytes. Some (tables.counted_table_if format count bytes place);
@@ -374,11 +377,11 @@ counted_if format count place = record {
 
 -- ---- tables of slots
 
--- A table of slots at o ends at its stop. It joins what `piece` reads of the entry of each slot
--- before the stop. The cause is that of the first entry that is refused. If none is, but the end is
--- needed and the stop's slot is not in the file, `missing` of the slot's place is the cause. The
--- table reaches what each entry before the stop leads to, and the slots up to and including the
--- stop.
+-- A table of slots at o, which ends at its stop. The value joins what `piece` reads for the entry
+-- of each slot before the stop. The cause is that of the first entry that is refused. If no entry
+-- is refused, but the end is needed and the slot of the stop is not in the file, the cause is that
+-- of `missing` at the place of that slot. The reading reaches what each entry before the stop leads
+-- to, and the slots up to and including the stop.
 abbrev pub table : {V A : Type 0} → SlotFormat V → Bool → (ℕ → Reading V)
     → (V → Reading (List A)) → ℕ → Reading (List A)
 table slots needs_end missing piece o = record {

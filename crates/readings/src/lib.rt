@@ -1,17 +1,21 @@
-//! How readers of a file are specified and proved: no code, but the words of their contracts.
+//! The definitions with which contracts specify readers of a file. This crate has no code.
 //!
-//! A `Reading` (of `goblin_base`) is the result of a read in one definition: its value, which cause
-//! is true if there is none, and which positions of the file it reaches. Its laws are its fields:
-//! files that agree on what is reached have the same value, what is reached lies in the file, and
-//! no cause is `Memory`.
+//! A `Reading` (in `goblin_base`) defines the result of a read: its value, the causes that are true
+//! if there is no value, and the positions of the file that it reaches. It also carries three laws.
+//! Files that agree on the positions reached have the same value. Every position reached lies in
+//! the file. No cause is `Memory`.
 //!
-//! `specs/Reads` has the words that make readings, from a number at an offset to a table of slots.
-//! Each word carries the laws, so a reader specified with these words has them without a proof of
-//! its own. `specs/Walks` has the words for calls that give a table's items one by one, and
-//! `specs/Tests` those for what callers ask of the items.
+//! `specs/Reads` defines readings, from a number at an offset to a table of slots, and ways to
+//! combine them. Each definition proves the laws, so a reader that is specified with these needs no
+//! proof of its own. `specs/Walks` has the definitions for calls that return the items of a table
+//! one at a time, and `specs/Tests` those for questions that callers ask about the items.
 //!
-//! `proofs/Loops` says what a loop over a table's slots returns at each exit, `proofs/Modes` what
-//! strict and permissive mode have in common, `proofs/Walks` how a walk goes from slot to slot,
-//! `proofs/WalkValues` what collecting its items gives, `proofs/Walked` what a loop over a walk has
-//! made, and `proofs/Tests` that one item passes a test where the first that does is found.
+//! The proofs are in `proofs/`:
+//!
+//! - `Loops`: what a loop over the slots of a table returns at each of its exits.
+//! - `Modes`: what strict and permissive mode have in common.
+//! - `Walks`: how a walk moves from slot to slot.
+//! - `WalkValues`: what collecting the items of a walk gives.
+//! - `Walked`: what a loop over a walk has made.
+//! - `Tests`: if the first item that passes a test is found, some item passes it.
 #![tactic(auto)]

@@ -1,4 +1,4 @@
-//! The header of two files.
+//! The headers of two files.
 
 ghost use Rattle.goblin_base.specs.Reading.{Twins};
 ghost use Rattle.goblin_pe_sect.specs.Options.{is_strict};
@@ -9,12 +9,12 @@ use crate::header::Header;
 use crate::options::ParseOptions;
 use goblin_base::Result;
 
-/// The headers of two files. It takes no memory.
+/// Reads the headers of two files. It takes no memory.
 ///
-/// The footprint of the read, in both modes: the DOS header's record, the two bytes of its
-/// signature and the four that it points to; and if there is a DOS header, the stub, the PE
-/// signature, the COFF header, and of the optional header its magic, its fields and its
-/// directories.
+/// In both modes the footprint of the read has the record of the DOS header, the two bytes of its
+/// signature, and the four bytes to which it points. If there is a DOS header, the footprint also
+/// has the stub, the PE signature, the COFF header, and the magic, the fields and the data
+/// directories of the optional header.
 ///
 /// # Errors
 /// For each file as [`Header::parse_with_opts`].

@@ -1,4 +1,4 @@
-//! The imports of a file, one by one.
+//! A walk over the imports of a file.
 
 ghost use Rattle.std.specs.Prelude.{◌≡◌, ◌<◌, ◌^◌, ℕ, Bool, IfSome, IsSome, List, find, option_map};
 ghost use Rattle.std.specs.Fn.{FnReturnsAt};
@@ -19,22 +19,22 @@ use goblin_base::ResultOf;
 use goblin_pe_sect::address_map::Finder;
 use std::iter::FusedIterator;
 
-/// The imports of a file, in the order of the libraries and of their entries, without memory: by
-/// the magic of 32 bits their tables have entries of four bytes, else of eight.
+/// A walk over the imports of a file, library by library and entry by entry. It takes no memory.
+/// The entries of its tables have four bytes if the magic is that of PE32, else eight.
 ///
-/// In strict mode it ends with one error where the import data is refused, after the imports before
-/// what is to blame. In permissive mode there is none.
+/// In strict mode, if the import data is refused, the walk yields the imports that come before the
+/// damage, then one error, and ends. In permissive mode it yields no error.
 #[derive(Debug, Drop)]
 pub enum FileImports<'a, 'm, 'e> {
-    /// By entries of four bytes.
+    /// A walk over entries of four bytes.
     Narrow(Imports<'a, 'm, 'e, u32>),
-    /// By entries of eight bytes.
+    /// A walk over entries of eight bytes.
     Wide(Imports<'a, 'm, 'e, u64>),
 }
 
 impl<'a, 'm, 'e> FileImports<'a, 'm, 'e> {
-    /// Where the walk is: what is still to come is what [`Layout::imports_at`](crate::Layout::imports_at)
-    /// gives at this cursor.
+    /// Where the walk is. [`Layout::imports_at`](crate::Layout::imports_at) yields at this cursor
+    /// what this walk has yet to yield.
     pub fn cursor(&self) -> ImportCursor
         ensures left { (m : MapOfAddresses) (magic : ℕ) (bytes : List ℕ)
             → IsImportWalk m magic bytes self.now
@@ -47,10 +47,12 @@ impl<'a, 'm, 'e> FileImports<'a, 'm, 'e> {
         }
     }
 
-    /// The next import within a limit of steps, if there is one, as
-    /// [`Imports::next_within`](crate::import::Imports::next_within): each looks at a slot of a
-    /// table or at a record of the directory. `None` is the end where the
-    /// [`cursor`](FileImports::cursor) is; else the limit has run out.
+    /// The next import within a budget of steps, as
+    /// [`Imports::next_within`](crate::import::Imports::next_within) returns it. Each step looks at
+    /// one slot of a table or one import descriptor of the directory.
+    ///
+    /// `None` means one of two things. If the [`cursor`](FileImports::cursor) is at the end, so is
+    /// the walk. Else the budget has run out.
     #[inline(always)]
     #[tactic(auto, using(crate::proofs::ImportStarts::narrow_within, crate::proofs::ImportStarts::wide_within))]
     pub fn next_within(
@@ -66,10 +68,10 @@ impl<'a, 'm, 'e> FileImports<'a, 'm, 'e> {
     }
 
     /// Whether one of the imports that are still to come passes a test. The walk goes on after the
-    /// first that does, as a later one may be refused.
+    /// first that does, because a later one may be refused.
     ///
     /// # Errors
-    /// In strict mode as the walk, at its end.
+    /// In strict mode the error that ends the walk, if one does.
     pub fn any_import<F: Fn(&WalkedImport<'a>) -> bool>(self, test: F) -> ResultOf<'e, bool>
         requires { F.IsAlwaysCallable test }
         ensures { (p : NumberedImport → Bool) → IsTest walked_value (FnReturnsAt F.Fn test) p
@@ -81,11 +83,11 @@ impl<'a, 'm, 'e> FileImports<'a, 'm, 'e> {
         Ok(found.is_some())
     }
 
-    /// How many of the imports that are still to come pass a test, at most `usize::MAX`, since few
-    /// bytes can list very many.
+    /// How many of the imports that are still to come pass a test. The count stops at `usize::MAX`,
+    /// because few bytes can list very many imports.
     ///
     /// # Errors
-    /// In strict mode as the walk, at its end.
+    /// In strict mode the error that ends the walk, if one does.
     pub fn count_imports<F: Fn(&WalkedImport<'a>) -> bool>(self, test: F) -> ResultOf<'e, usize>
         requires { F.IsAlwaysCallable test }
         ensures { (p : NumberedImport → Bool) → IsTest walked_value (FnReturnsAt F.Fn test) p
@@ -103,11 +105,11 @@ impl<'a, 'm, 'e> FileImports<'a, 'm, 'e> {
         Ok(count)
     }
 
-    /// The first of the imports still to come that passes a test; `None` where none does. The walk
-    /// goes on after it, as a later one may be refused.
+    /// The first of the imports still to come that passes a test, or `None` if none does. The walk
+    /// goes on after it, because a later one may be refused.
     ///
     /// # Errors
-    /// In strict mode as the walk, at its end.
+    /// In strict mode the error that ends the walk, if one does.
     pub fn find_import<F: Fn(&WalkedImport<'a>) -> bool>(
         self,
         test: F,
@@ -128,7 +130,7 @@ impl<'a, 'm, 'e> FileImports<'a, 'm, 'e> {
         Ok(found)
     }
 
-    /// A finder by the map that the walk goes by, with what the walk has at hand.
+    /// A copy of the walk's finder of file offsets, with the addresses that it has at hand.
     #[inline(always)]
     pub fn finder(&self) -> Finder<'m>
         ensures { map_of result ≡ file_map self.now }

@@ -1,4 +1,4 @@
-//! The libraries of a file, one by one.
+//! A walk over the libraries of a file.
 
 ghost use Rattle.std.specs.Prelude.{IfOk};
 ghost use Rattle.goblin_base.specs.Reading.{Reads};
@@ -12,9 +12,13 @@ use crate::whole::Layout;
 use goblin_base::ResultOf;
 
 impl<'a> Layout<'a> {
-    /// The libraries that the import directory leads to, one for each of its records, also those
-    /// that permissive mode leaves out of the imports; none where the file has no such directory,
-    /// or imports are not asked for. [`Layout::imports_at`] gives the imports of each.
+    /// A walk over the libraries that the import directory lists, one for each import descriptor.
+    /// It also yields the libraries that permissive mode leaves out of the imports, with one
+    /// exception: in permissive mode a directory at file offset 0 yields none. The walk is empty if
+    /// the file has no import directory, or if the options do not ask for imports. In permissive
+    /// mode it is also empty if the directory's address has no file offset.
+    ///
+    /// [`Layout::imports_at`] gives the imports of each library.
     ///
     /// # Errors
     /// As [`Layout::imports_begin`].
@@ -30,8 +34,8 @@ impl<'a> Layout<'a> {
         Ok(self.libraries_at(at))
     }
 
-    /// The libraries whose records come next at a cursor, as [`Libraries::cursor`] or
-    /// [`FileImports::cursor`](crate::FileImports::cursor) gave it.
+    /// A walk over the libraries whose import descriptors come next at a cursor, which
+    /// [`Libraries::cursor`] or [`FileImports::cursor`](crate::FileImports::cursor) returned.
     #[tactic(auto, unfolding(crate::specs::Whole::entry_format))]
     pub fn libraries_at<'m>(&'m self, at: ImportCursor) -> Libraries<'a, 'm>
         ensures { AreLibrariesAt (layout_map self.now) (entry_format (layout_places self.now).magic)

@@ -1,4 +1,5 @@
-//! Where the tables of a file lie, and the one that lists and walks both have as its bytes.
+//! Where the tables of a file lie. Base relocations are read here, too, because lists and walks
+//! both have them as the bytes of their directory.
 
 ghost use Rattle.std.specs.Prelude.{◌==◌, ◌<◌, ◌≡◌, map};
 ghost use Rattle.goblin_base.specs.Reading.{Reads};
@@ -17,7 +18,7 @@ use goblin_pe_sect::data_directories::{DataDirectories, NUM_DATA_DIRECTORIES};
 use goblin_pe_sect::relocation::RelocationData;
 use goblin_pe_sect::{DataDirectory, ParseOptions};
 
-// What becomes of a table that was asked for. Permissive mode passes over each refusal but
+// A table that was asked for, as a part. Permissive mode passes over every refusal except
 // `Error::Memory`.
 pub(super) fn part_of<'e, T: Drop>(
     table: ResultOf<'e, T>,
@@ -46,16 +47,17 @@ pub(super) const BASE_RELOCATION_TABLE: usize = 5;
 /// Source: PE Format, "Optional Header (Image Only)".
 #[derive(Debug, PartialEq, Copy, Clone)]
 pub struct Places {
-    /// The magic: by 0x10B the entries of import tables have four bytes, else eight.
+    /// The magic of the optional header. Entries of the import tables have four bytes if it is
+    /// 0x10B, that of PE32, else eight.
     pub magic: u16,
-    /// The file alignment of the sections' raw data, in bytes; 0 without an optional header: then
-    /// no section maps an address.
+    /// The file alignment of the sections' raw data, in bytes. Without an optional header it is 0,
+    /// and then no section maps an address.
     pub file_alignment: u32,
-    /// The data directories by their indexes; zeros where there is none.
+    /// The data directories by index. A missing one is all zeros.
     pub directories: [DataDirectory; NUM_DATA_DIRECTORIES],
 }
 
-// The directory of an entry, zeros where there is none.
+// The directory of an entry, or zeros if there is none.
 fn directory_or_zeros(entry: Option<(usize, DataDirectory)>) -> DataDirectory
     ensures { result ≡ directory_or_zeros entry }
 {
@@ -65,7 +67,7 @@ fn directory_or_zeros(entry: Option<(usize, DataDirectory)>) -> DataDirectory
     }
 }
 
-// The directories of these entries, zeros where there is none.
+// The directories of these entries, with zeros for each that is missing.
 fn directories_of(entries: DataDirectories) -> [DataDirectory; NUM_DATA_DIRECTORIES]
     ensures { result ≡ map directory_or_zeros entries.data_directories }
 {
@@ -76,7 +78,7 @@ fn directories_of(entries: DataDirectories) -> [DataDirectory; NUM_DATA_DIRECTOR
     directories
 }
 
-/// How many bytes the headers of an image have, by its optional header; 0 without one.
+/// The size of an image's headers in bytes, from its optional header; 0 without one.
 ///
 /// Source: PE Format, "Optional Header Windows-Specific Fields (Image Only)".
 pub fn size_of_headers(header: &Option<OptionalHeader>) -> u32
@@ -88,7 +90,7 @@ pub fn size_of_headers(header: &Option<OptionalHeader>) -> u32
     }
 }
 
-// The file alignment of the sections' raw data, by an optional header; 0 without one.
+// The file alignment of the sections' raw data in bytes, from an optional header; 0 without one.
 #[tactic(auto, unfolding(crate::specs::Whole::places_in))]
 pub(super) fn file_alignment(header: &Option<OptionalHeader>) -> u32
     ensures { result ≡ (places_in header.now).file_alignment }
@@ -100,7 +102,7 @@ pub(super) fn file_alignment(header: &Option<OptionalHeader>) -> u32
 }
 
 impl Places {
-    /// Those that an optional header says; without one there are none.
+    /// The places that an optional header gives. Without one there are no tables.
     #[tactic(auto, unfolding(crate::specs::Whole::places_in))]
     pub fn of(header: &Option<OptionalHeader>) -> Places
         ensures { table_places result ≡ places_in header.now }
@@ -119,7 +121,7 @@ impl Places {
         }
     }
 
-    /// The directory at an index, if there is one.
+    /// The data directory at an index, or `None` if it is all zeros.
     #[tactic(auto, unfolding(crate::specs::Whole::directory_at))]
     pub fn directory(&self, index: usize) -> Option<DataDirectory>
         requires { index < 16 }
@@ -139,7 +141,7 @@ impl Places {
         self.magic == MAGIC_32
     }
 
-    // The base relocations.
+    // The base relocations, as a part.
     #[tactic(auto, unfolding(crate::specs::Whole::relocation_part))]
     pub(super) fn relocations<'a>(
         &self,

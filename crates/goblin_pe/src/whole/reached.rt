@@ -1,4 +1,4 @@
-//! What the tables of a file reach, marked.
+//! Marks the positions on which the tables of a file depend.
 
 ghost use Rattle.std.specs.Prelude.{◌≡◌};
 ghost use Rattle.goblin_base.specs.Marks.{marked};

@@ -28,24 +28,24 @@ use std::iter::FusedIterator;
 mod left_out;
 mod tested;
 
-/// An export, as a walk yields it: without memory.
+/// An export, as a walk yields it. It takes no memory.
 #[derive(Debug, Drop)]
 pub struct WalkedExport<'a> {
-    /// The index of its name pointer: what imports by name give as a hint.
+    /// The index of its name pointer. Imports by name give such an index as a hint.
     pub hint: usize,
-    /// Its own ordinal: the index of its address, and the ordinal base added.
+    /// Its ordinal: the index of its address plus the ordinal base.
     pub ordinal: usize,
-    /// The address of its name, as its name pointer says, also where no name can be read.
+    /// The RVA of its name, which is its name pointer, even if no name can be read there.
     pub name_rva: u32,
     /// The export itself.
     pub export: Export<'a>,
 }
 
-/// The exports of an image, in the order of their name pointers, without memory: those that
-/// [`Export::parse_by`] lists for what
+/// A walk over the exports of an image, in the order of their name pointers. It takes no memory. It
+/// yields the exports that [`Export::parse_by`] lists for what
 /// [`ExportData::parse_by`](crate::export::ExportData::parse_by) reads.
 ///
-/// The three tables are read where they stand in the file, one name pointer at a time. Once the
+/// The three tables are read from the bytes of the file, one name pointer at a time. Once the
 /// record that leads to them is read, nothing is refused.
 #[derive(Drop)]
 pub struct Exports<'a, 'm> {
@@ -57,7 +57,7 @@ pub struct Exports<'a, 'm> {
 }
 
 impl<'a, 'm> Exports<'a, 'm> {
-    /// The exports of an export directory. Both modes give the same answer.
+    /// A walk over the exports of an export directory. Both modes give the same answer.
     ///
     /// # Errors
     /// As [`ExportData::parse_by`](crate::export::ExportData::parse_by), but never
@@ -80,8 +80,8 @@ impl<'a, 'm> Exports<'a, 'm> {
         Exports::by(bytes, directory, Finder::of(address_map))
     }
 
-    /// The exports of an export directory, as [`Exports::of`], by a finder: what it has at hand
-    /// takes no search.
+    /// A walk over the exports of an export directory, as [`Exports::of`], with a finder. An
+    /// address that the finder has at hand takes no search.
     ///
     /// # Errors
     /// As [`Exports::of`].
@@ -110,14 +110,14 @@ impl<'a, 'm> Exports<'a, 'm> {
         })
     }
 
-    /// What an export directory leads to besides the names of exports: the record, the library's
-    /// name and the address table, by which a loader finds an export by its ordinal. The tables of
-    /// the names are not looked at, so a walk over it has no exports; how many name pointers the
-    /// record counts does not matter. Where [`Exports::of`] reads the exports, the addresses are
-    /// theirs. Both modes give the same answer.
+    /// The export directory without the names of the exports: its record, the library's name and
+    /// the address table, in which a loader finds an export by its ordinal. The tables of the names
+    /// are not looked at. So the walk yields no exports, and the number of name pointers does not
+    /// matter. If [`Exports::of`] reads the exports, the addresses are theirs. Both modes give the
+    /// same answer.
     ///
     /// # Errors
-    /// As [`Exports::of`], but never for the number of name pointers.
+    /// As [`Exports::of`], but never because of the number of name pointers.
     #[tactic(auto, using(crate::proofs::ExportAddresses::repeats_addresses))]
     pub fn addresses_of(
         bytes: &'a [u8],
@@ -140,8 +140,8 @@ impl<'a, 'm> Exports<'a, 'm> {
         })
     }
 
-    /// The exports from a position on, as [`Exports::position`] gave it: what was still to come
-    /// there.
+    /// The walk over the exports from a position on. At a position that [`Exports::position`]
+    /// returned, it yields what that walk had yet to yield.
     pub fn from_position(self, position: usize) -> Exports<'a, 'm>
         ensures left { exports_left result ≡ exports_at self.entry position }
         ensures at { exports_position result ≡ position }
@@ -155,29 +155,30 @@ impl<'a, 'm> Exports<'a, 'm> {
         }
     }
 
-    /// Where the walk is, the index of the name pointer that is read next: after an export its hint
-    /// and one. What is still to come is what comes from it on.
+    /// Where the walk is: the index of the name pointer that is read next. After an export, that is
+    /// its hint plus one. A walk from this position on yields what this one has yet to yield.
     pub fn position(&self) -> usize
         ensures { result ≡ exports_position self.now }
     {
         self.next
     }
 
-    /// The library's own name, as it was linked; `None` if there is no text at its address.
+    /// The library's own name, as the linker stored it, or `None` if there is no text at its
+    /// address.
     pub fn name(&self) -> Option<&'a str>
         ensures { option_map (λ s. s.now) result ≡ (walked_tables self.now).name }
     {
         self.tables.name
     }
 
-    /// The record itself, as it stands in the file.
+    /// The record itself, as stored in the file.
     pub fn directory_table(&self) -> &ExportDirectoryTable
         ensures { result.now ≡ (walked_tables self.now).export_directory_table }
     {
         &self.tables.export_directory_table
     }
 
-    /// How many name pointers there are: those that are whole.
+    /// How many whole name pointers the file has.
     #[tactic(auto, using(crate::proofs::WholeEntries::entry_count))]
     pub fn pointer_count(&self) -> usize
         ensures { result ≡ pointer_count self.now }
@@ -185,23 +186,25 @@ impl<'a, 'm> Exports<'a, 'm> {
         self.tables.pointers()
     }
 
-    /// How many entries the export address table has: those that are whole.
+    /// How many whole entries of the export address table the file has.
     pub fn address_count(&self) -> usize
         ensures { result ≡ length (walked_tables self.now).export_address_table }
     {
         self.tables.address_count()
     }
 
-    /// The entry of the export address table at an index, where there is one. The index and the
-    /// ordinal base are the ordinal that it stands for.
+    /// The entry of the export address table at an index, if there is one. The index plus the
+    /// ordinal base is the ordinal of the entry.
     pub fn address(&self, index: usize) -> Option<ExportAddressTableEntry>
         ensures { result ≡ slice_get (walked_tables self.now).export_address_table index }
     {
         self.tables.address(index)
     }
 
-    /// The next export, if its name pointer has an index below `end`. Where there is none, the walk
-    /// is at `end`, past which it does not look, or where the name pointers end before.
+    /// The next export, if its name pointer has an index below `end`. The walk does not look at
+    /// name pointers from `end` on. If there is no such export, the walk moves to `end`, or to the
+    /// end of the name pointers if that comes first; a walk that is already past it stays where it
+    /// is.
     #[inline(always)]
     pub fn next_before(&mut self, end: usize) -> Option<WalkedExport<'a>>
         ensures { GivesExportBefore end self.old result self.new }
@@ -217,8 +220,8 @@ impl<'a, 'm> Exports<'a, 'm> {
         None
     }
 
-    // An export with its numbers: the index of its name pointer, this itself, and its entry of the
-    // ordinal table with the base added.
+    // An export with its numbers: the index of its name pointer, the name pointer itself, and its
+    // entry of the ordinal table plus the ordinal base.
     #[inline(always)]
     fn numbered(
         tables: &TablesInFile<'a>,
@@ -239,7 +242,7 @@ impl<'a, 'm> Exports<'a, 'm> {
         }
     }
 
-    // The export of the name pointer at an index, where that has one.
+    // The export of the name pointer at an index, if it has one.
     #[inline(always)]
     fn export_at(
         bytes: &'a [u8],
@@ -257,8 +260,8 @@ impl<'a, 'm> Exports<'a, 'm> {
         Some(Exports::numbered(tables, index, pointer, ordinal, export))
     }
 
-    // The same, where it is plain, as `Export::plain_of_address` says; else `None`, which says
-    // nothing of it.
+    // The same for an export that is plain, as `Export::plain_of_address` says. `None` says nothing
+    // about the export.
     #[inline(always)]
     #[tactic(auto, unfolding(crate::specs::ExportReadings::numbered_row))]
     fn plain_at(
@@ -282,10 +285,10 @@ impl<'a, 'm> Exports<'a, 'm> {
         Some(Exports::numbered(tables, index, pointer, ordinal, export))
     }
 
-    /// The next export, where it is plain: no forwarder, with an address and a name that lie among
-    /// those that the walk keeps, the name ASCII. Else `None`, which says nothing: the walk stays,
-    /// and `next` goes on. All that it calls goes in line, so a loop of such steps keeps its values
-    /// in registers: the rare cases are for `next`.
+    /// The next export, if it is plain: it is not a forwarder, its RVA and its name lie among those
+    /// that the walk keeps, and its name is ASCII. `None` says nothing about what comes next: the
+    /// walk stays where it is; call `next` to go on. Every call in a step is inlined, so a loop
+    /// over such steps keeps its values in registers; the rare cases are left to `next`.
     #[inline(always)]
     #[tactic(auto, using(crate::proofs::ExportWalk::from_export))]
     pub fn next_plain(&mut self) -> Option<WalkedExport<'a>>
@@ -321,7 +324,7 @@ impl<'a, 'm> Iterator for Exports<'a, 'm> {
         self.next_before(end)
     }
 
-    /// No more come than there are name pointers left.
+    /// At most as many exports come as there are name pointers left.
     #[tactic(auto, using(crate::proofs::ExportWalk::from_most, crate::proofs::WholeEntries::entry_count))]
     fn size_hint(&self) -> (usize, Option<usize>)
         ensures lower { IsWithinCount result.0 (at_most (exports_bound self.now)) }

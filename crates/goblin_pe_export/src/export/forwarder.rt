@@ -1,4 +1,4 @@
-//! Forwarders: exports that stand for those of another library.
+//! Forwarders: exports that refer to an export of another library.
 
 ghost use Rattle.std.specs.Prelude.{◌≡◌, ◌↔◌, List, ℕ, Some};
 ghost use Rattle.goblin_base.specs.Answers.{Answers};
@@ -11,7 +11,7 @@ ghost use Rattle.goblin_pe_export.specs.Forwarders.{forwarder_of, forwarder_valu
 
 use goblin_base::{Cause, Endian, Error, Result, TryFromCtx, no_text, pread_str, pread_str_within};
 
-/// What an export that is a forwarder stands for: an export of another library.
+/// What an export that is a forwarder refers to: an export of another library.
 ///
 /// Source: PE Format, "Export Address Table". The text is the library's name, a dot, and the
 /// export's name or `#` and its ordinal, as in `MYDLL.expfunc` and `MYDLL.#27`.
@@ -21,19 +21,19 @@ pub enum Reexport<'a> {
     DLLName {
         /// The export's name.
         export: &'a str,
-        /// The library, without its ending. It may be empty.
+        /// The library's name, without its file extension. It may be empty.
         lib: &'a str,
     },
     /// An export by its ordinal.
     DLLOrdinal {
         /// The export's ordinal, below 2^32.
         ordinal: usize,
-        /// The library, without its ending. It may be empty.
+        /// The library's name, without its file extension. It may be empty.
         lib: &'a str,
     },
 }
 
-// The ordinal that a text writes: an optional `+` and decimal digits.
+// The ordinal in a text: an optional `+` and decimal digits.
 #[tactic(auto, using(crate::proofs::Grammar::parsed_ordinal))]
 fn ordinal_of(text: &str) -> Option<u32>
     ensures { result ≡ ordinal_of text.now }
@@ -41,7 +41,7 @@ fn ordinal_of(text: &str) -> Option<u32>
     text.parse::<u32>().ok()
 }
 
-// Whether a text has more bytes than the limit, where there is one.
+// Whether a text has more bytes than the limit, if there is one.
 #[inline(always)]
 fn is_longer(text: &str, longest: Option<u32>) -> bool
     ensures { result ≡ is_longer longest text.now }
@@ -53,7 +53,7 @@ fn is_longer(text: &str, longest: Option<u32>) -> bool
 }
 
 impl<'a> Reexport<'a> {
-    // What a forwarder's text says; or, of a longer one, this front of it.
+    // The forwarder in a text, which is the front of a longer text if `is_longer`.
     fn of_text(text: &'a str, is_longer: bool) -> Result<Reexport<'a>>
         ensures { Answers forwarder_value result (forwarder_in_text is_longer text.now)
             (IsForwarderFault text.now) }
@@ -83,14 +83,18 @@ impl<'a> Reexport<'a> {
         Ok(Reexport::DLLName { export: tail, lib })
     }
 
-    /// Reads the forwarder whose text is at the file offset `offset`, as [`Reexport::parse`]; where
-    /// there is a limit, of a text with more than `longest` bytes the front, as
-    /// [`pread_str_within`] gives it. Of such a text the library is what stands before its first
-    /// dot, or all where there is none, and what follows is a name, whatever it is: it may be
-    /// empty, or begin with `#`. Library, dot and name are then longer than `longest` bytes.
+    /// Reads the forwarder whose text is at the file offset `offset`, as [`Reexport::parse`]. But a
+    /// text with more than `longest` bytes is cut, as [`pread_str_within`] cuts it; `None` is no
+    /// limit.
+    ///
+    /// In a text that is cut, the library's name is everything before the first dot, or all if
+    /// there is no dot. What follows the dot counts as a name, even if it is empty or begins with
+    /// `#`, because an ordinal that is cut would be another ordinal. Library, dot and name together
+    /// are then longer than `longest` bytes.
     ///
     /// # Errors
-    /// As [`Reexport::parse`], of a text that is not longer.
+    /// As [`Reexport::parse`] for a text that is not cut; [`Error::Read`] if a text is not UTF-8 up
+    /// to the cut.
     pub fn parse_within(
         bytes: &'a [u8],
         offset: usize,
@@ -102,14 +106,14 @@ impl<'a> Reexport<'a> {
         Reexport::of_text(text, is_longer(text, longest))
     }
 
-    /// Reads the forwarder whose text is at the file offset `offset`. The library ends at the first
-    /// dot. What follows the dot is the export's name, unless it begins with `#`: then an optional
-    /// `+` and the decimal digits of the ordinal follow.
+    /// Reads the forwarder whose text is at the file offset `offset`. The library's name ends at
+    /// the first dot. What follows the dot is the export's name, unless it begins with `#`. Then an
+    /// optional `+` and the decimal digits of the ordinal follow the `#`.
     ///
     /// # Errors
-    /// [`Error::Read`] if there is no text; [`Error::Malformed`]: [`Cause::Forwarder`] if it has no
-    /// dot with something after it, [`Cause::ForwarderOrdinal`] if no ordinal below 2^32 follows
-    /// the `#`.
+    /// [`Error::Read`] if there is no text; [`Error::Malformed`] with [`Cause::Forwarder`] if the
+    /// text has no dot with something after it, or with [`Cause::ForwarderOrdinal`] if no ordinal
+    /// below 2^32 follows the `#`.
     #[tactic(auto, using(crate::proofs::Grammar::by_grammar))]
     pub fn parse(bytes: &'a [u8], offset: usize) -> Result<Reexport<'a>>
         ensures value { Reads forwarder_value result (forwarder_at offset) bytes.now }
@@ -131,8 +135,9 @@ impl<'a> TryFromCtx<'a> for Reexport<'a> {
 
     ghost within = { forwarder_in-within };
 
-    /// Reads the forwarder at the front of `bytes`. It takes its text and the NUL after it, if
-    /// there is one. The byte order makes no difference.
+    /// Reads the forwarder at the front of `bytes`, and returns the pair (forwarder, its size in
+    /// bytes). The size is that of the text, and of the NUL after it if there is one. The byte
+    /// order makes no difference.
     ///
     /// # Errors
     /// As [`Reexport::parse`].

@@ -29,10 +29,10 @@ pub(crate) const SIZEOF_NAME_POINTER: usize = 4;
 
 pub(crate) const SIZEOF_ORDINAL: usize = 2;
 
-/// The record that an image's exports begin with.
+/// The record with which the exports of an image begin.
 ///
 /// Source: PE Format, "Export Directory Table". Numbers are as stored; the record has 40 bytes, and
-/// `at` gives a field's offset in it. Addresses are relative to the image's base.
+/// `at` gives a field's offset in it. An RVA is an address relative to the image's base.
 #[repr(C)]
 #[derive(Debug, PartialEq, Copy, Clone, Default)]
 pub struct ExportDirectoryTable {
@@ -40,24 +40,25 @@ pub struct ExportDirectoryTable {
     pub export_flags: u32,
     /// When the exports were made, in seconds since the start of 1970, at 4.
     pub time_date_stamp: u32,
-    /// The major version, at 8. It is the maker's own.
+    /// The major version, at 8. The maker of the image chooses it.
     pub major_version: u16,
     /// The minor version, at 10.
     pub minor_version: u16,
-    /// The address of the library's name, at 12.
+    /// The RVA of the library's name, at 12.
     pub name_rva: u32,
-    /// The ordinal of the first entry of the address table, at 16; mostly 1. It is added to an
-    /// index to make an ordinal, and counts in no table.
+    /// The ordinal of the first entry of the address table, at 16; mostly 1. An ordinal is an index
+    /// in the address table plus this base. The entries of the ordinal table do not include the
+    /// base.
     pub ordinal_base: u32,
     /// How many entries the address table has, at 20.
     pub address_table_entries: u32,
-    /// How many entries the name pointer table has, and as many has the ordinal table, at 24.
+    /// How many entries the name pointer table and the ordinal table each have, at 24.
     pub number_of_name_pointers: u32,
-    /// The address of the address table, at 28.
+    /// The RVA of the address table, at 28.
     pub export_address_table_rva: u32,
-    /// The address of the name pointer table, at 32.
+    /// The RVA of the name pointer table, at 32.
     pub name_pointer_rva: u32,
-    /// The address of the ordinal table, at 36.
+    /// The RVA of the ordinal table, at 36.
     pub ordinal_table_rva: u32,
 }
 
@@ -148,30 +149,30 @@ impl ExportDirectoryTable {
 /// Source: PE Format, "Export Address Table".
 #[derive(Debug, PartialEq, Copy, Clone)]
 pub enum ExportAddressTableEntry {
-    /// The address of an export in this image, relative to its base. 0 stands for an ordinal that
-    /// is not used.
+    /// The RVA of an export in this image. 0 means that the ordinal is not used.
     ExportRVA(u32),
-    /// The address of a forwarder's text, which lies in the export directory.
+    /// The RVA of a forwarder's text, which lies in the export directory.
     ForwarderRVA(u32),
 }
 
-/// The exports' addresses, which ordinals number.
+/// The exports' addresses. The ordinal of an export is its index here plus the ordinal base.
 ///
 /// Source: PE Format, "Export Address Table".
 pub type ExportAddressTable = Table<ExportAddressTableEntry>;
 
-/// The addresses of the exports' names.
+/// The RVAs of the exports' names.
 ///
 /// Source: PE Format, "Export Name Pointer Table".
 pub type ExportNamePointerTable = Table<u32>;
 
-/// For each name pointer the index of its address in the address table.
+/// For each name pointer, the index of the export's address in the address table.
 ///
 /// Source: PE Format, "Export Ordinal Table".
 pub type ExportOrdinalTable = Table<u16>;
 
 impl ExportAddressTableEntry {
-    // What an address stands for under an export directory.
+    // The entry for an address: a forwarder if the address lies in the export directory, else an
+    // export.
     #[tactic(auto, unfolding(crate::specs::ExportRecords::address_entry))]
     pub(super) fn of_rva(directory: DataDirectory, rva: u32) -> ExportAddressTableEntry
         ensures { result ≡ address_entry directory rva }
@@ -186,8 +187,8 @@ impl ExportAddressTableEntry {
     }
 }
 
-// The bytes of a table of `count` entries of `width` bytes, up to the first that is not whole;
-// without an offset it has none.
+// The bytes of a table of `count` entries of `width` bytes, up to the first incomplete entry.
+// Without an offset there are none.
 #[tactic(auto, using(crate::proofs::WholeEntries::entries_inside))]
 pub(super) fn whole_entries(bytes: &[u8], offset: Option<usize>, width: usize, count: u32) -> &[u8]
     requires { 0 < width }
@@ -204,7 +205,7 @@ pub(super) fn whole_entries(bytes: &[u8], offset: Option<usize>, width: usize, c
     &bytes[begin..begin + width * whole]
 }
 
-// How many whole entries of `width` bytes the file has from here on, of `count`.
+// How many of `count` entries of `width` bytes, from `begin` on, the file has whole.
 pub(crate) fn room(bytes: &[u8], begin: usize, width: usize, count: u32) -> usize
     requires { 0 < width }
     ensures { result ≡ min ((length bytes.now - begin) / width) count }

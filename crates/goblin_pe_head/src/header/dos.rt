@@ -20,7 +20,7 @@ pub const DOS_MAGIC: u16 = 0x5A4D;
 pub const PE_MAGIC: u32 = 0x0000_4550;
 /// The size of the signature of a PE header, in bytes.
 pub const SIZEOF_PE_MAGIC: usize = 4;
-/// The offset in the DOS header of the file offset of the PE signature.
+/// The offset, in the DOS header, of the field with the file offset of the PE signature.
 pub const PE_POINTER_OFFSET: u32 = 0x3C;
 
 const _: () = prove!(
@@ -48,9 +48,9 @@ pub struct DosHeader {
     pub relocations: u16,
     /// The size of the header in paragraphs of 16 bytes, at 0x08.
     pub size_of_header_in_paragraphs: u16,
-    /// The least memory that the program needs after it, in paragraphs, at 0x0A.
+    /// The least memory that the program needs after its own, in paragraphs, at 0x0A.
     pub minimum_extra_paragraphs_needed: u16,
-    /// The most memory that the program asks for after it, in paragraphs, at 0x0C.
+    /// The most memory that the program asks for after its own, in paragraphs, at 0x0C.
     pub maximum_extra_paragraphs_needed: u16,
     /// The stack segment at the start, relative to the program, at 0x0E.
     pub initial_relative_ss: u16,
@@ -68,20 +68,19 @@ pub struct DosHeader {
     pub overlay_number: u16,
     /// Reserved, at 0x1C.
     pub reserved: [u16; 4],
-    /// The maker's identifier, at 0x24.
+    /// The identifier of the maker (OEM), at 0x24.
     pub oem_id: u16,
-    /// What the maker says, at 0x26.
+    /// The information of the maker (OEM), at 0x26.
     pub oem_info: u16,
     /// Reserved, at 0x28.
     pub reserved2: [u16; 10],
-    /// The file offset of the PE signature, at 0x3C. It may lie anywhere in the file, even inside
-    /// the DOS header, and need not be aligned; a whole header is read in strict mode only where
-    /// this is at least 0x40.
+    /// The file offset of the PE signature, at 0x3C. The signature may lie anywhere in the file,
+    /// even inside the DOS header, and need not be aligned. Strict mode reads a whole header only
+    /// if this offset is at least 0x40.
     pub pe_pointer: u32,
 }
 
 impl DosHeader {
-    // The DOS header in a record's bytes.
     pub(crate) fn in_record(bytes: &[u8], endian: Endian) -> DosHeader
         requires { length bytes.now ≡ 64 }
         ensures { result ≡ dos_record endian bytes.now }
@@ -125,7 +124,6 @@ impl DosHeader {
         }
     }
 
-    // The record's bytes.
     #[tactic(auto, using(crate::proofs::DosHeaderRoundTrip::dos_again))]
     pub(crate) fn to_bytes(&self, endian: Endian) -> [u8; SIZEOF_DOS_HEADER]
         ensures made { result ≡ encoding endian (dos_fields self.now) }
@@ -167,13 +165,14 @@ impl DosHeader {
         encode_fields(&fields, endian)
     }
 
-    /// Reads the DOS header of a PE file, which begins with the DOS signature and points to the PE
-    /// signature.
+    /// Reads the DOS header of a PE file. The file must begin with the DOS signature, and the
+    /// header must point to the PE signature.
     ///
     /// # Errors
     /// [`Error::Malformed`] with [`Cause::NoDosSignature`] or [`Cause::DosMagic`] if the file does
-    /// not begin with the DOS signature, [`Cause::NoPePointer`] if it is shorter than the header,
-    /// [`Cause::NoPeSignature`] or [`Cause::PeMagic`] if the PE signature is not at the pointer.
+    /// not begin with the DOS signature, with [`Cause::NoPePointer`] if the file is shorter than
+    /// the header, or with [`Cause::NoPeSignature`] or [`Cause::PeMagic`] if the PE signature is
+    /// not at the pointer.
     #[tactic(auto, unfolding(crate::specs::HeaderReadings::dos_header))]
     pub fn parse(bytes: &[u8]) -> Result<DosHeader>
         ensures value { Reads (λ h. h) result reading.dos_header bytes.now }

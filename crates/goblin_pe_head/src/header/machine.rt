@@ -1,6 +1,6 @@
 //! The machines that a COFF header can name.
 //!
-//! Source: PE Format, "Machine Types", and of some the Windows headers.
+//! Source: PE Format, "Machine Types", and for some the Windows headers.
 
 /// The machine: any machine.
 pub const COFF_MACHINE_UNKNOWN: u16 = 0x0;

@@ -1,4 +1,4 @@
-//! The parts of a file's header, each by itself.
+//! The parts of a file's header, each read by itself.
 
 ghost use Rattle.std.specs.Prelude.{◌≡◌, ◌≤◌, ◌-◌, ◌/◌, IfOk, length, min, option_map, unwrap_or};
 ghost use Rattle.goblin_base.specs.Reading.{Reads};
@@ -19,11 +19,12 @@ use goblin_pe_sect::DataDirectories;
 use goblin_pe_sect::data_directories::NUM_DATA_DIRECTORIES;
 use goblin_pe_sect::section_table::{SIZEOF_SECTION_TABLE, SectionRecords};
 
-/// The parts of a file's header, and its section records, each read by itself: what is there of a
-/// file whose header is refused as a whole.
+/// The parts of a file's header, and its section headers, each read by itself. They show what is
+/// there in a file whose header is refused as a whole.
 ///
-/// A part is refused with its own cause, or with that of a part which alone tells where it lies: all
-/// parts with that of the DOS header, and those after the COFF header with that.
+/// A part that is refused has its own cause, or the cause of a part that it depends on. All parts
+/// depend on the DOS header. The parts after the COFF header depend on that, too. The data
+/// directories also depend on the Windows fields.
 ///
 /// Source: PE Format, "File Headers".
 #[derive(Drop)]
@@ -32,22 +33,24 @@ pub struct HeaderParts<'a> {
     pub dos_header: Result<DosHeader>,
     /// The COFF header.
     pub coff_header: Result<CoffHeader>,
-    /// The standard fields of the optional header; `None` if the COFF header gives it no size.
-    /// Without a known magic they are refused, and so are the fields and directories after them.
+    /// The standard fields of the optional header, or `None` if the COFF header says that its size
+    /// is 0. Without a known magic they are refused, and so are the Windows fields and the data
+    /// directories.
     pub standard_fields: Result<Option<StandardFields>>,
-    /// The Windows fields after them.
+    /// The Windows fields, which follow the standard fields; `None` under the same condition.
     pub windows_fields: Result<Option<WindowsFields>>,
-    /// The data directories after these: the first sixteen of however many the last field says.
-    /// The offsets of the entries count from the front of the optional header.
+    /// The data directories, which follow the Windows fields; `None` under the same condition. If
+    /// the last Windows field counts more than sixteen, these are the first sixteen. The offset in
+    /// an entry counts from the front of the optional header.
     pub data_directories: Result<Option<DataDirectories>>,
-    /// The file offset of the section table; `None` where the COFF header is refused.
+    /// The file offset of the section table, or `None` if the COFF header is refused.
     pub section_table: Option<usize>,
-    /// The records of the sections: as many as the COFF header says, or as the file has, if these
-    /// are fewer. No name is tested.
+    /// The section headers: as many as the COFF header counts, or as the file has, if it has fewer.
+    /// No name is tested.
     pub section_records: Result<SectionRecords<'a>>,
 }
 
-// The COFF header, and the offset behind it.
+// The file offset just past the COFF header, and the COFF header.
 #[tactic(auto, unfolding(crate::specs::HeaderParts::placed_coff))]
 fn placed_coff(bytes: &[u8]) -> Result<(usize, CoffHeader)>
     ensures value { Reads (λ p. p) result reading.placed_coff bytes.now }
@@ -59,7 +62,7 @@ fn placed_coff(bytes: &[u8]) -> Result<(usize, CoffHeader)>
     Ok((offset, coff_header))
 }
 
-// The standard fields that a magic asks for.
+// The standard fields in the width that the magic gives.
 #[tactic(auto, unfolding(crate::specs::HeaderParts::standard_by))]
 fn standard_by(bytes: &[u8], magic: u16) -> Result<StandardFields>
     ensures { Reads (λ f. f) result (reading.standard_by magic) bytes.now }
@@ -79,7 +82,7 @@ fn standard_by(bytes: &[u8], magic: u16) -> Result<StandardFields>
     }
 }
 
-// The Windows fields that a magic asks for.
+// The Windows fields in the width that the magic gives.
 #[tactic(auto, unfolding(crate::specs::HeaderParts::windows_by))]
 fn windows_by(bytes: &[u8], magic: u16) -> Result<WindowsFields>
     ensures { Reads (λ f. f) result (reading.windows_by magic) bytes.now }
@@ -116,7 +119,7 @@ fn windows_front(bytes: &[u8]) -> Result<WindowsFields>
     windows_by(bytes, magic)
 }
 
-// How many bytes the standard and the Windows fields take.
+// The size of the standard and the Windows fields together, in bytes.
 fn fields_size(magic: u16) -> usize
     ensures { result ≡ reading.fields_size magic }
 {
@@ -176,8 +179,8 @@ fn data_directories(bytes: &[u8]) -> Result<Option<DataDirectories>>
     Ok(Some(directories))
 }
 
-/// The records of so many sections at the file offset `offset`. Nothing is tested but that the file
-/// has them; where there are none, the offset is not looked at.
+/// The `count` section headers at the file offset `offset`. The call tests only that the file has
+/// them. If `count` is 0, the offset does not matter.
 ///
 /// # Errors
 /// [`Error::Read`] if they run past the end of the file.
@@ -196,12 +199,13 @@ pub fn section_records_at<'a, 'e>(
     Ok(SectionRecords::of(records))
 }
 
-/// The records of a section table of so many, whatever names they have: the loader of an image
-/// looks at none. Nothing is tested but that the file has them.
+/// The `count` section headers at the file offset `offset`, whatever their names are, because the
+/// loader of an image looks at no name. The call tests only that the file has the section headers.
 ///
 /// # Errors
-/// [`Error::BufferTooShort`] of the number of sections where the whole file has no room for that
-/// many records, tested first; [`Error::Read`] if they run past the end of the file.
+/// [`Error::BufferTooShort`] with the number of sections if the whole file has no room for that
+/// many section headers, which is tested first; [`Error::Read`] if they run past the end of the
+/// file.
 pub fn unnamed_records(bytes: &[u8], offset: usize, count: u16) -> Result<SectionRecords<'_>>
     ensures { Reads recorded_sections result (unnamed_sections count offset) bytes.now }
 {
@@ -211,7 +215,7 @@ pub fn unnamed_records(bytes: &[u8], offset: usize, count: u16) -> Result<Sectio
     section_records_at(bytes, offset, count)
 }
 
-// How many of so many records at an offset the file has.
+// How many of the `count` section headers at `offset` the file has.
 fn whole_records(bytes: &[u8], offset: usize, count: u16) -> u16
     ensures { result ≡ min count ((length bytes.now - offset) / 40) }
 {
@@ -223,7 +227,7 @@ fn whole_records(bytes: &[u8], offset: usize, count: u16) -> u16
     }
 }
 
-// The section records of a file, as many as are there.
+// The section headers that the COFF header counts, as many as the file has.
 #[tactic(auto, unfolding(crate::specs::HeaderParts::sections_part))]
 fn section_records(bytes: &[u8]) -> Result<SectionRecords<'_>>
     ensures { Reads recorded_sections result reading.sections_part bytes.now }
@@ -253,8 +257,8 @@ fn section_table(bytes: &[u8]) -> Option<usize>
 }
 
 impl<'a> HeaderParts<'a> {
-    /// Reads each part of the header of a file, whatever the others are. Of a file whose header is
-    /// read as a whole they are its parts.
+    /// Reads each part of a file's header by itself. If the header is read as a whole, these are
+    /// its parts.
     #[tactic(auto, using(crate::proofs::WholeParts::whole_parts))]
     pub fn read(bytes: &'a [u8]) -> HeaderParts<'a>
         ensures parts { ArePartsOf bytes.now result }
@@ -270,8 +274,9 @@ impl<'a> HeaderParts<'a> {
             section_records: section_records(bytes),
         }
     }
-    /// The optional header of the parts that are given. There is none without standard fields; in
-    /// place of other parts that are refused it has zeros and no directories.
+    /// The optional header, made of the parts that could be read. It is `None` if the standard
+    /// fields are `None` or refused. If the Windows fields are refused, they are zeros here. If the
+    /// data directories are refused, there are none here.
     pub fn optional_header(&self) -> Option<OptionalHeader>
         ensures { result ≡ known_optional self.now }
     {
@@ -286,7 +291,7 @@ impl<'a> HeaderParts<'a> {
     }
 }
 
-// Windows fields, or zeros.
+// The Windows fields, or zeros if there are none.
 fn windows_or_zeros(fields: Option<WindowsFields>) -> WindowsFields
     ensures { result ≡ unwrap_or fields no_windows_fields }
 {
@@ -296,7 +301,7 @@ fn windows_or_zeros(fields: Option<WindowsFields>) -> WindowsFields
     }
 }
 
-// Data directories, or none.
+// The data directories, or sixteen that are `None`.
 fn directories_or_none(directories: Option<DataDirectories>) -> DataDirectories
     ensures { result ≡ unwrap_or directories no_directories }
 {
@@ -308,7 +313,7 @@ fn directories_or_none(directories: Option<DataDirectories>) -> DataDirectories
     }
 }
 
-// A part of an optional header, where it is given.
+// The part of an optional header, if it could be read.
 fn given<T: Copy>(part: &Result<Option<T>>) -> Option<T>
     ensures { result ≡ part_given part.now }
 {

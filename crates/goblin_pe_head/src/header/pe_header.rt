@@ -30,7 +30,7 @@ use goblin_base::{
 };
 use goblin_pe_sect::ParseOptions;
 
-// The size of the parts of a header that always have the same, in bytes.
+// The size of the parts of a header whose size is fixed, in bytes.
 const SIZEOF_HEADERS: usize = SIZEOF_DOS_HEADER + SIZEOF_PE_MAGIC + SIZEOF_COFF_HEADER;
 
 /// The header of a PE file: everything before its section table.
@@ -41,17 +41,17 @@ const SIZEOF_HEADERS: usize = SIZEOF_DOS_HEADER + SIZEOF_PE_MAGIC + SIZEOF_COFF_
 pub struct Header<'a> {
     /// The DOS header, at file offset 0.
     pub dos_header: DosHeader,
-    /// The DOS stub, from file offset 0x40 to the PE signature, or the default one in its place.
+    /// The DOS stub, from file offset 0x40 to the PE signature, or the default stub in its place.
     pub dos_stub: DosStub<'a>,
-    /// The Rich header in the stub; `None` if it has no marker.
+    /// The Rich header in the stub, or `None` if the stub has no marker `Rich` with a key after it.
     pub rich_header: Option<RichHeader<'a>>,
-    /// The PE signature, which the DOS header points to. The DOS header's reader compares it;
-    /// [`Header::parse_without_dos`] takes any.
+    /// The PE signature, to which the DOS header points. [`DosHeader::parse`] tests it;
+    /// [`Header::parse_without_dos`] accepts any four bytes.
     pub signature: u32,
     /// The COFF header, 4 bytes after the signature's start.
     pub coff_header: CoffHeader,
-    /// The optional header, 24 bytes after the signature's start; `None` if the COFF header gives
-    /// it no size.
+    /// The optional header, 24 bytes after the signature's start, or `None` if the COFF header says
+    /// that its size is 0.
     pub optional_header: Option<OptionalHeader>,
 }
 
@@ -72,7 +72,7 @@ impl Default for Header<'_> {
     }
 }
 
-// The stub before the PE signature; where there is none, permissive mode takes the default one.
+// The stub before the PE signature. If it is refused, permissive mode gives the default stub.
 #[inline(always)]
 #[tactic(auto, unfolding(crate::specs::HeaderReadings::stub_in))]
 fn stub_in<'a>(bytes: &'a [u8], pe_pointer: u32, opts: &ParseOptions) -> Result<DosStub<'a>>
@@ -83,7 +83,7 @@ fn stub_in<'a>(bytes: &'a [u8], pe_pointer: u32, opts: &ParseOptions) -> Result<
     DosStub::parse(bytes, pe_pointer).or_permissive_and_default(is_permissive, "DOS stub")
 }
 
-// Puts the optional header of these fields into its place, and reads its directories there.
+// Stores an optional header with these fields in `place`, and reads its data directories there.
 #[inline(always)]
 fn put_optional(place: &mut Option<OptionalHeader>, bytes: &[u8], fields: &FixedFields)
     requires { reading.AreThere bytes.now fields.now }
@@ -96,7 +96,7 @@ fn put_optional(place: &mut Option<OptionalHeader>, bytes: &[u8], fields: &Fixed
     }
 }
 
-// Reads the optional header at an offset into its place. It is there if its size is not 0.
+// Reads the optional header at `offset` into `place`. If `size` is 0, there is none.
 #[inline(always)]
 #[tactic(auto, unfolding(crate::specs::HeaderReadings::optional_at))]
 fn read_optional(
@@ -121,7 +121,7 @@ fn read_optional(
 
 impl<'a> Header<'a> {
     /// Reads the header of a file, as [`Header::parse_with_opts`] with the default options. The
-    /// parts of such a header agree.
+    /// parts of the result agree with each other.
     ///
     /// # Errors
     /// As [`Header::parse_with_opts`] in strict mode.
@@ -136,8 +136,8 @@ impl<'a> Header<'a> {
         Header::parse_with_opts(bytes, &ParseOptions::default())
     }
 
-    /// Reads the header of a file. Permissive mode puts the default DOS stub where the stub is
-    /// refused, and no substitute for another part.
+    /// Reads the header of a file. If the DOS stub is refused, permissive mode puts the default
+    /// stub in its place. It replaces no other part.
     ///
     /// # Errors
     /// As [`DosHeader::parse`]; in strict mode as [`DosStub::parse`]; as [`RichHeader::parse`];
@@ -156,8 +156,8 @@ impl<'a> Header<'a> {
         Ok(header)
     }
 
-    /// Reads the header of a file, as [`Header::parse_with_opts`], in place of this one, so that
-    /// the header, which is large, is not moved.
+    /// Reads the header of a file into this one, as [`Header::parse_with_opts`]. So the header,
+    /// which is large, is not moved.
     ///
     /// # Errors
     /// As [`Header::parse_with_opts`]; this header is then unchanged.
@@ -179,9 +179,9 @@ impl<'a> Header<'a> {
         self.read_at(bytes, offset, dos_header, dos_stub, rich_header)
     }
 
-    /// Reads a header without a DOS header: its signature is the first four bytes of `bytes`,
-    /// whatever they are. Its DOS header is zeros, its stub the default one, and it has no Rich
-    /// header.
+    /// Reads a header without a DOS header. Its signature is the first four bytes of `bytes`,
+    /// whatever they are. In the result the DOS header is all zeros, the stub is the default one,
+    /// and there is no Rich header.
     ///
     /// # Errors
     /// [`Error::Malformed`] with [`Cause::NoPeSignature`] if there are no four bytes;
@@ -229,17 +229,17 @@ impl<'a> Header<'a> {
         Ok(())
     }
 
-    /// Writes the header to the front of `bytes` and returns how many bytes it takes: the DOS
-    /// header, the stub, the signature, the COFF header, and the optional header where there is
-    /// one, with sixteen directories always. The signature is little-endian in either order. The
-    /// Rich header is part of the stub.
+    /// Writes the header to the front of `bytes` and returns its size in bytes. It writes the DOS
+    /// header, the stub, the signature, the COFF header and, if there is one, the optional header,
+    /// always with sixteen data directories. The signature is little-endian in either byte order.
+    /// The Rich header is part of the stub.
     ///
     /// In little-endian order, a header that [`Header::parse`] read is written back unchanged,
-    /// followed by zeros for the missing directories, and reads back from what was written. So does
-    /// one whose numbers were changed, as long as its parts agree.
+    /// followed by zeros for the missing data directories, and reads back from what was written. A
+    /// header whose numbers you changed reads back, too, as long as its parts agree.
     ///
     /// # Errors
-    /// In this order: [`Error::BadMagic`] of an optional header of unknown magic;
+    /// In this order: [`Error::BadMagic`] if the magic of the optional header is unknown;
     /// [`Error::Malformed`] with [`Cause::FieldTooWide`] if a Windows field does not fit an
     /// optional header for 32 bits; [`Error::Read`] if there is no room. `bytes` is then unchanged.
     #[tactic(auto, unfolding(crate::specs::PeHeader::header_bytes), using(crate::proofs::PeHeaderRoundTrip::header_back, crate::proofs::PeHeaderRoundTrip::header_again))]
@@ -268,11 +268,11 @@ impl<'a> Header<'a> {
         Ok(size)
     }
 
-    /// How many bytes [`Header::try_into_ctx`] writes. Unlike the `size_with` of a record, whose
-    /// size is fixed, it asks the header, and can be refused.
+    /// How many bytes [`Header::try_into_ctx`] writes. Unlike the size of a record, which is fixed,
+    /// this size depends on the header, so the call can fail.
     ///
     /// # Errors
-    /// As `try_into_ctx` of an optional header that can't be written.
+    /// As `try_into_ctx` if the optional header can't be written.
     #[tactic(auto, unfolding(crate::specs::PeHeader::header_bytes))]
     pub fn size_with(&self, endian: Endian) -> Result<usize>
         ensures { Answers (λ n. n) result
@@ -283,7 +283,7 @@ impl<'a> Header<'a> {
         Ok(self.written_size(optional.as_slice()))
     }
 
-    // How many bytes the parts take, the optional header as these bytes.
+    // The size of all parts in bytes, with `optional` as the written optional header.
     #[tactic(auto, using(crate::proofs::WrittenForm::length_header_parts))]
     fn written_size(&self, optional: &[u8]) -> usize
         requires { length optional.now ≤ 240 }
@@ -294,8 +294,8 @@ impl<'a> Header<'a> {
         SIZEOF_HEADERS + self.dos_stub.bytes.len() + optional.len()
     }
 
-    // Writes the parts one after the other, the optional header as these bytes, where there is
-    // room.
+    // Writes the parts one after the other, with `optional` as the written optional header. There
+    // must be room for them.
     #[tactic(auto, unfolding(crate::specs::PeHeader::header_parts))]
     fn put(&self, bytes: &mut [u8], optional: &[u8], endian: Endian)
         requires { 88 + length (stub_bytes self.now.dos_stub) + length optional.now
@@ -320,7 +320,7 @@ impl<'a> Header<'a> {
     }
 }
 
-// What is written of the optional header, where there is one.
+// The written form of the optional header, if there is one.
 fn optional_bytes(header: &Option<OptionalHeader>, endian: Endian) -> Result<WrittenHeader>
     ensures made { Answers written_bytes result (optional_part endian header.now)
         (IsUnwrittenPart header.now) }

@@ -25,7 +25,7 @@ use goblin_pe_sect::options::ParseOptions;
 use std::iter::FusedIterator;
 use std::simd::prelude::*;
 
-/// The word that a Rich header begins with, `DanS`. It is stored under the key.
+/// The word with which a Rich header begins, `DanS`. It is stored under the key.
 pub const DANS_MARKER: u32 = 0x536E_6144;
 /// The size of [`DANS_MARKER`], in bytes.
 pub const DANS_MARKER_SIZE: usize = 4;
@@ -49,18 +49,20 @@ const RICH_METADATA_SIZE: usize = 8;
 
 /// The Rich header: which tools made a file, and how often each was used.
 ///
-/// Source: not documented by Microsoft; the layout is what linkers write. It lies in the DOS stub,
-/// as words of four bytes, little-endian: [`DANS_MARKER`], padding, the entries, [`RICH_MARKER`],
-/// and a key. Each word before the last marker is stored as its exclusive or with the key. No
-/// loader looks at it, so nothing enforces that it is true.
+/// Source: not documented by Microsoft; the layout is what linkers write. The Rich header lies in
+/// the DOS stub, as little-endian words of four bytes: [`DANS_MARKER`], padding, the entries,
+/// [`RICH_MARKER`], and a key. Each word before [`RICH_MARKER`] is stored under the key: as its
+/// exclusive or with the key. No loader looks at the Rich header, so nothing enforces that it is
+/// true.
 #[derive(Debug, PartialEq, Copy, Clone, Default)]
 pub struct RichHeader<'a> {
-    /// The key, under which the words are stored. Linkers make it a checksum of the DOS header, the
-    /// stub and the entries; that is not tested here.
+    /// The key, under which the words are stored. Linkers compute it as a checksum of the DOS
+    /// header, the stub and the entries; no reader tests that.
     pub key: u32,
     /// The bytes between the two markers, as stored: the padding and the entries.
     pub bytes: &'a [u8],
-    /// The size of the padding before the entries, in bytes. Its words are zeros under the key.
+    /// The size of the padding before the entries, in bytes. The padding is words that are 0 under
+    /// the key.
     pub padding_size: usize,
     /// The file offset of the first marker, [`DANS_MARKER`] under the key.
     pub start_offset: u32,
@@ -69,15 +71,16 @@ pub struct RichHeader<'a> {
 }
 
 impl<'a> RichHeader<'a> {
-    /// Finds the Rich header of a file: between the DOS header and the PE signature, the first
-    /// [`RICH_MARKER`] with a key after it, and the first word that is [`DANS_MARKER`] under that
-    /// key. A word may begin at any byte. `None` if the file has no such marker.
+    /// Finds the Rich header of a file. Between the DOS header and the PE signature, the call looks
+    /// for the first [`RICH_MARKER`] with a key after it, and for the first word that is
+    /// [`DANS_MARKER`] under that key. A word may begin at any byte. The result is `None` if there
+    /// is no such [`RICH_MARKER`].
     ///
     /// # Errors
-    /// As [`DosHeader::parse`] where the file has no DOS header; [`Error::Malformed`] with
-    /// [`Cause::NoDans`] if no word is [`DANS_MARKER`] under the key, with [`Cause::RichBounds`] if
-    /// the data would not end after it starts, both counted from offset 0x40; [`Error::Read`] with
-    /// [`ReadFault::TooBig`] if the data is not a whole number of words.
+    /// As [`DosHeader::parse`] if the file has no DOS header; [`Error::Malformed`] with
+    /// [`Cause::NoDans`] if no word is [`DANS_MARKER`] under the key, or with [`Cause::RichBounds`]
+    /// if the data would end at or before its start, both counted from offset 0x40; [`Error::Read`]
+    /// with [`ReadFault::TooBig`] if the data is not a whole number of words.
     pub fn parse(bytes: &'a [u8]) -> Result<Option<Self>>
         ensures value { Reads (option_map rich_value) result reading.rich_header bytes.now }
         ensures padding { IfOk result (λ rich. IfSome rich PaddingFits) }
@@ -123,8 +126,8 @@ impl<'a> RichHeader<'a> {
         rich_in(&bytes[start..end])
     }
 
-    /// The entries, which follow the padding. The padding must be no longer than the data, as it is
-    /// in a header that was read.
+    /// The entries, which follow the padding. The padding must not be longer than the data. In a
+    /// header that was read it never is.
     #[tactic(auto, using(crate::proofs::RichLaw::rich_entries))]
     pub fn metadatas(&self) -> RichMetadataIterator<'a>
         requires { self.now.padding_size ≤ length self.now.bytes.now }
@@ -146,17 +149,17 @@ impl<'a> RichHeader<'a> {
 
 /// An entry of a Rich header: a tool, and how often it was used.
 ///
-/// Source: not documented by Microsoft; the layout is what linkers write. Numbers are as stored;
-/// the record has 8 bytes, and `at` gives a field's offset in it. In a file its two words are
-/// stored under the header's key.
+/// Source: not documented by Microsoft; the layout is what linkers write. The record has 8 bytes,
+/// and `at` gives a field's offset in it. In a file each of its two words is stored under the key
+/// of the header: as its exclusive or with the key.
 #[repr(C)]
 #[derive(Debug, PartialEq, Copy, Clone, Default)]
 pub struct RichMetadata {
-    /// The build of the tool, at 0.
+    /// The build number of the tool, at 0.
     pub build: u16,
-    /// Which tool it is, at 2.
+    /// The identifier of the tool, at 2.
     pub product: u16,
-    /// How many files it made, at 4.
+    /// How many files the tool made, at 4.
     pub use_count: u32,
 }
 
@@ -191,7 +194,7 @@ impl Record for RichMetadata {
 }
 
 impl RichMetadata {
-    // The entry that these bytes are, which are stored under a key.
+    // The entry in these 8 bytes, which are stored under `key`.
     fn under_key(bytes: &[u8], key: u32) -> RichMetadata
         requires { length bytes.now ≡ 8 }
         ensures { result ≡ metadata_at key bytes.now 0 }
@@ -226,8 +229,8 @@ impl RichMetadata {
     }
 }
 
-/// The entries of a Rich header, in order. Bytes left after them that are not a whole entry yield
-/// one [`Error::Read`] with [`ReadFault::TooBig`], which comes last.
+/// A walk over the entries of a Rich header, in order. If bytes are left after the last whole
+/// entry, the walk ends with one [`Error::Read`] with [`ReadFault::TooBig`].
 #[derive(Debug, Clone, Drop)]
 pub struct RichMetadataIterator<'a> {
     key: u32,
@@ -303,7 +306,7 @@ fn rich_in<'a>(stretch: &'a [u8]) -> Result<Option<RichHeader<'a>>>
     }))
 }
 
-// The first position of the marker with a key after it.
+// The first position of the marker `Rich` with a key after it.
 pub(crate) fn marker_place(stretch: &[u8]) -> Option<usize>
     ensures value { result ≡ marker_place stretch.now }
     ensures room { IfSome result (λ i. i + 8 ≤ length stretch.now) }
@@ -311,7 +314,7 @@ pub(crate) fn marker_place(stretch: &[u8]) -> Option<usize>
     word_place(stretch, stretch.len().saturating_sub(7), RICH_MARKER)
 }
 
-// The first position of a word that is the other marker under the key.
+// The first position of a word that is the marker `DanS` under the key.
 #[tactic(auto, using(crate::proofs::WordPlaces::under_key))]
 pub(crate) fn dans_place(stretch: &[u8], key: u32) -> Option<usize>
     ensures value { result ≡ dans_place key stretch.now }
@@ -320,7 +323,7 @@ pub(crate) fn dans_place(stretch: &[u8], key: u32) -> Option<usize>
     word_place(stretch, stretch.len().saturating_sub(3), DANS_MARKER ^ key)
 }
 
-// The first of so many positions at which the word is.
+// The first of `count` positions at which `word` lies.
 #[tactic(auto, using(crate::proofs::WordPlaces::found_at, crate::proofs::WordPlaces::found_none))]
 fn word_place(bytes: &[u8], count: usize, word: u32) -> Option<usize>
     requires { count ≤ length bytes.now - 3 }
@@ -374,7 +377,7 @@ fn run_in_lanes(bytes: &[u8], at: usize, byte: u8) -> usize
     }
 }
 
-// Which word is the first that is not the key.
+// The index of the first word that is not the key.
 #[tactic(auto, unfolding(crate::specs::RichHeader::other_place))]
 fn other_place(bytes: &[u8], key: u32) -> Option<usize>
     ensures value { result ≡ other_place key bytes.now }
@@ -383,7 +386,7 @@ fn other_place(bytes: &[u8], key: u32) -> Option<usize>
     (0..bytes.len() / WORD_SIZE).find(|k| field_u32(bytes, WORD_SIZE * *k, Endian::Little) != key)
 }
 
-// How many of the leading words are the key.
+// How many words at the front are the key.
 #[tactic(auto, unfolding(crate::specs::RichHeader::leading_words))]
 fn leading_words(bytes: &[u8], key: u32) -> usize
     ensures value { result ≡ leading_words key bytes.now }

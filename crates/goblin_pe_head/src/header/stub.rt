@@ -18,7 +18,7 @@ const _: () = prove!(DOS_STUB_OFFSET == 0x40);
 const DEFAULT_STUB: &[u8; 64] =
     b"\x0E\x1F\xBA\x0E\x00\xB4\x09\xCD\x21\xB8\x01\x4C\xCD\x21This program cannot be run in DOS mode.\x0D\x0D\x0A\x24\0\0\0\0\0\0\0";
 
-/// The program that runs where a PE file is started under DOS, with what a linker puts after it.
+/// The program that runs if a PE file is started under DOS, and what the linker puts after it.
 ///
 /// Source: PE Format, "MS-DOS Stub (Image Only)". No loader of PE files looks at it; the Rich
 /// header lies in it.
@@ -63,12 +63,12 @@ impl<'a> DosStub<'a> {
         })
     }
 
-    /// Writes the stub to the front of `bytes`, in either byte order, and returns how many bytes it
-    /// has.
+    /// Writes the stub to the front of `bytes`, in either byte order, and returns its size in
+    /// bytes.
     ///
     /// # Errors
-    /// [`Error::Read`] if there is no room for it, even for an empty stub where `bytes` is empty;
-    /// it is then unchanged.
+    /// [`Error::Read`] if there is no room for the stub, or if `bytes` is empty, even for an empty
+    /// stub. `bytes` is then unchanged.
     pub fn try_into_ctx(self, bytes: &mut [u8], _endian: Endian) -> Result<usize>
         ensures size { IfOk result (λ n. n ≡ length (stub_bytes self.entry)) }
         ensures written { Writes result (overwritten bytes.old 0 (stub_bytes self.entry)) bytes.old

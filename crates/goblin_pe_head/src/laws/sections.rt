@@ -12,9 +12,9 @@ use goblin_pe_sect::footprint::add_section;
 use goblin_pe_sect::options::ParseOptions;
 use goblin_pe_sect::section_table::SIZEOF_SECTION_TABLE;
 
-/// Marks the footprint of the section table of an image whose PE signature is at the file offset
-/// `pe_pointer`, with this COFF header: the records that follow the optional header, and the texts
-/// in the string table that their names point to.
+/// Marks the footprint of the section table of an image with this COFF header, whose PE signature
+/// is at the file offset `pe_pointer`. The footprint is the section headers after the optional
+/// header, and the texts in the string table to which their names point.
 #[tactic(auto, unfolding(crate::specs::CoffReadings::sections_at), using(goblin_base::proofs::Marks::marking))]
 pub fn add_sections(
     marks: &mut Marks,

@@ -8,7 +8,7 @@ pub const MAGIC_64: u16 = 0x20B;
 pub const IMAGE_NT_OPTIONAL_HDR32_MAGIC: u16 = 0x10B;
 /// The magic of an optional header for 64 bits, by its name in the Windows headers.
 pub const IMAGE_NT_OPTIONAL_HDR64_MAGIC: u16 = 0x20B;
-/// The magic of a ROM image. No reader takes it.
+/// The magic of a ROM image. No reader accepts it.
 pub const IMAGE_ROM_OPTIONAL_HDR_MAGIC: u16 = 0x107;
 
 const _: () = prove!(

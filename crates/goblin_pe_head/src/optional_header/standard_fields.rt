@@ -24,7 +24,7 @@ const _: () = prove!(SIZEOF_STANDARD_FIELDS_32 == 28 && SIZEOF_STANDARD_FIELDS_6
 /// record has 28 bytes, and `at` gives a field's offset in it.
 #[derive(Debug, PartialEq, Copy, Clone, Default)]
 pub struct StandardFields32 {
-    /// What the optional header is, [`MAGIC_32`](super::MAGIC_32), at 0.
+    /// The magic of the optional header, [`MAGIC_32`](super::MAGIC_32), at 0.
     pub magic: u16,
     /// The linker's major version, at 2.
     pub major_linker_version: u8,
@@ -36,13 +36,12 @@ pub struct StandardFields32 {
     pub size_of_initialized_data: u32,
     /// The size of the uninitialized data, in bytes, at 12: the sum of all such sections.
     pub size_of_uninitialized_data: u32,
-    /// The address of the entry point, relative to the image's base, at 16; 0 where there is none,
-    /// as in some libraries. The loader starts there, in whatever section it lies.
+    /// The RVA of the entry point, at 16; 0 if there is none, as in some libraries. The loader
+    /// starts there, in whatever section it lies.
     pub address_of_entry_point: u32,
-    /// The address at which the code begins, relative to the image's base, at 20.
+    /// The RVA at which the code begins, at 20.
     pub base_of_code: u32,
-    /// The address at which the data begins, relative to the image's base, at 24. Only in images
-    /// for 32 bits.
+    /// The RVA at which the data begins, at 24. Only images for 32 bits have this field.
     pub base_of_data: u32,
 }
 
@@ -117,7 +116,7 @@ impl StandardFields32 {
 /// record has 24 bytes, and `at` gives a field's offset in it.
 #[derive(Debug, PartialEq, Copy, Clone, Default)]
 pub struct StandardFields64 {
-    /// What the optional header is, [`MAGIC_64`](super::MAGIC_64), at 0.
+    /// The magic of the optional header, [`MAGIC_64`](super::MAGIC_64), at 0.
     pub magic: u16,
     /// The linker's major version, at 2.
     pub major_linker_version: u8,
@@ -129,10 +128,10 @@ pub struct StandardFields64 {
     pub size_of_initialized_data: u32,
     /// The size of the uninitialized data, in bytes, at 12: the sum of all such sections.
     pub size_of_uninitialized_data: u32,
-    /// The address of the entry point, relative to the image's base, at 16; 0 where there is none,
-    /// as in some libraries. The loader starts there, in whatever section it lies.
+    /// The RVA of the entry point, at 16; 0 if there is none, as in some libraries. The loader
+    /// starts there, in whatever section it lies.
     pub address_of_entry_point: u32,
-    /// The address at which the code begins, relative to the image's base, at 20.
+    /// The RVA at which the code begins, at 20.
     pub base_of_code: u32,
 }
 
@@ -206,8 +205,9 @@ impl StandardFields64 {
 #[repr(C)]
 #[derive(Debug, PartialEq, Copy, Clone, Default)]
 pub struct StandardFields {
-    /// What the optional header is, at 0: [`MAGIC_32`](super::MAGIC_32) or
-    /// [`MAGIC_64`](super::MAGIC_64). Only this says the width of the header and of import entries.
+    /// The magic of the optional header, at 0: [`MAGIC_32`](super::MAGIC_32) or
+    /// [`MAGIC_64`](super::MAGIC_64). It alone gives the width of the header and of the entries of
+    /// import tables.
     pub magic: u16,
     /// The linker's major version, at 2.
     pub major_linker_version: u8,
@@ -219,13 +219,12 @@ pub struct StandardFields {
     pub size_of_initialized_data: u64,
     /// The size of the uninitialized data, in bytes, at 12: the sum of all such sections.
     pub size_of_uninitialized_data: u64,
-    /// The address of the entry point, relative to the image's base, at 16; 0 where there is none,
-    /// as in some libraries. The loader starts there, in whatever section it lies.
+    /// The RVA of the entry point, at 16; 0 if there is none, as in some libraries. The loader
+    /// starts there, in whatever section it lies.
     pub address_of_entry_point: u32,
-    /// The address at which the code begins, relative to the image's base, at 20.
+    /// The RVA at which the code begins, at 20.
     pub base_of_code: u64,
-    /// The address at which the data begins, relative to the image's base, at 24 in an image for 32
-    /// bits; 0 in one for 64 bits.
+    /// The RVA at which the data begins, at 24, in an image for 32 bits; 0 in one for 64 bits.
     pub base_of_data: u32,
 }
 
@@ -259,7 +258,7 @@ impl From<StandardFields32> for StandardFields {
 impl From<StandardFields64> for StandardFields {
     ghost from_gives = { λ s made. made ≡ standard_from_64 s };
 
-    /// The same fields, and 0 where the data begins.
+    /// The same fields, with 0 as the base of data.
     #[tactic(auto, unfolding(crate::specs::OptionalHeader::standard_from_64))]
     fn from(fields: StandardFields64) -> StandardFields {
         StandardFields {
@@ -299,7 +298,7 @@ impl From<StandardFields> for StandardFields32 {
 impl From<StandardFields> for StandardFields64 {
     ghost from_gives = { λ s made. made ≡ standard_to_64 s };
 
-    /// The same fields, each modulo 2^32, without where the data begins.
+    /// The same fields, each modulo 2^32, without the base of data.
     #[tactic(auto, unfolding(crate::specs::OptionalHeader::standard_to_64))]
     fn from(fields: StandardFields) -> StandardFields64 {
         StandardFields64 {

@@ -32,22 +32,22 @@ const _: () = prove!(
 /// The Windows fields of an optional header for 32 bits.
 ///
 /// Source: PE Format, "Optional Header Windows-Specific Fields (Image Only)". Numbers are as
-/// stored; the record has 68 bytes, and `at` gives a field's offset in it. It begins at 28 in the
-/// optional header.
+/// stored; the record has 68 bytes, and `at` gives a field's offset in it. The record begins at 28
+/// in the optional header.
 #[derive(Debug, PartialEq, Copy, Clone, Default)]
 pub struct WindowsFields32 {
-    /// The address at which the image is best loaded, a multiple of 64 KiB, at 0. Where the loader
-    /// takes another, it applies the base relocations.
+    /// The preferred address of the image in memory, a multiple of 64 KiB, at 0. If the loader uses
+    /// another address, it applies the base relocations.
     pub image_base: u32,
     /// The alignment of sections in memory, in bytes, at 4: at least the file alignment, mostly a
     /// page.
     pub section_alignment: u32,
     /// The alignment of the raw data of sections in the file, in bytes, at 8: a power of two,
-    /// mostly 512. The mapping of addresses to file offsets goes by it.
+    /// mostly 512. The mapping of addresses to file offsets depends on it.
     pub file_alignment: u32,
-    /// The major version of the system that the image needs, at 12.
+    /// The major version of the operating system that the image needs, at 12.
     pub major_operating_system_version: u16,
-    /// The minor version of the system that the image needs, at 14.
+    /// The minor version of the operating system that the image needs, at 14.
     pub minor_operating_system_version: u16,
     /// The image's major version, at 16.
     pub major_image_version: u16,
@@ -59,20 +59,21 @@ pub struct WindowsFields32 {
     pub minor_subsystem_version: u16,
     /// Reserved, 0, at 24.
     pub win32_version_value: u32,
-    /// The size of the image in memory with all headers, in bytes, at 28: how much the loader
-    /// reserves, a multiple of the section alignment.
+    /// The size of the image in memory with all headers, in bytes, at 28. It is a multiple of the
+    /// section alignment, and what the loader reserves.
     pub size_of_image: u32,
     /// The size of all headers together, in bytes, rounded up to the file alignment, at 32. The
-    /// loader maps this much of the file's front at the image's base.
+    /// loader maps this much of the front of the file, in whole file blocks, at the image's base.
     pub size_of_headers: u32,
-    /// The image's checksum, at 36. The loader tests that of drivers and of what is loaded at boot;
-    /// no reader does.
+    /// The checksum of the image, at 36. The loader tests it for drivers and for images that are
+    /// loaded at boot; no reader tests it.
     pub check_sum: u32,
     /// The subsystem that runs the image, an `IMAGE_SUBSYSTEM_*` (PE Format, "Windows Subsystem"),
     /// at 40.
     pub subsystem: u16,
-    /// What the loader may and has to do, as bits `IMAGE_DLLCHARACTERISTICS_*` (PE Format, "DLL
-    /// Characteristics"), at 42: whether it may move the image, and which guards it turns on.
+    /// What the image allows and requires of the loader, as bits `IMAGE_DLLCHARACTERISTICS_*` (PE
+    /// Format, "DLL Characteristics"), at 42: whether the loader may move the image, and which
+    /// guards it turns on.
     pub dll_characteristics: u16,
     /// How much of the stack to reserve, in bytes, at 44.
     pub size_of_stack_reserve: u32,
@@ -84,8 +85,8 @@ pub struct WindowsFields32 {
     pub size_of_heap_commit: u32,
     /// Reserved, 0, at 60.
     pub loader_flags: u32,
-    /// How many data directories follow, at 64. Readers refuse a header that says more than sixteen;
-    /// directories past this number are not there, whatever bytes follow.
+    /// How many data directories follow, at 64. A reader of a whole header refuses more than
+    /// sixteen. Data directories past this number do not exist, whatever bytes follow.
     pub number_of_rva_and_sizes: u32,
 }
 
@@ -180,23 +181,23 @@ impl WindowsFields32 {
 /// The Windows fields of an optional header for 64 bits.
 ///
 /// Source: PE Format, "Optional Header Windows-Specific Fields (Image Only)". Numbers are as
-/// stored; the record has 88 bytes, and `at` gives a field's offset in it. It begins at 24 in the
-/// optional header.
+/// stored; the record has 88 bytes, and `at` gives a field's offset in it. The record begins at 24
+/// in the optional header.
 #[repr(C)]
 #[derive(Debug, PartialEq, Copy, Clone, Default)]
 pub struct WindowsFields64 {
-    /// The address at which the image is best loaded, a multiple of 64 KiB, at 0. Where the loader
-    /// takes another, it applies the base relocations.
+    /// The preferred address of the image in memory, a multiple of 64 KiB, at 0. If the loader uses
+    /// another address, it applies the base relocations.
     pub image_base: u64,
     /// The alignment of sections in memory, in bytes, at 8: at least the file alignment, mostly a
     /// page.
     pub section_alignment: u32,
     /// The alignment of the raw data of sections in the file, in bytes, at 12: a power of two,
-    /// mostly 512. The mapping of addresses to file offsets goes by it.
+    /// mostly 512. The mapping of addresses to file offsets depends on it.
     pub file_alignment: u32,
-    /// The major version of the system that the image needs, at 16.
+    /// The major version of the operating system that the image needs, at 16.
     pub major_operating_system_version: u16,
-    /// The minor version of the system that the image needs, at 18.
+    /// The minor version of the operating system that the image needs, at 18.
     pub minor_operating_system_version: u16,
     /// The image's major version, at 20.
     pub major_image_version: u16,
@@ -208,20 +209,21 @@ pub struct WindowsFields64 {
     pub minor_subsystem_version: u16,
     /// Reserved, 0, at 28.
     pub win32_version_value: u32,
-    /// The size of the image in memory with all headers, in bytes, at 32: how much the loader
-    /// reserves, a multiple of the section alignment.
+    /// The size of the image in memory with all headers, in bytes, at 32. It is a multiple of the
+    /// section alignment, and what the loader reserves.
     pub size_of_image: u32,
     /// The size of all headers together, in bytes, rounded up to the file alignment, at 36. The
-    /// loader maps this much of the file's front at the image's base.
+    /// loader maps this much of the front of the file, in whole file blocks, at the image's base.
     pub size_of_headers: u32,
-    /// The image's checksum, at 40. The loader tests that of drivers and of what is loaded at boot;
-    /// no reader does.
+    /// The checksum of the image, at 40. The loader tests it for drivers and for images that are
+    /// loaded at boot; no reader tests it.
     pub check_sum: u32,
     /// The subsystem that runs the image, an `IMAGE_SUBSYSTEM_*` (PE Format, "Windows Subsystem"),
     /// at 44.
     pub subsystem: u16,
-    /// What the loader may and has to do, as bits `IMAGE_DLLCHARACTERISTICS_*` (PE Format, "DLL
-    /// Characteristics"), at 46: whether it may move the image, and which guards it turns on.
+    /// What the image allows and requires of the loader, as bits `IMAGE_DLLCHARACTERISTICS_*` (PE
+    /// Format, "DLL Characteristics"), at 46: whether the loader may move the image, and which
+    /// guards it turns on.
     pub dll_characteristics: u16,
     /// How much of the stack to reserve, in bytes, at 48.
     pub size_of_stack_reserve: u64,
@@ -233,8 +235,8 @@ pub struct WindowsFields64 {
     pub size_of_heap_commit: u64,
     /// Reserved, 0, at 80.
     pub loader_flags: u32,
-    /// How many data directories follow, at 84. Readers refuse a header that says more than sixteen;
-    /// directories past this number are not there, whatever bytes follow.
+    /// How many data directories follow, at 84. A reader of a whole header refuses more than
+    /// sixteen. Data directories past this number do not exist, whatever bytes follow.
     pub number_of_rva_and_sizes: u32,
 }
 
@@ -369,7 +371,7 @@ fn narrow(number: u64) -> Option<u32>
     u32::try_from(number).ok()
 }
 
-// The same fields, where the five wide ones fit 32 bits.
+// The same fields, if the five wide ones fit 32 bits.
 #[tactic(auto, unfolding(crate::specs::OptionalHeader::windows_to_32))]
 fn windows_to_32(fields: &WindowsFields64) -> Option<WindowsFields32>
     ensures { result ≡ windows_to_32 fields.now }

@@ -1,4 +1,4 @@
-//! The types of the entries of lookup and address tables.
+//! The types of the entries (thunks) of lookup and address tables.
 
 ghost use Rattle.std.specs.Prelude.{◌≡◌, ◌==◌, ◌≤◌, ◌^◌, length};
 ghost use Rattle.std.proofs.Common.{lit≤};
@@ -10,13 +10,13 @@ ghost use Rattle.goblin_pe_import.specs.ImportLookup.{entry_value};
 
 use goblin_base::{Endian, ResultOf, field_u32, field_u64, pread_slice};
 
-/// The bit of an entry of 32 bits that says that it imports by ordinal.
+/// The bit of a 32-bit entry that is set if the entry imports by ordinal.
 pub const IMPORT_BY_ORDINAL_32: u32 = 0x8000_0000;
-/// The bits of an entry of 32 bits that are the address of a hint and a name.
+/// The bits of a 32-bit entry that are the address of a hint and a name.
 pub const IMPORT_RVA_MASK_32: u32 = 0x7FFF_FFFF;
-/// The bit of an entry of 64 bits that says that it imports by ordinal.
+/// The bit of a 64-bit entry that is set if the entry imports by ordinal.
 pub const IMPORT_BY_ORDINAL_64: u64 = 0x8000_0000_0000_0000;
-/// The bits of an entry of 64 bits that are the address of a hint and a name.
+/// The bits of a 64-bit entry that are the address of a hint and a name.
 pub const IMPORT_RVA_MASK_64: u64 = 0x0000_0000_7FFF_FFFF;
 
 const _: () = prove!(
@@ -26,11 +26,10 @@ const _: () = prove!(
         && IMPORT_RVA_MASK_64 == 0x7FFF_FFFF
 );
 
-/// The type of the entries of lookup and address tables: `u32` in an image for 32 bits, `u64` in
-/// one for 64 bits.
+/// The type of the entries (thunks) of lookup and address tables: `u32` in a PE32 image, `u64` in a
+/// PE32+ image. What an entry says is a function of the bytes that it was read from.
 ///
-/// Source: PE Format, "Import Lookup Table". What an entry says is a function of the bytes that it
-/// was read from.
+/// Source: PE Format, "Import Lookup Table".
 pub trait Bitfield<'a>: Eq + Drop {
     /// How many bytes an entry has, and what they say.
     ghost format: { Format EntryValue };
@@ -38,15 +37,15 @@ pub trait Bitfield<'a>: Eq + Drop {
     /// What an entry says.
     ghost value: { Self → EntryValue };
 
-    /// Whether it imports by ordinal; of `u32` and `u64`, whether the highest bit is set.
+    /// Whether the entry imports by ordinal. For `u32` and `u64`: whether the highest bit is set.
     fn is_ordinal(&self) -> bool
         ensures { result ≡ (value self.now).is_ordinal };
 
-    /// The ordinal by which it imports, if it does; of `u32` and `u64` the low 16 bits.
+    /// The ordinal, if the entry imports by ordinal. For `u32` and `u64`: the low 16 bits.
     fn to_ordinal(&self) -> u16
         ensures { result ≡ (value self.now).ordinal };
 
-    /// The address of the hint and the name by which it imports, if it does; of `u32` and `u64` the
+    /// The address of the hint and the name, if the entry imports by name. For `u32` and `u64`: the
     /// low 31 bits.
     fn to_rva(&self) -> u32
         ensures { result ≡ (value self.now).rva };
@@ -56,17 +55,18 @@ pub trait Bitfield<'a>: Eq + Drop {
         ensures width { result ≡ format.width }
         ensures positive { 1 ≤ result };
 
-    /// Whether it ends a table: its number is 0. This is asked first.
+    /// Whether the entry ends a table, because its number is 0. Readers ask this first.
     fn is_zero(&self) -> bool
         ensures { result ≡ ((value self.now).number == 0) };
 
-    /// The entry of its bytes, which are as many as [`Bitfield::size_of`] says; `u32` and `u64` are
-    /// read little-endian.
+    /// Reads the entry from its bytes, which must be as many as [`Bitfield::size_of`] says. `u32`
+    /// and `u64` are little-endian.
     fn read(bytes: &'a [u8]) -> Self
         requires { length bytes.now ≡ format.width }
         ensures { value result ≡ format.value_of bytes.now };
 
-    /// Its number, which an address table keeps; of `u32` and `u64` the value itself.
+    /// The number of the entry, which an address table keeps. For `u32` and `u64`: the value
+    /// itself.
     fn number(&self) -> u64
         ensures { result ≡ (value self.now).number };
 
@@ -146,7 +146,6 @@ impl<'a> Bitfield<'a> for u64 {
     ghost positive = { lit≤ tt };
 }
 
-// The entry at an offset.
 pub(crate) fn read_entry<'a, 'e, T: Bitfield<'a>>(bytes: &'a [u8], offset: usize) -> ResultOf<'e, T>
     ensures { Answers T.value result (record_at T.format.width T.format.value_of bytes.now offset)
         (IsSliceFault bytes.now offset T.format.width) }

@@ -1,4 +1,4 @@
-//! The records of an import directory.
+//! Import descriptors, the records of an import directory.
 
 ghost use Rattle.std.specs.Prelude.{◌≡◌, ◌==◌, ◌&&◌, not};
 ghost use Rattle.goblin_base.specs.Record.{WritesRecord};
@@ -8,30 +8,33 @@ ghost use Rattle.goblin_pe_import.specs.declared.import.directory_entry.ImportDi
 
 use goblin_base::{Endian, Field, Record, Result, field_u32, put_fields};
 
-/// The size of an import directory record, in bytes.
+/// The size of an import descriptor, in bytes.
 pub const SIZEOF_IMPORT_DIRECTORY_ENTRY: usize = 20;
 
 const _: () = prove!(SIZEOF_IMPORT_DIRECTORY_ENTRY == 20);
 
-/// A record of an import directory: where the imports from a library are.
+/// An import descriptor: the record of a library in an import directory. It says where the imports
+/// from that library are.
 ///
-/// Source: PE Format, "Import Directory Table". Numbers are as stored; the record has 20 bytes, and
-/// `at` gives a field's offset in it. Addresses are relative to the image's base.
+/// A descriptor has 20 bytes, and `at` gives a field's offset in it. Numbers are as stored.
+/// Addresses are RVAs, relative to the image's base.
+///
+/// Source: PE Format, "Import Directory Table".
 #[repr(C)]
 #[derive(Debug, PartialEq, Copy, Clone, Default)]
 pub struct ImportDirectoryEntry {
-    /// The address of the lookup table, which says what is imported, at 0. Where it has no file
-    /// offset, the address table is read instead, as images of some old linkers ask for.
+    /// The address of the lookup table, which says what is imported, at 0. If it has no file
+    /// offset, the address table is read instead, as images of some old linkers require.
     pub import_lookup_table_rva: u32,
-    /// 0 until the imports are bound, at 4; then the time stamp of the library to which they were
-    /// bound, or 2^32 - 1 if the bound imports say it.
+    /// 0 until the imports are bound, at 4. Then it is the time stamp of the library to which they
+    /// were bound, or 2^32 - 1 if the table of bound imports has that time stamp.
     pub time_date_stamp: u32,
     /// The index of the first forwarder, at 8.
     pub forwarder_chain: u32,
-    /// The address of the library's name, at 12. The record with 0 here is the directory's last.
+    /// The address of the library's name, at 12. A descriptor with 0 here ends the directory.
     pub name_rva: u32,
-    /// The address of the address table, at 16: a copy of the lookup table, whose entries the
-    /// loader replaces with addresses. The record with 0 here is the directory's last.
+    /// The address of the address table, at 16. That table is a copy of the lookup table, whose
+    /// entries the loader replaces with addresses. A descriptor with 0 here ends the directory.
     pub import_address_table_rva: u32,
 }
 
@@ -70,8 +73,8 @@ impl Record for ImportDirectoryEntry {
 }
 
 impl ImportDirectoryEntry {
-    /// Whether all five fields are 0, as the format asks of the last record of a directory. Readers
-    /// stop earlier: see [`ImportDirectoryEntry::is_possibly_valid`].
+    /// Whether all five fields are 0, as the format requires of the descriptor that ends a
+    /// directory. Readers stop earlier: see [`ImportDirectoryEntry::is_possibly_valid`].
     pub fn is_null(&self) -> bool
         ensures { let r = self.now in
             result
@@ -86,20 +89,20 @@ impl ImportDirectoryEntry {
             && self.import_address_table_rva == 0
     }
 
-    /// Whether it has a name and an address table. A directory ends at the first record that lacks
-    /// one of these, as for the loader.
+    /// Whether the addresses of the name and of the address table are both other than 0. A
+    /// directory ends at the first descriptor in which one of them is 0, as it does for the loader.
     pub fn is_possibly_valid(&self) -> bool
         ensures { result ≡ not (is_last_record self.now) }
     {
         self.name_rva != 0 && self.import_address_table_rva != 0
     }
 
-    /// Writes the record to the front of `bytes`, and returns its size, 20. A record that was read
-    /// is written back unchanged, and any record reads back from what was written, in the same byte
-    /// order.
+    /// Writes the descriptor to the front of `bytes`, and returns its size, 20. A descriptor that
+    /// was read is written back unchanged, and any descriptor reads back from what was written, in
+    /// the same byte order.
     ///
     /// # Errors
-    /// [`Error::Read`](goblin_base::Error::Read) if there is no room for 20 bytes; `bytes` is then
+    /// [`Error::Read`](goblin_base::Error::Read) if there is no room for 20 bytes. `bytes` is then
     /// unchanged.
     pub fn try_into_ctx(self, bytes: &mut [u8], endian: Endian) -> Result<usize>
         ensures { WritesRecord 20 import_record import_fields
@@ -108,7 +111,7 @@ impl ImportDirectoryEntry {
         Record::try_into_ctx(self, bytes, endian)
     }
 
-    /// The size of the record in bytes: 20 in either byte order.
+    /// The size of a descriptor in bytes: 20 in either byte order.
     pub fn size_with(endian: &Endian) -> usize
         ensures { result ≡ 20 }
     {

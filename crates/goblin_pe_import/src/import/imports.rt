@@ -54,49 +54,52 @@ use std::fmt;
 use std::iter::FusedIterator;
 use std::marker::PhantomData;
 
-/// An import, as a walk yields it: without memory.
+/// An import, as a walk yields it. It takes no memory.
 #[derive(Debug, Clone, Drop)]
 pub struct WalkedImport<'a> {
-    /// The ordinal, or the address of the hint and the name and these themselves.
+    /// The ordinal; or the address of the hint and the name, with the hint and the name.
     pub entry: SyntheticImportLookupTableEntry<'a>,
-    /// The name of the library; empty if permissive mode could not read it.
+    /// The name of the library. It is empty if permissive mode could not read it.
     pub dll: &'a str,
-    /// The index of the library's record in the import directory. Records that are left out count.
+    /// The index of the library's import descriptor in the import directory. Descriptors that are
+    /// left out are counted.
     pub library: usize,
-    /// The index of its entry, in the file, in the lookup table and in the address table. Entries
-    /// that are left out count.
+    /// The index of the import's entry in the tables of the file: the lookup table and the address
+    /// table. Entries that are left out are counted.
     pub slot: usize,
-    /// The address of its own entry in the address table.
+    /// The address of the import's entry in the address table.
     pub slot_rva: usize,
     /// The size of an entry of the address table, in bytes.
     pub size: usize,
 }
 
-/// Where a walk over imports is, in numbers: with the bytes and a map of addresses it is the walk.
+/// Where a walk over imports is, in numbers. Together with the bytes and a map of addresses, they
+/// are the whole state of the walk.
 ///
-/// Any numbers are a walk: they give imports, none, or a refusal.
+/// Any numbers are safe. They lead to a walk that yields imports, nothing, or an error.
 #[derive(Debug, Copy, Clone, PartialEq, Eq)]
 pub struct ImportCursor {
-    /// The file offset of the directory's first record, from which records are counted.
+    /// The file offset of the directory's first import descriptor. Descriptors are counted from
+    /// there.
     pub first_record: usize,
-    /// The file offset of the record that comes after the library; `None` at the end.
+    /// The file offset of the import descriptor after that of the library; `None` at the end.
     pub next_record: Option<usize>,
-    /// The index of the library's record.
+    /// The index of the library's import descriptor.
     pub library: usize,
     /// The address of the library's name.
     pub name_rva: u32,
-    /// The address of its address table.
+    /// The address of the library's address table.
     pub rva: u32,
-    /// The file offset of its lookup table.
+    /// The file offset of the library's lookup table.
     pub table_offset: usize,
-    /// The file offset of the slot that comes next in that table; `None` between two libraries.
+    /// The file offset of the next slot in that table; `None` between two libraries.
     pub place: Option<usize>,
-    /// The address of its address table if that is to be tested after its entries.
+    /// The address of its address table, if that table is yet to be tested after its entries.
     pub untested: Option<u32>,
 }
 
 impl ImportCursor {
-    /// The end: no imports.
+    /// The cursor at the end: no imports follow.
     pub fn end() -> ImportCursor
         ensures { result ≡ no_imports }
     {
@@ -112,7 +115,8 @@ impl ImportCursor {
         }
     }
 
-    /// Before the first record of a directory, which is at this file offset.
+    /// The cursor before the first import descriptor of a directory, which lies at this file
+    /// offset.
     pub fn before_record(offset: usize) -> ImportCursor
         ensures { result ≡ before_record offset }
     {
@@ -123,7 +127,7 @@ impl ImportCursor {
         }
     }
 
-    /// Before the first import of the directory at the address of `directory`.
+    /// The cursor before the first import of `directory`.
     ///
     /// # Errors
     /// In strict mode [`Error::Malformed`] with [`Cause::Unmapped`] if the directory's address has
@@ -159,8 +163,8 @@ struct Walk<'a, 'm> {
     at: ImportCursor,
 }
 
-// Tests the address table that is still to be tested, if there is one, and tells how many slots are
-// looked at. Permissive mode has tested it before.
+// Tests the address table that is yet to be tested, if there is one, and returns how many slots it
+// looks at. Permissive mode has tested the table before.
 fn test_untested<'a, 'e, T: Bitfield<'a>>(
     bytes: &'a [u8],
     untested: Option<u32>,
@@ -194,8 +198,8 @@ fn test_untested<'a, 'e, T: Bitfield<'a>>(
     }
 }
 
-// Whether permissive mode leaves out the library of a record, as it has no address table, and how
-// many slots of that are looked at.
+// Whether permissive mode leaves out the library of an import descriptor because its address table
+// can't be read, and how many slots of that table are looked at. In strict mode: false, and none.
 fn is_left_out<'a, T: Bitfield<'a>>(
     bytes: &'a [u8],
     entry: &ImportDirectoryEntry,
@@ -215,8 +219,9 @@ fn is_left_out<'a, T: Bitfield<'a>>(
     (tested.is_err(), count)
 }
 
-// The import of an entry of the library `dll`, whose record has an index, whose lookup table is at
-// a file offset, and whose address table is at the address `rva`.
+// The import of an entry that a lookup table keeps. The library is `dll`, its import descriptor has
+// the index `library`, its address table the address `rva`, and its lookup table lies at
+// `table_offset`.
 #[inline(always)]
 fn import_of<'a, T: Bitfield<'a>>(
     kept: KeptEntry<'a>,
@@ -242,14 +247,14 @@ fn import_of<'a, T: Bitfield<'a>>(
     }
 }
 
-// The index of a record of a directory whose first record is at a file offset.
+// The index of the import descriptor at `offset` in a directory whose first one lies at `first`.
 pub(super) fn record_index(first: usize, offset: usize) -> usize
     ensures { result ≡ record_index first offset }
 {
     offset.saturating_sub(first) / SIZEOF_IMPORT_DIRECTORY_ENTRY
 }
 
-// No more entries come from the slot at a place on than this.
+// An upper bound of the number of entries from the slot at `place` on.
 fn slots_bound(bytes: &[u8], place: Option<usize>) -> usize
     ensures value { result ≡ slots_bound bytes.now place }
     ensures low { result < 2 ^ 63 + 1 }
@@ -260,7 +265,7 @@ fn slots_bound(bytes: &[u8], place: Option<usize>) -> usize
     }
 }
 
-// No more imports come from the record at an offset on than this, if it fits.
+// An upper bound of the number of imports from the descriptor at `offset` on, if it fits.
 fn records_bound(bytes: &[u8], offset: usize) -> Option<usize>
     ensures value { IfSome result (λ n. n ≡ records_bound bytes.now offset) }
     ensures fits { records_bound bytes.now offset < 2 ^ 64 → IsSome result }
@@ -269,7 +274,7 @@ fn records_bound(bytes: &[u8], offset: usize) -> Option<usize>
     (bytes.len() + 2).checked_mul(records)
 }
 
-// No more imports come from the next record on than this, if it fits.
+// An upper bound of the number of imports from the next descriptor on, if it fits.
 fn bound_next(bytes: &[u8], next: Option<usize>) -> Option<usize>
     ensures value { IfSome result (λ n. n ≡ bound_next bytes.now next) }
     ensures fits { bound_next bytes.now next < 2 ^ 64 → IsSome result }
@@ -281,7 +286,6 @@ fn bound_next(bytes: &[u8], next: Option<usize>) -> Option<usize>
 }
 
 impl<'a, 'm> Walk<'a, 'm> {
-    // Ends the walk.
     fn end(&mut self)
         ensures bytes { self.new.bytes.now ≡ self.old.bytes.now }
         ensures finder { self.new.finder ≡ self.old.finder }
@@ -290,8 +294,8 @@ impl<'a, 'm> Walk<'a, 'm> {
         self.at = ImportCursor::end();
     }
 
-    // Leads the walk to the library of the record at an offset, and then to those whose records are
-    // in the directory from the offset `next` on. It answers how many steps that takes.
+    // Moves the walk to the library of `entry`, the import descriptor at `offset`. The descriptors
+    // after it begin at `next`. Returns how many steps this takes.
     #[inline(always)]
     fn enter<'e, T: Bitfield<'a>>(
         &mut self,
@@ -357,8 +361,8 @@ impl<'a, 'm> Walk<'a, 'm> {
         Ok(tested + 1)
     }
 
-    // Leads the walk to the next library, once the entries of this one have come, and answers how
-    // many steps that takes.
+    // Moves the walk to the next library, once it has yielded the entries of this one. Returns how
+    // many steps this takes, or `None` at the end.
     #[inline(always)]
     fn next_library<'e, T: Bitfield<'a>>(&mut self) -> Option<ResultOf<'e, usize>>
         ensures gives { let m = map_of self.old.finder in
@@ -409,7 +413,7 @@ impl<'a, 'm> Walk<'a, 'm> {
         }
     }
 
-    // No more imports come than this, if it fits.
+    // An upper bound of the number of imports to come, if it fits.
     fn bound(&self) -> Option<usize>
         ensures value { IfSome result (λ n. n ≡ walk_bound self.now) }
         ensures fits { walk_bound self.now < 2 ^ 64 → IsSome result }
@@ -419,8 +423,8 @@ impl<'a, 'm> Walk<'a, 'm> {
         slots.checked_add(bound_next(self.bytes, self.at.next_record)?)
     }
 
-    // The import in the slot at a place of the library that the walk is in, where it is plain;
-    // `None` says nothing of the slot.
+    // The import in the slot at `place` of the library that the walk is in, if it is plain. `None`
+    // says nothing about the slot.
     #[inline(always)]
     fn plain_import<T: Bitfield<'a>>(&self, place: usize) -> Option<WalkedImport<'a>>
         ensures steps { IfSome result (λ import. GivesNext walked_value (walk_left T.format)
@@ -455,8 +459,9 @@ impl<'a, 'm> Walk<'a, 'm> {
         }
     }
 
-    // The next import, within a limit of steps, each of which looks at a slot or a record. `None` is
-    // the end where the walk is there, and else says that the limit has run out.
+    // The next import within a budget of steps. Each step looks at a slot or an import descriptor.
+    // `None` means that the walk is at its end, if its cursor is, or else that the budget has run
+    // out.
     #[inline(always)]
     fn next_within<'e, T: Bitfield<'a>>(
         &mut self,
@@ -518,11 +523,11 @@ impl<'a, 'm> Walk<'a, 'm> {
     }
 }
 
-/// The imports of an image, in the order of the libraries and of their entries, without memory.
+/// A walk over the imports of an image, library by library and entry by entry. It takes no memory.
 ///
-/// In strict mode it ends with one error where the import data is refused, after the imports
-/// before what is to blame. In permissive mode there is none: what can't be read is left out, as
-/// [`ImportData::parse_by`](crate::import::ImportData::parse_by) leaves it out.
+/// In strict mode, if the import data is refused, the walk yields the imports that come before the
+/// damage, then one error, and ends. In permissive mode it yields no error: it leaves out what
+/// can't be read, as [`ImportData::parse_by`](crate::import::ImportData::parse_by) does.
 #[derive(Drop)]
 pub struct Imports<'a, 'm, 'e, T> {
     walk: Walk<'a, 'm>,
@@ -530,8 +535,8 @@ pub struct Imports<'a, 'm, 'e, T> {
 }
 
 impl<'a, 'm, 'e, T: Bitfield<'a>> Imports<'a, 'm, 'e, T> {
-    /// The imports of the directory at the address of `directory`, whose tables have entries of
-    /// type `T`: those that [`ImportData::parse_by`](crate::import::ImportData::parse_by) lists.
+    /// A walk over the imports of `directory`, whose tables have entries of type `T`. It yields the
+    /// imports that [`ImportData::parse_by`](crate::import::ImportData::parse_by) lists.
     ///
     /// # Errors
     /// In strict mode [`Error::Malformed`] with [`Cause::Unmapped`] if the directory's address has
@@ -566,7 +571,7 @@ impl<'a, 'm, 'e, T: Bitfield<'a>> Imports<'a, 'm, 'e, T> {
         Ok(Imports::at(bytes, offset, finder))
     }
 
-    /// The imports of the libraries of the directory at the file offset `offset`.
+    /// A walk over the imports of the directory at the file offset `offset`.
     pub fn at(bytes: &'a [u8], offset: usize, finder: Finder<'m>) -> Imports<'a, 'm, 'e, T>
         ensures walks { let m = map_of finder.entry in
             let libraries =
@@ -623,8 +628,8 @@ impl<'a, 'm, 'e, T: Bitfield<'a>> Imports<'a, 'm, 'e, T> {
         }
     }
 
-    /// The walk at a cursor, as [`Imports::cursor`] gave it: what was still to come there. Any
-    /// other cursor is a walk, too.
+    /// The walk from a cursor on. At a cursor that [`Imports::cursor`] returned, it yields what
+    /// that walk had yet to yield. Any other cursor is safe, too.
     #[inline(always)]
     pub fn at_cursor(
         bytes: &'a [u8],
@@ -640,7 +645,7 @@ impl<'a, 'm, 'e, T: Bitfield<'a>> Imports<'a, 'm, 'e, T> {
         Imports::walk_of(bytes, at, finder)
     }
 
-    /// Where the walk is: what is still to come is what is still to come at this cursor.
+    /// Where the walk is. A walk at this cursor yields what this one has yet to yield.
     pub fn cursor(&self) -> ImportCursor
         ensures left { HasName self.now → imports_left T.format self.now
             ≡ cursor_left (imports_map self.now) T.format (imports_bytes self.now) result }
@@ -649,8 +654,8 @@ impl<'a, 'm, 'e, T: Bitfield<'a>> Imports<'a, 'm, 'e, T> {
         self.walk.at
     }
 
-    /// The imports that come next, as long as they are plain; `None` where the walk is in no
-    /// library. [`Imports::go_on`] goes on after those that came.
+    /// A faster walk over the next imports, as long as they are plain. `None` if this walk is in no
+    /// library. [`Imports::go_on`] moves this walk past those that came.
     #[inline(always)]
     pub fn plain(&self) -> Option<PlainImports<'a, 'm, 'e, T>>
         ensures begins { IfSome result (λ plain. plain_at plain ≡ self.now) }
@@ -667,11 +672,15 @@ impl<'a, 'm, 'e, T: Bitfield<'a>> Imports<'a, 'm, 'e, T> {
         Some(PlainImports { imports, place })
     }
 
-    /// The next import within a limit of steps, if there is one: each step looks at a slot of a
-    /// table or at a record of the directory, whether or not it gives something. `steps` says how
-    /// many are left. `None` is the end where the [`cursor`](Imports::cursor) is; else the limit
-    /// has run out, and the walk goes on with a new one. The slots of an address table are looked
-    /// at in one go, the last time also beyond the limit.
+    /// The next import within a budget of steps. `steps` is the budget, from which the call takes
+    /// what it spends. Each step looks at one slot of a table or one import descriptor of the
+    /// directory, whether or not that gives an import.
+    ///
+    /// `None` means one of two things. If the [`cursor`](Imports::cursor) is at the end, so is the
+    /// walk. Else the budget has run out; call again with a new one to go on.
+    ///
+    /// The slots of an address table are looked at in one go, so the last such table may take more
+    /// steps than are left.
     #[inline(always)]
     pub fn next_within(
         &mut self,
@@ -682,7 +691,7 @@ impl<'a, 'm, 'e, T: Bitfield<'a>> Imports<'a, 'm, 'e, T> {
         self.walk.next_within::<T>(steps)
     }
 
-    /// A finder by the map that the walk goes by, with what the walk has at hand.
+    /// A copy of the walk's finder of file offsets, with the addresses that it has at hand.
     #[inline(always)]
     pub fn finder(&self) -> Finder<'m>
         ensures { result ≡ finder_of self.now }
@@ -690,7 +699,8 @@ impl<'a, 'm, 'e, T: Bitfield<'a>> Imports<'a, 'm, 'e, T> {
         self.walk.finder.again()
     }
 
-    /// Goes on after the plain imports that have come; `plain` must be of this walk, as it is now.
+    /// Moves the walk past the imports that `plain` has yielded. `plain` must come from this walk
+    /// as it is now.
     #[inline(always)]
     pub fn go_on(&mut self, plain: &PlainImports<'a, 'm, 'e, T>)
         requires { plain_walk plain.now ≡ self.old }
@@ -725,22 +735,22 @@ impl<'a, 'm, 'e, T: Bitfield<'a>> Iterator for Imports<'a, 'm, 'e, T> {
 
 impl<'a, 'm, 'e, T: Bitfield<'a>> FusedIterator for Imports<'a, 'm, 'e, T> {}
 
-/// The imports that come next in a library, as long as they are plain: by ordinal, or by a name
-/// that is ASCII and lies near those before.
+/// A faster walk over the next imports of a library, as long as they are plain: by ordinal, or by a
+/// name that is ASCII and lies near those before it.
 ///
-/// These are nearly all. All else is left to `next` of the walk, and what a step calls goes in
-/// line: so a loop over them keeps its values in registers, and takes less time.
+/// Nearly all imports are plain. All others are left to `next` of [`Imports`]. Every call in a step
+/// is inlined, so a loop over this walk keeps its values in registers.
 #[derive(Drop)]
 pub struct PlainImports<'a, 'm, 'e, T> {
     // The walk as it was.
     imports: Imports<'a, 'm, 'e, T>,
-    // The slot that comes next.
+    // The file offset of the next slot.
     place: usize,
 }
 
 impl<'a, 'm, 'e, T: Bitfield<'a>> PlainImports<'a, 'm, 'e, T> {
-    /// The next import, if it is plain. `None` says nothing of what comes: the walk's `next` tells
-    /// it.
+    /// The next import, if it is plain. `None` says nothing about what comes next: call `next` of
+    /// [`Imports`].
     #[inline(always)]
     pub fn next_import(&mut self) -> Option<WalkedImport<'a>>
         ensures gives { GivesPlain T.format self.old result self.new }

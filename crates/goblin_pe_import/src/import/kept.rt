@@ -1,4 +1,4 @@
-//! The entries that a lookup table keeps, one by one.
+//! A walk over the entries that a lookup table keeps.
 
 ghost use Rattle.std.specs.Prelude.{◌≡◌, ◌⊎◌, ◌+◌, ◌<◌, ◌≤◌, ◌^◌, IfErr, IfOk, IfSome, IsSome, None};
 ghost use Rattle.std.specs.Prelude.{Ok, Some, length, suc, true};
@@ -16,11 +16,11 @@ use crate::import::steps::{are_out, spend};
 use goblin_base::{Cause, Error, ResultOf};
 use goblin_pe_sect::address_map::Finder;
 
-// An entry that a lookup table keeps, and where it stands.
+// An entry that a lookup table keeps, and where it lies.
 #[derive(Drop)]
 pub(super) struct KeptEntry<'a> {
-    // The index of its slot in the table as it stands in the file, where entries that are left out
-    // count. In the address table its own entry has the same index.
+    // The index of its slot in the lookup table of the file, where entries that are left out are
+    // counted. The import's entry in the address table has the same index.
     pub(super) slot: usize,
     // The file offset of its slot.
     pub(super) place: usize,
@@ -28,8 +28,8 @@ pub(super) struct KeptEntry<'a> {
     pub(super) entry: SyntheticImportLookupTableEntry<'a>,
 }
 
-// The next entry that a lookup table at `offset` keeps, of the slots from the one at `place` on;
-// the error if one before it is refused, and `None` at the end or without a place.
+// The next entry that the lookup table at `offset` keeps, from the slot at `place` on. It is an
+// error if an entry before that is refused, and `None` at the end or without a place.
 #[inline(always)]
 pub(super) fn next_kept<'a, 'e, T: Bitfield<'a>>(
     bytes: &'a [u8],
@@ -53,8 +53,8 @@ pub(super) fn next_kept<'a, 'e, T: Bitfield<'a>>(
     next_kept_within::<T>(bytes, offset, &mut place, finder, &mut None)
 }
 
-// The same within a limit of steps, each of which looks at a slot; `place` moves on. `None` is the
-// end where no place is left, and else says that the limit has run out.
+// The same within a budget of steps, each of which looks at one slot. `place` moves on. `None`
+// means the end if no place is left, or else that the budget has run out.
 #[inline(always)]
 pub(super) fn next_kept_within<'a, 'e, T: Bitfield<'a>>(
     bytes: &'a [u8],
@@ -123,9 +123,9 @@ pub(super) fn next_kept_within<'a, 'e, T: Bitfield<'a>>(
     }
 }
 
-// The entry that a lookup table at `offset` keeps in the slot at `place`, where it is plain: by
-// ordinal, or by a name that is ASCII and lies near the last one. `None` says nothing of the slot.
-// All that it calls goes in line, so a loop over such slots keeps its values in registers.
+// The entry that the lookup table at `offset` keeps in the slot at `place`, if it is plain: by
+// ordinal, or by a name that is ASCII and lies near the last one. `None` says nothing about the
+// slot. Every call in here is inlined, so a loop over such slots keeps its values in registers.
 #[inline(always)]
 pub(super) fn plain_kept<'a, T: Bitfield<'a>>(
     bytes: &'a [u8],

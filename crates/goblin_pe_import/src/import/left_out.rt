@@ -14,25 +14,25 @@ use goblin_base::pread_slice;
 use goblin_pe_sect::address_map::{AddressMap, Finder};
 use goblin_pe_sect::data_directories::DataDirectory;
 
-/// How much is left out of the imports of a directory: what permissive mode leaves out, which
-/// strict mode reads or refuses, and what both modes do.
+/// How much is left out of the imports of a directory: what permissive mode alone leaves out, and
+/// what both modes leave out. What permissive mode alone leaves out, strict mode reads or refuses.
 ///
 /// Source: PE Format, "Import Directory Table" and "Import Lookup Table".
 #[derive(Debug, Copy, Clone, PartialEq, Eq, Default)]
 pub struct LeftOut {
-    /// How many libraries permissive mode leaves out: those of records that lead to none, since
-    /// they have no address table; of a directory at file offset 0 all.
+    /// How many libraries permissive mode leaves out: those whose address table cannot be read, and
+    /// all libraries of a directory at file offset 0.
     pub libraries: usize,
-    /// How many entries it leaves out of the lookup tables of libraries that have an address table:
-    /// those whose hint is not whole; of a directory at file offset 0 all but those that lead
-    /// nowhere. [`usize::MAX`] if there are more.
+    /// How many entries permissive mode leaves out of the lookup tables of libraries whose address
+    /// table can be read: those whose hint is not all in the file. In a directory at file offset 0
+    /// these are all entries except those that lead nowhere. [`usize::MAX`] if there are more.
     pub entries: usize,
-    /// How many entries of these tables both modes leave out, since they lead nowhere: the address
-    /// of their hint and name has no file offset. [`usize::MAX`] if there are more.
+    /// How many entries of these tables lead nowhere, because the address of their hint and name
+    /// has no file offset. Both modes leave them out. [`usize::MAX`] if there are more.
     pub unmapped_entries: usize,
 }
 
-// Whether permissive mode leaves an entry out, and whether both modes do.
+// Whether permissive mode alone leaves out an entry, and whether both modes do.
 #[tactic(auto, unfolding(crate::specs::LeftOut::is_entry_left_out, crate::specs::LookupReadings::kept_entry, crate::specs::LookupReadings::hint_name))]
 fn is_entry_left_out<'a, T: Bitfield<'a>>(
     entry: &T,
@@ -54,8 +54,8 @@ fn is_entry_left_out<'a, T: Bitfield<'a>>(
     }
 }
 
-// How many entries of the lookup table at an offset permissive mode leaves out, and how many both
-// modes do.
+// How many entries of the lookup table at an offset permissive mode alone leaves out, and how many
+// both modes do.
 fn entries_of_table<'a, T: Bitfield<'a>>(
     bytes: &'a [u8],
     offset: usize,
@@ -83,7 +83,7 @@ fn entries_of_table<'a, T: Bitfield<'a>>(
     (entries, unmapped)
 }
 
-// Whether a record leads to no library: it has no address table.
+// Whether an import descriptor leads to no library, because its address table cannot be read.
 pub(super) fn leads_to_none<'a, T: Bitfield<'a>>(
     bytes: &'a [u8],
     entry: &ImportDirectoryEntry,
@@ -97,7 +97,8 @@ pub(super) fn leads_to_none<'a, T: Bitfield<'a>>(
         .is_err()
 }
 
-// How much is left out for a record: its library, or entries of that library's lookup table.
+// How much is left out for an import descriptor: its library, or entries of that library's lookup
+// table.
 #[tactic(auto, unfolding(crate::specs::LeftOut::entries_of_record))]
 fn of_record<'a, T: Bitfield<'a>>(
     bytes: &'a [u8],
@@ -170,9 +171,9 @@ fn of_directory<'a, T: Bitfield<'a>>(
 }
 
 impl LeftOut {
-    /// How much is left out of the imports of the directory at the address of `directory`, by
-    /// entries of type `T` and whatever the mode of `address_map`; nothing where that address has
-    /// no file offset, which strict mode refuses. No memory is taken.
+    /// How much is left out of the imports of `directory`, whose tables have entries of type `T`,
+    /// whatever the mode of `address_map`. All counts are 0 if the directory's address has no file
+    /// offset, which strict mode refuses. No memory is taken.
     pub fn of<'a, T: Bitfield<'a>>(
         bytes: &'a [u8],
         directory: DataDirectory,

@@ -1,4 +1,4 @@
-//! A walk over the libraries of an image: the records of its import directory.
+//! A walk over the libraries of an image, one for each import descriptor.
 
 ghost use Rattle.std.specs.Prelude.{◌≡◌, ◌<◌, IfErr, IfOk, IfSome, List, Some, ℕ};
 ghost use Rattle.std.specs.Iterator.{UpTo, at_most};
@@ -33,32 +33,35 @@ use goblin_pe_sect::address_map::Finder;
 use std::fmt;
 use std::iter::FusedIterator;
 
-/// A library, as a walk yields it: a record of the import directory, and what it tells at once.
+/// A library, as a walk yields it: its import descriptor, and what the walk can say without listing
+/// its imports.
 ///
 /// Source: PE Format, "Import Directory Table".
 #[derive(Debug, Drop)]
 pub struct WalkedLibrary<'a> {
-    /// Its record.
+    /// The import descriptor of the library.
     pub import_directory_entry: ImportDirectoryEntry,
-    /// The index of the record in the directory.
+    /// The index of the import descriptor in the directory.
     pub index: usize,
-    /// The file offset of the record.
+    /// The file offset of the import descriptor.
     pub offset: usize,
-    /// Its name; in either mode an error where none can be read: [`Error::Malformed`] with
-    /// [`Cause::Unmapped`] if its address has no file offset, and with [`Cause::NameRead`] if there
-    /// is no text.
+    /// The name of the library. If none can be read, it is an error in either mode:
+    /// [`Error::Malformed`] with [`Cause::Unmapped`] if the address of the name has no file offset,
+    /// and with [`Cause::NameRead`] if there is no text.
     pub name: Result<&'a str>,
-    /// Whether permissive mode leaves it out, and strict mode refuses it after its imports: it has
-    /// no address table.
+    /// Whether the address table of the library cannot be read. Permissive mode then leaves the
+    /// library out of the imports, and strict mode refuses it after its imports. The field is not
+    /// set for a directory at file offset 0 as such, although permissive mode leaves out all of its
+    /// libraries.
     pub is_left_out: bool,
-    /// Whether an import comes first of its lookup table. Else that keeps none, or strict mode
-    /// refuses what comes first.
+    /// Whether the first thing that the lookup table yields is an import. If not, the table keeps
+    /// none, or strict mode refuses its first entry or its end.
     pub has_imports: bool,
-    /// Where its imports begin.
+    /// The cursor before the imports of the library.
     pub cursor: ImportCursor,
 }
 
-// The name at an address.
+// The name at an address, or why there is none.
 fn name_or_cause<'a>(bytes: &'a [u8], rva: u32, finder: &mut Finder<'_>) -> Result<&'a str>
     ensures value { result_map_both (λ s. s.now) (λ e. e) result
         ≡ name_or_cause (map_of finder.old).addressing bytes.now rva }
@@ -73,7 +76,7 @@ fn name_or_cause<'a>(bytes: &'a [u8], rva: u32, finder: &mut Finder<'_>) -> Resu
     }
 }
 
-// Whether an import comes first of the lookup table of a record.
+// Whether the first thing that the lookup table of an import descriptor yields is an import.
 fn has_imports<'a, T: Bitfield<'a>>(
     bytes: &'a [u8],
     entry: &ImportDirectoryEntry,
@@ -93,8 +96,9 @@ fn has_imports<'a, T: Bitfield<'a>>(
 }
 
 impl ImportCursor {
-    /// Before the record at a file offset, in a directory whose first record is at `first`: what
-    /// comes there are the imports of its library, and those of the later ones.
+    /// The cursor before the import descriptor at the file offset `offset`, in a directory whose
+    /// first descriptor lies at the file offset `first`. A walk over imports from this cursor on
+    /// yields the imports of that library, and then those of the later ones.
     pub fn at_record(first: usize, offset: usize) -> ImportCursor
         ensures is { result ≡ at_record first offset }
         ensures left { (m : MapOfAddresses) (format : Format EntryValue) (bytes : List ℕ)
@@ -109,7 +113,8 @@ impl ImportCursor {
     }
 }
 
-// Whether permissive mode leaves out the library of a record, and whether it has imports.
+// Whether the address table of an import descriptor cannot be read, and whether its library has
+// imports.
 fn flags_of<'a, T: Bitfield<'a>>(
     bytes: &'a [u8],
     entry: &ImportDirectoryEntry,
@@ -125,25 +130,28 @@ fn flags_of<'a, T: Bitfield<'a>>(
     (is_left_out, has_imports::<T>(bytes, entry, finder))
 }
 
-/// The libraries that an image imports from, in the order of their records, without memory: one for
-/// each record of the import directory, up to the first that has no name or no address table. One
-/// library may have several.
+/// A walk over the libraries that an image imports from, in the order of their import descriptors.
+/// It takes no memory. It yields one library for each descriptor before the first one whose name or
+/// address table is at address 0. One library may have several descriptors.
 ///
-/// Those that permissive mode leaves out of the imports come, too, and say so. In strict mode it
-/// ends with one error where the directory reaches the end of the file; else there is none.
+/// The walk also yields the libraries whose address table cannot be read, which permissive mode
+/// leaves out of the imports; their [`is_left_out`](WalkedLibrary::is_left_out) is true. In strict
+/// mode, if the directory reaches the end of the file, the walk ends with one error. In permissive
+/// mode it yields no error.
 #[derive(Drop)]
 pub struct Libraries<'a, 'm> {
     bytes: &'a [u8],
     finder: Finder<'m>,
-    // Whether their tables have entries of four bytes, not of eight.
+    // Whether the tables have entries of four bytes, not of eight.
     is_narrow: bool,
     at: ImportCursor,
 }
 
 impl<'a, 'm> Libraries<'a, 'm> {
-    /// The libraries whose records come next at a cursor, as [`ImportCursor::first`],
-    /// [`Libraries::cursor`] or a walk over imports gave it. The tables of these have entries of
-    /// four bytes if `is_narrow`, else of eight.
+    /// A walk over the libraries whose import descriptors come next at a cursor. The cursor comes
+    /// from [`ImportCursor::first`], from [`Libraries::cursor`], or from a walk over imports. If it
+    /// lies in a library, that library does not come again. The tables of the libraries have
+    /// entries of four bytes if `is_narrow`, else of eight.
     pub fn at_cursor(
         bytes: &'a [u8],
         at: ImportCursor,
@@ -160,7 +168,10 @@ impl<'a, 'm> Libraries<'a, 'm> {
         }
     }
 
-    /// Where the walk is: before the record that comes next, where also its imports begin.
+    /// Where the walk is: before the import descriptor that comes next. A walk over imports from
+    /// this cursor on begins with the imports of that library. One exception: until this walk has
+    /// yielded something, its cursor is the one that it was made from, which may lie in an earlier
+    /// library.
     pub fn cursor(&self) -> ImportCursor
         ensures is { result ≡ libraries_cursor self.now }
         ensures left { libraries_left self.now
@@ -170,7 +181,7 @@ impl<'a, 'm> Libraries<'a, 'm> {
         self.at
     }
 
-    // The library of the record at an offset.
+    // The library of the import descriptor at an offset.
     fn library_at(&mut self, offset: usize, entry: ImportDirectoryEntry) -> WalkedLibrary<'a>
         ensures value { let m = libraries_map self.old in
             library_value result
@@ -195,7 +206,6 @@ impl<'a, 'm> Libraries<'a, 'm> {
         }
     }
 
-    // The next library.
     fn next_library(&mut self) -> Option<Result<WalkedLibrary<'a>>>
         ensures gives { GivesNext library_value libraries_left IsLibrariesCause self.old result self.new }
         ensures refused { IfSome result (λ r. IfErr r (λ e. ¬ IsMemory e)) }

@@ -1,4 +1,4 @@
-//! What stands in a slot of a lookup table or of a directory.
+//! What lies in a slot of a lookup table or of an import directory.
 
 ghost use Rattle.std.specs.Prelude.{◌≡◌, ◌||◌, not, is_some};
 ghost use Rattle.goblin_base.specs.Bytes.{slice_at};
@@ -20,7 +20,7 @@ pub(crate) fn next_entry<'a, T: Bitfield<'a>>(bytes: &'a [u8], offset: usize) ->
     }
 }
 
-// The record in the slot at an offset; `None` if the directory ends there.
+// The import descriptor in the slot at an offset; `None` if the directory ends there.
 #[inline(always)]
 pub(crate) fn next_record(bytes: &[u8], offset: usize) -> Option<ImportDirectoryEntry>
     ensures { GivesSlot (λ r. r) import_slots bytes.now offset result }
@@ -31,8 +31,8 @@ pub(crate) fn next_record(bytes: &[u8], offset: usize) -> Option<ImportDirectory
     }
 }
 
-// Whether a table may end in the slot of `width` bytes at an offset. Read strictly, that slot must
-// be in the file.
+// Whether a table may end in the slot of `width` bytes at an offset. In strict mode that slot must
+// lie in the file.
 #[inline(always)]
 pub(crate) fn may_end(bytes: &[u8], offset: usize, width: usize, strictly: bool) -> bool
     ensures { result ≡ (not strictly || is_some (slice_at bytes.now offset width)) }

@@ -1,9 +1,9 @@
-//! A limit of steps: how many slots and records a call may look at.
+//! A budget of steps: how many slots and import descriptors a call may look at.
 
 ghost use Rattle.std.specs.Prelude.{◌≡◌, false, true};
 ghost use Rattle.goblin_pe_import.specs.StepsAhead.{HasSteps, IsOut, spent};
 
-// Whether a limit has run out.
+// Whether a budget has run out.
 #[inline(always)]
 pub(super) fn are_out(steps: &Option<usize>) -> bool
     ensures yes { result ≡ true → IsOut steps.now }
@@ -15,7 +15,7 @@ pub(super) fn are_out(steps: &Option<usize>) -> bool
     }
 }
 
-// Takes so many steps off a limit, or all that are left.
+// Takes that many steps off a budget, or all that are left.
 #[inline(always)]
 pub(super) fn spend(steps: &mut Option<usize>, count: usize)
     ensures { steps.new ≡ spent steps.old count }

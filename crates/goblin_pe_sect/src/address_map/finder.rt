@@ -1,4 +1,4 @@
-//! Where addresses lie in the file, for callers that ask for many.
+//! File offsets of addresses, for callers that ask for many.
 
 ghost use Rattle.std.specs.Prelude.{◌≡◌, IfSome, None, Some, option_map};
 ghost use Rattle.goblin_base.specs.Reading.{Reads};
@@ -12,14 +12,15 @@ use crate::utils::name_within;
 use goblin_base::ResultOf;
 use std::marker::Model;
 
-/// A map of addresses that keeps addresses about the last one for which it walked over sections,
-/// with their offsets: one that lies among them takes no further walk. Of an index it keeps none.
-/// What it answers does not depend on what was asked before.
+/// A finder of file offsets, over an address map. After a walk over the sections it keeps the
+/// addresses around the one that was asked for, with their offsets, so these need no further walk.
+/// It keeps nothing if the map has an index. The answers do not depend on what was asked before.
 #[derive(Drop)]
 pub struct Finder<'m> {
     address_map: &'m AddressMap<'m>,
-    // Addresses about the last one, and about the last name's: none where names have a limit, as by
-    // these plain names are read, which are whole.
+    // The addresses around the last address, and those around the address of the last name. If
+    // names have a limit, `names` stays empty, because it is used to read plain names, which are
+    // whole.
     run: Run,
     names: Run,
 }
@@ -40,7 +41,7 @@ impl<'m> Model for Finder<'m> {
 }
 
 impl<'m> Finder<'m> {
-    /// A finder by this map.
+    /// A finder over this map, which keeps no addresses yet.
     pub fn of(address_map: &'m AddressMap) -> Finder<'m>
         ensures { result ≡ address_map.now }
     {
@@ -51,7 +52,7 @@ impl<'m> Finder<'m> {
         }
     }
 
-    /// A copy of this finder.
+    /// A copy of this finder, with the addresses that it keeps.
     pub fn again(&self) -> Finder<'m>
         ensures { result ≡ self.now }
     {
@@ -62,7 +63,7 @@ impl<'m> Finder<'m> {
         }
     }
 
-    /// The map.
+    /// The map of this finder.
     #[inline(always)]
     pub fn address_map(&self) -> &'m AddressMap<'m>
         ensures { result.now ≡ self.now }
@@ -70,7 +71,7 @@ impl<'m> Finder<'m> {
         self.address_map
     }
 
-    /// The options for mapping addresses and for reading there.
+    /// The options by which addresses are mapped and the bytes there are read.
     #[inline(always)]
     pub fn opts(&self) -> &ParseOptions
         ensures { result.now ≡ (map_of self.now).opts }
@@ -78,7 +79,7 @@ impl<'m> Finder<'m> {
         self.address_map.opts()
     }
 
-    /// Whether damaged parts are refused; else they are passed over.
+    /// Whether the mode is strict: damaged parts are refused, and not passed over.
     #[inline(always)]
     pub fn reads_strictly(&self) -> bool
         ensures { result ≡ reads_strictly (map_of self.now) }
@@ -86,7 +87,7 @@ impl<'m> Finder<'m> {
         self.address_map.reads_strictly()
     }
 
-    /// How many bytes a name may have before it is cut, if there is a limit.
+    /// The length, in bytes, above which names are cut, or `None` if there is no limit.
     #[inline(always)]
     pub fn longest_name(&self) -> Option<u32>
         ensures { result ≡ (map_of self.now).addressing.longest }
@@ -94,7 +95,7 @@ impl<'m> Finder<'m> {
         self.address_map.longest_name()
     }
 
-    /// The file offset of an address, as [`AddressMap::offset_of`].
+    /// The file offset of the address `rva`, as [`AddressMap::offset_of`] returns it.
     #[inline(always)]
     pub fn offset_of(&mut self, rva: u32) -> Option<usize>
         ensures value { result ≡ offset_of (map_of self.old) rva }
@@ -113,8 +114,9 @@ impl<'m> Finder<'m> {
         offset
     }
 
-    /// The file offset of the address of a name, as [`AddressMap::offset_of`]. The finder keeps the
-    /// addresses about names apart, since names often lie in another section than what they name.
+    /// The file offset of the address of a name, as [`AddressMap::offset_of`] returns it. The
+    /// finder keeps the addresses around names apart from others, because names often lie in
+    /// another section than the things that they name.
     #[inline(always)]
     pub fn offset_of_name(&mut self, rva: u32) -> Option<usize>
         ensures value { result ≡ offset_of (map_of self.old) rva }
@@ -136,8 +138,8 @@ impl<'m> Finder<'m> {
         offset
     }
 
-    /// The file offset of an address, where it lies among the addresses that the finder keeps; else
-    /// `None`, which says nothing of it. It takes no walk and no search.
+    /// The file offset of an address, if the finder keeps it. `None` says nothing about the
+    /// address. The call makes no walk and no search.
     #[inline(always)]
     pub fn near_offset(&self, rva: u32) -> Option<usize>
         ensures { IfSome result (λ offset. offset_of (map_of self.now) rva ≡ Some offset) }
@@ -145,9 +147,9 @@ impl<'m> Finder<'m> {
         self.run.offset_of(rva as usize)
     }
 
-    /// The file offset of the address of a name, where it lies among those about names that the
-    /// finder keeps; else `None`, which says nothing of it. It takes no walk and no search. Where
-    /// names have a limit, none are kept.
+    /// The file offset of the address of a name, if it is among the addresses around names that the
+    /// finder keeps. `None` says nothing about the address. The call makes no walk and no search.
+    /// If names have a limit, the finder keeps no such addresses.
     #[inline(always)]
     pub fn near_name_offset(&self, rva: u32) -> Option<usize>
         ensures offset { IfSome result (λ offset. offset_of (map_of self.now) rva ≡ Some offset) }
@@ -156,7 +158,8 @@ impl<'m> Finder<'m> {
         self.names.offset_of(rva as usize)
     }
 
-    /// The text at an address: in permissive mode `None` if there is none.
+    /// The name at an address, cut if the map has a limit for names. In permissive mode it is
+    /// `None` if there is no text.
     ///
     /// # Errors
     /// As [`safe_try_name`](crate::utils::safe_try_name).

@@ -1,22 +1,25 @@
-//! What the addresses of a file are mapped by.
+//! The section headers, and the front of the file, by which addresses are mapped.
 
 ghost use Rattle.std.specs.Prelude.{◌≡◌, ◌<◌, [], ◌∷◌, MatchOption, Some, length, slice_get};
 ghost use Rattle.goblin_pe_sect.specs.SectionTable.{front_section, mapped_sections};
 
 use crate::section_table::{SectionRecords, SectionTable};
 
-/// The sections by which addresses are mapped: those of the records and, where it is mapped, the
-/// file's front after them.
+/// What maps addresses: the sections and, after them, the front of the file if it is mapped.
 #[derive(Copy, Clone)]
 pub struct MappedRecords<'a> {
-    /// The records of the sections.
+    /// The section headers.
     pub records: SectionRecords<'a>,
-    /// How many bytes of the file's front the loader maps at the image's base, as
-    /// `size_of_headers` says; `None` where the front is not mapped.
+    /// The size of the headers, in bytes, if the front of the file is mapped at the image's base;
+    /// `None` if it is not. The front is mapped as [`front_section`] says.
     pub front: Option<u32>,
 }
 
-/// The front of a file as a section: at address 0, with so many bytes, which the headers have.
+/// The front of a file as a section at address 0, where the Windows loader maps the headers. `size`
+/// is the size of the headers in bytes.
+///
+/// The window of this section has `size` rounded up to the file alignment, but no more than `size`
+/// rounded up to 4,096. It is empty if `size` is 0.
 #[inline(always)]
 pub fn front_section(size: u32) -> SectionTable
     ensures { result ≡ front_section size }
@@ -37,7 +40,8 @@ pub fn front_section(size: u32) -> SectionTable
 }
 
 impl<'a> MappedRecords<'a> {
-    /// The first section, and what comes after it, as [`SectionRecords::split_first`].
+    /// The first section, and what comes after it, as [`SectionRecords::split_first`]. The front
+    /// comes last.
     #[inline(always)]
     pub(crate) fn split_first(&self) -> Option<(SectionTable, MappedRecords<'a>)>
         ensures { MatchOption result (mapped_sections self.now ≡ [])
@@ -55,7 +59,7 @@ impl<'a> MappedRecords<'a> {
         Some((front_section(size), later))
     }
 
-    /// How many sections there are, with the front.
+    /// How many sections there are. The front counts if it is mapped.
     pub(crate) fn len(&self) -> usize
         ensures { result ≡ length (mapped_sections self.now) }
     {
@@ -65,7 +69,7 @@ impl<'a> MappedRecords<'a> {
         }
     }
 
-    /// The section at this index.
+    /// The section at this index. The front, if it is mapped, has the last index.
     pub(crate) fn at(&self, index: usize) -> SectionTable
         requires { index < length (mapped_sections self.now) }
         ensures { slice_get (mapped_sections self.now) index ≡ Some result }

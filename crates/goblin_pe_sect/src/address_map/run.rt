@@ -1,21 +1,21 @@
-//! Runs of addresses whose bytes lie side by side in the file.
+//! Runs of consecutive addresses whose bytes are consecutive in the file.
 
 ghost use Rattle.std.specs.Prelude.{◌≡◌, ◌+◌, ◌^◌, ◌<◌};
 ghost use Rattle.goblin_pe_sect.specs.Runs.{offset_in_run, past_null};
 
-/// Addresses that follow one another as their bytes do in the file.
+/// Consecutive addresses whose bytes are consecutive in the file.
 #[derive(Copy, Clone, Default)]
 pub struct Run {
     /// The first address.
     pub first: usize,
     /// How many addresses there are.
     pub size: usize,
-    /// The file offset of the first.
+    /// The file offset of the first address.
     pub offset: usize,
 }
 
 impl Run {
-    /// The file offset of an address of the run.
+    /// The file offset of an address of the run, or `None` if the run does not have the address.
     #[inline(always)]
     pub fn offset_of(&self, rva: usize) -> Option<usize>
         requires offsets { self.now.offset + self.now.size < 2 ^ 64 }

@@ -1,4 +1,4 @@
-//! The walk over the windows of few sections.
+//! The walk over the windows of a few sections.
 
 ghost use Rattle.std.specs.Prelude.{◌≡◌, ◌^◌, ◌<◌, IfSome, IsTrue, Some, true};
 ghost use Rattle.std.specs.Int.{is_power_of_two};
@@ -12,17 +12,17 @@ use super::run::Run;
 use crate::options::ParseOptions;
 use crate::utils::{past_window, raw_begin, section_window};
 
-// All addresses, each of which is its own offset.
+// All addresses. Each is its own file offset.
 const ALL_ADDRESSES: Run = Run {
     first: 0,
     size: 1 << 32,
     offset: 0,
 };
 
-// The file offset of an address, by the first section whose window holds it. `run` becomes the
-// addresses about it that this section owns, up to the windows of the sections before it. (So each
-// of these is looked at, which a search as in `mapping` does not do. The address is no u32, which
-// would be kept in two registers.)
+// The file offset of an address, by the first section whose window holds it. Sets `run` to the
+// addresses around it that this section owns: those up to the windows of the sections before it in
+// the table. (So the walk compares the windows of all these sections with the address, which the
+// search in `mapping` does not. The address is not a u32, which would be kept in two registers.)
 #[inline(always)]
 fn find_window(
     records: MappedRecords,
@@ -70,9 +70,9 @@ fn find_window(
     None
 }
 
-// The file offset of an address by the sections of these records. `run` becomes addresses about it
-// that have their offsets without another walk, where a section owns it; all addresses, where the
-// options say that these are offsets.
+// The file offset of an address, by these sections. If a section owns the address, sets `run` to
+// addresses around it, whose offsets then need no walk. If the options say that addresses are
+// offsets, sets `run` to all addresses.
 #[inline(always)]
 #[tactic(auto, unfolding(crate::specs::Mapping::file_offset))]
 fn find_by_sections(
@@ -100,7 +100,7 @@ fn find_by_sections(
     find_window(records, file_alignment, opts, rva, run)
 }
 
-// The same where the file's front is mapped, by which address 0 has no offset.
+// As `find_by_sections`, for sections with the file's front, with which address 0 has no offset.
 #[inline(never)]
 fn find_past_null(
     records: MappedRecords,
@@ -126,9 +126,9 @@ fn find_past_null(
     Some(offset)
 }
 
-/// The file offset of an address that a table says, by the sections of these records, and the file's
-/// front after them where it is mapped. `run` becomes addresses about it that have their offsets
-/// without another walk, where one of these owns it.
+/// The file offset of an address in a table of the file, by these sections and, if it is mapped,
+/// the file's front after them. If one of these owns the address, sets `run` to addresses around
+/// it, whose offsets then need no walk.
 #[inline(always)]
 pub(super) fn find_in_records(
     records: MappedRecords,

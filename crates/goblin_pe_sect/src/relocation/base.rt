@@ -1,4 +1,4 @@
-//! The base relocations of an image: blocks of words.
+//! The base relocations of an image, which are blocks of words.
 
 ghost use Rattle.std.specs.Prelude.{◌≡◌, ◌+◌, ◌-◌, ◌/◌, ◌%◌, ◌^◌, ◌<◌, ◌≤◌, Some, length, IfOk};
 ghost use Rattle.std.specs.Prelude.{Err, IfSome};
@@ -25,7 +25,7 @@ use goblin_base::{
 };
 use std::iter::FusedIterator;
 
-/// The size of the head of a base relocation block, in bytes.
+/// The size of the header of a base relocation block, in bytes.
 pub const RELOCATION_BLOCK_SIZE: usize = 8;
 
 const _: () = prove!(RELOCATION_BLOCK_SIZE == 8);
@@ -33,9 +33,9 @@ const _: () = prove!(RELOCATION_BLOCK_SIZE == 8);
 // The size of a word, in bytes.
 const RELOCATION_WORD_SIZE: usize = 2;
 
-/// The base relocations of an image: the bytes of their directory. Where a loader can't load the
-/// image at the base that it was linked for, it adds the distance to the number at each address
-/// that they name.
+/// The base relocations of an image: the bytes of their directory. A loader that can't load the
+/// image at its preferred address adds the difference to the number at each address that the base
+/// relocations name.
 ///
 /// Source: PE Format, "The .reloc Section (Image Only)".
 #[derive(Debug, PartialEq, Clone, Default, Drop)]
@@ -44,8 +44,8 @@ pub struct RelocationData<'a> {
 }
 
 impl<'a> RelocationData<'a> {
-    /// The base relocations of the directory `dd`, as [`RelocationData::parse_with_opts`] with the
-    /// default options.
+    /// The base relocations of the data directory `dd`, as [`RelocationData::parse_with_opts`]
+    /// reads them with the default options.
     ///
     /// # Errors
     /// As [`RelocationData::parse_with_opts`].
@@ -62,12 +62,12 @@ impl<'a> RelocationData<'a> {
         RelocationData::parse_with_opts(bytes, dd, sections, file_alignment, &opts)
     }
 
-    /// The base relocations of the directory `dd`: the bytes at its address, as many as its size
-    /// says.
+    /// The base relocations of the data directory `dd`: the bytes at its address, as many as its
+    /// size says.
     ///
     /// # Errors
-    /// [`Error::Malformed`], in both modes: [`Cause::Unmapped`] if the address has no file offset,
-    /// [`Cause::RelocRange`] if the bytes there run past the end of the file, or begin at or past
+    /// [`Error::Malformed`] in both modes: [`Cause::Unmapped`] if the address has no file offset,
+    /// [`Cause::RelocRange`] if the bytes there begin at or past the end of the file, or run past
     /// it.
     #[tactic(auto, unfolding(crate::specs::AddressReadings::relocation_data))]
     pub fn parse_with_opts(
@@ -85,8 +85,8 @@ impl<'a> RelocationData<'a> {
         RelocationData::parse_at(bytes, dd, offset)
     }
 
-    /// The base relocations of the directory `dd`, whose address has the file offset `offset`, if
-    /// it has one.
+    /// The base relocations of the data directory `dd`. `offset` is the file offset of its address,
+    /// or `None` if the address has none.
     ///
     /// # Errors
     /// As [`RelocationData::parse_with_opts`].
@@ -103,7 +103,7 @@ impl<'a> RelocationData<'a> {
         }
     }
 
-    /// The blocks, in order; if bytes are left that do not begin a block, one error comes last, as
+    /// The blocks, in order. If the last bytes are not a block, one error comes last, as
     /// [`RelocationBlockIterator`] says.
     #[tactic(auto, using(crate::proofs::BlocksOf::blocks_of))]
     pub fn blocks(&self) -> RelocationBlockIterator<'a>
@@ -127,12 +127,12 @@ impl<'a> RelocationData<'a> {
     }
 
     /// The block that begins `offset` bytes into the directory, as
-    /// [`blocks`](RelocationData::blocks) gives it; `None` at the end and past it. The next one
-    /// begins `size` bytes further.
+    /// [`blocks`](RelocationData::blocks) yields it. `None` at the end of the directory and past
+    /// it. The next block begins `size` bytes further on.
     ///
     /// # Errors
     /// As the iterator of [`blocks`](RelocationData::blocks): fewer than 8 bytes are left, or the
-    /// block's size is below 8 or runs past the directory.
+    /// block's size is below 8, or the words run past the directory or begin at its end.
     #[tactic(auto, using(crate::proofs::BlockItems::items))]
     pub fn block_at(&self, offset: usize) -> Option<Result<RelocationBlock<'a>>>
         ensures found { FindsItem (relocation_bytes self.now) offset result }
@@ -151,22 +151,22 @@ impl<'a> RelocationData<'a> {
 
 /// A block of base relocations, for one page of the image in memory.
 ///
-/// Source: PE Format, "Base Relocation Block". Its head has 8 bytes, and `at` gives the offset in
-/// it of the address and of the size.
+/// Source: PE Format, "Base Relocation Block". The header of a block has 8 bytes, and `at` gives
+/// the offset in it of the address and of the size.
 #[derive(Debug, PartialEq, Copy, Clone, Default)]
 pub struct RelocationBlock<'a> {
-    /// The page's address, relative to the image's base, at 0. The offset of each word is added to
+    /// The page's address, relative to the image's base, at 0. The offset in each word is added to
     /// it.
     pub rva: u32,
-    /// The size of the block with its head, in bytes, at 4: the next block begins this far after
-    /// its begin.
+    /// The size of the block with its header, in bytes, at 4. The next block begins this many bytes
+    /// after the start of this one.
     pub size: u32,
-    /// The bytes after the head, which are the words.
+    /// The bytes of the words, which follow the header.
     pub bytes: &'a [u8],
 }
 
 impl<'a> RelocationBlock<'a> {
-    // Why the last bytes of a directory, of which there are at most eight from `offset` on, are no block.
+    // Why the last bytes of a directory, at most eight from `offset` on, are not a block.
     #[inline(always)]
     #[tactic(auto, unfolding(crate::specs::BaseRelocations::block_at))]
     fn refusal_of_rest(directory: &[u8], offset: usize) -> Error
@@ -185,7 +185,7 @@ impl<'a> RelocationBlock<'a> {
         Error::Malformed(Cause::BlockRange(begin, size as usize - RELOCATION_BLOCK_SIZE))
     }
 
-    // Reads the block at `offset` of a directory, which lies before its end.
+    // Reads the block at `offset`, which must lie before the end of the directory.
     #[tactic(auto, unfolding(crate::specs::BaseRelocations::block_at))]
     fn in_directory(directory: &'a [u8], offset: usize) -> Result<RelocationBlock<'a>>
         requires { offset < length directory.now }
@@ -213,7 +213,7 @@ impl<'a> RelocationBlock<'a> {
         })
     }
 
-    /// The words, in order; if one byte is left after them, one error comes last, as
+    /// The words, in order. If one byte is left after them, one error comes last, as
     /// [`RelocationWordIterator`] says.
     pub fn words(&self) -> RelocationWordIterator<'a>
         ensures { words_left result ≡ word_items self.now.bytes.now }
@@ -222,10 +222,13 @@ impl<'a> RelocationBlock<'a> {
     }
 }
 
-/// The blocks of a base relocation directory, in order. If bytes are left that do not begin a
-/// block, one error comes last: [`Error::Read`] with `TooBig` if there is no whole head,
-/// [`Error::Malformed`] with [`Cause::BlockSize`] if its size is below that of a head, and with
-/// [`Cause::BlockRange`] if the bytes after the head run past the directory, or begin at its end.
+/// An iterator over the blocks of a base relocation directory, in order. If the last bytes are not
+/// a block, one error comes last:
+///
+/// - [`Error::Read`] with `TooBig`, if there is no whole header;
+/// - [`Error::Malformed`] with [`Cause::BlockSize`], if the size in the header is below 8;
+/// - [`Error::Malformed`] with [`Cause::BlockRange`], if the words run past the directory, or begin
+///   at its end.
 ///
 /// Source: PE Format, "Base Relocation Block".
 #[derive(Debug, Copy, Clone)]
@@ -258,7 +261,8 @@ impl<'a> Iterator for RelocationBlockIterator<'a> {
         }
     }
 
-    /// No more come than heads fit, and one for a rest.
+    /// The upper bound is the number of headers that fit, and one more for bytes that are left
+    /// over.
     #[tactic(auto, using(crate::proofs::BlockItems::items_most))]
     fn size_hint(&self) -> (usize, Option<usize>)
         ensures lower { IsWithinCount result.0
@@ -275,15 +279,15 @@ impl<'a> Iterator for RelocationBlockIterator<'a> {
 
 impl FusedIterator for RelocationBlockIterator<'_> {}
 
-/// A word of a base relocation block: an address in the block's page, and how a loader changes the
-/// bytes there.
+/// A word of a base relocation block. It says at which address in the block's page a loader changes
+/// the bytes, and how.
 ///
-/// Source: PE Format, "Base Relocation Block" and "Base Relocation Types". The number is as stored;
-/// the record has 2 bytes.
+/// Source: PE Format, "Base Relocation Block" and "Base Relocation Types". The number is as stored.
+/// The record has 2 bytes.
 #[derive(Debug, PartialEq, Copy, Clone, Default)]
 pub struct RelocationWord {
-    /// The type in the high four bits, the offset in bytes from the block's address in the low
-    /// twelve, at 0.
+    /// The word, at 0. Its high four bits are the type; its low twelve bits are the offset from the
+    /// block's address, in bytes.
     pub value: u16,
 }
 
@@ -312,15 +316,15 @@ impl Record for RelocationWord {
 }
 
 impl RelocationWord {
-    /// How the bytes there are changed, an `IMAGE_REL_BASED_*`: the high four bits. Type 0 changes
-    /// nothing and fills up a block.
+    /// The type, an `IMAGE_REL_BASED_*`, which says how the bytes are changed: the high four bits.
+    /// Type 0 changes nothing and pads a block.
     pub fn reloc_type(&self) -> u8
         ensures { result ≡ self.now.value / 4096 }
     {
         (self.value >> 12) as u8
     }
 
-    /// The offset of those bytes from the block's address: the low twelve bits.
+    /// The offset of the bytes that are changed from the block's address: the low twelve bits.
     pub fn offset(&self) -> u16
         ensures { result ≡ self.now.value % 4096 }
     {
@@ -347,8 +351,8 @@ impl RelocationWord {
     }
 }
 
-/// The words of a block, in order. If one byte is left after them, one [`Error::Read`] with
-/// `TooBig` comes last.
+/// An iterator over the words of a block, in order. If one byte is left after them, one
+/// [`Error::Read`] with `TooBig` comes last.
 ///
 /// Source: PE Format, "Base Relocation Block".
 #[derive(Debug, Copy, Clone)]

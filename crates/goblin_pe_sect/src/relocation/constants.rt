@@ -255,15 +255,15 @@ pub const IMAGE_REL_IA64_SREL22: u16 = 0x12;
 pub const IMAGE_REL_IA64_SREL32: u16 = 0x13;
 /// Itanium: an unsigned value of 32 bits, the difference of two targets.
 pub const IMAGE_REL_IA64_UREL32: u16 = 0x14;
-/// Itanium: the distance of a branch of 60 bits, kept long.
+/// Itanium: the distance of a branch, 60 bits; the branch stays a long one.
 pub const IMAGE_REL_IA64_PCREL60X: u16 = 0x15;
-/// Itanium: the distance of a branch of 60 bits; a short one becomes one of 25 in a branch slot.
+/// Itanium: the distance of a branch, 60 bits; if 25 bits suffice, its bundle becomes an MBB one.
 pub const IMAGE_REL_IA64_PCREL60B: u16 = 0x16;
-/// Itanium: the same, a short one in a floating-point slot.
+/// Itanium: the distance of a branch, 60 bits; if 25 bits suffice, its bundle becomes an MFB one.
 pub const IMAGE_REL_IA64_PCREL60F: u16 = 0x17;
-/// Itanium: the same, a short one in an integer slot.
+/// Itanium: the distance of a branch, 60 bits; if 25 bits suffice, its bundle becomes an MIB one.
 pub const IMAGE_REL_IA64_PCREL60I: u16 = 0x18;
-/// Itanium: the same, a short one in a memory slot.
+/// Itanium: the distance of a branch, 60 bits; if 25 bits suffice, its bundle becomes an MMB one.
 pub const IMAGE_REL_IA64_PCREL60M: u16 = 0x19;
 /// Itanium: an offset from the global pointer, an immediate of 64 bits.
 pub const IMAGE_REL_IA64_IMMGPREL64: u16 = 0x1A;

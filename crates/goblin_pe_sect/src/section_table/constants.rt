@@ -2,7 +2,7 @@
 //!
 //! Source: PE Format, "Section Flags".
 
-/// The section is not padded to the next border. Obsolete; use [`IMAGE_SCN_ALIGN_1BYTES`].
+/// The section is not padded to the next boundary. Obsolete; use [`IMAGE_SCN_ALIGN_1BYTES`].
 pub const IMAGE_SCN_TYPE_NO_PAD: u32 = 0x0000_0008;
 /// The section has executable code.
 pub const IMAGE_SCN_CNT_CODE: u32 = 0x0000_0020;
@@ -56,10 +56,10 @@ pub const IMAGE_SCN_ALIGN_2048BYTES: u32 = 0x00C0_0000;
 pub const IMAGE_SCN_ALIGN_4096BYTES: u32 = 0x00D0_0000;
 /// The data is aligned to 8,192 bytes.
 pub const IMAGE_SCN_ALIGN_8192BYTES: u32 = 0x00E0_0000;
-/// The bits that say the alignment.
+/// The bits that give the alignment.
 pub const IMAGE_SCN_ALIGN_MASK: u32 = 0x00F0_0000;
-/// The section has more relocations than its record can count: the first one's address is their
-/// number.
+/// The section has more relocations than its section header can count. The address in the first one
+/// is the number of relocations.
 pub const IMAGE_SCN_LNK_NRELOC_OVFL: u32 = 0x0100_0000;
 /// The section can be discarded once the image is loaded.
 pub const IMAGE_SCN_MEM_DISCARDABLE: u32 = 0x0200_0000;

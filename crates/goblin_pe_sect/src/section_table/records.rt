@@ -1,12 +1,13 @@
-//! The records of a section table, as they stand in the file.
+//! The section headers of a section table, as they lie in the file.
 
 ghost use Rattle.std.specs.Prelude.{◌≡◌, ◌<◌, ◌/◌, [], ◌∷◌, MatchOption, Some, length, slice_get};
 ghost use Rattle.goblin_pe_sect.specs.SectionTable.{AreBytesAlone, recorded_sections, sections_in};
 
 use crate::section_table::{SIZEOF_SECTION_TABLE, SectionTable};
 
-/// The records of a section table, as they stand in the file: 40 bytes each. A section is read from
-/// its record when it is asked for, without its name from the string table, so none takes memory.
+/// The section headers of a section table, as they lie in the file: 40 bytes each. A section is
+/// read from its header when you ask for it, without its name from the string table. So no section
+/// takes memory.
 ///
 /// Source: PE Format, "Section Table (Section Headers)".
 #[derive(Copy, Clone)]
@@ -14,7 +15,7 @@ pub struct SectionRecords<'a> {
     records: &'a [u8],
 }
 
-// The section of the record at this index.
+// The section whose header is at this index.
 #[inline(always)]
 #[tactic(auto, using(crate::proofs::SectionRecords::section_there))]
 fn section_in(records: &[u8], index: usize) -> SectionTable
@@ -26,8 +27,8 @@ fn section_in(records: &[u8], index: usize) -> SectionTable
 }
 
 impl<'a> SectionRecords<'a> {
-    /// The records in these bytes, one after the other. Fewer than 40 bytes at the end are left
-    /// out.
+    /// The section headers in these bytes, one after the other. If fewer than 40 bytes are left at
+    /// the end, they are ignored.
     pub fn of(records: &'a [u8]) -> SectionRecords<'a>
         ensures value { recorded_sections result ≡ sections_in records.now }
         ensures whole { AreBytesAlone }
@@ -35,8 +36,8 @@ impl<'a> SectionRecords<'a> {
         SectionRecords { records }
     }
 
-    /// The first section, without its name from the string table, and the records after it; `None`
-    /// where there is none. A walk by it takes fewer steps than one by indexes.
+    /// The first section, without its name from the string table, and the section headers after it.
+    /// `None` if there are no more. A walk with this call takes fewer steps than one by indexes.
     #[inline(always)]
     #[tactic(auto, using(crate::proofs::SectionRecords::sections))]
     pub fn split_first(&self) -> Option<(SectionTable, SectionRecords<'a>)>
@@ -63,7 +64,8 @@ impl<'a> SectionRecords<'a> {
         self.records.len() / SIZEOF_SECTION_TABLE
     }
 
-    /// The section at this index, without its name from the string table.
+    /// The section at this index, which must be below [`len`](SectionRecords::len), without its
+    /// name from the string table.
     #[inline(always)]
     #[tactic(auto, using(crate::proofs::SectionRecords::length_sections))]
     pub fn at(&self, index: usize) -> SectionTable

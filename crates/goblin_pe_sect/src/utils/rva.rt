@@ -1,4 +1,4 @@
-//! The address of a file offset.
+//! The map from file offsets back to addresses.
 
 ghost use Rattle.std.specs.Prelude.{◌≡◌, Some, MatchOption};
 ghost use Rattle.goblin_pe_sect.specs.Mapping.{IsMappedFromNowhere, file_address, file_offset};
@@ -9,8 +9,9 @@ use crate::mapping::file_address;
 use crate::options::ParseOptions;
 use crate::section_table::SectionTable;
 
-/// The address that the section's window has at the file offset `offset`, whatever other sections
-/// map. `None` if the window reaches no address there, or `file_alignment` is not a power of two.
+/// The address that the window of this section has at the file offset `offset`, whatever other
+/// sections map. `None` if the window has no address there, or if `file_alignment` is not a power
+/// of two.
 pub fn rva_in(
     offset: usize,
     section: &SectionTable,
@@ -27,13 +28,15 @@ pub fn rva_in(
     Some(first + (offset - begin))
 }
 
-/// The address of the file offset `offset`: [`find_offset`] maps it to this offset. Of several it
-/// is that in the first section, in the order of the table, that has one. If `opts` says that
-/// addresses are offsets, it is the offset itself. Otherwise it is `None` if no address has this
-/// offset: the offset lies in a header, behind the sections' data, or in data that no address is
-/// mapped to, or `file_alignment` is not a power of two.
+/// The address that [`find_offset`] maps to the file offset `offset`. If there are several, it is
+/// the one in the first section, in the order of the table, that has one.
 ///
-/// It takes one walk over the sections, and one more for each whose data holds the offset.
+/// If `opts` says that addresses are offsets, the result is the offset itself. Otherwise it is
+/// `None` if no address has this offset. Then the offset lies in a header, after the data of the
+/// sections, or in data to which no address is mapped; or `file_alignment` is not a power of two.
+///
+/// The call makes one walk over the sections, and at most one more for each section whose window
+/// has an address at the offset.
 ///
 /// Source: none, as for [`window`].
 #[tactic(auto, using(crate::proofs::Backward::file_address_back, crate::proofs::First::as_given))]

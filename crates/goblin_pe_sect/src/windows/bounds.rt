@@ -1,4 +1,5 @@
-//! The pieces of the address space. A search sees where they begin by a call that counts.
+//! The pieces of the address space. A search sees where they begin only through a call that counts
+//! itself.
 
 ghost use Rattle.std.specs.Prelude.{◌≡◌, ◌+◌, ◌*◌, ◌^◌, ◌<◌, ◌≤◌, ◌↔◌, IsTrue, length, slice_index};
 ghost use Rattle.goblin_pe_sect.specs.WindowIndex.{begins_of};
@@ -11,12 +12,12 @@ use std::marker::Model;
 #[derive(Copy, Clone)]
 pub struct Piece {
     begin: usize,
-    /// What is kept of the section that the piece belongs to, if it belongs to one.
+    /// What is kept of the section to which the piece belongs, if it belongs to one.
     pub owner: Option<Owner>,
 }
 
 impl Piece {
-    /// The piece that begins at this address, and what is kept of its section.
+    /// A piece that begins at this address, with what is kept of its section.
     #[inline(always)]
     pub fn new(begin: usize, owner: Option<Owner>) -> Piece
         ensures { result ≡ record { begin = begin; owner = owner } }
@@ -59,7 +60,7 @@ impl<'p> Bounds<'p> {
         self.pieces.len()
     }
 
-    /// Whether piece `i` begins at or before the address `rva`; adds one to `probes`.
+    /// Whether piece `i` begins at or before the address `rva`. Adds one to `probes`.
     pub fn reaches(&self, i: usize, rva: usize, probes: &mut usize) -> bool
         requires piece { i < length self.now }
         requires room { probes.old < usize.MAX }

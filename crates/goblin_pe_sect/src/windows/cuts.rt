@@ -7,8 +7,8 @@ use crate::section_table::SectionTable;
 use crate::utils::section_window;
 use std::alloc::{AllocError, Global};
 
-/// Where the address space is cut, in rising order: at 0 and at each start and end of a window that
-/// is not empty.
+/// The addresses at which the address space is cut, in rising order: 0, and each start and end of a
+/// window that is not empty.
 pub(super) fn cuts_of(
     alloc: Global,
     sections: &[SectionTable],

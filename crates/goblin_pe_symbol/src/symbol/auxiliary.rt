@@ -20,7 +20,7 @@ use goblin_base::{
     Endian, Field, Record, Result, field_array, field_u8, field_u16, field_u32, put_fields,
 };
 
-/// What follows a symbol that defines a function.
+/// The auxiliary record of a symbol that defines a function.
 ///
 /// Source: PE Format, "Auxiliary Format 1: Function Definitions". Numbers are as stored; the record
 /// has 18 bytes, and `at` gives a field's offset in it.
@@ -32,10 +32,9 @@ pub struct AuxFunctionDefinition {
     pub tag_index: u32,
     /// The size of the function's code, in bytes, at 4.
     pub total_size: u32,
-    /// The file offset of the function's first line number, at 8; 0 where it has none.
+    /// The file offset of the function's first line number, at 8; 0 if it has none.
     pub pointer_to_line_number: u32,
-    /// The index in the symbol table of the next function's record, at 12; 0 where this is the
-    /// last.
+    /// The index in the symbol table of the next function's record, at 12; 0 if this is the last.
     pub pointer_to_next_function: u32,
     /// Not used, at 16.
     pub unused: [u8; 2],
@@ -98,7 +97,7 @@ impl AuxFunctionDefinition {
     }
 }
 
-/// What follows a symbol of a function's start or end.
+/// The auxiliary record of a symbol for the start or the end of a function.
 ///
 /// Source: PE Format, "Auxiliary Format 2: .bf and .ef Symbols". Numbers are as stored; the record
 /// has 18 bytes, and `at` gives a field's offset in it.
@@ -111,8 +110,8 @@ pub struct AuxBeginAndEndFunction {
     pub line_number: u16,
     /// Not used, at 6.
     pub unused2: [u8; 6],
-    /// At 12, only for a start: the index in the symbol table of the next function's start, 0 where
-    /// this is the last.
+    /// The index in the symbol table of the next function's start, at 12; 0 if this is the last. It
+    /// counts only in the record of a start.
     pub pointer_to_next_function: u32,
     /// Not used, at 16.
     pub unused3: [u8; 2],
@@ -175,16 +174,16 @@ impl AuxBeginAndEndFunction {
     }
 }
 
-/// What follows a symbol that another may replace.
+/// The auxiliary record of a weak external, a symbol that another may replace.
 ///
 /// Source: PE Format, "Auxiliary Format 3: Weak Externals". Numbers are as stored; the record has
 /// 18 bytes, and `at` gives a field's offset in it.
 #[repr(C)]
 #[derive(Debug, PartialEq, Copy, Clone, Default)]
 pub struct AuxWeakExternal {
-    /// The index in the symbol table of the symbol that is taken where this one is not found, at 0.
+    /// The index in the symbol table of the symbol that replaces this one if it is not found, at 0.
     pub tag_index: u32,
-    /// Where this one is looked for, an `IMAGE_WEAK_EXTERN_SEARCH_*`, at 4.
+    /// Where the linker looks for this symbol, an `IMAGE_WEAK_EXTERN_SEARCH_*`, at 4.
     pub characteristics: u32,
     /// Not used, at 8.
     pub unused: [u8; 10],
@@ -243,14 +242,14 @@ impl AuxWeakExternal {
     }
 }
 
-/// What follows a symbol that defines a section.
+/// The auxiliary record of a symbol that defines a section.
 ///
 /// Source: PE Format, "Auxiliary Format 5: Section Definitions". Numbers are as stored; the record
 /// has 18 bytes, and `at` gives a field's offset in it.
 #[repr(C)]
 #[derive(Debug, PartialEq, Copy, Clone, Default)]
 pub struct AuxSectionDefinition {
-    /// The size of the section's data, in bytes, at 0: the same as in its section record.
+    /// The size of the section's data, in bytes, at 0: the same as in its section header.
     pub length: u32,
     /// How many relocations the section has, at 4.
     pub number_of_relocations: u16,
@@ -258,10 +257,11 @@ pub struct AuxSectionDefinition {
     pub number_of_line_numbers: u16,
     /// The checksum of COMDAT data, at 8.
     pub checksum: u32,
-    /// The number, counted from 1, of the section that this one is taken with, at 12; it counts if
-    /// `selection` is `IMAGE_COMDAT_SELECT_ASSOCIATIVE`.
+    /// The number, counted from 1, of the section that this one is associated with, at 12. It
+    /// counts only if `selection` is `IMAGE_COMDAT_SELECT_ASSOCIATIVE`.
     pub number: u16,
-    /// Which of several COMDAT sections of one name is taken, an `IMAGE_COMDAT_SELECT_*`, at 14.
+    /// Which of several COMDAT sections of one name the linker keeps, an `IMAGE_COMDAT_SELECT_*`,
+    /// at 14.
     pub selection: u8,
     /// Not used, at 15.
     pub unused: [u8; 3],

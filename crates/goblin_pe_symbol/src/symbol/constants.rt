@@ -3,7 +3,7 @@
 //! Source: PE Format, "Section Number Values", "Type Representation", "Storage Class", "Auxiliary
 //! Format 3: Weak Externals" and "COMDAT Sections (Object Only)".
 
-/// A symbol's section: none; it is defined elsewhere, or is common where its value is not 0.
+/// A symbol's section: none. The symbol is defined elsewhere, or is common if its value is not 0.
 pub const IMAGE_SYM_UNDEFINED: i16 = 0;
 /// A symbol's section: none; the value is not an address.
 pub const IMAGE_SYM_ABSOLUTE: i16 = -1;
@@ -12,7 +12,7 @@ pub const IMAGE_SYM_DEBUG: i16 = -2;
 
 const _: () = prove!(IMAGE_SYM_UNDEFINED == 0 && IMAGE_SYM_ABSOLUTE == -1 && IMAGE_SYM_DEBUG == -2);
 
-/// A symbol's base type: none, or not known.
+/// A symbol's base type: none, or unknown.
 pub const IMAGE_SYM_TYPE_NULL: u16 = 0;
 /// A symbol's base type: no valid type, as for a function that returns nothing.
 pub const IMAGE_SYM_TYPE_VOID: u16 = 1;
@@ -91,9 +91,9 @@ const _: () = prove!(
 pub const IMAGE_SYM_CLASS_NULL: u8 = 0;
 /// A symbol's class: a variable on the stack.
 pub const IMAGE_SYM_CLASS_AUTOMATIC: u8 = 1;
-/// A symbol's class: seen by other files.
+/// A symbol's class: visible to other files.
 pub const IMAGE_SYM_CLASS_EXTERNAL: u8 = 2;
-/// A symbol's class: seen only by its file; with the value 0 it may stand for a section.
+/// A symbol's class: visible only in its own file; with the value 0 it may represent a section.
 pub const IMAGE_SYM_CLASS_STATIC: u8 = 3;
 /// A symbol's class: a variable in a register.
 pub const IMAGE_SYM_CLASS_REGISTER: u8 = 4;
@@ -123,11 +123,11 @@ pub const IMAGE_SYM_CLASS_ENUM_TAG: u8 = 15;
 pub const IMAGE_SYM_CLASS_MEMBER_OF_ENUM: u8 = 16;
 /// A symbol's class: an argument in a register.
 pub const IMAGE_SYM_CLASS_REGISTER_PARAM: u8 = 17;
-/// A symbol's class: a field of bits.
+/// A symbol's class: a bit field.
 pub const IMAGE_SYM_CLASS_BIT_FIELD: u8 = 18;
 /// A symbol's class: the start or the end of a block.
 pub const IMAGE_SYM_CLASS_BLOCK: u8 = 100;
-/// A symbol's class: the start or the end of a function, or its lines.
+/// A symbol's class: the start or the end of a function, or its number of lines.
 pub const IMAGE_SYM_CLASS_FUNCTION: u8 = 101;
 /// A symbol's class: the end of a structure.
 pub const IMAGE_SYM_CLASS_END_OF_STRUCT: u8 = 102;
@@ -176,7 +176,7 @@ const _: () = prove!(
 pub const IMAGE_WEAK_EXTERN_SEARCH_NOLIBRARY: u32 = 1;
 /// Where a weak symbol is looked for: in libraries too.
 pub const IMAGE_WEAK_EXTERN_SEARCH_LIBRARY: u32 = 2;
-/// Where a weak symbol is looked for: nowhere; it is another name of the other symbol.
+/// Where a weak symbol is looked for: nowhere; it is an alias of the other symbol.
 pub const IMAGE_WEAK_EXTERN_SEARCH_ALIAS: u32 = 3;
 
 const _: () = prove!(
@@ -185,17 +185,18 @@ const _: () = prove!(
         && IMAGE_WEAK_EXTERN_SEARCH_ALIAS == 3
 );
 
-/// Which of several COMDAT sections is taken: only one may exist.
+/// Which of several COMDAT sections is kept: only one may exist.
 pub const IMAGE_COMDAT_SELECT_NODUPLICATES: u8 = 1;
-/// Which of several COMDAT sections is taken: any.
+/// Which of several COMDAT sections is kept: any.
 pub const IMAGE_COMDAT_SELECT_ANY: u8 = 2;
-/// Which of several COMDAT sections is taken: any, and all must have one size.
+/// Which of several COMDAT sections is kept: any, and all must have one size.
 pub const IMAGE_COMDAT_SELECT_SAME_SIZE: u8 = 3;
-/// Which of several COMDAT sections is taken: any, and all must be equal.
+/// Which of several COMDAT sections is kept: any, and all must be equal.
 pub const IMAGE_COMDAT_SELECT_EXACT_MATCH: u8 = 4;
-/// Which of several COMDAT sections is taken: this one where another section is taken.
+/// Which of several COMDAT sections is kept: this one if the section that it is associated with is
+/// kept.
 pub const IMAGE_COMDAT_SELECT_ASSOCIATIVE: u8 = 5;
-/// Which of several COMDAT sections is taken: the largest.
+/// Which of several COMDAT sections is kept: the largest.
 pub const IMAGE_COMDAT_SELECT_LARGEST: u8 = 6;
 
 const _: () = prove!(

@@ -14,7 +14,7 @@ use crate::export::forwarder_at;
 use crate::export::tables::ExportAddressTableEntry;
 use goblin_pe_sect::address_map::Finder;
 
-// Whether an entry of the address table is no forwarder, or one whose text can be read.
+// Whether an entry of the address table is not a forwarder, or is one whose text can be read.
 fn reads_forwarder(bytes: &[u8], address: ExportAddressTableEntry, finder: &mut Finder<'_>) -> bool
     ensures value { let m = map_of finder.old in
         result ≡ reads_forwarder m.addressing bytes.now address }
@@ -46,9 +46,9 @@ fn gives_export(bytes: &[u8], tables: &TablesInFile, index: usize, finder: &mut 
 }
 
 impl<'a, 'm> Exports<'a, 'm> {
-    /// How many name pointers of the directory give no export, wherever the walk is: there is no
-    /// ordinal, the ordinal lies past the address table, or it leads to a forwarder whose text
-    /// cannot be read. A name that cannot be read leaves no export out.
+    /// How many name pointers of the directory give no export, wherever the walk is. Such a pointer
+    /// has no ordinal, or its ordinal lies past the address table, or it leads to a forwarder whose
+    /// text cannot be read. A name that cannot be read does not leave an export out.
     #[tactic(auto, unfolding(crate::specs::LeftOutExports::pointers_left_out))]
     pub fn left_out(&self) -> usize
         ensures value { let m = exports_map self.now in

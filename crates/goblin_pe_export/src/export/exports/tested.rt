@@ -32,7 +32,7 @@ impl<'a, 'm> Exports<'a, 'm> {
         count
     }
 
-    /// The first of the exports still to come that passes a test; `None` where none does.
+    /// The first of the exports still to come that passes a test, or `None` if none does.
     pub fn find_export<F: Fn(&WalkedExport<'a>) -> bool>(self, test: F) -> Option<WalkedExport<'a>>
         requires { F.IsAlwaysCallable test }
         ensures { (p : NumberedExport → Bool) → IsTest walked_export (FnReturnsAt F.Fn test) p
