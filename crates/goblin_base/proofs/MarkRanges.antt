@@ -216,11 +216,6 @@ next-smaller m at begin end h =
     let in' = marked_within m begin (h.inside begin (omega arith) h.some) in
     omega (arith, in', h.after, h.some)
 
--- and one range fewer
-pub next-counted : (m : List Bool) (at begin end : ℕ) → IsNext m at (begin, end)
-    → length (ranges_from at (drop at m)) ≡ suc (length (ranges_from end (drop end m)))
-next-counted m at begin end h = ap length (ranges-next m at begin end h)
-
 -- no range is left
 pub ranges-none : (m : List Bool) (at : ℕ) → ((p : ℕ) → at ≤ p → get_or m p false ≡ false)
     → ranges_from at (drop at m) ≡ []
@@ -317,20 +312,9 @@ is_footprint n footprint ranges inside is = record {
       same-joined n other footprint (λ p lt. same-covered other footprint p (same p).0 (same p).1) ∙ sym is;
 }
 
--- an empty file has no ranges
-pub joined-some : (n : ℕ) (xs : List Range) → 0 < length (joined n xs) → 0 < n
-unfolding joined ranges_of marked
-joined-some zero xs h = h
-joined-some (suc n) xs h = omega arith
-
 -- the ranges of what was marked from nothing on
 pub footprint_of : (n : ℕ) (footprint ranges : List Range) (marks : List Bool)
     → All (λ range. (range.0 < range.1) × (range.1 ≤ n)) footprint
     → marks ≡ marked (replicate n false) footprint → ranges ≡ ranges_of marks → IsFootprint n footprint ranges
 unfolding joined
 footprint_of n footprint ranges marks inside all is = is_footprint n footprint ranges inside (is ∙ ap ranges_of all)
-
-pub some_of : (n : ℕ) (footprint : List Range) (marks : List Bool)
-    → marks ≡ marked (replicate n false) footprint → 0 < length (ranges_of marks) → 0 < n
-unfolding joined
-some_of n footprint marks all some = joined-some n footprint (subst (λ (m : List Bool). 0 < length (ranges_of m)) all some)

@@ -1,9 +1,9 @@
-//! Marks which positions of a file a read depends on. A reader that marks its own footprint marks
-//! each part in turn; what lies past the end of the file is not marked. The marked positions come
-//! back as ranges (begin, end) in order, none empty, with a position between each and the next.
+//! Marks the positions of a file that a read depends on: its footprint. A footprint is marked part
+//! by part. Positions past the end of the file are not marked. The marked positions are returned as
+//! ranges (begin, end) in order. No range is empty, and at least one position that is not marked
+//! lies between each range and the next.
 
-ghost use Rattle.std.specs.Prelude.{◌≡◌, ◌<◌, IfErr, IfOk, OnErr, false, length, map, replicate};
-ghost use Rattle.std.specs.Prelude.{vec_capacity, vec_len};
+ghost use Rattle.std.specs.Prelude.{◌≡◌, IfErr, IfOk, false, map, replicate};
 ghost use Rattle.goblin_base.specs.Answers.{IsMemory};
 ghost use Rattle.goblin_base.specs.Footprints.{Range, positions, slice_footprint};
 ghost use Rattle.goblin_base.specs.Footprints.{stretch_footprint};
@@ -19,8 +19,8 @@ use std::marker::Model;
 
 /// The positions of a file that are marked.
 ///
-/// There is room for a bit for each position of the file, so marking needs no more memory. Words
-/// are made up to the last mark alone, so what lies behind it takes no time.
+/// There is room for one bit for each position of the file, so marking takes no memory. Words are
+/// added only up to the last mark, so the positions after it take no time.
 #[derive(Drop)]
 pub struct Marks {
     words: Vec<u64>,
@@ -39,20 +39,20 @@ impl Model for Marks {
 }
 
 impl Marks {
-    /// No position of a file of `len` bytes.
+    /// Marks for a file of `len` bytes, with no position marked yet.
     ///
     /// # Errors
-    /// [`Error::Memory`](crate::Error::Memory) only, and only if the file has a byte.
+    /// [`Error::Memory`](crate::Error::Memory) only.
     pub fn with_room_for<'e>(alloc: Global, len: usize) -> ResultOf<'e, Marks>
         ensures none { IfOk result (λ marks. marks ≡ replicate len false) }
         ensures refused { IfErr result IsMemory }
-        ensures grown { OnErr result (0 < len) }
     {
         let words = Vec::with_capacity(alloc, len.div_ceil(BITS))?;
         Ok(Marks { words, len })
     }
 
-    /// Marks the positions from `begin` on and before `end` that the file has.
+    /// Marks the positions from `begin` up to, but not including, `end`, as far as the file has
+    /// them.
     pub fn add(&mut self, begin: usize, end: usize)
         ensures { self.new ≡ marked self.old (positions begin end) }
     {
@@ -63,7 +63,9 @@ impl Marks {
         }
     }
 
-    /// The first marked positions from `from` on, up to one that is not marked.
+    /// The first range of marked positions from `from` on, as (begin, end), or `None` if no more
+    /// are marked. It begins at a marked position at or after `from`, and ends before the next that
+    /// is not marked.
     pub fn next_range(&self, from: usize) -> Option<(usize, usize)>
         ensures { GivesRange self.now from result }
     {
@@ -78,23 +80,22 @@ impl Marks {
         Some((begin, first_wanted(&self.words, begin, end, false)))
     }
 
-    // How many ranges the marked positions are.
-    fn count_ranges(&self) -> usize
-        ensures { result ≡ length (ranges_of self.now) }
-    {
-        let mut count = 0;
+    // The number of ranges of marked positions.
+    fn count_ranges(&self) -> usize {
+        let mut count: usize = 0;
         let mut place = 0;
         'spans: while let Some((_, end)) = self.next_range(place) {
-            count += 1;
+            count = count.saturating_add(1);
             place = end;
         }
         count
     }
 
-    /// What `made` makes of each range of the marked positions, with room for no more.
+    /// What `made` returns for each range of marked positions, in order, in a list with room for no
+    /// more.
     ///
     /// # Errors
-    /// [`Error::Memory`](crate::Error::Memory) only, and only if a position is marked.
+    /// [`Error::Memory`](crate::Error::Memory) only.
     pub fn list<'e, T: Drop, F: Fn((usize, usize)) -> T>(
         &self,
         alloc: Global,
@@ -104,28 +105,24 @@ impl Marks {
         ensures listed { (value : Range → T)
             → ((range : _) (found : _) → F.post made range found → found ≡ value range)
             → IfOk result (λ v. v.items ≡ map value (ranges_of self.now)) }
-        ensures room { IfOk result (λ v. vec_capacity v ≡ vec_len v) }
         ensures refused { IfErr result IsMemory }
-        ensures grown { OnErr result (0 < length (ranges_of self.now)) }
     {
         let mut list = Vec::with_capacity(alloc, self.count_ranges())?;
         let mut place = 0;
         'spans: while let Some((begin, end)) = self.next_range(place) {
-            list.push_reserved(made((begin, end)));
+            list.push(made((begin, end)))?;
             place = end;
         }
         Ok(list)
     }
 
-    /// The marked positions, as ranges in order that do not touch.
+    /// The marked positions as ranges (begin, end), in order. No two of them touch.
     ///
     /// # Errors
-    /// [`Error::Memory`](crate::Error::Memory) only, and only if a position is marked.
+    /// [`Error::Memory`](crate::Error::Memory) only.
     pub fn ranges<'e>(&self, alloc: Global) -> ResultOf<'e, Vec<(usize, usize)>>
         ensures listed { IfOk result (λ ranges. ranges.items ≡ ranges_of self.now) }
-        ensures room { IfOk result (λ ranges. vec_capacity ranges ≡ vec_len ranges) }
         ensures refused { IfErr result IsMemory }
-        ensures grown { OnErr result (0 < length (ranges_of self.now)) }
     {
         self.list(alloc, |range| range)
     }
@@ -142,7 +139,7 @@ pub fn add_slice(marks: &mut Marks, bytes: &[u8], offset: usize, len: usize)
     marks.add(offset, offset + len);
 }
 
-/// Marks the bytes from `begin` up to `end`, if all of them are in the file.
+/// Marks the bytes from `begin` up to, but not including, `end`, if all of them are in the file.
 #[tactic(auto, unfolding(crate::specs::Footprints::positions), using(crate::proofs::Marks::marking))]
 pub fn add_between(marks: &mut Marks, bytes: &[u8], begin: usize, end: usize)
     ensures { marks.new ≡ marked marks.old (between_footprint bytes.now begin end) }
@@ -165,7 +162,7 @@ pub fn add_stretch(marks: &mut Marks, bytes: &[u8], offset: usize)
     marks.add(offset, bytes.len().min(end + 1));
 }
 
-// Marks what a text at an offset, cut at `longest` bytes, depends on.
+// Marks the bytes on which the text at `offset`, cut at `longest` bytes, depends.
 fn add_cut_stretch(marks: &mut Marks, bytes: &[u8], offset: usize, longest: u32)
     ensures { let window = cut_window bytes.now offset longest in
         marks.new ≡ marked marks.old (moved_by offset (stretch_footprint window 0)) }
@@ -175,8 +172,9 @@ fn add_cut_stretch(marks: &mut Marks, bytes: &[u8], offset: usize, longest: u32)
     marks.add(offset, offset + end);
 }
 
-/// Marks what the text at `offset` depends on, as [`pread_str_within`](crate::pread_str_within)
-/// reads it: of a text that is cut no more than `longest` and 4 bytes.
+/// Marks the bytes on which the text at `offset` depends, as
+/// [`pread_str_within`](crate::pread_str_within) reads it. With a limit these are at most `longest`
+/// + 4 bytes.
 pub fn add_text(marks: &mut Marks, bytes: &[u8], offset: usize, longest: Option<u32>)
     ensures { marks.new ≡ marked marks.old (text_footprint longest bytes.now offset) }
 {

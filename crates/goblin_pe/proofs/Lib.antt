@@ -23,9 +23,7 @@ pub mod Parts
 pub mod PermissiveReads
 pub mod RefusedParts
 pub mod SectionNames
-pub mod SectionRoom
 pub mod SoundFiles
 pub mod TableRuns
-pub mod TakenTables
 pub mod TablesReached
 pub mod TwinParts

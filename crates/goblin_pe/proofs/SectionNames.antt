@@ -1,5 +1,5 @@
 -- What the records of sections tell without the names from the string table, and what it says of the sections.
-use Rattle.std.proofs.Common.{◌≡◌, ℕ, ◌+◌, ◌*◌, ◌/◌, ◌<◌, List, Bool, length, map, refl, sym, ap, subst, ◌∙◌, arith, IsSome, None, Ok, Err, Option, Result, Some, option_map}
+use Rattle.std.proofs.Common.{◌≡◌, ℕ, ◌+◌, ◌*◌, List, Bool, length, map, refl, sym, ap, subst, ◌∙◌, arith, IsSome, None, Ok, Err, Option, Result, Some, option_map}
 use Rattle.std.specs.Result.{result_err}
 use Rattle.std.specs.List.{range_with_len}
 use Rattle.std.proofs.lemmas.List.FromFn.{length-map-range_with_len}
@@ -11,9 +11,8 @@ use Rattle.goblin_base.proofs.Steps as steps
 use Rattle.readings.specs.Reads.{each, mapped}
 use Rattle.goblin_pe_sect.specs.declared.options.ParseOptions.{ParseOptions}
 use Rattle.goblin_pe_sect.specs.declared.options.View.{View}
-use Rattle.goblin_pe_sect.specs.Addresses.{AreMany, MapOfAddresses, map_in}
+use Rattle.goblin_pe_sect.specs.Addresses.{MapOfAddresses, map_in}
 use Rattle.goblin_pe_sect.specs.Options.{is_strict}
-use Rattle.goblin_pe_sect.specs.WindowIndex.{HasPieces}
 use Rattle.goblin_pe_sect.specs.SectionReadings.{named_section_at}
 use Rattle.goblin_pe_sect.specs.SectionTable.{Section, unnamed}
 use Rattle.goblin_pe_sect.proofs.AddressMaps.{unnamed_map_in}
@@ -27,7 +26,6 @@ use Rattle.goblin_pe.specs.declared.whole.layout.Layout.{Layout}
 use Rattle.goblin_pe_import.proofs.ImportBound.{all_of-length}
 use Rattle.goblin_pe.specs.Damages.{IsDamage, IsDamaged, TellsDamage}
 use Rattle.goblin_pe.specs.Layouts.{IsLayoutOf, layout_map, layout_places}
-use Rattle.goblin_pe.specs.TakenMemory.{TakesIndex}
 use Rattle.goblin_pe.specs.Whole.{TablePlaces, layout, mapped_in, places_in, section_table_offset, sections_after}
 
 -- ---- what is made of a value
@@ -69,17 +67,6 @@ pub records_counted : (strict : Bool) (h : PeHeader) (bytes : List ℕ) (records
 unfolding sections_after sections_at
 records_counted strict h bytes records made =
     as_many h.coff_header.number_of_sections (λ i. named_section_at strict (symbols_end h.coff_header) (section_table_offset h + 40 * i)) bytes records made
-
--- where they fit their file and are many, an index of them takes memory
-pub takes_index : (opts : ParseOptions) (h : PeHeader) (bytes : List ℕ) (records : List Section)
-    → option_map (map unnamed) ((sections_after (is_strict opts.parse_mode) h).value bytes) ≡ Some records
-    → (length bytes / 40 < h.coff_header.number_of_sections → ⊥)
-    → HasPieces opts (places_in h.optional_header).file_alignment → AreMany (length records)
-    → TakesIndex opts bytes h
-takes_index opts h bytes records made fit pieces many =
-    let enough : ¬ (length bytes / 40 < h.coff_header.number_of_sections) = fit in
-    let counted = records_counted (is_strict opts.parse_mode) h bytes records made in
-    (pieces, omega (arith, many, counted), omega arith)
 
 -- ---- the map of addresses
 

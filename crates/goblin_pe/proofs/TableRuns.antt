@@ -26,7 +26,7 @@ use Rattle.goblin_pe_import.specs.ImportReadings.{import_data}
 use Rattle.goblin_pe_import.specs.LookupReadings.{lookup_table}
 use Rattle.goblin_pe_import.proofs.PermissiveReads.{lookup_table-repeats}
 use Rattle.goblin_pe.specs.Modes.{in_mode, unless_front}
-use Rattle.goblin_pe.specs.TableRuns.{AreAlike, AreGrown, AreInModes, AreTables}
+use Rattle.goblin_pe.specs.TableRuns.{AreAlike, AreInModes, AreTables}
 use Rattle.goblin_pe.proofs.PermissiveReads.{in_modes, map-mode, reads_in_modes}
 use Rattle.goblin_pe.proofs.PermissiveReads.{repeats-import_data}
 
@@ -124,26 +124,3 @@ module _ {D Y : Type 0} (format : Format EntryValue) (plain : D → Y)
           (data_at addressing.offset value_of refusal request.value.virtual_address))
           one.value two.value;
     }
-
--- for want of memory the same
-pub grown_in_mode : {D : Type 0} (format : Format EntryValue) (bytes : List ℕ) (request : Request)
-    (mode : ParseMode) (opts own : ParseOptions) (sections : List Section) (alignment : ℕ)
-    (tables : TablesOf D) → own ≡ in_mode mode opts
-    → AreGrown format (is_strict own.parse_mode) own sections alignment
-    (with_whole_names (file_offset own sections alignment)) bytes request tables
-    → AreGrown format (is_strict mode) opts sections alignment
-    (with_whole_names (file_offset opts sections alignment)) bytes request tables
-grown_in_mode format bytes request mode opts own sections alignment tables is read =
-    let of_mode = in_mode mode opts in
-    let mapped =
-    subst
-    (λ (m : ℕ → Option ℕ).
-    AreGrown format (is_strict mode) of_mode sections alignment (with_whole_names m) bytes request
-    tables)
-    (map-mode mode opts sections alignment)
-    (subst
-    (λ (o : ParseOptions).
-    AreGrown format (is_strict o.parse_mode) o sections alignment
-    (with_whole_names (file_offset o sections alignment)) bytes request tables)
-    is read) in
-    record { lookup = mapped.lookup; imports = mapped.imports; exports = mapped.exports }

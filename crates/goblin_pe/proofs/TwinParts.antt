@@ -1,10 +1,8 @@
 -- The readers of headers and of single tables have the same values, and answer alike, for files
 -- that agree on what each reaches.
-use Rattle.std.proofs.Common.{ℕ, Bool, List, Option, IsSomeAnd, option_map}
+use Rattle.std.proofs.Common.{ℕ, Bool, List, Option, option_map}
 use Rattle.goblin_base.specs.declared.endian.Endian.{Endian}
 use Rattle.goblin_base.specs.declared.error.ErrorOf.{ErrorOf}
-use Rattle.goblin_base.specs.Answers.{IsMemory}
-use Rattle.goblin_base.specs.Reading.{IsRefused}
 use Rattle.goblin_base.proofs.Readings.{twins, twins_or_memory}
 use Rattle.goblin_pe_sect.specs.AddressReadings.{data_at, relocation_data}
 use Rattle.goblin_pe_sect.specs.BaseRelocations.{relocation_bytes}
@@ -13,17 +11,9 @@ use Rattle.goblin_pe_symbol.specs.Symbols.{symbol_bytes}
 use Rattle.goblin_pe_head.specs.CoffReadings.{strings_of, symbols_of}
 use Rattle.goblin_pe_head.specs.HeaderReadings.{header_without_dos}
 use Rattle.goblin_pe_head.specs.PeHeader.{header_value}
-use Rattle.goblin_pe_head.specs.TeReadings.{te_header, te_image}
+use Rattle.goblin_pe_head.specs.TeReadings.{te_image}
 use Rattle.goblin_pe.specs.declared.laws.parts.PartsOf.{PartsOf}
-use Rattle.goblin_pe_head.specs.SectionRoom.{TakesSections}
 use Rattle.goblin_pe.specs.TwinParts.{AreParts, AreTwinParts, PartsAsked, sections_asked, te_view}
-
--- a Terse Executable's header is never refused for want of memory
-pub te_there : (bytes : List ℕ) (p : ℕ) (e : ErrorOf)
-    → IsRefused (te_header p) bytes e → IsMemory e
-    → IsSomeAnd ((te_header p).value bytes)
-    (λ header. TakesSections header.number_of_sections bytes)
-te_there bytes p e refused memory = absurd ((te_header p).not_memory bytes e refused.1 memory)
 
 pub are_twin_parts : {D Y : Type 0} (plain : D → Y)
     (value_of : Endian → List ℕ → Option (Y × ℕ))

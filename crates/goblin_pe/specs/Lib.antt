@@ -59,12 +59,10 @@ pub use Rattle.goblin_pe_head.specs.PeHeader
 pub use Rattle.goblin_pe_head.specs.RichHeader
 pub use Rattle.goblin_pe_head.specs.RichMetadata
 pub use Rattle.goblin_pe_head.specs.RichReadings
-pub use Rattle.goblin_pe_head.specs.SectionRoom
 pub use Rattle.goblin_pe_head.specs.TeHeader
 pub use Rattle.goblin_pe_head.specs.TeReadings
 pub use Rattle.goblin_pe_import.specs.ImportBound
 pub use Rattle.goblin_pe_import.specs.ImportCursors
-pub use Rattle.goblin_pe_import.specs.ImportDirectory
 pub use Rattle.goblin_pe_import.specs.ImportEntries
 pub use Rattle.goblin_pe_import.specs.ImportLookup
 pub use Rattle.goblin_pe_import.specs.ImportReadings

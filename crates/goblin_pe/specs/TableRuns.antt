@@ -1,26 +1,21 @@
 -- The six readers that map addresses by a table of sections: what they return, and how the answers
 -- of two runs compare.
-use Rattle.std.specs.Prelude.{ℕ, ◌⊎◌, Bool, true, false, IfErr, IsSomeAnd, List, map, Option}
+use Rattle.std.specs.Prelude.{ℕ, Bool, true, false, List, map, Option}
 use Rattle.std.specs.Prelude.{option_map}
 use Rattle.goblin_base.specs.declared.endian.Endian.{Endian}
 use Rattle.goblin_base.specs.declared.error.ErrorOf.{ErrorOf}
-use Rattle.goblin_base.specs.Answers.{IsMemory}
 use Rattle.goblin_base.specs.Footprints.{Alike, AlikeOrMemory}
 use Rattle.goblin_base.specs.Reading.{InModes, Reads, ReadsOrMemory}
 use Rattle.goblin_base.specs.Tables.{Format}
 use Rattle.goblin_pe_sect.specs.AddressReadings.{data_at, name_or_none, relocation_data}
 use Rattle.goblin_pe_sect.specs.BaseRelocations.{relocation_bytes}
-use Rattle.goblin_pe_sect.specs.declared.options.ParseOptions.{ParseOptions}
-use Rattle.goblin_pe_sect.specs.SectionTable.{Section}
 use Rattle.goblin_pe.specs.declared.laws.order.Request.{Request}
 use Rattle.goblin_pe.specs.declared.laws.order.TablesOf.{TablesOf}
-use Rattle.goblin_pe_sect.specs.Addresses.{TakesMap}
 use Rattle.goblin_pe_sect.specs.Addresses.{Addressing}
 use Rattle.goblin_pe_export.specs.ExportReadings.{export_read}
-use Rattle.goblin_pe_export.specs.Exports.{HasExportEntries, export_data, export_read_view}
-use Rattle.goblin_pe_import.specs.ImportDirectory.{TakesLibraries}
-use Rattle.goblin_pe_import.specs.ImportLookup.{EntryValue, KeepsEntries, entry_view}
-use Rattle.goblin_pe_import.specs.ImportReadings.{first_record_offset, import_data}
+use Rattle.goblin_pe_export.specs.Exports.{export_read_view}
+use Rattle.goblin_pe_import.specs.ImportLookup.{EntryValue, entry_view}
+use Rattle.goblin_pe_import.specs.ImportReadings.{import_data}
 use Rattle.goblin_pe_import.specs.LookupReadings.{lookup_table}
 use Rattle.goblin_pe.specs.Modes.{ReadsInModes, unless_front}
 
@@ -43,28 +38,6 @@ pub record AreTables {D Y : Type 0} (format : Format EntryValue) (plain : D → 
   pub value : Reads plain tables.value
       (data_at addressing.offset value_of refusal request.value.virtual_address) bytes
 
--- A reader is refused with Memory only if there is something to keep, or an index of the sections'
--- windows to prepare; the three readers not listed take no memory.
-pub record AreGrown {D : Type 0} (format : Format EntryValue) (strict : Bool) (opts : ParseOptions)
-    (sections : List Section) (alignment : ℕ) (addressing : Addressing) (bytes : List ℕ)
-    (request : Request) (tables : TablesOf D) : Type 0 where
-  pub lookup : IfErr tables.lookup
-      (λ e.
-      IsMemory e
-      → KeepsEntries strict format addressing bytes request.lookup
-      ⊎ TakesMap opts sections alignment)
-  pub imports : IfErr tables.imports
-      (λ e.
-      IsMemory e
-      → IsSomeAnd (first_record_offset strict (addressing.offset request.imports.virtual_address))
-      (TakesLibraries strict format addressing bytes)
-      ⊎ TakesMap opts sections alignment)
-  pub exports : IfErr tables.exports
-      (λ e.
-      IsMemory e
-      → IsSomeAnd (export_data addressing request.exports bytes) HasExportEntries
-      ⊎ TakesMap opts sections alignment)
-
 -- The answers of each reader are alike.
 pub record AreAlike {D Y : Type 0} (plain : D → Y) (first second : TablesOf D) : Type 0 where
   pub lookup : AlikeOrMemory (map entry_view) first.lookup second.lookup
@@ -74,8 +47,9 @@ pub record AreAlike {D Y : Type 0} (plain : D → Y) (first second : TablesOf D)
   pub name : Alike (option_map (λ s. s.now)) first.name second.name
   pub value : Alike plain first.value second.value
 
--- Each reader in strict mode and in permissive mode: where strict mode has a value, permissive mode
--- has the same, but of imports the list that `unless_front` says.
+-- Each reader in strict and in permissive mode. If strict mode has a value, permissive mode has the
+-- same, with one exception: an import directory at file offset 0 is an empty list there, as
+-- `unless_front` says.
 pub record AreInModes {D Y : Type 0} (format : Format EntryValue) (plain : D → Y)
     (value_of : Endian → List ℕ → Option (Y × ℕ))
     (refusal : Endian → List ℕ → ErrorOf → Type 0)

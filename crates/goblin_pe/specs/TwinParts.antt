@@ -1,10 +1,9 @@
--- The readers of headers, of the tables of a COFF file, and of what is at a directory's address:
+-- The readers of headers, of the tables of a COFF file, and of the value at a directory's address:
 -- what they return for a file, and for another that agrees with it.
-use Rattle.std.specs.Prelude.{ℕ, Bool, IfErr, IsSomeAnd, List, Option, Vec, option_map}
+use Rattle.std.specs.Prelude.{ℕ, Bool, List, Option, Vec, option_map}
 use Rattle.std.specs.Global.{Global}
 use Rattle.goblin_base.specs.declared.endian.Endian.{Endian}
 use Rattle.goblin_base.specs.declared.error.ErrorOf.{ErrorOf}
-use Rattle.goblin_base.specs.Answers.{IsMemory}
 use Rattle.goblin_base.specs.Reading.{Reading, Reads, ReadsOrMemory, Twins, TwinsOrMemory}
 use Rattle.goblin_pe_sect.specs.declared.data_directories.DataDirectory.{DataDirectory}
 use Rattle.goblin_pe_sect.specs.AddressReadings.{data_at, relocation_data}
@@ -18,16 +17,15 @@ use Rattle.goblin_pe_head.specs.CoffHeader.{symbols_end}
 use Rattle.goblin_pe_head.specs.CoffReadings.{sections_at, strings_of, symbols_of}
 use Rattle.goblin_pe_head.specs.HeaderReadings.{header_without_dos}
 use Rattle.goblin_pe_head.specs.PeHeader.{header_value}
-use Rattle.goblin_pe_head.specs.TeReadings.{te_header, te_image}
+use Rattle.goblin_pe_head.specs.TeReadings.{te_image}
 use Rattle.goblin_pe.specs.declared.laws.parts.PartsOf.{PartsOf}
-use Rattle.goblin_pe_head.specs.SectionRoom.{TakesSections}
 
 -- what contracts see of a Terse Executable's header and its sections
 abbrev pub te_view : TeHeader × Vec Section Global → TeHeader × List Section
 te_view image = (image.0, image.1.items)
 
--- What is asked for: the tables that a COFF header leads to, its sections at an offset, where a
--- Terse Executable is read too; and two directories.
+-- What the readers read: the tables that a COFF header leads to, with its sections at an offset,
+-- where a Terse Executable is read, too; and two directories.
 pub record PartsAsked : Type 0 where
   pub coff_header : CoffHeader
   pub offset : ℕ
@@ -42,7 +40,7 @@ asked_by coff_header offset relocations value = record {
   value = value;
 }
 
--- the sections that are asked for
+-- the sections that are read
 abbrev pub sections_asked : Bool → PartsAsked → Reading (List Section)
 sections_asked strict asked =
     sections_at strict (symbols_end asked.coff_header) asked.coff_header.number_of_sections
@@ -63,20 +61,8 @@ pub record AreParts {D Y : Type 0} (plain : D → Y) (value_of : Endian → List
   pub value : Reads plain parts.value
       (data_at addressing.offset value_of refusal asked.value.virtual_address) bytes
 
--- A reader is refused with Memory only if there is a section and the file has room for all; the
--- five readers not listed take no memory.
-pub record ArePartsGrown {D : Type 0} (asked : PartsAsked) (bytes : List ℕ) (parts : PartsOf D) :
-    Type 0 where
-  pub sections : IfErr parts.sections
-      (λ e. IsMemory e → TakesSections asked.coff_header.number_of_sections bytes)
-  pub te : IfErr parts.te
-      (λ e.
-      IsMemory e
-      → IsSomeAnd ((te_header asked.offset).value bytes)
-      (λ header. TakesSections header.number_of_sections bytes))
-
--- Each reader on two files: its answers, which are alike where the files agree on what it reaches
--- in the first.
+-- The answers of each reader for two files. They are alike if the files agree on what the reader
+-- reaches in the first.
 pub record AreTwinParts {D Y : Type 0} (plain : D → Y)
     (value_of : Endian → List ℕ → Option (Y × ℕ))
     (refusal : Endian → List ℕ → ErrorOf → Type 0)

@@ -47,7 +47,7 @@ part_of strict (Some table) = Some (part.Read table)
 part_of true None = None
 part_of false None = Some Refused
 
--- the table of a directory, if there is one
+-- the table of a directory; absent without a directory
 abbrev pub part_at : {A : Type 0} → Bool → (DataDirectory → Reading A) → Option DataDirectory
     → Reading (Part A)
 part_at strict read None = given Absent
@@ -65,20 +65,15 @@ part_map table Absent = Absent
 part_map table (part.Read from) = part.Read (table from)
 part_map table Refused = Refused
 
--- it holds of a table that was read
+-- If the table was read, this holds of it.
 abbrev pub IfRead : {A : Type 0} → (A → Type 0) → Part A → Type 0
 IfRead Holds Absent = Unit {0}
 IfRead Holds (part.Read table) = Holds table
 IfRead Holds Refused = Unit {0}
 
--- it was read, and this holds of it
-abbrev pub IsReadAnd : {A : Type 0} → (A → Type 0) → Part A → Type 0
-IsReadAnd Holds Absent = ⊥
-IsReadAnd Holds (part.Read table) = Holds table
-IsReadAnd Holds Refused = ⊥
-
--- What becomes of a table that was asked for: it is read; if it is refused, strict mode refuses the
--- file and permissive mode marks it refused; refused memory refuses the file in both.
+-- What becomes of a table that was asked for: it is read. If it is refused, strict mode refuses the
+-- file, and permissive mode marks the table as refused. If memory is refused, both modes refuse the
+-- file.
 abbrev pub BecomesPart : {A : Type 0} → Bool → Result A ErrorOf → Result (Part A) ErrorOf → Type 0
 BecomesPart strict (Ok table) result = result ≡ Ok (part.Read table)
 BecomesPart strict (Err (Memory m)) result = result ≡ Err (Memory m)
@@ -87,7 +82,7 @@ BecomesPart false (Err e) result = result ≡ Ok Refused
 
 -- ---- where the tables lie
 
--- where the tables of a file lie, and by which magic and file alignment they are read
+-- where the tables of a file lie, and the magic and the file alignment with which they are read
 pub record TablePlaces : Type 0 where
   pub magic : ℕ
   pub file_alignment : ℕ
@@ -106,11 +101,11 @@ table_places t =
 abbrev pub unless_zeros : DataDirectory → Option DataDirectory
 unless_zeros d = if d.virtual_address == 0 && d.size == 0 then None else Some d
 
--- the directory at an index, if there is one
+-- the directory at an index, unless it is all zeros
 unfoldable pub directory_at : TablePlaces → ℕ → Option DataDirectory
 directory_at places i = option_and_then unless_zeros (slice_get places.directories i)
 
--- where the tables lie by an optional header; without one there are no tables
+-- where the tables lie, from an optional header; without one there are no tables
 unfoldable pub places_in : Option OptionalHeader → TablePlaces
 places_in None =
     record { magic = 0; file_alignment = 0; directories = replicate 16 no_directory }
@@ -120,28 +115,28 @@ places_in (Some h) = record {
   directories = map directory_or_zeros h.data_directories.data_directories;
 }
 
--- the entries of the import tables: of four bytes by the magic of 32 bits, else of eight
+-- the entries of the import tables: four bytes each if the magic is that of PE32, else eight
 unfoldable pub entry_format : ℕ → Format EntryValue
 entry_format magic = if magic == 0x10B then entries_32 else entries_64
 
--- how many bytes the headers have, by an optional header; 0 without one
+-- the size of the headers in bytes, from an optional header; 0 without one
 abbrev pub size_of_headers : Option OptionalHeader → ℕ
 size_of_headers None = 0
 size_of_headers (Some h) = h.windows_fields.size_of_headers
 
--- what addresses of a file with this header and these sections are mapped by, in a view
+-- what maps the addresses of a file with this header and these sections, in a view
 abbrev pub mapped_in : View → PeHeader → List Section → MappedSections
 mapped_in view h sections =
     record { sections = sections; front = front_of view (size_of_headers h.optional_header) }
 
--- where the addresses that tables say lead; names are read whole
+-- where the addresses in tables lead; names are read whole
 abbrev pub addressing_by : ParseOptions → MappedSections → TablePlaces → Addressing
 addressing_by opts mapped places =
     with_whole_names (table_offset opts mapped places.file_alignment)
 
 -- ---- the tables
 
--- what is read of the import directory; there is none where imports are not asked for
+-- what is read of the import directory; absent if the options do not ask for imports
 abbrev pub imports_part : {A : Type 0} → ParseOptions → (DataDirectory → Reading A) → TablePlaces
     → Reading (Part A)
 imports_part opts read places =
@@ -156,7 +151,7 @@ import_data_part opts addressing places =
     import_data (is_strict opts.parse_mode) (entry_format places.magic) addressing d.virtual_address)
     places
 
--- the same libraries, each with the index of its record
+-- the import data, each library with the index of its import descriptor
 unfoldable pub numbered_data_part : ParseOptions → Addressing → TablePlaces
     → Reading (Part (List NumberedLibrary))
 numbered_data_part opts addressing places =
@@ -171,24 +166,24 @@ unfoldable pub listed_imports_part : ParseOptions → TablePlaces → Part (List
 listed_imports_part opts places libraries =
     part_then (is_strict opts.parse_mode) (imports_of (entry_format places.magic).width) libraries
 
--- which cause is true of import data that no list can be made from
+-- the cause that is true of import data from which no list can be made
 abbrev pub IsListedImportsFault : Part (List ImportedLibrary) → ErrorOf → Type 0
 IsListedImportsFault Absent e = ⊥
 IsListedImportsFault (part.Read libraries) e = IsImportListFault libraries e
 IsListedImportsFault Refused e = ⊥
 
--- the imports from numbered libraries, one by one, by the magic
+-- the imports of numbered libraries, whose entries have the size that the magic says
 abbrev pub imports_in : ℕ → Part (List NumberedLibrary) → Part (List NumberedImport)
 imports_in magic libraries =
     part_map (flat_map (numbered_imports (entry_format magic).width)) libraries
 
--- the imports alone, each with the index of its library's record
+-- the imports alone, each with the index of its library's import descriptor
 unfoldable pub import_list : ParseOptions → Addressing → TablePlaces
     → Reading (Part (List NumberedImport))
 import_list opts addressing places =
     mapped (imports_in places.magic) (numbered_data_part opts addressing places)
 
--- libraries and imports without the indexes of the records
+-- libraries and imports without the indexes of the import descriptors
 abbrev pub without_indexes : Part (List NumberedLibrary) → Part (List ImportedLibrary)
 without_indexes libraries = part_map (map (λ x. x.library)) libraries
 
@@ -276,7 +271,7 @@ whole_of header sections tables = record {
   relocations = tables.relocations;
 }
 
--- the offset of the section table: after the optional header, by the size that the COFF header says
+-- the file offset of the section table: after the optional header, whose size the COFF header gives
 abbrev pub section_table_offset : PeHeader → ℕ
 section_table_offset h = h.dos_header.pe_pointer + 24 + h.coff_header.size_of_optional_header
 
@@ -286,7 +281,7 @@ sections_after strict h =
     sections_at strict (symbols_end h.coff_header) h.coff_header.number_of_sections
     (section_table_offset h)
 
--- the header and the sections, which both modes require (what a `Layout` is over, `IsLayoutOf` says)
+-- the header and the sections, which both modes require (`IsLayoutOf` says what a `Layout` has)
 unfoldable pub layout : ParseOptions → Reading (PeHeader × List Section)
 layout opts =
     let strict = is_strict opts.parse_mode in
@@ -299,7 +294,7 @@ whole_with view opts h sections =
     let addressing = addressing_by opts (mapped_in view h sections) places in
     mapped (whole_of h sections) (listed_tables opts addressing places)
 
--- what is read of a file by its header and its sections, which both modes require
+-- what a reader makes of the header and the sections of a file, which both modes require
 abbrev pub by_layout : {A : Type 0} → ParseOptions → (PeHeader → List Section → Reading A)
     → Reading A
 by_layout opts read =
@@ -317,11 +312,11 @@ abbrev pub whole_after : View → ParseOptions → PeHeader → Reading WholeFil
 whole_after view opts h =
     sections_after (is_strict opts.parse_mode) h >>= whole_with view opts h
 
--- a whole file: its header, its sections and its tables, by addresses as the view maps them
+-- a whole file: its header, its sections and its tables, with addresses mapped as the view says
 unfoldable pub whole_in : View → ParseOptions → Reading WholeFile
 whole_in view opts = by_layout opts (whole_with view opts)
 
--- a whole file, by its sections
+-- a whole file, with addresses mapped by its sections alone
 abbrev pub whole_file : ParseOptions → Reading WholeFile
 whole_file opts = whole_in Sections opts
 

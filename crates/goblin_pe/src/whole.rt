@@ -1,15 +1,13 @@
 //! A whole file: its header, its sections, and the tables that its directories lead to.
 
-ghost use Rattle.std.specs.Prelude.{◌≡◌, ◌<◌, ◌/◌, IfErr, IfOk, IfSome, IsErrAnd, IsSomeAnd, Some};
+ghost use Rattle.std.specs.Prelude.{◌≡◌, ◌<◌, ◌/◌, IfOk, IfSome, IsErrAnd, Some};
 ghost use Rattle.std.specs.Prelude.{length};
-ghost use Rattle.goblin_base.specs.Answers.{IsMemory};
 ghost use Rattle.goblin_base.specs.Reading.{Reads, ReadsOrMemory};
 ghost use Rattle.goblin_pe_sect.specs.AddressReadings.{text_at_address};
 ghost use Rattle.goblin_pe_sect.specs.Options.{is_strict};
 ghost use Rattle.goblin_pe_head.specs.HeaderReadings.{pe_header};
 ghost use Rattle.goblin_pe_head.specs.CoffHeader.{IsTooManySections};
 ghost use Rattle.goblin_pe_sect.specs.Addresses.{map_by, offset_of};
-ghost use Rattle.goblin_pe.specs.TakenMemory.{TakesLists};
 ghost use Rattle.goblin_pe.specs.Whole.{listed_imports_part, places_in, whole_file};
 
 use crate::export::{Export, ExportData};
@@ -43,37 +41,39 @@ pub use refused::RefusedPart;
 /// A table of a file, as [`Whole::read`] found it.
 #[derive(Debug, Drop)]
 pub enum Part<T> {
-    /// The file has no such table, since it has no optional header or no directory for it; or the
-    /// table was not asked for.
+    /// The file has no such table, since it has no optional header or no data directory for it. Or
+    /// the options do not ask for the table.
     Absent,
     /// The table, which may be empty.
     Read(T),
-    /// The file has such a table, and it is damaged; only in permissive mode. The table's own
-    /// reader says why it was refused.
+    /// The file has such a table, and it is damaged. Only permissive mode returns this. The table's
+    /// own reader returns the error.
     Refused,
 }
 
 /// A whole file: its header, its sections, and the tables for a loader.
 ///
-/// Source: PE Format, "Overview". Names and data borrow from the file, but for section names from
-/// the string table, which are copies: together they may have as many bytes as the longest of them,
-/// times the number of sections.
+/// Names and data borrow from the file, except section names from the string table, which are
+/// copies. Together these may have as many bytes as the longest of them, times the number of
+/// sections.
+///
+/// Source: PE Format, "Overview".
 #[derive(Debug, Drop)]
 pub struct Whole<'a> {
     /// The header: everything before the section table.
     pub header: Header<'a>,
-    /// The sections, in the order of their records; they map the addresses.
+    /// The sections, in the order of their section headers. They map addresses to file offsets.
     pub sections: Vec<SectionTable>,
-    /// What the import directory leads to, library by library. It is never refused: in permissive
-    /// mode it has what could be read, perhaps nothing.
+    /// The import data, library by library. It is never [`Part::Refused`]: permissive mode keeps
+    /// what it can read, which may be nothing.
     pub import_data: Part<ImportData<'a>>,
-    /// The imports of the import data, one for each entry that a lookup table keeps.
+    /// The imports of the import data, one for each lookup table entry that is kept.
     pub imports: Part<Vec<Import<'a>>>,
     /// What the export directory leads to.
     pub export_data: Part<ExportData<'a>>,
     /// The exports of the export data, one for each name pointer that leads to an address.
     pub exports: Part<Vec<Export<'a>>>,
-    /// The base relocations: the bytes of their directory, whose blocks are read one by one.
+    /// The base relocations: the bytes of their directory. Its blocks are read one at a time.
     pub relocations: Part<RelocationData<'a>>,
 }
 
@@ -96,22 +96,23 @@ impl<'a> Model for Whole<'a> {
 }
 
 impl<'a> Whole<'a> {
-    /// Reads a whole file: its header, its sections, its imports, exports and base relocations. The
-    /// section table follows the optional header, whose size is the one in the COFF header. The
-    /// entries of the import tables have four bytes by the magic of 32 bits, else eight; addresses
-    /// are mapped by one index of the sections' windows, by the header's file alignment.
+    /// Reads a whole file: its header, its sections, its imports, exports and base relocations.
     ///
-    /// A table is absent where there is no optional header or no directory for it; the imports also
-    /// where they are not asked for. In permissive mode a table that is refused is
-    /// [`Part::Refused`], and so is the list that would be made from it. What these lack of the
-    /// imports and the exports is counted by [`Whole::damage`].
+    /// The section table follows the optional header, whose size the COFF header gives. Entries of
+    /// the import tables have four bytes if the magic is that of PE32, else eight. Addresses are
+    /// mapped by one index of the sections' windows, made with the file alignment of the header.
+    ///
+    /// A table is [`Part::Absent`] if there is no optional header or no data directory for it. The
+    /// imports are also absent if the options do not ask for them. In permissive mode a table that
+    /// is refused is [`Part::Refused`], and so is the list that would be made from it.
+    /// [`Whole::damage`] counts what is left out of the imports and the exports.
     ///
     /// # Errors
-    /// As [`Header::parse_with_opts`]; as
-    /// [`CoffHeader::sections_with_opts`](goblin_pe_head::CoffHeader::sections_with_opts); in
-    /// strict mode as the readers of the tables; [`Error::Memory`] if memory is refused, in both
-    /// modes, and only of a file that has sections, or a table of which something is kept.
-    #[tactic(auto, unfolding(crate::specs::Whole::whole_in, crate::specs::Whole::whole_with), using(goblin_pe_head::proofs::HeaderFaults::header_there))]
+    /// As [`Header::parse_with_opts`], as
+    /// [`CoffHeader::sections_with_opts`](goblin_pe_head::CoffHeader::sections_with_opts), and in
+    /// strict mode as the readers of the tables. In both modes [`Error::Memory`] if memory is
+    /// refused.
+    #[tactic(auto, unfolding(crate::specs::Whole::whole_in, crate::specs::Whole::whole_with))]
     pub fn read(alloc: Global, bytes: &'a [u8], opts: &ParseOptions) -> Result<Whole<'a>>
         ensures value { ReadsOrMemory (λ x. x) result (whole_file opts.now) bytes.now }
         ensures listed { IfOk result (λ w.
@@ -121,10 +122,6 @@ impl<'a> Whole<'a> {
             IfSome found (λ header.
             let count = header.coff_header.number_of_sections in
             length bytes.now / 40 < count → IsErrAnd result (IsTooManySections count bytes.now)) }
-        ensures grown { IfErr result
-            (λ e.
-            IsMemory e → IsSomeAnd ((pe_header (is_strict opts.now.parse_mode)).value bytes.now)
-            (TakesLists opts.now bytes.now)) }
     {
         let header = Header::parse_with_opts(bytes, opts)?;
         let sections = sections_of(alloc, bytes, &header, opts)?;
@@ -148,9 +145,9 @@ impl<'a> Whole<'a> {
         })
     }
 
-    /// The file offset of the address `rva`, as [`find_offset`] returns it by the file's own
-    /// sections and the file alignment of its optional header. Without an optional header no
-    /// address has one, unless `opts` says that addresses are offsets.
+    /// The file offset of the address `rva`, as [`find_offset`] returns it for the sections of the
+    /// file and the file alignment of its optional header. Without an optional header no address
+    /// has one, unless `opts` says that addresses are offsets.
     pub fn find_offset(&self, rva: usize, opts: &ParseOptions) -> Option<usize>
         ensures { let places = places_in self.now.header.optional_header in
             let m = map_by opts.now self.now.sections places.file_alignment in
@@ -160,9 +157,9 @@ impl<'a> Whole<'a> {
         find_offset(rva, &self.sections, alignment, opts)
     }
 
-    /// The text at the address `rva` of the file, whose bytes are `bytes`, up to its first NUL or
-    /// the end of the file, as [`try_name`] returns it by the file's own sections and the file
-    /// alignment of its optional header.
+    /// The text at the address `rva`, up to its first NUL or the end of the file. `bytes` must be
+    /// the bytes of the file. The text is what [`try_name`] returns for the sections of the file
+    /// and the file alignment of its optional header.
     ///
     /// # Errors
     /// In both modes: [`Error::Malformed`](goblin_base::Error::Malformed) with

@@ -1,6 +1,7 @@
 //! The calls that read a whole file.
 
-ghost use Rattle.std.specs.Prelude.{◌≡◌, ◌==◌, length};
+ghost use Rattle.std.specs.Prelude.{◌≡◌, ◌==◌, IfErr, IsSomeAnd, length};
+ghost use Rattle.goblin_base.specs.Answers.{IsMemory};
 ghost use Rattle.goblin_pe_sect.specs.Options.{is_strict};
 ghost use Rattle.goblin_pe_head.specs.HeaderReadings.{pe_header};
 ghost use Rattle.goblin_pe.specs.RefusedParts.{refused_number, refused_part};
@@ -13,7 +14,6 @@ ghost use Rattle.goblin_pe_calls.specs.Parts.{PartsRecords, SaysParts};
 ghost use Rattle.goblin_pe.specs.TakenMemory.{TakesIndex};
 ghost use Rattle.goblin_pe_calls.specs.Damages.{RecordsDamage};
 ghost use Rattle.goblin_pe_calls.specs.Footprints.{Lists};
-ghost use Rattle.goblin_pe_calls.specs.Growth.{TakesRecords};
 ghost use Rattle.goblin_pe_records.specs.Kinds.{kind_number, kind_of};
 ghost use Rattle.goblin_pe_calls.specs.Opened.{Opened, Opens, opened_in};
 ghost use Rattle.goblin_pe_records.specs.Options.{header_options, options_in, view_of};
@@ -45,10 +45,7 @@ pub extern "C" fn goblin_pe_raw_kind_of(bytes: &[u8]) -> u32
 /// exports, export addresses and base relocation blocks, all of them, with what the export
 /// directory says and the DOS stub. Each table that is not empty is a block of memory that the
 /// caller frees. After a refusal, whose `part` says which part of the file is refused, nothing is
-/// changed, and nothing is to be freed; memory is refused (the status 5) only where the file has a
-/// header, and room for as many sections as that says; of a file that can be read only where it has
-/// a section, or a table of it an entry; and of one that is refused only where its header says that
-/// there are sections, or a table begins with an entry before the refusal.
+/// changed, and nothing is to be freed; memory is refused with the status 5.
 #[unsafe(no_mangle)]
 pub extern "C" fn goblin_pe_raw_open<'a>(
     alloc: Global,
@@ -63,9 +60,7 @@ pub extern "C" fn goblin_pe_raw_open<'a>(
         record { file = file.new; tables = tables.new } in
         let opts = options_in options.now bytes.now in
         ReportedOf (refused_number (refused_part (view_of options.now) opts bytes.now)) result
-        (ReadsInto (pe_header (is_strict opts.parse_mode))
-        (TakesRecords (view_of options.now) opts bytes.now)
-        (opened_in options.now) bytes.now (λ read. Opens read old new) (new ≡ old)) }
+        (ReadsInto (opened_in options.now) bytes.now (λ read. Opens read old new) (new ≡ old)) }
 {
     let opts = options_in(bytes, options);
     let mut part = RefusedPart::Nothing;
@@ -145,8 +140,8 @@ pub extern "C" fn goblin_pe_raw_read_parts<'a>(
 ///
 /// No table is listed: memory is taken only for an index of more than 96 sections, and given back
 /// before the call returns. Refused are a header or sections that these options refuse, and memory
-/// (the status 5), this only of a file that has more than 96 sections, by whose windows addresses
-/// are mapped, and room for as many as its header says. After a refusal nothing is changed.
+/// (the status 5), this only of a file that has more than 96 sections. After a refusal nothing is
+/// changed.
 #[unsafe(no_mangle)]
 pub extern "C" fn goblin_pe_raw_read_damage(
     alloc: Global,
@@ -156,9 +151,9 @@ pub extern "C" fn goblin_pe_raw_read_damage(
 ) -> PeFault
     ensures { let opts = options_in options.now bytes.now in
         Reported result
-        (ReadsInto (pe_header (is_strict opts.parse_mode)) (TakesIndex opts bytes.now)
-        (file_layout opts) bytes.now
-        (λ l. RecordsDamage (view_of options.now) opts l.0 l.1 bytes.now damage.new) (damage.new ≡ damage.old)) }
+        (λ r. ReadsInto (file_layout opts) bytes.now
+        (λ l. RecordsDamage (view_of options.now) opts l.0 l.1 bytes.now damage.new) (damage.new ≡ damage.old) r
+        × IfErr r (λ e. IsMemory e → IsSomeAnd ((pe_header (is_strict opts.parse_mode)).value bytes.now) TakesIndex)) }
 {
     let opts = options_in(bytes, options);
     status_of(damage::tell(alloc, bytes, view_of(options), &opts, damage))
@@ -172,7 +167,7 @@ pub extern "C" fn goblin_pe_raw_read_damage(
 ///
 /// The ranges come in order, with a position between each and the next; none is empty, and none
 /// passes the file. They are a block of memory that the caller frees, if there is one. Refused is
-/// memory alone (the status 5), only where the file has a byte, and then nothing is changed.
+/// memory alone (the status 5), and then nothing is changed.
 #[unsafe(no_mangle)]
 pub extern "C" fn goblin_pe_raw_footprint<'a>(
     alloc: Global,

@@ -1,10 +1,7 @@
 //! Whether a program is entered in code.
 
-ghost use Rattle.std.specs.Prelude.{◌≡◌, IfErr, IsSomeAnd, true};
-ghost use Rattle.goblin_pe.specs.Answers.{IsMemory};
-ghost use Rattle.goblin_pe.specs.HeaderReadings.{pe_header};
+ghost use Rattle.std.specs.Prelude.{◌≡◌};
 ghost use Rattle.goblin_pe.specs.Reading.{ReadsOrMemory};
-ghost use Rattle.goblin_pe.specs.SectionRoom.{TakesSections};
 ghost use Rattle.goblin_pe_caller.specs.Audits.{enters_code, is_entered_in_code};
 
 use goblin_pe::header::Header;
@@ -14,16 +11,14 @@ use goblin_pe::section_table::{IMAGE_SCN_MEM_EXECUTE, SectionTable};
 use goblin_pe::{Result, section_at, sections_of};
 use std::alloc::Global;
 
-/// Whether the entry point of a file lies in a section that may be executed; not where it lies in
-/// none, or the file has no optional header.
+/// Whether the entry point of a file lies in a section that may be executed. It is `false` if the
+/// entry point lies in no section, or if the file has no optional header.
 ///
 /// # Errors
-/// As the header and the sections are refused in strict mode.
+/// As [`Header::parse`] and [`sections_of`] in strict mode.
 #[tactic(auto, unfolding(goblin_pe::specs::Whole::layout))]
 pub fn enters_code(alloc: Global, bytes: &[u8]) -> Result<bool>
-    ensures value { ReadsOrMemory (λ b. b) result enters_code bytes.now }
-    ensures grown { IfErr result (λ e. IsMemory e → IsSomeAnd ((pe_header true).value bytes.now)
-        (λ h. TakesSections h.coff_header.number_of_sections bytes.now)) }
+    ensures { ReadsOrMemory (λ b. b) result enters_code bytes.now }
 {
     let opts = ParseOptions::default();
     let header = Header::parse(bytes)?;

@@ -19,23 +19,23 @@ use goblin_pe::options::ParseOptions;
 use goblin_pe::{Layout, Part, Result};
 use std::alloc::Global;
 
-/// How many exports of a file are forwarders.
+/// How many exports of a file are forwarders. The count is 0 if the exports are absent or refused.
 ///
 /// # Errors
-/// As the header, the sections and the export directory are refused; `Memory` only of more than 96
-/// sections.
+/// As [`Header::parse_with_opts`], [`Layout::of`] and [`Layout::exports`]. `Memory` only if the
+/// file has more than 96 sections.
 pub fn forwarders(alloc: Global, bytes: &[u8], opts: &ParseOptions) -> Result<usize>
     ensures value { ReadsOrMemory (λ n. n) result (forwarders opts.now) bytes.now }
     ensures grown { IfErr result
         (λ e. IsMemory e → IsSomeAnd ((pe_header (is_strict opts.now.parse_mode)).value bytes.now)
-        (TakesIndex opts.now bytes.now)) }
+        TakesIndex) }
 {
     let header = Header::parse_with_opts(bytes, opts)?;
     let layout = Layout::of(alloc, bytes, &header, opts)?;
     layout_forwarders(&layout)
 }
 
-/// The same of a layout.
+/// How many exports of a layout are forwarders.
 fn layout_forwarders(layout: &Layout) -> Result<usize>
     ensures { Reads (λ n. n) result
         (mapped (read_or 0 forwarder_count) (layout_table export_part layout.now))
@@ -48,7 +48,7 @@ fn layout_forwarders(layout: &Layout) -> Result<usize>
     }
 }
 
-// The same of the exports that a walk gives.
+// How many of the exports that a walk yields are forwarders.
 fn count(exports: Exports) -> usize
     ensures { result ≡ count_by (λ x. is_forwarder x.row) (exports_left exports.entry) }
 {

@@ -5,7 +5,6 @@ ghost use Rattle.goblin_pe.specs.Answers.{Answers, IsMemory, all_of};
 ghost use Rattle.goblin_pe.specs.Callers.{layout_table, read_or};
 ghost use Rattle.goblin_pe.specs.HeaderReadings.{pe_header};
 ghost use Rattle.goblin_pe.specs.Layouts.{IsFileImportsCause, file_imports_left, layout_bytes};
-ghost use Rattle.goblin_pe.specs.Options.{default_options};
 ghost use Rattle.goblin_pe.specs.Reading.{Reads, ReadsOrMemory};
 ghost use Rattle.goblin_pe.specs.Reads.{mapped};
 ghost use Rattle.goblin_pe.specs.TakenMemory.{TakesIndex};
@@ -18,15 +17,16 @@ use goblin_pe::options::ParseOptions;
 use goblin_pe::{FileImports, Layout, Part, Result, ResultOf};
 use std::alloc::Global;
 
-/// Whether a file, read strictly, imports something from the library of this name, whose case
-/// counts.
+/// Whether a file, read in strict mode, imports something from the library of this name. The case
+/// of the name counts.
 ///
 /// # Errors
-/// As the header, the sections and the imports are refused; `Memory` only of more than 96 sections.
+/// As [`Header::parse`], [`Layout::of`], [`Layout::imports`] and the walk over the imports.
+/// `Memory` only if the file has more than 96 sections.
 pub fn imports_from(alloc: Global, bytes: &[u8], library: &str) -> Result<bool>
     ensures value { ReadsOrMemory (λ b. b) result (imports_from library.now) bytes.now }
     ensures grown { IfErr result (λ e. IsMemory e → IsSomeAnd ((pe_header true).value bytes.now)
-        (TakesIndex default_options bytes.now)) }
+        TakesIndex) }
 {
     let opts = ParseOptions::default();
     let header = Header::parse(bytes)?;
@@ -34,8 +34,8 @@ pub fn imports_from(alloc: Global, bytes: &[u8], library: &str) -> Result<bool>
     layout_imports_from(&layout, library)
 }
 
-/// The same of a layout. It goes on after the first import from there, as a later one may be
-/// refused.
+/// Whether a layout has an import from the library of this name. The walk goes on after the first
+/// one, because a later import may be refused.
 fn layout_imports_from<'e>(layout: &Layout, library: &str) -> ResultOf<'e, bool>
     ensures { Reads (λ b. b) result
         (mapped (read_or false (has_any (is_from library.now)))
@@ -51,7 +51,7 @@ fn layout_imports_from<'e>(layout: &Layout, library: &str) -> ResultOf<'e, bool>
     }
 }
 
-// The same of the imports that a walk gives.
+// Whether a walk yields an import from the library of this name.
 fn any_from<'a, 'm, 'e>(imports: FileImports<'a, 'm, 'e>, library: &str) -> ResultOf<'e, bool>
     ensures { Answers (λ b. b) result
         (option_map (has_any (is_from library.now)) (all_of (file_imports_left imports.entry)))
@@ -60,11 +60,12 @@ fn any_from<'a, 'm, 'e>(imports: FileImports<'a, 'm, 'e>, library: &str) -> Resu
     imports.any_import(|import| import.dll == library)
 }
 
-/// How many functions a file imports from the library of this name, at most `usize::MAX`, since few
-/// bytes can list very many; 0 where its imports are absent or refused.
+/// How many functions a file imports from the library of this name. The count stops at
+/// `usize::MAX`, because few bytes can list very many imports. It is 0 if the imports are absent or
+/// refused.
 ///
 /// # Errors
-/// As [`Layout::imports`]; in strict mode as the walk over the imports.
+/// As [`Layout::imports`], and in strict mode as the walk over the imports.
 pub fn count_imports_from<'e>(layout: &Layout, library: &str) -> ResultOf<'e, usize>
     ensures { Reads (λ n. n) result
         (mapped (read_or 0 (counted (is_from library.now))) (layout_table import_list layout.now))
@@ -80,7 +81,7 @@ pub fn count_imports_from<'e>(layout: &Layout, library: &str) -> ResultOf<'e, us
     }
 }
 
-// The same of the imports that a walk gives.
+// How many imports from the library of this name a walk yields.
 fn count_from<'a, 'm, 'e>(imports: FileImports<'a, 'm, 'e>, library: &str) -> ResultOf<'e, usize>
     ensures { Answers (λ n. n) result
         (option_map (counted (is_from library.now)) (all_of (file_imports_left imports.entry)))

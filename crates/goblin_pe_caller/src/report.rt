@@ -1,13 +1,11 @@
 //! Why a file is refused.
 
-ghost use Rattle.std.specs.Prelude.{◌≡◌, ◌++◌, ◌⊎◌, IfErr, IfOk, IsSome, IsSomeAnd, MatchOption};
-ghost use Rattle.std.specs.Prelude.{None, OnErr, codes, option_map, string_bytes, true};
+ghost use Rattle.std.specs.Prelude.{◌≡◌, ◌++◌, IfErr, IfOk, IsSome, MatchOption};
+ghost use Rattle.std.specs.Prelude.{None, codes, option_map, string_bytes};
 ghost use Rattle.goblin_pe.specs.Answers.{IsMemory};
 ghost use Rattle.goblin_pe.specs.Reading.{IsRefused};
 ghost use Rattle.goblin_pe.specs.ErrorText.{error_text};
-ghost use Rattle.goblin_pe.specs.HeaderReadings.{pe_header};
 ghost use Rattle.goblin_pe.specs.Options.{default_options};
-ghost use Rattle.goblin_pe.specs.TakenMemory.{TakesLists};
 ghost use Rattle.goblin_pe.specs.Whole.{whole_file};
 ghost use Rattle.goblin_pe_caller.specs.Audits.{Tells};
 
@@ -15,7 +13,7 @@ use goblin_pe::options::ParseOptions;
 use goblin_pe::{Error, Result, Whole};
 use std::alloc::Global;
 
-/// Why a file is refused in strict mode: `None` where it is read.
+/// Why strict mode refuses a file, or `None` if it reads the file.
 ///
 /// # Errors
 /// `Memory` only.
@@ -24,8 +22,6 @@ pub fn refusal(alloc: Global, bytes: &[u8]) -> Result<Option<Error>>
         (IsSome ((whole_file default_options).value bytes.now))
         (IsRefused (whole_file default_options) bytes.now)) }
     ensures refused { IfErr result IsMemory }
-    ensures grown { OnErr result (IsSomeAnd ((pe_header true).value bytes.now)
-        (TakesLists default_options bytes.now)) }
 {
     match Whole::read(alloc, bytes, &ParseOptions::default()) {
         Ok(_) => Ok(None),
@@ -34,7 +30,7 @@ pub fn refusal(alloc: Global, bytes: &[u8]) -> Result<Option<Error>>
     }
 }
 
-/// A line that says why a file is refused in strict mode; `None` where it is read.
+/// A line that says why strict mode refuses a file, or `None` if it reads the file.
 ///
 /// # Errors
 /// `Memory` only.
@@ -42,8 +38,6 @@ pub fn report(alloc: Global, bytes: &[u8]) -> Result<Option<String>>
     ensures value { IfOk result
         (λ r. Tells (whole_file default_options) bytes.now (option_map string_bytes r)) }
     ensures refused { IfErr result IsMemory }
-    ensures grown { OnErr result (((whole_file default_options).value bytes.now ≡ None)
-        ⊎ IsSomeAnd ((pe_header true).value bytes.now) (TakesLists default_options bytes.now)) }
 {
     match refusal(alloc, bytes)? {
         None => Ok(None),

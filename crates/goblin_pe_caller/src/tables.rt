@@ -1,17 +1,16 @@
 //! Short calls of one table each.
 
-ghost use Rattle.std.specs.Prelude.{◌≡◌, ◌↔◌, ◌*◌, [], IfErr, IfOk, IsSome, IsTrue, count_by};
-ghost use Rattle.std.specs.Prelude.{false, length, slice_get};
+ghost use Rattle.std.specs.Prelude.{◌≡◌, ◌↔◌, ◌*◌, [], IfOk, IsTrue, count_by};
+ghost use Rattle.std.specs.Prelude.{length, slice_get};
 ghost use Rattle.std.specs.List.{Contains};
 ghost use Rattle.goblin_pe.specs.AddressReadings.{data_at};
-ghost use Rattle.goblin_pe.specs.Answers.{IsMemory, IsSliceFault, Writes};
+ghost use Rattle.goblin_pe.specs.Answers.{IsSliceFault, Writes};
 ghost use Rattle.goblin_pe.specs.BaseRelocations.{block_items, relocation_bytes, word_items};
 ghost use Rattle.goblin_pe.specs.CoffHeader.{coff_fields, coff_header};
 ghost use Rattle.goblin_pe.specs.DataDirectories.{present_from};
 ghost use Rattle.goblin_pe.specs.Callers.{read_or};
 ghost use Rattle.goblin_pe.specs.Mapping.{file_offset};
 ghost use Rattle.goblin_pe.specs.Options.{default_options};
-ghost use Rattle.goblin_pe.specs.HeaderReadings.{pe_header};
 ghost use Rattle.goblin_pe.specs.Reading.{Reads, ReadsOrMemory};
 ghost use Rattle.goblin_pe.specs.Record.{ReadsBack, encoding, record_over};
 ghost use Rattle.goblin_pe.specs.Relocations.{relocations_left};
@@ -36,14 +35,14 @@ use goblin_pe::utils::get_data;
 use goblin_pe::{Cause, Endian, Error, Part, Result, ResultOf, TryFromCtx, Whole};
 use std::alloc::Global;
 
-/// How many blocks there are, with the error where a rest is left.
+/// How many blocks there are. If bytes that are no block are left over, their error counts, too.
 pub fn count_blocks(relocations: &RelocationData) -> usize
     ensures { result ≡ length (block_items (relocation_bytes relocations.now) 0) }
 {
     relocations.blocks().count()
 }
 
-/// How many words a block has, with the error for a byte that is left.
+/// How many words a block has. If a byte is left over, its error counts, too.
 pub fn count_words(block: &RelocationBlock) -> usize
     ensures { result ≡ length (word_items block.now.bytes.now) }
 {
@@ -64,15 +63,15 @@ pub fn count_symbols(table: &SymbolTable) -> usize
     table.iter().count()
 }
 
-/// How many data directories are there, of those that have a kind.
+/// How many data directories are present, of those that have a kind.
 pub fn count_directories(directories: &DataDirectories) -> usize
     ensures { result ≡ length (present_from 0 directories.now.data_directories) }
 {
     directories.dirs().count()
 }
 
-/// How many entries a file's Rich header has, with the error where a rest is left; `None` where
-/// there is no Rich header.
+/// How many entries a file's Rich header has, or `None` if there is no Rich header. If bytes that
+/// are no entry are left over, their error counts, too.
 ///
 /// # Errors
 /// As [`RichHeader::parse`].
@@ -85,20 +84,20 @@ pub fn count_entries(bytes: &[u8]) -> Result<Option<usize>>
     }
 }
 
-/// How many functions a file imports, damaged parts passed over; 0 where its imports are refused.
+/// How many functions a file imports in permissive mode, which passes over damaged parts. The count
+/// is 0 if the imports are absent or refused.
 ///
 /// # Errors
-/// As [`Whole::read`] in permissive mode; memory is wanted only where there is a header.
+/// As [`Whole::read`] in permissive mode.
 pub fn count_imports(alloc: Global, bytes: &[u8]) -> Result<usize>
-    ensures value { ReadsOrMemory (λ n. n) result import_count bytes.now }
-    ensures grown { IfErr result (λ e. IsMemory e → IsSome ((pe_header false).value bytes.now)) }
+    ensures { ReadsOrMemory (λ n. n) result import_count bytes.now }
 {
     let opts = ParseOptions::default().with_parse_mode(ParseMode::Permissive);
     let whole = Whole::read(alloc, bytes, &opts)?;
     Ok(imports_in(&whole))
 }
 
-/// How many imports were read, 0 where none were.
+/// How many imports were read; 0 if none were.
 fn imports_in(whole: &Whole) -> usize
     ensures { result ≡ read_or 0 length whole.now.imports }
 {
@@ -108,15 +107,15 @@ fn imports_in(whole: &Whole) -> usize
     }
 }
 
-/// A refusal with a text of the caller's.
+/// A refusal with a text of the caller.
 pub fn refusal(text: &'static str) -> Error
     ensures { result ≡ Malformed (Message text.entry) }
 {
     Error::Malformed(Cause::Message(text))
 }
 
-/// The value at an address, of any type that is read from bytes, where sections lie at multiples of
-/// 512.
+/// The value at an address in an image with a file alignment of 512. It may be of any type that is
+/// read from bytes.
 ///
 /// # Errors
 /// As [`get_data`].
@@ -136,7 +135,7 @@ pub fn value_at<'a, 'e, T: TryFromCtx<'a>>(
     Ok(value)
 }
 
-/// Writes a COFF header to the front of `bytes`, little-endian, and answers its size.
+/// Writes a COFF header to the front of `bytes`, in little-endian byte order, and returns its size.
 ///
 /// # Errors
 /// As [`CoffHeader::try_into_ctx`].
@@ -150,14 +149,14 @@ pub fn write_header(header: CoffHeader, bytes: &mut [u8]) -> Result<usize>
     header.try_into_ctx(bytes, Endian::Little)
 }
 
-/// How many bytes the records of a symbol table take.
+/// The size of `count` symbol table records, in bytes.
 pub fn symbols_size(count: u32) -> usize
     ensures { result ≡ 18 * count }
 {
     Symbol::size_with(&Endian::Little) * count as usize
 }
 
-/// How many addresses of a table are those of forwarders.
+/// How many addresses of a table lead to forwarders.
 pub fn count_forwarders(table: &ExportAddressTable) -> usize
     ensures { result ≡ count_by leads_to_forwarder table.now }
 {
@@ -167,7 +166,7 @@ pub fn count_forwarders(table: &ExportAddressTable) -> usize
         .count()
 }
 
-/// The name pointer at `index`, `None` where the table has none there.
+/// The name pointer at `index`, or `None` if the table has none there.
 pub fn name_pointer(table: &ExportNamePointerTable, index: usize) -> Option<u32>
     ensures { result ≡ slice_get table.now index }
 {

@@ -1,14 +1,11 @@
-//! A verdict on a file, kept for others that have the same.
+//! A verdict on a file, kept for other files with the same answer.
 
-ghost use Rattle.std.specs.Prelude.{◌≡◌, ◌<◌, ◌⊎◌, IfErr, IfOk, IsSomeAnd, List, MatchOption};
-ghost use Rattle.std.specs.Prelude.{OnErr};
-ghost use Rattle.std.specs.Prelude.{length, true, ℕ};
+ghost use Rattle.std.specs.Prelude.{◌≡◌, ◌<◌, IfErr, IfOk, List, MatchOption};
+ghost use Rattle.std.specs.Prelude.{ℕ};
 ghost use Rattle.std.specs.Option.{is_some};
 ghost use Rattle.goblin_pe.specs.Answers.{IsMemory};
 ghost use Rattle.goblin_pe.specs.Footprints.{Agree};
-ghost use Rattle.goblin_pe.specs.HeaderReadings.{pe_header};
 ghost use Rattle.goblin_pe.specs.Options.{default_options};
-ghost use Rattle.goblin_pe.specs.TakenMemory.{TakesLists};
 ghost use Rattle.goblin_pe.specs.Whole.{whole_file};
 ghost use Rattle.goblin_pe_caller.specs.Verdicts.{IsVerdictOn};
 
@@ -18,7 +15,8 @@ use goblin_pe::laws::FileKey;
 use goblin_pe::options::ParseOptions;
 use std::alloc::Global;
 
-/// Whether a file is read in strict mode, and what knows other files of which the same holds.
+/// Whether strict mode reads a file, and the key by which other files with the same answer are
+/// recognized.
 #[derive(Drop)]
 pub struct Verdict {
     pub is_read: bool,
@@ -29,12 +27,10 @@ impl Verdict {
     /// The verdict on a file.
     ///
     /// # Errors
-    /// `Memory` only, and only if the file has a byte.
+    /// `Memory` only.
     pub fn of(alloc: Global, file: &[u8]) -> Result<Verdict>
         ensures value { IfOk result (IsVerdictOn file.now) }
         ensures refused { IfErr result IsMemory }
-        ensures grown { OnErr result (IsSomeAnd ((pe_header true).value file.now)
-            (TakesLists default_options file.now) ⊎ (0 < length file.now)) }
     {
         let refused = refusal(alloc, file)?;
         let key = FileKey::of(alloc, file, &ParseOptions::default())?;
@@ -44,8 +40,8 @@ impl Verdict {
         })
     }
 
-    /// The verdict on another file, without reading it; `None` if that differs from the first where
-    /// a read looks.
+    /// The verdict on another file, without reading it. It is `None` if that file differs from the
+    /// first in what a read depends on.
     pub fn again(&self, file: &[u8]) -> Option<bool>
         ensures { (was : List ℕ) → IsVerdictOn was self.now → MatchOption result
             (¬ Agree ((whole_file default_options).reaches was) was file.now)

@@ -1,10 +1,7 @@
 //! Which sections may be written and executed.
 
-ghost use Rattle.std.specs.Prelude.{◌≡◌, IfErr, IsSomeAnd, filter, true};
-ghost use Rattle.goblin_pe.specs.Answers.{IsMemory};
-ghost use Rattle.goblin_pe.specs.HeaderReadings.{pe_header};
+ghost use Rattle.std.specs.Prelude.{◌≡◌, filter};
 ghost use Rattle.goblin_pe.specs.Reading.{ReadsOrMemory};
-ghost use Rattle.goblin_pe.specs.SectionRoom.{TakesSections};
 ghost use Rattle.goblin_pe_caller.specs.Audits.{is_writable_code, writable_code};
 
 use goblin_pe::header::Header;
@@ -13,15 +10,13 @@ use goblin_pe::section_table::{IMAGE_SCN_MEM_EXECUTE, IMAGE_SCN_MEM_WRITE, Secti
 use goblin_pe::{Result, sections_of};
 use std::alloc::Global;
 
-/// The sections of a file that may be written and executed, in the order of their records.
+/// The sections of a file that may be written and executed, in the order of their section headers.
 ///
 /// # Errors
-/// As the header and the sections are refused in strict mode.
+/// As [`Header::parse`] and [`sections_of`] in strict mode.
 #[tactic(auto, unfolding(goblin_pe::specs::Whole::layout))]
 pub fn writable_code(alloc: Global, bytes: &[u8]) -> Result<Vec<SectionTable>>
-    ensures value { ReadsOrMemory (λ v. v.items) result writable_code bytes.now }
-    ensures grown { IfErr result (λ e. IsMemory e → IsSomeAnd ((pe_header true).value bytes.now)
-        (λ h. TakesSections h.coff_header.number_of_sections bytes.now)) }
+    ensures { ReadsOrMemory (λ v. v.items) result writable_code bytes.now }
 {
     let opts = ParseOptions::default();
     let header = Header::parse(bytes)?;
@@ -29,7 +24,7 @@ pub fn writable_code(alloc: Global, bytes: &[u8]) -> Result<Vec<SectionTable>>
     Ok(kept(sections))
 }
 
-// Those of these sections.
+// Those of these sections that may be written and executed.
 fn kept(mut sections: Vec<SectionTable>) -> Vec<SectionTable>
     ensures { result.items ≡ filter is_writable_code sections.items }
 {

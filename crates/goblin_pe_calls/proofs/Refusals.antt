@@ -1,5 +1,5 @@
--- A file that was read has room for its sections; and which table of one is refused.
-use Rattle.std.proofs.Common.{◌≡◌, ◌∙◌, ◌<◌, List, ℕ, ap, arith, length, ◌/◌, IfSome, IsSome, IsSomeAnd, Option, None, Some, option_map, refl}
+-- Which table of a file is refused.
+use Rattle.std.proofs.Common.{◌≡◌, ◌∙◌, List, ℕ, ap, Option, None, Some, option_map, refl}
 use Rattle.goblin_base.proofs.Steps.{mapped}
 use Rattle.goblin_pe_sect.specs.declared.options.ParseOptions.{ParseOptions}
 use Rattle.goblin_pe_sect.specs.declared.options.View.{View}
@@ -7,9 +7,8 @@ use Rattle.goblin_pe_sect.specs.Options.{is_strict}
 use Rattle.goblin_pe_sect.specs.SectionTable.{Section}
 use Rattle.goblin_pe_sect.specs.Addresses.{Addressing}
 use Rattle.goblin_pe_head.specs.HeaderReadings.{pe_header}
-use Rattle.goblin_pe_head.specs.PeHeader.{PeHeader, header_value}
+use Rattle.goblin_pe_head.specs.PeHeader.{header_value}
 use Rattle.goblin_pe_head.specs.declared.header.pe_header.Header.{Header}
-use Rattle.goblin_pe_head.specs.SectionRoom.{HasRoom}
 use Rattle.goblin_pe.specs.ExportRecords.{ExportTables, NumberedExport}
 use Rattle.goblin_pe_import.specs.ImportRecords.{NumberedLibrary}
 use Rattle.goblin_pe.specs.declared.whole.Part.{Part}
@@ -19,15 +18,6 @@ use Rattle.goblin_pe.specs.declared.whole.layout.Layout.{Layout}
 use Rattle.goblin_pe.specs.Layouts.{IsLayoutOf, layout_map, layout_places}
 use Rattle.goblin_pe.specs.RefusedParts.{refused_part, refused_table}
 use Rattle.goblin_pe.specs.Whole.{TablePlaces, export_part, import_list, mapped_in, numbered_data_part, places_in, relocation_part, sections_after}
-
-pub room-there : (header : Option PeHeader) (bytes : List ℕ)
-    → IfSome header (λ h. length bytes / 40 < h.coff_header.number_of_sections → ⊥) → IsSome header → IsSomeAnd header (HasRoom bytes)
-room-there None bytes first there = absurd (cc there)
-room-there (Some h) bytes first there =
-    let enough : ¬ (length bytes / 40 < h.coff_header.number_of_sections) = first in
-    omega arith
-
--- ---- the table that is refused
 
 module _ (opts : ParseOptions) (addressing : Addressing) (places : TablePlaces) (bytes : List ℕ) where
   abbrev imports_read : Option (Part (List NumberedLibrary))

@@ -320,7 +320,7 @@ GivesBatch o p bytes Gives IsFault Left (Ok x) =
 GivesBatch o p bytes Gives IsFault Left (Err e) =
     (¬ IsMemory e → FirstFault ((placed_sections p).value bytes) ((placed_sections p).IsCause bytes)
     (λ sections. IsFault (map_at o p sections) (places_said p)) e)
-    × (IsMemory e → TakesIndexAt o p bytes)
+    × (IsMemory e → TakesIndexAt p bytes)
     × Left
 
 -- A call has given the records of a table that come next, so many, or is refused. As each record is

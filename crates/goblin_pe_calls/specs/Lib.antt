@@ -1,5 +1,4 @@
 pub mod Batches
-pub mod Blocked
 pub mod Blocks
 pub mod Damages
 pub mod ExportDirectories
@@ -8,7 +7,6 @@ pub mod FileLayouts
 pub mod Files
 pub mod Footprints
 pub mod ForwardersAt
-pub mod Growth
 pub mod Imports
 pub mod Libraries
 pub mod Opened

@@ -5,7 +5,6 @@ use Rattle.goblin_base.specs.Reading.{Reading}
 use Rattle.goblin_pe_sect.specs.Addresses.{AreMany, MapOfAddresses, map_in, with_longest}
 use Rattle.goblin_pe_sect.specs.Options.{front_of}
 use Rattle.goblin_pe_sect.specs.SectionTable.{Section}
-use Rattle.goblin_pe_sect.specs.WindowIndex.{HasPieces}
 use Rattle.goblin_pe.specs.HeaderParts.{sections_there}
 use Rattle.goblin_pe.specs.PeHeader.{PeHeader}
 use Rattle.goblin_pe.specs.Whole.{TablePlaces, mapped_in, places_in, section_table_offset, sections_after}
@@ -55,12 +54,10 @@ map_at o p sections =
     (map_in (options_at o p.file_alignment)
     (record { sections = sections; front = front_of (view_of o) p.size_of_headers }) p.file_alignment)
 
--- memory is taken for an index: there are more than 96 sections, by whose windows addresses are
--- mapped
-abbrev pub TakesIndexAt : PeOptions → PePlaces → List ℕ → Type 0
-TakesIndexAt o p bytes =
-    HasPieces (options_at o p.file_alignment) p.file_alignment
-    × IsSomeAnd ((placed_sections p).value bytes) (λ sections. AreMany (length sections))
+-- memory is taken for an index: there are more than 96 sections
+abbrev pub TakesIndexAt : PePlaces → List ℕ → Type 0
+TakesIndexAt p bytes =
+    IsSomeAnd ((placed_sections p).value bytes) (λ sections. AreMany (length sections))
 
 -- The places of a header lead back to its file: its tables lie there, and addresses are mapped by
 -- the sections after it, and in the loader's view by its front. Names are read up to the limit.

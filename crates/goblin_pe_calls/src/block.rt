@@ -1,7 +1,7 @@
 //! The records of the base relocation blocks of a file: all, in whatever way their table stands, or
 //! in batches.
 
-ghost use Rattle.std.specs.Prelude.{◌≡◌, ◌<◌, IfErr, IfOk, MatchResult, OnErr, length, map};
+ghost use Rattle.std.specs.Prelude.{◌≡◌, ◌<◌, IfErr, IfOk, MatchResult, length, map};
 ghost use Rattle.goblin_base.specs.Answers.{IsMemory};
 ghost use Rattle.goblin_pe_sect.specs.BaseRelocations.{relocation_bytes};
 ghost use Rattle.goblin_pe.specs.Whole.{part_map};
@@ -9,7 +9,6 @@ ghost use Rattle.goblin_pe.specs.declared.whole.Part.TheVariants.{Read};
 ghost use Rattle.goblin_pe_calls.specs.Batches.{BlockBatch, GivesBlocksIn, GivesBlocks};
 ghost use Rattle.goblin_pe_calls.specs.Batches.{IsBlockCause, IsBlocksFault, blocks_from};
 ghost use Rattle.goblin_pe_records.specs.Onward.{IsRefusedNext};
-ghost use Rattle.goblin_pe_records.specs.Blocked.{HasLittleRoom, least_more};
 ghost use Rattle.goblin_pe_records.specs.Blocks.{block_view};
 ghost use Rattle.goblin_pe_calls.specs.Blocks.{base_relocations_of, blocks_in};
 
@@ -33,9 +32,6 @@ pub fn block_records<'a>(
         map block_view made.0.items ≡ blocks_in (part_map relocation_bytes relocations.now)) }
     ensures said { IfOk result
         (λ made. made.1 ≡ base_relocations_of (part_map relocation_bytes relocations.now)) }
-    ensures none { IfOk result (λ made. HasLittleRoom least_more made.0) }
-    ensures grown { OnErr result
-        (0 < length (blocks_in (part_map relocation_bytes relocations.now))) }
 {
     let (records, state, rest) = match relocations {
         Part::Absent => (Vec::new(alloc), State::Absent, no_fault()),

@@ -1,6 +1,7 @@
 //! What strict mode would refuse of a file.
 
-ghost use Rattle.std.specs.Prelude.{◌≡◌};
+ghost use Rattle.std.specs.Prelude.{◌≡◌, IfErr, IsSomeAnd};
+ghost use Rattle.goblin_base.specs.Answers.{IsMemory};
 ghost use Rattle.goblin_pe_sect.specs.Options.{is_strict};
 ghost use Rattle.goblin_pe_head.specs.HeaderReadings.{pe_header};
 ghost use Rattle.goblin_pe.specs.Whole.{layout};
@@ -83,10 +84,13 @@ pub fn tell(
     opts: &ParseOptions,
     damage: &mut PeDamage,
 ) -> Result<()>
-    ensures { ReadsInto (pe_header (is_strict opts.now.parse_mode)) (TakesIndex opts.now bytes.now)
-        (layout opts.now) bytes.now
+    ensures told { ReadsInto (layout opts.now) bytes.now
         (λ l. RecordsDamage view opts.now l.0 l.1 bytes.now damage.new)
         (damage.new ≡ damage.old) result }
+    ensures grown { IfErr result
+        (λ e.
+        IsMemory e → IsSomeAnd ((pe_header (is_strict opts.now.parse_mode)).value bytes.now)
+        TakesIndex) }
 {
     let told = Whole::damage_in(alloc, bytes, view, opts)?;
     *damage = damage_record(&told);

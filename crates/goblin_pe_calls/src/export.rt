@@ -1,9 +1,9 @@
 //! The records of exports.
 
-ghost use Rattle.std.specs.Prelude.{◌≡◌, ◌<◌, ◌+◌, ◌++◌, ◌∷◌, [], IfErr, IfOk, IfSome, OnErr};
-ghost use Rattle.std.specs.Prelude.{OnOk, IsSomeAnd, None, Some, length, map};
+ghost use Rattle.std.specs.Prelude.{◌≡◌, ◌<◌, ◌+◌, ◌++◌, ◌∷◌, []};
+ghost use Rattle.std.specs.Prelude.{None, Some, map};
 ghost use Rattle.std.specs.Prelude.{vec_capacity, vec_len};
-ghost use Rattle.goblin_base.specs.Answers.{GivesOrMemory, IsMemory};
+ghost use Rattle.goblin_base.specs.Answers.{GivesOrMemory};
 ghost use Rattle.goblin_base.specs.Reading.{ReadsOrMemory};
 ghost use Rattle.goblin_pe.specs.Reads.{mapped};
 ghost use Rattle.goblin_pe_sect.specs.Addresses.{map_of};
@@ -12,12 +12,9 @@ ghost use Rattle.goblin_pe_export.specs.Forwarders.{forwarder_value};
 ghost use Rattle.goblin_pe.specs.Callers.{layout_table};
 ghost use Rattle.goblin_pe.specs.Layouts.{layout_bytes, layout_map};
 ghost use Rattle.goblin_pe.specs.Whole.{export_part, part_map};
-ghost use Rattle.goblin_pe_records.specs.Blocked.{HasLittleRoom, more_room, most_first};
-ghost use Rattle.goblin_pe_calls.specs.Blocked.{HasLittleRoomIn, HaveLittleRoom};
 ghost use Rattle.goblin_pe_calls.specs.Exports.{export_said, export_view, export_views};
 ghost use Rattle.goblin_pe_calls.specs.Exports.{exports_said, exports_view, read_said};
 ghost use Rattle.goblin_pe_calls.specs.Exports.{said_without_forwarder, unread_said};
-ghost use Rattle.goblin_pe_calls.specs.Growth.{HasExports};
 
 use crate::export_directory::{
     PeExportAddress, PeExportDirectory, address_records, directory_record, no_export_directory,
@@ -161,11 +158,8 @@ pub struct ExportRecords<'a> {
 fn push_plain<'a>(records: &mut Vec<PeExport<'a>>, bytes: &'a [u8], walked: &WalkedExport<'a>)
     requires fits { vec_len records.old < vec_capacity records.old }
     requires plain { (walked_export walked.now).row.reexport ≡ None }
-    ensures value { map export_view records.new.items
+    ensures { map export_view records.new.items
         ≡ map export_view records.old.items ++ export_said (walked_export walked.now) ∷ [] }
-    ensures room { HasLittleRoom most_first records.old → HasLittleRoom most_first records.new }
-    ensures counted { vec_len records.new ≡ vec_len records.old + 1 }
-    ensures same { vec_capacity records.new ≡ vec_capacity records.old }
 {
     records.push_reserved(plain_record(bytes, walked));
 }
@@ -174,11 +168,8 @@ fn push_plain<'a>(records: &mut Vec<PeExport<'a>>, bytes: &'a [u8], walked: &Wal
 #[inline(always)]
 fn push_within<'a>(records: &mut Vec<PeExport<'a>>, bytes: &'a [u8], walked: &WalkedExport<'a>)
     requires { vec_len records.old < vec_capacity records.old }
-    ensures value { map export_view records.new.items
+    ensures { map export_view records.new.items
         ≡ map export_view records.old.items ++ export_said (walked_export walked.now) ∷ [] }
-    ensures room { HasLittleRoom most_first records.old → HasLittleRoom most_first records.new }
-    ensures counted { vec_len records.new ≡ vec_len records.old + 1 }
-    ensures same { vec_capacity records.new ≡ vec_capacity records.old }
 {
     match &walked.export.reexport {
         None => push_plain(records, bytes, walked),
@@ -193,15 +184,9 @@ fn push_export<'a>(
     export: &WalkedExport<'a>,
     expected: usize,
 ) -> Result<()>
-    ensures value { let made = export_said (walked_export export.now) ∷ [] in
+    ensures { let made = export_said (walked_export export.now) ∷ [] in
         GivesOrMemory (λ _. map export_view records.new.items) result
         (map export_view records.old.items ++ made) }
-    ensures room { OnOk result (HasLittleRoom most_first records.old → HasLittleRoom most_first records.new) }
-    ensures more { OnOk result (vec_capacity records.old ≡ vec_len records.old
-        → vec_capacity records.new
-        ≡ vec_len records.old + more_room expected (vec_len records.old)) }
-    ensures same { OnOk result (vec_len records.old < vec_capacity records.old
-        → vec_capacity records.new ≡ vec_capacity records.old) }
 {
     make_room(records, expected)?;
     push_within(records, bytes, export);
@@ -215,10 +200,8 @@ fn records_of<'a, 'm>(
     bytes: &'a [u8],
     mut exports: Exports<'a, 'm>,
 ) -> Result<Vec<PeExport<'a>>>
-    ensures value { GivesOrMemory export_views result
+    ensures { GivesOrMemory export_views result
         (map export_said (exports_left exports.entry)) }
-    ensures none { IfOk result (HasLittleRoom most_first) }
-    ensures grown { OnErr result (0 < length (exports_left exports.entry)) }
 {
     let expected = exports.pointer_count();
     let mut records = Vec::new(alloc);
@@ -240,11 +223,8 @@ fn read_records<'a, 'm>(
     bytes: &'a [u8],
     exports: Exports<'a, 'm>,
 ) -> Result<ExportRecords<'a>>
-    ensures value { GivesOrMemory exports_view result
+    ensures { GivesOrMemory exports_view result
         (read_said (walked_tables exports.entry) (exports_left exports.entry)) }
-    ensures none { IfOk result HaveLittleRoom }
-    ensures grown { let addresses = (walked_tables exports.entry).export_address_table in
-        OnErr result (0 < length (exports_left exports.entry) + length addresses) }
 {
     let directory = directory_record(bytes, &exports);
     let addresses = address_records(alloc, &exports)?;
@@ -262,8 +242,7 @@ fn unread_records<'a>(
     bytes: &'a [u8],
     exports: Part<Vec<PeExport<'a>>>,
 ) -> ExportRecords<'a>
-    ensures value { exports_view result ≡ unread_said (part_map export_views exports.entry) }
-    ensures none { HasLittleRoomIn exports.entry → HaveLittleRoom result }
+    ensures { exports_view result ≡ unread_said (part_map export_views exports.entry) }
 {
     ExportRecords {
         exports,
@@ -280,14 +259,8 @@ pub fn export_records<'a, 'm>(
     finder: Finder<'m>,
 ) -> Result<ExportRecords<'a>>
     requires { map_of finder ≡ layout_map layout.now }
-    ensures value { ReadsOrMemory exports_view result
+    ensures { ReadsOrMemory exports_view result
         (mapped exports_said (layout_table export_part layout.now)) (layout_bytes layout.now) }
-    ensures none { IfOk result HaveLittleRoom }
-    ensures grown { let read = layout_table export_part layout.now in
-        OnErr result (IfSome (read.value (layout_bytes layout.now)) HasExports) }
-    ensures begun { let read = layout_table export_part layout.now in
-        IfErr result
-        (λ e. IsMemory e → IsSomeAnd (read.value (layout_bytes layout.now)) HasExports) }
 {
     match layout.exports_by(finder)? {
         Part::Absent => Ok(unread_records(alloc, layout.bytes(), Part::Absent)),

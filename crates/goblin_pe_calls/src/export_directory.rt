@@ -1,14 +1,13 @@
 //! The records of what an export directory says, and of the export address table, all or in
 //! batches.
 
-ghost use Rattle.std.specs.Prelude.{◌≡◌, ◌<◌, IfOk, MatchResult, OnErr, length, map};
+ghost use Rattle.std.specs.Prelude.{◌≡◌, ◌<◌, MatchResult, map};
 ghost use Rattle.std.specs.Prelude.{slice_get};
 ghost use Rattle.goblin_base.specs.Answers.{GivesOrMemory};
 ghost use Rattle.goblin_pe_export.specs.ExportWalks.{walked_tables};
 ghost use Rattle.goblin_pe.specs.Layouts.{layout_bytes, layout_map, layout_places};
 ghost use Rattle.goblin_pe_calls.specs.Batches.{AddressBatch, GivesAddresses, GivesBatch};
 ghost use Rattle.goblin_pe_calls.specs.Batches.{IsAddressBatchFault, IsAddressesFault, SaysDirectory};
-ghost use Rattle.goblin_pe_records.specs.Blocked.{HasNoSpareRoom};
 ghost use Rattle.goblin_pe_records.specs.Onward.{GivesOnward};
 ghost use Rattle.goblin_pe_calls.specs.ExportDirectories.{address_said, directory_said};
 ghost use Rattle.goblin_pe_calls.specs.ExportDirectories.{directory_view, no_export_directory};
@@ -67,10 +66,8 @@ fn address_record(entry: ExportAddressTableEntry) -> PeExportAddress
 
 /// The records of the entries of the export address table, in memory of their own.
 pub fn address_records(alloc: Global, exports: &Exports) -> Result<Vec<PeExportAddress>>
-    ensures value { let table = (walked_tables exports.now).export_address_table in
+    ensures { let table = (walked_tables exports.now).export_address_table in
         GivesOrMemory (λ v. v.items) result (map address_said table) }
-    ensures none { IfOk result HasNoSpareRoom }
-    ensures grown { OnErr result (0 < length (walked_tables exports.now).export_address_table) }
 {
     let count = exports.address_count();
     let mut records = Vec::with_capacity(alloc, count)?;
@@ -78,7 +75,7 @@ pub fn address_records(alloc: Global, exports: &Exports) -> Result<Vec<PeExportA
         let Some(entry) = exports.address(index) else {
             return Ok(records);
         };
-        records.push_reserved(address_record(entry));
+        records.push(address_record(entry))?;
     }
     Ok(records)
 }

@@ -1,10 +1,10 @@
 //! The records of imports.
 
-ghost use Rattle.std.specs.Prelude.{◌≡◌, ◌<◌, ◌+◌, ◌++◌, ◌∷◌, [], IfErr, IfOk, IfSome, OnErr, OnOk};
-ghost use Rattle.std.specs.Prelude.{length, map};
+ghost use Rattle.std.specs.Prelude.{◌≡◌, ◌<◌, ◌+◌, ◌++◌, ◌∷◌, [], OnOk};
+ghost use Rattle.std.specs.Prelude.{map};
 ghost use Rattle.std.specs.Prelude.{vec_capacity, vec_len};
 ghost use Rattle.std.specs.Prelude.{option_map};
-ghost use Rattle.goblin_base.specs.Answers.{AnswersOrMemory, GivesOrMemory, IsMemory, all_of};
+ghost use Rattle.goblin_base.specs.Answers.{AnswersOrMemory, GivesOrMemory, all_of};
 ghost use Rattle.goblin_base.specs.Reading.{ReadsOrMemory};
 ghost use Rattle.goblin_pe.specs.Reads.{mapped};
 ghost use Rattle.goblin_pe_sect.specs.Addresses.{map_of};
@@ -14,11 +14,7 @@ ghost use Rattle.goblin_pe.specs.Callers.{layout_table};
 ghost use Rattle.goblin_pe.specs.Layouts.{IsFileImportsCause, file_imports_left, layout_map};
 ghost use Rattle.goblin_pe.specs.Layouts.{layout_bytes, layout_places};
 ghost use Rattle.goblin_pe.specs.LayoutCursors.{file_map};
-ghost use Rattle.goblin_pe.specs.Whole.{import_list, imports_in, numbered_data_part, part_map};
-ghost use Rattle.goblin_pe_records.specs.Blocked.{HasLittleRoom, more_room, most_first};
-ghost use Rattle.goblin_pe_calls.specs.Blocked.{HasLittleRoomIn};
-ghost use Rattle.readings.specs.Walks.{IsBegun};
-ghost use Rattle.goblin_pe_calls.specs.Growth.{HasEntries, ImportsBegin};
+ghost use Rattle.goblin_pe.specs.Whole.{import_list, numbered_data_part, part_map};
 ghost use Rattle.goblin_pe_calls.specs.Imports.{GivesHere, Pushes, import_said};
 ghost use Rattle.goblin_pe_calls.specs.Imports.{import_view, import_views, imports_said};
 
@@ -112,11 +108,8 @@ pub fn put_import<'a>(place: &mut PeImport<'a>, bytes: &'a [u8], import: &Walked
 #[inline(always)]
 fn push_within<'a>(records: &mut Vec<PeImport<'a>>, bytes: &'a [u8], import: &WalkedImport<'a>)
     requires { vec_len records.old < vec_capacity records.old }
-    ensures value { map import_view records.new.items
+    ensures { map import_view records.new.items
         ≡ map import_view records.old.items ++ import_said (walked_value import.now) ∷ [] }
-    ensures room { HasLittleRoom most_first records.old → HasLittleRoom most_first records.new }
-    ensures counted { vec_len records.new ≡ vec_len records.old + 1 }
-    ensures same { vec_capacity records.new ≡ vec_capacity records.old }
 {
     match &import.entry {
         SyntheticImportLookupTableEntry::OrdinalNumber(ordinal) => {
@@ -137,14 +130,9 @@ fn push_import<'a, 'e>(
     import: &WalkedImport<'a>,
     expected: usize,
 ) -> ResultOf<'e, ()>
-    ensures value { let made = import_said (walked_value import.now) ∷ [] in
+    ensures { let made = import_said (walked_value import.now) ∷ [] in
         GivesOrMemory (λ _. map import_view records.new.items) result
         (map import_view records.old.items ++ made) }
-    ensures room { OnOk result (HasLittleRoom most_first records.old → HasLittleRoom most_first records.new) }
-    ensures more { OnOk result (vec_capacity records.old ≡ vec_len records.old
-        → vec_capacity records.new ≡ vec_len records.old + more_room expected (vec_len records.old)) }
-    ensures same { OnOk result (vec_len records.old < vec_capacity records.old
-        → vec_capacity records.new ≡ vec_capacity records.old) }
 {
     make_room(records, expected)?;
     push_within(records, bytes, import);
@@ -159,9 +147,8 @@ fn push_here<'a, 'm, 'e, T: Bitfield<'a>>(
     bytes: &'a [u8],
     imports: &mut Imports<'a, 'm, 'e, T>,
 )
-    ensures pushed { GivesHere T.format imports.old imports.new
+    ensures { GivesHere T.format imports.old imports.new
         (Pushes (map import_view records.old.items) (map import_view records.new.items)) }
-    ensures room { HasLittleRoom most_first records.old → HasLittleRoom most_first records.new }
 {
     let Some(mut plain) = imports.plain() else {
         return;
@@ -189,10 +176,6 @@ fn records_of<'a, 'm, 'e, T: Bitfield<'a>>(
     ensures value { let items = all_of (imports_left T.format imports.entry) in
         AnswersOrMemory import_views result (option_map (map import_said) items)
         (IsImportsCause T.format imports.entry) }
-    ensures none { IfOk result (HasLittleRoom most_first) }
-    ensures grown { OnErr result (0 < length (imports_left T.format imports.entry)) }
-    ensures begun { IfErr result
-        (λ e. IsMemory e → IsBegun (imports_left T.format imports.entry)) }
     ensures left { OnOk result (map_of finder.new ≡ imports_map imports.entry) }
 {
     let expected = tables as usize / T::size_of();
@@ -216,9 +199,6 @@ fn file_records_of<'a, 'm, 'e>(
     ensures value { let items = all_of (file_imports_left imports.entry) in
         AnswersOrMemory import_views result (option_map (map import_said) items)
         (IsFileImportsCause imports.entry) }
-    ensures none { IfOk result (HasLittleRoom most_first) }
-    ensures grown { OnErr result (0 < length (file_imports_left imports.entry)) }
-    ensures begun { IfErr result (λ e. IsMemory e → IsBegun (file_imports_left imports.entry)) }
     ensures left { OnOk result (map_of finder.new ≡ file_map imports.entry) }
 {
     match imports {
@@ -237,12 +217,6 @@ fn listed_records<'a, 'm>(
     ensures value { ReadsOrMemory (part_map import_views) result
         (mapped (part_map (map import_said)) (layout_table import_list layout.now))
         (layout_bytes layout.now) }
-    ensures none { IfOk result HasLittleRoomIn }
-    ensures grown { let list = layout_table import_list layout.now in
-        OnErr result (IfSome (list.value (layout_bytes layout.now)) HasEntries) }
-    ensures begun { let m = layout_map layout.now in
-        IfErr result
-        (λ e. IsMemory e → ImportsBegin m (layout_places layout.now) (layout_bytes layout.now)) }
     ensures left { OnOk result (map_of finder.new ≡ layout_map layout.now) }
 {
     match layout.imports()? {
@@ -259,7 +233,7 @@ fn listed_records<'a, 'm>(
 
 /// The records of a file's imports, in the order of the libraries and of their entries. The finder
 /// is left where they end.
-#[tactic(auto, unfolding(goblin_pe::specs::Whole::import_list), using(goblin_pe::proofs::Collected::twice_read, crate::proofs::Growth::entries_made))]
+#[tactic(auto, unfolding(goblin_pe::specs::Whole::import_list), using(goblin_pe::proofs::Collected::twice_read))]
 pub fn import_records<'a, 'm>(
     alloc: Global,
     layout: &'m Layout<'a>,
@@ -270,14 +244,6 @@ pub fn import_records<'a, 'm>(
         (mapped (imports_said (layout_places layout.now).magic)
         (layout_table numbered_data_part layout.now))
         (layout_bytes layout.now) }
-    ensures none { IfOk result HasLittleRoomIn }
-    ensures grown { let read = layout_table numbered_data_part layout.now in
-        let magic = (layout_places layout.now).magic in
-        OnErr result
-        (IfSome (read.value (layout_bytes layout.now)) (λ p. HasEntries (imports_in magic p))) }
-    ensures begun { let m = layout_map layout.now in
-        IfErr result
-        (λ e. IsMemory e → ImportsBegin m (layout_places layout.now) (layout_bytes layout.now)) }
     ensures left { OnOk result (map_of finder.new ≡ layout_map layout.now) }
 {
     listed_records(alloc, layout, finder)

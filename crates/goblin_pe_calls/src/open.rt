@@ -1,7 +1,6 @@
 //! A whole file, read once, with its tables in memory of their own.
 
-ghost use Rattle.std.specs.Prelude.{◌≡◌, ◌<◌, ◌+◌, IfErr, IfOk, OnErr, Some, length, map};
-ghost use Rattle.std.specs.Prelude.{option_map};
+ghost use Rattle.std.specs.Prelude.{◌≡◌, IfErr, IfOk, Some, map, option_map};
 ghost use Rattle.goblin_base.specs.Answers.{IsMemory};
 ghost use Rattle.goblin_pe_sect.specs.Options.{is_strict};
 ghost use Rattle.goblin_pe_head.specs.HeaderReadings.{pe_header};
@@ -10,13 +9,10 @@ ghost use Rattle.goblin_pe.specs.RefusedParts.{refused_part};
 ghost use Rattle.goblin_pe.specs.Whole.{WholeFile, part_map, whole_in};
 ghost use Rattle.goblin_pe_records.specs.Blocks.{block_view};
 ghost use Rattle.goblin_pe_calls.specs.Blocks.{base_relocations_of, blocks_in};
-ghost use Rattle.goblin_pe_records.specs.Blocked.{HasLittleRoom, HasNoSpareRoom, least_more};
-ghost use Rattle.goblin_pe_calls.specs.Blocked.{HasLittleRoomIn, HaveLittleRoom};
 ghost use Rattle.goblin_pe_records.specs.Calls.{IsRefusedFor, ReadsInto};
 ghost use Rattle.goblin_pe_calls.specs.Exports.{export_view, export_views, exports_view};
 ghost use Rattle.goblin_pe_calls.specs.Files.{entries_of};
 ghost use Rattle.goblin_pe_records.specs.Filled.{without_text};
-ghost use Rattle.goblin_pe_calls.specs.Growth.{TakesRecords};
 ghost use Rattle.goblin_pe_calls.specs.Imports.{import_view, import_views};
 ghost use Rattle.goblin_pe_calls.specs.Opened.{Opened, Opens, opened_file};
 ghost use Rattle.goblin_pe_calls.specs.Opened.{records_of_file, records_view};
@@ -35,6 +31,7 @@ use goblin_pe::{Layout, Part, RefusedPart, Result};
 use goblin_pe_records::block::{PeBaseRelocations, PeBlock};
 use goblin_pe_records::file::PeFile;
 use goblin_pe_records::rich::{PeRichHeader, entry_records};
+use goblin_pe_records::room::handed_over;
 use goblin_pe_records::section::{PeSection, named_sections};
 use std::alloc::Global;
 
@@ -96,11 +93,6 @@ fn made_of<'a>(
         → IfOk result (λ m. map section_said m.sections.items ≡ map without_text w.sections) }
     ensures blocks { let v = records_view header.now layout.now records.now in
         IfOk result (λ m. map block_view m.blocks.items ≡ blocks_in v.tables.relocations) }
-    ensures none { IfOk result
-        (λ m. HasNoSpareRoom m.rich_entries × HasNoSpareRoom m.sections × HasLittleRoom least_more m.blocks) }
-    ensures grown { let v = records_view header.now layout.now records.now in
-        OnErr result (0 < length v.sections + length (entries_of_rich v.header.rich_header)
-        + length (blocks_in v.tables.relocations)) }
 {
     let table = header.coff_header.symbols_end();
     let sections = named_sections(alloc, bytes, layout.section_records(), table, opts)?;
@@ -117,37 +109,31 @@ fn made_of<'a>(
 
 // Hands the records of imports over, none where there are none.
 fn imports_of<'a>(imports: Part<Vec<PeImport<'a>>>) -> &'a [PeImport<'a>]
-    requires { HasLittleRoomIn imports }
     ensures { map import_view result.now ≡ entries_of (part_map import_views imports.entry) }
 {
     match imports {
-        Part::Read(imports) => imports.leak(),
+        Part::Read(imports) => handed_over(imports),
         Part::Absent | Part::Refused => &[],
     }
 }
 
 // Hands the records of exports over, none where there are none.
 fn exports_of<'a>(exports: Part<Vec<PeExport<'a>>>) -> &'a [PeExport<'a>]
-    requires { HasLittleRoomIn exports }
     ensures { map export_view result.now ≡ entries_of (part_map export_views exports.entry) }
 {
     match exports {
-        Part::Read(exports) => exports.leak(),
+        Part::Read(exports) => handed_over(exports),
         Part::Absent | Part::Refused => &[],
     }
 }
 
-// Hands the tables over: none of no entries has a block, which nobody would free.
-fn handed_over<'a>(
+// Hands the tables over.
+fn tables_of<'a>(
     made: Made<'a>,
     imports: Part<Vec<PeImport<'a>>>,
     exports: ExportRecords<'a>,
     dos_stub: &'a [u8],
 ) -> PeTables<'a>
-    requires none { HasNoSpareRoom made.rich_entries × HasNoSpareRoom made.sections
-        × HasLittleRoom least_more made.blocks }
-    requires no_imports { HasLittleRoomIn imports }
-    requires no_exports { HaveLittleRoom exports }
     ensures rich_entries { result.rich_entries.now ≡ made.entry.rich_entries.items }
     ensures sections { result.sections.now ≡ made.entry.sections.items }
     ensures imports { map import_view result.imports.now
@@ -160,12 +146,12 @@ fn handed_over<'a>(
     ensures stub { result.dos_stub.now ≡ dos_stub.now }
 {
     PeTables {
-        rich_entries: made.rich_entries.leak(),
-        sections: made.sections.leak(),
+        rich_entries: handed_over(made.rich_entries),
+        sections: handed_over(made.sections),
         imports: imports_of(imports),
         exports: exports_of(exports.exports),
-        export_addresses: exports.addresses.leak(),
-        blocks: made.blocks.leak(),
+        export_addresses: handed_over(exports.addresses),
+        blocks: handed_over(made.blocks),
         export_directory: exports.directory,
         dos_stub,
     }
@@ -190,8 +176,8 @@ fn open_by<'a>(
         record { file = file.old; tables = tables.old } in
         let new : Opened =
         record { file = file.new; tables = tables.new } in
-        ReadsInto (pe_header (is_strict opts.now.parse_mode)) (TakesRecords view opts.now bytes.now)
-        (opened_file view opts.now) bytes.now (λ read. Opens read old new) (new ≡ old) result }
+        ReadsInto (opened_file view opts.now) bytes.now (λ read. Opens read old new) (new ≡ old)
+        result }
     ensures part { IsRefusedFor (refused_part view opts.now bytes.now) part.new result }
 {
     *part = RefusedPart::Sections;
@@ -207,7 +193,7 @@ fn open_by<'a>(
         made.rich_header,
     );
     let dos_stub = header.dos_stub.bytes;
-    *tables = handed_over(made, records.imports, records.exports, dos_stub);
+    *tables = tables_of(made, records.imports, records.exports, dos_stub);
     Ok(())
 }
 
@@ -231,8 +217,8 @@ pub fn open<'a>(
         record { file = file.old; tables = tables.old } in
         let new : Opened =
         record { file = file.new; tables = tables.new } in
-        ReadsInto (pe_header (is_strict opts.now.parse_mode)) (TakesRecords view opts.now bytes.now)
-        (opened_file view opts.now) bytes.now (λ read. Opens read old new) (new ≡ old) result }
+        ReadsInto (opened_file view opts.now) bytes.now (λ read. Opens read old new) (new ≡ old)
+        result }
     ensures part { IsRefusedFor (refused_part view opts.now bytes.now) part.new result }
 {
     let mut header = Header::default();

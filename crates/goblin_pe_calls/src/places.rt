@@ -76,8 +76,7 @@ fn places_said(places: &PePlaces) -> Places
 ///
 /// # Errors
 /// [`Error::Read`](goblin_pe::Error::Read) where there are sections and the file is too short for
-/// their records; [`Error::Memory`](goblin_pe::Error::Memory) only of more than 96 sections, by
-/// whose windows addresses are mapped.
+/// their records; [`Error::Memory`](goblin_pe::Error::Memory) only of more than 96 sections.
 #[inline(always)]
 pub fn layout_at<'a, 'e>(
     alloc: Global,
@@ -90,7 +89,7 @@ pub fn layout_at<'a, 'e>(
     ensures placed { IfOk result (λ l. layout_places l ≡ places_said places.now) }
     ensures mapped { IfOk result
         (λ l. layout_map l ≡ map_at options.now places.now (layout_sections l)) }
-    ensures grown { IfErr result (λ e. IsMemory e → TakesIndexAt options.now places.now bytes.now) }
+    ensures grown { IfErr result (λ e. IsMemory e → TakesIndexAt places.now bytes.now) }
 {
     let records = section_records_at(bytes, places.section_table, places.number_of_sections)?;
     let front = view_of(options).front(places.size_of_headers);

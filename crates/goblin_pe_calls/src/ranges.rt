@@ -1,16 +1,16 @@
 //! On which bytes of a file a read of the whole file depends.
 
-ghost use Rattle.std.specs.Prelude.{◌≡◌, ◌<◌, IfErr, IfOk, OnErr, length, map};
+ghost use Rattle.std.specs.Prelude.{◌≡◌, ◌<◌, IfErr, IfOk, length, map};
 ghost use Rattle.goblin_base.specs.Answers.{IsMemory};
 ghost use Rattle.goblin_base.specs.Marks.{joined};
 ghost use Rattle.goblin_pe.specs.Whole.{whole_in};
-ghost use Rattle.goblin_pe_records.specs.Blocked.{HasNoSpareRoom};
 ghost use Rattle.goblin_pe_calls.specs.Footprints.{Lists, range_record_of};
 ghost use Rattle.goblin_pe_calls.specs.Opened.{opened_file};
 
 use goblin_pe::laws::mark_whole;
 use goblin_pe::options::{ParseOptions, View};
 use goblin_pe::{Result, ResultOf};
+use goblin_pe_records::room::handed_over;
 use std::alloc::Global;
 
 /// A range of the file.
@@ -51,22 +51,10 @@ fn range_records<'e>(
     ensures listed { let footprint = (whole_in view opts.now).reaches bytes.now in
         IfOk result
         (λ v. v.items ≡ map range_record_of (joined (length bytes.now) footprint)) }
-    ensures room { IfOk result HasNoSpareRoom }
     ensures refused { IfErr result IsMemory }
-    ensures grown { OnErr result (0 < length bytes.now) }
 {
     let marks = mark_whole(alloc, bytes, view, opts)?;
     marks.list(alloc, |range| range_record(range))
-}
-
-// Hands the ranges over: no ranges have no block, which nobody would free.
-fn handed_over<'a>(records: Vec<PeRange>) -> PeRanges<'a>
-    requires none { HasNoSpareRoom records }
-    ensures { result.ranges.now ≡ records.items }
-{
-    PeRanges {
-        ranges: records.leak(),
-    }
 }
 
 /// Puts into `ranges` the positions of a file on which all that [`open`](crate::open::open) gives
@@ -86,6 +74,8 @@ pub fn list<'a>(
         Lists (length bytes.now) footprint ranges.old ranges.new result }
 {
     let records = range_records(alloc, bytes, view, opts)?;
-    *ranges = handed_over(records);
+    *ranges = PeRanges {
+        ranges: handed_over(records),
+    };
     Ok(())
 }

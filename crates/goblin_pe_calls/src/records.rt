@@ -1,7 +1,5 @@
 //! The tables of a file that its directories lead to, imports and exports as records.
 
-ghost use Rattle.std.specs.Prelude.{IfErr, IfOk, IfSome, OnErr};
-ghost use Rattle.goblin_base.specs.Answers.{IsMemory};
 ghost use Rattle.goblin_base.specs.Reading.{ReadsOrMemory};
 ghost use Rattle.goblin_pe.specs.Reads.{mapped};
 ghost use Rattle.goblin_pe.specs.Callers.{layout_table};
@@ -9,9 +7,7 @@ ghost use Rattle.goblin_pe.specs.Layouts.{layout_bytes, layout_map, layout_place
 ghost use Rattle.goblin_pe.specs.Whole.{collected_tables, table_parts};
 ghost use Rattle.goblin_pe.specs.RefusedParts.{refused_table};
 ghost use Rattle.goblin_pe_records.specs.Calls.{IsRefusedFor};
-ghost use Rattle.goblin_pe_calls.specs.Blocked.{HasLittleRoomIn, HaveLittleRoom};
 ghost use Rattle.goblin_pe_calls.specs.Exports.{exports_said};
-ghost use Rattle.goblin_pe_calls.specs.Growth.{HasTables, TablesBegin};
 ghost use Rattle.goblin_pe_calls.specs.Imports.{imports_said};
 ghost use Rattle.goblin_pe_calls.specs.Opened.{tables_view};
 
@@ -42,14 +38,6 @@ pub fn file_records<'a>(
         (mapped (collected_tables (imports_said (layout_places layout.now).magic) exports_said)
         (layout_table table_parts layout.now))
         (layout_bytes layout.now) }
-    ensures none { IfOk result
-        (λ r. HasLittleRoomIn r.imports × HaveLittleRoom r.exports) }
-    ensures grown { let parts = layout_table table_parts layout.now in
-        let tables = parts.value (layout_bytes layout.now) in
-        OnErr result (IfSome tables (HasTables (layout_places layout.now).magic)) }
-    ensures begun { let m = layout_map layout.now in
-        IfErr result
-        (λ e. IsMemory e → TablesBegin m (layout_places layout.now) (layout_bytes layout.now)) }
     ensures part { let m = layout_map layout.now in
         let places = layout_places layout.now in
         IsRefusedFor (refused_table m.opts m.addressing places (layout_bytes layout.now)) part.new

@@ -1,7 +1,6 @@
 pub mod ExportAddresses
 pub mod ExportDirectoryRoundTrip
 mod ExportRanges
-mod ExportRoom
 mod ExportRows
 pub mod ExportWalk
 mod Grammar

@@ -1,22 +1,22 @@
 //! The exports of an image: what its export directory leads to, and the forwarders among them.
 //!
 //! Source: PE Format, "The .edata Section (Image Only)". The export directory's record leads to
-//! three tables. A name pointer and the ordinal with its index are a named export; the ordinal is
-//! the index of its address. An address inside the directory is that of a forwarder's text.
+//! three tables. A name pointer, with the entry at the same index of the ordinal table, is a named
+//! export. That entry is the index of the export's address in the address table. An address inside
+//! the directory is that of a forwarder's text.
 
-ghost use Rattle.std.specs.Prelude.{◌<◌, ◌≤◌, ◌≡◌, ◌+◌, ◌/◌, ◌++◌, ◌∷◌, ◌⊎◌, ℕ, [], IfErr, IfOk};
-ghost use Rattle.std.specs.Prelude.{IfSome, IsOk, IsSomeAnd, MatchOption, None, OnErr, OnOk};
-ghost use Rattle.std.specs.Prelude.{Option, Some, length, max, option_and_then, option_map};
-ghost use Rattle.std.specs.Prelude.{slice_get, vec_capacity, vec_len};
+ghost use Rattle.std.specs.Prelude.{◌<◌, ◌≡◌, ◌+◌, ◌/◌, ◌++◌, ◌∷◌, [], IfErr};
+ghost use Rattle.std.specs.Prelude.{IfSome, IsOk, MatchOption, None, OnOk};
+ghost use Rattle.std.specs.Prelude.{Option, Some, length, option_and_then, option_map};
 ghost use Rattle.goblin_base.specs.Answers.{GivesOrMemory, IsMemory};
 ghost use Rattle.goblin_base.specs.Reading.{ReadsOrMemory};
 ghost use Rattle.goblin_pe_sect.specs.Options.{default_options};
-ghost use Rattle.goblin_pe_sect.specs.Addresses.{TakesMap, map_by, map_of, offset_of};
+ghost use Rattle.goblin_pe_sect.specs.Addresses.{map_by, map_of};
 ghost use Rattle.goblin_pe_export.specs.ExportReadings as reading;
 ghost use Rattle.goblin_pe_export.specs.ExportRecords.{numbered_by};
 ghost use Rattle.goblin_pe_export.specs.ExportWalks.{numbered_export};
-ghost use Rattle.goblin_pe_export.specs.Exports.{HasExportEntries, HasRow, export_data, export_row};
-ghost use Rattle.goblin_pe_export.specs.Exports.{TakesRoomFor, exports, own_exports, rva_of};
+ghost use Rattle.goblin_pe_export.specs.Exports.{export_data, export_row};
+ghost use Rattle.goblin_pe_export.specs.Exports.{exports, rva_of};
 ghost use Rattle.goblin_pe_export.specs.Forwarders.{forwarder_value, forwarder_within};
 ghost use Rattle.readings.specs.Reads.{text_within};
 ghost use Rattle.goblin_pe_sect.specs.Addresses.{Addressing};
@@ -41,7 +41,8 @@ pub use tables::{
     ExportOrdinalTable, SIZEOF_EXPORT_ADDRESS_TABLE_ENTRY, SIZEOF_EXPORT_DIRECTORY_TABLE,
 };
 
-// The text at an offset, up to a limit, where there are both.
+// The text at an offset, cut at a limit if there is one. `None` if there is no offset, or no text
+// there.
 #[inline(always)]
 fn text_at(bytes: &[u8], offset: Option<usize>, longest: Option<u32>) -> Option<&str>
     ensures { option_map (λ s. s.now) result
@@ -50,7 +51,8 @@ fn text_at(bytes: &[u8], offset: Option<usize>, longest: Option<u32>) -> Option<
     pread_str_within(bytes, offset?, longest).ok()
 }
 
-// The forwarder at an offset, up to a limit, where there are both.
+// The forwarder at an offset, its text cut at a limit if there is one. `None` if there is no
+// offset, or no forwarder there.
 #[inline(always)]
 fn forwarder_at(bytes: &[u8], offset: Option<usize>, longest: Option<u32>) -> Option<Reexport<'_>>
     ensures { option_map forwarder_value result
@@ -59,8 +61,8 @@ fn forwarder_at(bytes: &[u8], offset: Option<usize>, longest: Option<u32>) -> Op
     Reexport::parse_within(bytes, offset?, longest).ok()
 }
 
-// The same as `reexport_of` returns it. It is not inlined, so that a loop clears no room for a
-// forwarder, which few exports are.
+// The forwarder at an offset, in the form that `reexport_of` returns. This is not inlined, so a
+// loop over exports clears no room for a forwarder, since few exports are forwarders.
 #[inline(never)]
 fn forwarded_at(
     bytes: &[u8],
@@ -75,7 +77,7 @@ fn forwarded_at(
     Some(Some(forwarder))
 }
 
-// The address that an entry of the address table holds.
+// The RVA in an entry of the address table.
 fn rva_of(address: ExportAddressTableEntry) -> u32
     ensures { result ≡ rva_of address }
 {
@@ -84,8 +86,9 @@ fn rva_of(address: ExportAddressTableEntry) -> u32
     }
 }
 
-// What an entry of the address table stands for in another library, if it is a forwarder that can
-// be read at the offset of its address.
+// What an entry of the address table refers to in another library. `offset` is the file offset of
+// its RVA. The result is `Some(None)` if the entry is not a forwarder, and `None` if it is one that
+// cannot be read.
 fn reexport_of<'a>(
     bytes: &'a [u8],
     address: ExportAddressTableEntry,
@@ -107,18 +110,19 @@ fn reexport_of<'a>(
 /// Source: PE Format, "The .edata Section (Image Only)".
 #[derive(Debug, Drop)]
 pub struct ExportData<'a> {
-    /// The library's own name, as it was linked; `None` if there is no text at its address.
+    /// The library's own name, as the linker stored it, or `None` if there is no text at its
+    /// address.
     pub name: Option<&'a str>,
-    /// The record itself, as it stands in the file.
+    /// The record itself, as stored in the file.
     pub export_directory_table: ExportDirectoryTable,
-    /// The addresses of the exports' names. The format requires them in the order of the names, for
-    /// the loader's search; no reader here relies on that.
+    /// The RVAs of the exports' names. The format requires them in the order of the names, because
+    /// the loader searches them; no reader here relies on that.
     pub export_name_pointer_table: ExportNamePointerTable,
-    /// For each name pointer the index of its address in the address table, without the ordinal
-    /// base.
+    /// For each name pointer, the index of the export's address in the address table, without the
+    /// ordinal base.
     pub export_ordinal_table: ExportOrdinalTable,
-    /// The exports' addresses, by index: the ordinal of an export is its index plus the ordinal
-    /// base. Here are also those without a name.
+    /// The exports' addresses. The ordinal of an export is its index here plus the ordinal base.
+    /// Exports without a name are here, too.
     pub export_address_table: ExportAddressTable,
 }
 
@@ -138,8 +142,8 @@ impl<'a> Model for ExportData<'a> {
 }
 
 impl<'a> ExportData<'a> {
-    /// Reads the export data of an export directory, as [`ExportData::parse_with_opts`] reads it by
-    /// the default options.
+    /// Reads the export data of an export directory, as [`ExportData::parse_with_opts`] with the
+    /// default options.
     ///
     /// # Errors
     /// As [`ExportData::parse_with_opts`].
@@ -150,26 +154,22 @@ impl<'a> ExportData<'a> {
         sections: &[SectionTable],
         file_alignment: u32,
     ) -> Result<ExportData<'a>>
-        ensures value { let m = map_by default_options sections.now file_alignment in
+        ensures { let m = map_by default_options sections.now file_alignment in
             ReadsOrMemory (λ x. x) result (reading.export_data m.addressing directory) bytes.now }
-        ensures grown { let m = map_by default_options sections.now file_alignment in
-            IfErr result (λ e. IsMemory e →
-            IsSomeAnd (export_data m.addressing directory bytes.now) HasExportEntries
-            ⊎ TakesMap default_options sections.now file_alignment) }
     {
         let opts = ParseOptions::default();
         ExportData::parse_with_opts(alloc, bytes, directory, sections, file_alignment, &opts)
     }
 
-    /// Reads the export data of an export directory: the record at its address, and what the record
-    /// leads to. A table is empty if its address has no file offset, and is cut at the first
-    /// incomplete entry. An address is a forwarder's if it lies in the directory, by the
-    /// directory's address and size. The library's name is `None` if it can't be read. Both modes
-    /// give the same answer.
+    /// Reads the export data of an export directory: the record at its RVA, and what the record
+    /// leads to. A table is empty if its RVA has no file offset, and is cut at the first incomplete
+    /// entry. An address is that of a forwarder if it lies in the directory, as given by the
+    /// directory's RVA and size. The library's name is `None` if it can't be read. Both modes give
+    /// the same answer.
     ///
     /// # Errors
-    /// [`Error::Malformed`]: [`Cause::Unmapped`] if the directory's address has no file offset,
-    /// [`Cause::ExportTable`] if the record there runs past the end of the file;
+    /// [`Error::Malformed`] with [`Cause::Unmapped`] if the directory's RVA has no file offset, or
+    /// with [`Cause::ExportTable`] if the record there runs past the end of the file;
     /// [`Error::BufferTooShort`] if the record counts more name pointers, or else more addresses,
     /// than the file has bytes; [`Error::Memory`] if memory is refused.
     pub fn parse_with_opts(
@@ -180,19 +180,15 @@ impl<'a> ExportData<'a> {
         file_alignment: u32,
         opts: &ParseOptions,
     ) -> Result<ExportData<'a>>
-        ensures value { let m = map_by opts.now sections.now file_alignment in
+        ensures { let m = map_by opts.now sections.now file_alignment in
             ReadsOrMemory (λ x. x) result (reading.export_data m.addressing directory) bytes.now }
-        ensures grown { let m = map_by opts.now sections.now file_alignment in
-            IfErr result (λ e. IsMemory e →
-            IsSomeAnd (export_data m.addressing directory bytes.now) HasExportEntries
-            ⊎ TakesMap opts.now sections.now file_alignment) }
     {
         let address_map = AddressMap::prepare(alloc, sections, file_alignment, opts)?;
         ExportData::parse_by(alloc, bytes, directory, &address_map)
     }
 
-    /// The export data as [`ExportData::parse_with_opts`] reads it, by addresses that are mapped
-    /// already.
+    /// Reads the export data as [`ExportData::parse_with_opts`], with an address map that is
+    /// already prepared.
     ///
     /// # Errors
     /// As [`ExportData::parse_with_opts`].
@@ -202,11 +198,8 @@ impl<'a> ExportData<'a> {
         directory: DataDirectory,
         address_map: &AddressMap,
     ) -> Result<ExportData<'a>>
-        ensures value { let m = map_of address_map.now in
+        ensures { let m = map_of address_map.now in
             ReadsOrMemory (λ x. x) result (reading.export_data m.addressing directory) bytes.now }
-        ensures grown { let m = map_of address_map.now in
-            IfErr result (λ e. IsMemory e →
-            IsSomeAnd (export_data m.addressing directory bytes.now) HasExportEntries) }
     {
         let mut finder = Finder::of(address_map);
         let tables = TablesInFile::find(bytes, directory, &mut finder)?;
@@ -220,24 +213,26 @@ impl<'a> ExportData<'a> {
     }
 }
 
-/// An export that has a name pointer. Those without one, which can only be imported by ordinal, are
-/// in the address table of [`ExportData`].
+/// An export that has a name pointer. Exports without one, which can only be imported by ordinal,
+/// are in the address table of [`ExportData`].
 ///
 /// Source: PE Format, "The .edata Section (Image Only)".
 #[derive(Debug, Default, Drop)]
 pub struct Export<'a> {
     /// The export's name; `None` if there is no text at its address.
     pub name: Option<&'a str>,
-    /// The file offset of `rva`, as [`find_offset`](goblin_pe_sect::utils::find_offset) returns it:
-    /// `None` if no section maps it or the file alignment is not a power of two; where the options
-    /// say that addresses are offsets, `rva` itself.
+    /// The file offset of `rva`. It is `rva` itself if the options say that addresses are offsets.
+    /// Else it is as [`find_offset`](goblin_pe_sect::utils::find_offset) returns it: `None` if no
+    /// section maps `rva` or the file alignment is not a power of two. An address map may also have
+    /// the front of the file. That maps an `rva` that no section maps, but an `rva` of 0 then has
+    /// no offset.
     pub offset: Option<usize>,
-    /// The export's address, relative to the image's base; of a forwarder that of its text.
+    /// The export's RVA; for a forwarder, the RVA of its text.
     pub rva: usize,
-    /// How many bytes it has: the tables don't say it, so 0.
+    /// The size of the export in bytes. It is 0, because the tables don't give it.
     pub size: usize,
-    /// What it stands for in another library, which the loader then loads; `None` if it is not a
-    /// forwarder.
+    /// What a forwarder refers to in another library, which the loader then loads; `None` if the
+    /// export is not a forwarder.
     pub reexport: Option<Reexport<'a>>,
 }
 
@@ -257,72 +252,46 @@ impl<'a> Model for Export<'a> {
     } };
 }
 
-// For so few exports room is made without a look at what their name pointers lead to.
+// For this many name pointers or fewer, room is made without looking at what they lead to.
 const FEW: usize = 32;
 
-// For how many exports to make room first: for as many as there are name pointers, if these are
-// few, else for those that are not forwarders, of which each is there, or for a few if those are
-// fewer.
-#[tactic(auto, unfolding(crate::specs::Exports::own_exports))]
-fn expected_count(tables: &ExportData) -> usize
-    ensures few { let pointers = length tables.now.export_name_pointer_table in
-        pointers ≤ 32 → result ≡ pointers }
-    ensures own { let t = tables.now in
-        32 < length t.export_name_pointer_table
-        → result ≡ max 32 (own_exports t (length t.export_name_pointer_table)) }
-{
+// For how many exports to make room first. If there are few name pointers, it is their number. Else
+// it is the number of exports that are not forwarders, each of which will be in the list, but at
+// least `FEW`.
+fn expected_count(tables: &ExportData) -> usize {
     let pointers = tables.pointers();
     if pointers <= FEW {
         return pointers;
     }
-    let mut count = 0;
+    let mut count: usize = 0;
     'pointers: for index in 0..pointers {
         if let Some(ordinal) = tables.ordinal(index) {
             let address = tables.address(usize::from(ordinal));
             if let Some(ExportAddressTableEntry::ExportRVA(_)) = address {
-                count += 1;
+                count = count.saturating_add(1);
             }
         }
     }
     FEW.max(count)
 }
 
-// Makes room for another export where it doesn't fit: for as many as `first` where there are none
-// yet, else for half as many as there are and one.
-fn make_room(rows: &mut Vec<Export>, first: usize) -> Result<()>
-    requires { 0 < first }
-    ensures kept { rows.new.items ≡ rows.old.items }
+// Adds an export. If it doesn't fit, makes room: for as many as are expected if there are none yet,
+// else for half as many more, plus one.
+fn add_row<'a>(rows: &mut Vec<Export<'a>>, export: Export<'a>, expected: usize) -> Result<()>
+    ensures added { OnOk result (rows.new.items ≡ rows.old.items ++ export.entry ∷ []) }
     ensures refused { IfErr result IsMemory }
-    ensures room { OnOk result (vec_len rows.new < vec_capacity rows.new) }
-    ensures first { OnOk result (vec_len rows.old ≡ 0 → vec_capacity rows.old ≡ 0
-        → vec_capacity rows.new ≡ first) }
-    ensures more { OnOk result (0 < vec_len rows.old → vec_capacity rows.old ≡ vec_len rows.old
-        → vec_capacity rows.new ≡ vec_len rows.old + (vec_len rows.old / 2 + 1)) }
-    ensures same { OnOk result (vec_len rows.old < vec_capacity rows.old
-        → vec_capacity rows.new ≡ vec_capacity rows.old) }
 {
     let count = rows.len();
     if count == rows.capacity() {
-        let more = if count == 0 { first } else { count / 2 + 1 };
-        rows.reserve_exact(more)?;
+        rows.reserve_exact(if count == 0 { expected } else { count / 2 + 1 })?;
     }
-    Ok(())
-}
-
-// Adds an export; before the first, makes room for as many as are expected.
-fn add_row<'a>(rows: &mut Vec<Export<'a>>, export: Export<'a>, expected: usize) -> Result<()>
-    requires { 0 < expected }
-    ensures added { OnOk result (rows.new.items ≡ rows.old.items ++ export.entry ∷ []) }
-    ensures refused { IfErr result IsMemory }
-    ensures room { OnOk result (TakesRoomFor expected rows.old → TakesRoomFor expected rows.new) }
-{
-    make_room(rows, expected)?;
-    rows.push_reserved(export);
+    rows.push(export)?;
     Ok(())
 }
 
 impl<'a> Export<'a> {
-    // The export of a name pointer and an address, where the text of a forwarder is there.
+    // The export of a name pointer and an entry of the address table. `None` if the entry is a
+    // forwarder that cannot be read.
     #[inline(always)]
     #[tactic(auto, unfolding(crate::specs::ExportReadings::row_of, goblin_pe_sect::specs::AddressReadings::name_at))]
     fn of_address(
@@ -349,8 +318,8 @@ impl<'a> Export<'a> {
         })
     }
 
-    // The same, where the export is plain: no forwarder, with an address and a name that lie among
-    // those that the finder keeps, the name ASCII. Else `None`, which says nothing of it.
+    // The same for a plain export: it is not a forwarder, its RVA and its name lie among those that
+    // the finder keeps, and its name is ASCII. `None` says nothing about the export.
     #[inline(always)]
     #[tactic(auto, unfolding(crate::specs::ExportReadings::row_of, goblin_pe_sect::specs::AddressReadings::name_at))]
     fn plain_of_address(
@@ -385,8 +354,9 @@ impl<'a> Export<'a> {
         })
     }
 
-    // The export of the name pointer at an index, with that and its entry of the ordinal table,
-    // where its ordinal, its address and, of a forwarder, the text are there.
+    // The export of the name pointer at an index, after that pointer and its entry of the ordinal
+    // table. `None` if there is no name pointer, if it has no ordinal, if the ordinal has no
+    // address, or if the export is a forwarder that cannot be read.
     #[inline(always)]
     #[tactic(auto, unfolding(crate::specs::ExportReadings::export_row, crate::specs::ExportReadings::numbered_row))]
     fn of_pointer<T: Entries>(
@@ -412,8 +382,8 @@ impl<'a> Export<'a> {
         Some(((pointer, ordinal), export))
     }
 
-    /// The exports that export data lists, as [`Export::parse_with_opts`] reads them by the default
-    /// options.
+    /// The exports that export data lists, as [`Export::parse_with_opts`] reads them with the
+    /// default options.
     ///
     /// # Errors
     /// Only [`Error::Memory`].
@@ -427,24 +397,18 @@ impl<'a> Export<'a> {
         ensures value { let m = map_by default_options sections.now file_alignment in
             GivesOrMemory (λ v. v.items) result (exports m.addressing bytes.now export_data.now) }
         ensures empty { length bytes.now ≡ 0 → IsOk result }
-        ensures room { IfOk result (TakesRoomFor 32) }
-        ensures grown { let m = map_by default_options sections.now file_alignment in
-            OnErr result (HasRow m.addressing bytes.now export_data.now
-            ⊎ TakesMap default_options sections.now file_alignment) }
     {
         let opts = ParseOptions::default();
         Export::parse_with_opts(alloc, bytes, export_data, sections, file_alignment, &opts)
     }
 
-    /// The exports that export data lists, one for each name pointer, in their order. There is none
-    /// for a name pointer whose ordinal is missing, whose ordinal has no address, or whose
+    /// The exports that export data lists, one for each name pointer, in their order. A name
+    /// pointer gives none if its ordinal is missing, if the ordinal has no address, or if its
     /// forwarder can't be read. An export whose name can't be read is kept without it. An empty
-    /// file has no exports. Both modes give the same answer. Room is made for at most 32 exports,
-    /// or for half as many again as there are.
+    /// file has no exports. Both modes give the same answer.
     ///
     /// # Errors
-    /// Only [`Error::Memory`], never for an empty file, which takes no memory, and otherwise only
-    /// if there is an export or addresses are mapped by sections.
+    /// Only [`Error::Memory`]. It never comes for an empty file, which takes no memory.
     #[tactic(auto, unfolding(crate::specs::ExportReadings::exports, crate::specs::ExportReadings::numbered_rows))]
     pub fn parse_with_opts(
         alloc: Global,
@@ -457,10 +421,6 @@ impl<'a> Export<'a> {
         ensures value { let m = map_by opts.now sections.now file_alignment in
             GivesOrMemory (λ v. v.items) result (exports m.addressing bytes.now export_data.now) }
         ensures empty { length bytes.now ≡ 0 → IsOk result }
-        ensures room { IfOk result (TakesRoomFor 32) }
-        ensures grown { let m = map_by opts.now sections.now file_alignment in
-            OnErr result (HasRow m.addressing bytes.now export_data.now
-            ⊎ TakesMap opts.now sections.now file_alignment) }
     {
         if bytes.is_empty() {
             return Ok(Vec::new(alloc));
@@ -469,7 +429,8 @@ impl<'a> Export<'a> {
         Export::parse_by(alloc, bytes, export_data, &address_map)
     }
 
-    /// The exports as [`Export::parse_with_opts`] reads them, by addresses that are mapped already.
+    /// The exports as [`Export::parse_with_opts`] reads them, with an address map that is already
+    /// prepared.
     ///
     /// # Errors
     /// As [`Export::parse_with_opts`].
@@ -483,9 +444,6 @@ impl<'a> Export<'a> {
         ensures value { let m = map_of address_map.now in
             GivesOrMemory (λ v. v.items) result (exports m.addressing bytes.now export_data.now) }
         ensures empty { length bytes.now ≡ 0 → IsOk result }
-        ensures room { IfOk result (TakesRoomFor 32) }
-        ensures grown { let m = map_of address_map.now in
-            OnErr result (HasRow m.addressing bytes.now export_data.now) }
     {
         let mut rows = Vec::new(alloc);
         if bytes.is_empty() {

@@ -2,7 +2,6 @@ pub mod Beside
 pub mod CoffHeaderRoundTrip
 pub mod ConsistentHeaders
 pub mod DosHeaderRoundTrip
-pub mod HeaderFaults
 mod HeaderRanges
 pub mod OptionalFieldsRoundTrip
 pub mod OptionalHeaderRoundTrip

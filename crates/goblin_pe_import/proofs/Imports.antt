@@ -1,9 +1,8 @@
 -- The loops that list imports: over the entries of a table, and over libraries.
-use Rattle.std.proofs.Common.{◌≡◌, ◌<◌, ◌≤◌, ℕ, zero, suc, ◌+◌, Bool, true, not, List, [], ◌∷◌, ◌++◌, length, Option, Some, None, arith, refl, sym, ap, subst, inl, ◌∙◌, append-nil, append_assoc, IsSomeAnd, drop, map, get_or, slice_get, option_map}
+use Rattle.std.proofs.Common.{◌≡◌, ◌<◌, ℕ, ◌+◌, Bool, true, not, List, [], ◌∷◌, ◌++◌, length, Option, Some, None, refl, sym, ap, subst, inl, ◌∙◌, append-nil, append_assoc, IsSomeAnd, map, get_or, slice_get, option_map}
 use Rattle.std.specs.List.{position_or_len}
 use Rattle.std.proofs.lemmas.Bool.{not-false, not-true}
-use Rattle.std.proofs.lemmas.List.Sums.{sum_by-cons, sum_by-drop_more}
-use Rattle.std.proofs.lemmas.Option.{get_or_from_slice_get, slice_get-get_or, slice_get-map, slice_get_within}
+use Rattle.std.proofs.lemmas.Option.{slice_get-get_or, slice_get-map, slice_get_within}
 use Rattle.goblin_base.specs.declared.error.ErrorOf.TheVariants.{Malformed}
 use Rattle.goblin_base.specs.declared.error.CauseOf.TheVariants.{SlotCount}
 use Rattle.goblin_base.specs.Tables.{each_below, join}
@@ -12,8 +11,8 @@ use Rattle.goblin_base.specs.Answers.{◌>>=◌, all_at}
 use Rattle.goblin_base.proofs.Steps.{all_at-more, all_at-none, all_at-zero, unmapped}
 use Rattle.goblin_pe_sect.proofs.First.{found_at_first, found_passes, none_passes}
 use Rattle.goblin_pe_import.specs.ImportLookup.{LookupEntry}
-use Rattle.goblin_pe_import.specs.ImportDirectory.{ImportedLibrary}
-use Rattle.goblin_pe_import.specs.Imports.{ImportValue, IsImportListFault, IsSlotCount, first_without_slots, has_slots, import_at, import_of, import_offset, imports_by, imports_of, kept_count, kept_entries, library_imports}
+use Rattle.goblin_pe_import.specs.ImportRecords.{ImportedLibrary}
+use Rattle.goblin_pe_import.specs.Imports.{ImportValue, IsImportListFault, IsSlotCount, first_without_slots, has_slots, import_at, import_of, import_offset, imports_by, imports_of, kept_entries, library_imports}
 
 -- over a table's entries and slots
 module _ (size : ℕ) (dll : List ℕ) (rva : ℕ) (entries : List LookupEntry) (slots : List ℕ) where
@@ -107,21 +106,3 @@ pub slots-refused : (size : ℕ) (libraries : List ImportedLibrary) (library : I
     → (imports_of size libraries ≡ None) × IsImportListFault libraries (Malformed (SlotCount entries slots))
 slots-refused size libraries library entries slots is e s =
     (slots-missing size libraries library is, inl (subst (λ o. IsSomeAnd o (λ l. IsSlotCount l (Malformed (SlotCount entries slots)))) (sym is) (e, s)))
-
--- no library has more entries than all libraries
-pub entries-counted : (libraries : List ImportedLibrary) (i : ℕ) (library : ImportedLibrary) → slice_get libraries i ≡ Some library → length (kept_entries library) ≤ kept_count libraries
-entries-counted [] i library is = absurd cc
-entries-counted (x ∷ xs) zero library is =
-    let same : x ≡ library = cc in
-    let all = sum_by-cons (λ (l : ImportedLibrary). length (kept_entries l)) x xs in
-    subst (λ (l : ImportedLibrary). length (kept_entries l) ≤ kept_count (x ∷ xs)) same (omega (arith, all))
-entries-counted (x ∷ xs) (suc i) library is =
-    let rest = entries-counted xs i library is in
-    let all = sum_by-cons (λ (l : ImportedLibrary). length (kept_entries l)) x xs in
-    omega (arith, rest, all)
-
--- the entries of the libraries from one on are its own and those of the later ones
-pub entries-left : (libraries : List ImportedLibrary) (i : ℕ) (library : ImportedLibrary) → slice_get libraries i ≡ Some library → kept_count (drop i libraries) ≡ length (kept_entries library) + kept_count (drop (i + 1) libraries)
-entries-left libraries i library is =
-    sum_by-drop_more (λ (l : ImportedLibrary). length (kept_entries l)) libraries i library (slice_get_within libraries i library is)
-    ∙ ap (λ (l : ImportedLibrary). length (kept_entries l) + kept_count (drop (i + 1) libraries)) (get_or_from_slice_get libraries i library library is)

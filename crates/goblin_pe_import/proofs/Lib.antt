@@ -20,4 +20,3 @@ pub mod PermissiveReads
 pub mod PlainEntries
 mod SlotSums
 mod StepsAhead
-pub mod TakenLibraries

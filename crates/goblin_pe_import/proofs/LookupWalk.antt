@@ -1,24 +1,24 @@
 -- The loop that looks for the next entry that a lookup table keeps.
-use Rattle.std.proofs.Common.{◌≡◌, ◌⊎◌, inl, inr, ◌≤◌, ◌<◌, ◌+◌, ◌-◌, ◌/◌, ℕ, zero, suc, Bool, true, false, List, [], ◌∷◌, ◌++◌, map, Option, Some, None, Result, Ok, Err, refl, ap, sym, subst, ◌∙◌, ◌*◌, append_assoc, arith, length, not, ◌&&◌, IfSome, option_map, is_some}
+use Rattle.std.proofs.Common.{◌≡◌, ◌⊎◌, inl, inr, ◌≤◌, ◌+◌, ◌-◌, ◌/◌, ℕ, Bool, true, false, List, [], ◌∷◌, ◌++◌, map, Option, Some, None, Result, Ok, Err, refl, ap, sym, subst, ◌∙◌, ◌*◌, arith, length, not, ◌&&◌, IfSome, option_map, is_some}
 use Rattle.std.proofs.lemmas.List.{length-map, map-append}
 use Rattle.std.proofs.Math.Nat.{mul-div_cancel_left}
 use Rattle.goblin_base.specs.declared.error.ErrorOf.{ErrorOf}
 use Rattle.goblin_base.specs.Answers.{◌>>=◌, all_of}
 use Rattle.goblin_base.specs.Reading.{IsRefused}
 use Rattle.goblin_base.specs.Tables.{Format, SlotFormat, concat_below, kept_slots, made_of, slot_at, slot_place, slot_table}
-use Rattle.goblin_base.specs.Tables.{ends_table, is_kept, stop}
+use Rattle.goblin_base.specs.Tables.{ends_table, stop}
 use Rattle.goblin_base.proofs.SlotTables.{reads}
 use Rattle.goblin_base.proofs.Steps.{step}
 use Rattle.goblin_pe_import.specs.ImportEntries.{EntryValue, LookupEntry, entry_slots}
 use Rattle.goblin_pe_import.specs.declared.import.lookup_table.SyntheticImportLookupTableEntry.{SyntheticImportLookupTableEntry}
 use Rattle.goblin_pe_import.specs.declared.import.kept.KeptEntry.{KeptEntry}
-use Rattle.goblin_pe_import.specs.ImportLookup.{KeepsEntries, entry_view, kept_view}
+use Rattle.goblin_pe_import.specs.ImportLookup.{entry_view, kept_view}
 use Rattle.goblin_pe_import.specs.ImportWalks.{IsEntriesCause, KeptValue, entries_from, entry_items, kept_at}
 use Rattle.goblin_pe_import.specs.ImportWalks.{kept_value, place_after}
 use Rattle.goblin_pe_import.specs.StepsAhead.{AreCounted, GivesWithin, IsOut, UnlessErr}
-use Rattle.readings.specs.Walks.{GivesNext, IsBegun, IsWalkOf, from_slot, end_items, items_at, items_of, table_walk}
+use Rattle.readings.specs.Walks.{GivesNext, IsWalkOf, from_slot, end_items, items_at, items_of, table_walk}
 use Rattle.readings.specs.Walks.{until_refused}
-use Rattle.readings.proofs.Walked.{AtWalk, walk-all, walk-begins, walk-fault, walk-more, walk-start}
+use Rattle.readings.proofs.Walked.{AtWalk, walk-all, walk-fault, walk-more, walk-start}
 use Rattle.goblin_pe_import.specs.LookupReadings.{kept_entry, lookup_entry_at, lookup_with_slots}
 use Rattle.goblin_pe_import.proofs.ImportBound.{kept_entry-few}
 use Rattle.goblin_pe_import.proofs.PermissiveReads.{entry-never}
@@ -242,34 +242,6 @@ module _ (strict : Bool) (format : Format EntryValue) (addressing : Addressing)
 
   -- ---- the loop that lists the entries
 
-  -- something is kept of a table from which an entry is the first to come
-  some_kept : (k : ℕ) (later : List (Option KeptValue)) → (IsBegun (until_refused later) → ⊥)
-      → IsBegun (until_refused (concat_below (λ i. items_of (item i) (made i)) k ++ later))
-      → (i : ℕ) × (i < k) × (is_kept (made i) ≡ true)
-  some_kept zero later none begun = absurd (none begun)
-  some_kept (suc k) later none begun =
-      by_piece (made k) refl (some_kept k)
-      (subst (λ (xs : List (Option KeptValue)). IsBegun (until_refused xs))
-      (append_assoc (concat_below (λ i. items_of (item i) (made i)) k) (items_of (item k) (made k)) later)
-      begun)
-    where
-      IsSome_kept : ℕ → Type 0
-      IsSome_kept k = (i : ℕ) × (i < k) × (is_kept (made i) ≡ true)
-
-      by_piece : (piece : Option (List LookupEntry)) → made k ≡ piece
-          → ((later : List (Option KeptValue)) → (IsBegun (until_refused later) → ⊥)
-          → IsBegun (until_refused (concat_below (λ i. items_of (item i) (made i)) k ++ later))
-          → IsSome_kept k)
-          → IsBegun (until_refused (concat_below (λ i. items_of (item i) (made i)) k ++ (items_of (item k) (made k) ++ later)))
-          → IsSome_kept (suc k)
-      by_piece None is before begun =
-          let found = before (items_of (item k) (made k) ++ later) (rw is (λ h. h)) begun in
-          (found.0, omega (arith, found.1), found.2)
-      by_piece (Some []) is before begun =
-          let found = before (items_of (item k) (made k) ++ later) (rw is none) begun in
-          (found.0, omega (arith, found.1), found.2)
-      by_piece (Some (x ∷ xs)) is before begun = (k, omega arith, ap is_kept is)
-
   -- These entries, in these slots, have come of the table at o, and others come from `place` on.
   pub record AtEntries (place : Option ℕ) (entries : List LookupEntry) (rows : List ℕ) : Type 0
     where
@@ -336,19 +308,6 @@ module _ (strict : Bool) (format : Format EntryValue) (addressing : Addressing)
               stand = ap (λ (xs : List ℕ). xs ++ one.slot ∷ []) h.stand
                   ∙ sym (map-append (λ k. k.slot) h.kept (kept_value one ∷ []));
             }
-
-        pub entries-kept : KeepsEntries strict format addressing bytes o
-        entries-kept =
-            let begins =
-            walk-begins comes IsCause (Some o) place h.kept h.at kept_value (place_after format.width (Some r)) r given one is in
-            some_kept n (end_items strict (slot_at (entry_slots format) bytes o n)) (no-end strict _)
-            (subst IsBegun by_index begins)
-          where
-            no-end : (needed : Bool) (end : Option EntryValue)
-                → IsBegun (until_refused (end_items {B = KeptValue} needed end)) → ⊥
-            no-end true None h = h
-            no-end true (Some v) h = h
-            no-end false end h = h
 
 -- only strict mode refuses an entry
 pub refused-strictly : (strict : Bool) (addressing : Addressing) (v : EntryValue)

@@ -8,7 +8,7 @@ use Rattle.readings.specs.Reads.{given, in_its_place, text_within}
 use Rattle.readings.proofs.Modes.{repeats-beside, repeats-mapped, repeats-or_else}
 use Rattle.readings.proofs.Modes.{repeats-or_left_out, repeats-pick, repeats-same, repeats-table}
 use Rattle.readings.proofs.Modes.{repeats-table_with_slots}
-use Rattle.goblin_pe_import.specs.ImportDirectory.{address_table_rva, import_slots, lookup_offset}
+use Rattle.goblin_pe_import.specs.ImportRecords.{address_table_rva, import_slots, lookup_offset}
 use Rattle.goblin_pe_import.specs.ImportLookup.{EntryValue, entry_slots}
 use Rattle.goblin_pe_import.specs.ImportEntries.LookupEntry.{ByOrdinal}
 use Rattle.goblin_pe_sect.specs.AddressReadings.{at_address, name_at}

@@ -1,10 +1,9 @@
 -- What a lookup table and an address table keep, over a map of addresses to file offsets, and what
 -- contracts see of their entries.
-use Rattle.std.specs.Prelude.{◌≡◌, ◌<◌, ℕ, Bool, true, false, List, Option, map, option_to_list}
+use Rattle.std.specs.Prelude.{ℕ, Bool, true, false, List, Option, map, option_to_list}
 use Rattle.std.specs.declared.borrow.CowStr.{CowStr}
 use Rattle.std.specs.declared.borrow.CowStr.TheVariants.{Borrowed, Owned}
-use Rattle.goblin_base.specs.Answers.{◌>>=◌}
-use Rattle.goblin_base.specs.Tables.{Format, is_kept, kept_slots, slot_at, stop}
+use Rattle.goblin_base.specs.Tables.{Format, kept_slots}
 use Rattle.goblin_pe_import.specs.ImportEntries.LookupEntry.{ByName, ByOrdinal}
 pub use Rattle.goblin_pe_import.specs.ImportEntries.{EntryValue, HintName, LookupEntry}
 pub use Rattle.goblin_pe_import.specs.ImportEntries.{entries_32, entries_64, entry_slots}
@@ -21,18 +20,6 @@ abbrev pub lookup_slots : Bool → Format EntryValue → Addressing → List ℕ
 lookup_slots strict format addressing bytes o =
     kept_slots (entry_slots format)
     (λ entry. (kept_entry strict addressing entry).value bytes) bytes o
-
--- something is kept of an entry of the lookup table at an offset
-abbrev pub KeepsEntries : Bool → Format EntryValue → Addressing → List ℕ → ℕ → Type 0
-KeepsEntries strict format addressing bytes o =
-    (i : ℕ) × (i < stop (entry_slots format) bytes o)
-    × (is_kept (slot_at (entry_slots format) bytes o i
-    >>= λ entry. (kept_entry strict addressing entry).value bytes)
-    ≡ true)
-
--- the address table at an offset has an entry
-abbrev pub HasAddresses : Format EntryValue → List ℕ → ℕ → Type 0
-HasAddresses format bytes o = 0 < stop (entry_slots format) bytes o
 
 -- ---- as contracts see them: texts as their bytes
 

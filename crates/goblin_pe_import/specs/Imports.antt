@@ -10,7 +10,7 @@ use Rattle.goblin_base.specs.Tables.{each_below}
 use Rattle.goblin_base.specs.Answers.{◌>>=◌, all_at}
 use Rattle.goblin_pe_import.specs.ImportLookup.{LookupEntry}
 use Rattle.goblin_pe_import.specs.ImportEntries.LookupEntry.{ByName, ByOrdinal}
-use Rattle.goblin_pe_import.specs.ImportDirectory.{ImportedLibrary}
+use Rattle.goblin_pe_import.specs.ImportRecords.{ImportedLibrary}
 use Rattle.goblin_pe_import.specs.ImportRecords.{NumberedLibrary}
 
 -- Source: PE Format, "The .idata Section".
@@ -26,7 +26,7 @@ pub record ImportValue : Type 0 where
   pub size : ℕ
   pub slot : ℕ
 
--- the same, with the index of the library's record in its directory
+-- an import, with the index of the library's import descriptor in its directory
 pub record NumberedImport : Type 0 where
   pub library : ℕ
   pub import : ImportValue
@@ -36,7 +36,7 @@ abbrev pub ordinal_name : ℕ → List ℕ
 ordinal_name ordinal = codes "ORDINAL " ++ decimal ordinal
 
 -- what an entry says of its import: the name, whether it is a text in the file, the ordinal or the
--- hint, and the address of the hint and the name, which is 0 of an import by ordinal
+-- hint, and the address of the hint and the name, which is 0 for an import by ordinal
 abbrev pub entry_name : LookupEntry → List ℕ
 entry_name (ByOrdinal ordinal) = ordinal_name ordinal
 entry_name (ByName rva named) = named.name
@@ -53,8 +53,8 @@ abbrev pub entry_name_rva : LookupEntry → ℕ
 entry_name_rva (ByOrdinal ordinal) = 0
 entry_name_rva (ByName rva named) = rva
 
--- the import of an entry, from the library of this name, with its slot's index and offset, and with
--- this size
+-- the import of an entry, from the library of this name, with the index and the address of its
+-- slot, and with this size
 abbrev pub import_of : List ℕ → ℕ → ℕ → ℕ → LookupEntry → ImportValue
 import_of dll slot offset size entry = record {
   name = entry_name entry;
@@ -67,13 +67,13 @@ import_of dll slot offset size entry = record {
   slot = slot;
 }
 
--- the offset of a slot of an address table of entries of `size` bytes, if it does not overflow 64
+-- the address of a slot of an address table of entries of `size` bytes, if it does not overflow 64
 -- bits
 abbrev pub import_offset : ℕ → ℕ → ℕ → Option ℕ
 import_offset rva size slot =
     if nat_lt (rva + size * slot) (2 ^ 64) then Some (rva + size * slot) else None
 
--- the import of the entry at a position, by its slot
+-- the import of the entry at a position, with its slot
 abbrev pub import_at : ℕ → List ℕ → ℕ → List LookupEntry → List ℕ → ℕ → Option ImportValue
 import_at size dll rva entries slots position = do
   entry ← slice_get entries position
@@ -81,7 +81,7 @@ import_at size dll rva entries slots position = do
   offset ← import_offset rva size slot
   Some (import_of dll slot offset size entry)
 
--- the imports of the entries that a lookup table keeps, if none has an offset that overflows 64
+-- the imports of the entries that a lookup table keeps, if no slot has an address that overflows 64
 -- bits
 unfoldable pub imports_by : ℕ → List ℕ → ℕ → List LookupEntry → List ℕ → Option (List ImportValue)
 imports_by size dll rva entries slots =
@@ -99,7 +99,7 @@ kept_count libraries = sum_by (λ library. length (kept_entries library)) librar
 abbrev pub has_slots : ImportedLibrary → Bool
 has_slots library = length (kept_entries library) == length library.import_lookup_slots
 
--- the imports from a library, where each of its entries has a slot
+-- the imports from a library, if it has as many slots as entries
 abbrev pub library_imports : ℕ → ImportedLibrary → Option (List ImportValue)
 library_imports size library =
     if has_slots library
@@ -108,11 +108,11 @@ library_imports size library =
     else None
 
 -- What is kept of each of the imports from a library, in order. A library that was read has a slot
--- for each of its entries, and no offset that overflows 64 bits.
+-- for each of its entries, and no slot whose address overflows 64 bits.
 abbrev pub kept_imports : {X : Type 0} → (ImportValue → X) → ℕ → ImportedLibrary → List X
 kept_imports item_of size library = map item_of (unwrap_or (library_imports size library) [])
 
--- the imports from a library, each with the index of its record
+-- the imports from a library, each with the index of the library's import descriptor
 abbrev pub at_library : ℕ → ImportValue → NumberedImport
 at_library index import = record { library = index; import = import }
 
@@ -124,7 +124,7 @@ unfoldable pub imports_of : ℕ → List ImportedLibrary → Option (List Import
 imports_of size libraries =
     each_below (λ i. slice_get libraries i >>= library_imports size) (length libraries)
 
--- the refusal is that an offset overflows 64 bits
+-- The refusal is that the address of a slot overflows 64 bits.
 abbrev pub IsOverflow : ErrorOf → Type 0
 IsOverflow (Malformed Overflow) = Unit {0}
 IsOverflow e = ⊥
@@ -133,14 +133,14 @@ IsOverflow e = ⊥
 abbrev pub first_without_slots : List ImportedLibrary → Option ImportedLibrary
 first_without_slots libraries = find (λ library. not (has_slots library)) libraries
 
--- the refusal says how many entries and how many slots a library has
+-- The refusal says how many entries and how many slots a library has.
 abbrev pub IsSlotCount : ImportedLibrary → ErrorOf → Type 0
 IsSlotCount library (Malformed (SlotCount entries slots)) =
     (entries ≡ length (kept_entries library)) × (slots ≡ length library.import_lookup_slots)
 IsSlotCount library e = ⊥
 
--- which cause is true of imports that are refused: the counts of the first library whose entries
--- and slots differ in number, and if there is none, an offset that overflows 64 bits
+-- the cause that is true of imports that are refused: the counts of the first library whose entries
+-- and slots differ in number or, if there is none, that the address of a slot overflows 64 bits
 abbrev pub IsImportListFault : List ImportedLibrary → ErrorOf → Type 0
 IsImportListFault libraries e =
     IsSomeAnd (first_without_slots libraries) (λ library. IsSlotCount library e)

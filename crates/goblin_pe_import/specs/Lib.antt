@@ -1,6 +1,5 @@
 pub mod ImportBound
 pub mod ImportCursors
-pub mod ImportDirectory
 pub mod ImportEntries
 pub mod ImportLookup
 pub mod ImportReadings

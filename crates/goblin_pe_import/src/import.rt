@@ -1,19 +1,20 @@
-//! The imports of an image: what it takes from which libraries.
+//! The imports of an image: what it uses from which libraries.
 //!
-//! Source: PE Format, "The .idata Section". An import directory is a list of records, one for each
-//! library. Each leads to a lookup table and an address table, whose entries with one index are one
-//! import: the lookup table says which, and the loader puts its address into the other.
+//! An import directory is a list of import descriptors, one for each library. Each descriptor leads
+//! to a lookup table and an address table. The entries at one index of both tables, the thunks, are
+//! one import: the lookup table says what is imported, and the loader writes its address into the
+//! address table.
+//!
+//! Source: PE Format, "The .idata Section".
 
-ghost use Rattle.std.specs.Prelude.{◌≡◌, ◌++◌, ◌⊎◌, IfErr, IsSomeAnd, false};
+ghost use Rattle.std.specs.Prelude.{◌≡◌, ◌++◌, IfErr, false};
 ghost use Rattle.std.specs.Prelude.{true};
 ghost use Rattle.goblin_base.specs.Answers.{IsMemory};
 ghost use Rattle.goblin_base.specs.Reading.{ReadsOrMemory};
 ghost use Rattle.readings.specs.Reads.{mapped};
 ghost use Rattle.goblin_pe_sect.specs.Options.{default_options, is_strict};
-ghost use Rattle.goblin_pe_sect.specs.Addresses.{TakesMap, map_by, map_of, offset_of};
+ghost use Rattle.goblin_pe_sect.specs.Addresses.{map_by, map_of};
 ghost use Rattle.goblin_pe_sect.specs.Addresses.{reads_strictly};
-ghost use Rattle.goblin_pe_import.specs.ImportDirectory.{TakesLibraries};
-ghost use Rattle.goblin_pe_import.specs.ImportDirectory.{TakesLibrary};
 ghost use Rattle.goblin_pe_import.specs.ImportReadings as reading;
 
 use goblin_base::{Cause, Error, ResultOf, is_passed_over};
@@ -57,20 +58,20 @@ pub(crate) use slots::{next_entry, next_record};
 /// Source: PE Format, "The .idata Section" and "Import Directory Table".
 #[derive(Debug, Drop)]
 pub struct ImportData<'a> {
-    /// The libraries, in the order of their records. One library may have several.
+    /// The libraries, in the order of their import descriptors. One library may have several.
     pub import_data: Vec<SyntheticImportDirectoryEntry<'a>>,
 }
 
 impl<'a> Model for ImportData<'a> {
     ghost use Rattle.std.specs.Prelude.{List};
-    ghost use Rattle.goblin_pe_import.specs.ImportDirectory.{ImportedLibrary};
+    ghost use Rattle.goblin_pe_import.specs.ImportRecords.{ImportedLibrary};
 
     ghost Value = { List ImportedLibrary };
 
     ghost view = { λ imports. imports.import_data.items };
 }
 
-// Reads the library of a record, and appends it if it is kept.
+// Reads the library of an import descriptor, and appends it if it is kept.
 fn add_library<'a, 'e, T: Bitfield<'a>>(
     libraries: &mut Vec<SyntheticImportDirectoryEntry<'a>>,
     bytes: &'a [u8],
@@ -81,9 +82,6 @@ fn add_library<'a, 'e, T: Bitfield<'a>>(
         ReadsOrMemory (λ _. libraries.new.items) result
         (mapped (λ more. libraries.old.items ++ more)
         (reading.kept_library (reads_strictly m) T.format m.addressing entry)) bytes.now }
-    ensures grown { let m = map_of address_map.now in
-        IfErr result (λ e. IsMemory e
-        → TakesLibrary (reads_strictly m) T.format m.addressing bytes.now entry) }
     ensures permissive { reads_strictly (map_of address_map.now) ≡ false → IfErr result IsMemory }
 {
     let alloc = *libraries.allocator();
@@ -95,7 +93,7 @@ fn add_library<'a, 'e, T: Bitfield<'a>>(
     Ok(())
 }
 
-// The libraries of the directory at an offset.
+// The libraries of the directory at a file offset.
 fn libraries<'a, 'e, T: Bitfield<'a>>(
     alloc: Global,
     bytes: &'a [u8],
@@ -105,9 +103,6 @@ fn libraries<'a, 'e, T: Bitfield<'a>>(
     ensures value { let m = map_of address_map.now in
         ReadsOrMemory (λ v. v.items) result
         (reading.libraries_at (reads_strictly m) T.format m.addressing offset) bytes.now }
-    ensures grown { let m = map_of address_map.now in
-        IfErr result (λ e. IsMemory e
-        → TakesLibraries (reads_strictly m) T.format m.addressing bytes.now offset) }
     ensures permissive { reads_strictly (map_of address_map.now) ≡ false → IfErr result IsMemory }
 {
     let size = SIZEOF_IMPORT_DIRECTORY_ENTRY;
@@ -124,8 +119,8 @@ fn libraries<'a, 'e, T: Bitfield<'a>>(
 }
 
 impl<'a> ImportData<'a> {
-    /// The imports of the directory at the address of `directory`, as
-    /// [`ImportData::parse_with_opts`] with the default options.
+    /// Reads the imports of `directory`, as [`ImportData::parse_with_opts`] with the default
+    /// options.
     ///
     /// # Errors
     /// As [`ImportData::parse_with_opts`] in strict mode.
@@ -136,36 +131,29 @@ impl<'a> ImportData<'a> {
         sections: &[SectionTable],
         file_alignment: u32,
     ) -> ResultOf<'e, ImportData<'a>>
-        ensures value { let m = map_by default_options sections.now file_alignment in
+        ensures { let m = map_by default_options sections.now file_alignment in
             let rva = directory.virtual_address in
             ReadsOrMemory (λ x. x) result
             (reading.import_data true T.format m.addressing rva) bytes.now }
-        ensures grown { let m = map_by default_options sections.now file_alignment in
-            IfErr result
-            (λ e.
-            IsMemory e
-            → IsSomeAnd (reading.first_record_offset true (offset_of m directory.virtual_address))
-            (TakesLibraries true T.format m.addressing bytes.now)
-            ⊎ TakesMap default_options sections.now file_alignment) }
     {
         let opts = ParseOptions::default();
         ImportData::parse_with_opts::<T>(alloc, bytes, directory, sections, file_alignment, &opts)
     }
 
-    /// The imports of the directory at the address of `directory`, whose tables have entries of
-    /// type `T`: the libraries of its records, up to the first record that has no name or no
-    /// address table. Neither this reader nor the loader looks at the directory's size.
+    /// Reads the imports of `directory`, whose tables have entries of type `T`. It lists the
+    /// libraries of the import descriptors before the first one whose name or address table is at
+    /// address 0. Neither this reader nor the loader looks at the size of the directory.
     ///
-    /// In permissive mode a record is left out if its library is refused for another cause than
-    /// memory, the directory ends at the end of the file, and it is empty if its address has no
-    /// file offset, or as [`ParseOptions::parse_mode`] says. [`LeftOut`] counts what is left out.
+    /// In permissive mode, a descriptor is left out if its library is refused for another cause
+    /// than memory. The directory may end at the end of the file. The list is empty if the address
+    /// of the directory has no file offset, or if that offset is 0, as [`ParseOptions::parse_mode`]
+    /// says. [`LeftOut`] counts what is left out.
     ///
     /// # Errors
     /// In strict mode [`Error::Malformed`] with [`Cause::Unmapped`] if the directory's address has
-    /// no file offset, and with [`Cause::ImportRecordEnd`] if it reaches the end of the file; and
-    /// as [`SyntheticImportDirectoryEntry::parse_with_opts`] of a record. In both modes
-    /// [`Error::Memory`] if memory is refused; it is asked for only if addresses are mapped by
-    /// sections or the directory has a record of which something is kept.
+    /// no file offset, and with [`Cause::ImportRecordEnd`] if the directory reaches the end of the
+    /// file. Also in strict mode as [`SyntheticImportDirectoryEntry::parse_with_opts`] for a
+    /// descriptor. In both modes [`Error::Memory`] if memory is refused.
     pub fn parse_with_opts<'e, T: Bitfield<'a>>(
         alloc: Global,
         bytes: &'a [u8],
@@ -179,19 +167,12 @@ impl<'a> ImportData<'a> {
             ReadsOrMemory (λ x. x) result
             (reading.import_data (reads_strictly m) T.format m.addressing rva) bytes.now }
         ensures permissive { is_strict opts.now.parse_mode ≡ false → IfErr result IsMemory }
-        ensures grown { let m = map_by opts.now sections.now file_alignment in
-            IfErr result
-            (λ e.
-            IsMemory e
-            → IsSomeAnd (reading.first_record_offset (reads_strictly m) (offset_of m directory.virtual_address))
-            (TakesLibraries (reads_strictly m) T.format m.addressing bytes.now)
-            ⊎ TakesMap opts.now sections.now file_alignment) }
     {
         let address_map = AddressMap::prepare(alloc, sections, file_alignment, opts)?;
         ImportData::parse_by::<T>(alloc, bytes, directory, &address_map)
     }
 
-    /// The imports as [`ImportData::parse_with_opts`] reads them, by addresses that are mapped
+    /// Reads the imports as [`ImportData::parse_with_opts`] does, with an address map that exists
     /// already.
     ///
     /// # Errors
@@ -208,12 +189,6 @@ impl<'a> ImportData<'a> {
             ReadsOrMemory (λ x. x) result
             (reading.import_data (reads_strictly m) T.format m.addressing rva) bytes.now }
         ensures permissive { reads_strictly (map_of address_map.now) ≡ false → IfErr result IsMemory }
-        ensures grown { let m = map_of address_map.now in
-            IfErr result
-            (λ e.
-            IsMemory e
-            → IsSomeAnd (reading.first_record_offset (reads_strictly m) (offset_of m directory.virtual_address))
-            (TakesLibraries (reads_strictly m) T.format m.addressing bytes.now)) }
     {
         let rva = directory.virtual_address;
         let strictly = address_map.reads_strictly();

@@ -1,15 +1,13 @@
 -- A loop that fills records of items, of which the last may be a refusal.
-use Rattle.std.proofs.Common.{◌≡◌, ℕ, suc, ◌+◌, ◌/◌, ◌%◌, ◌<◌, false, ◌≤◌, List, [], ◌∷◌, ◌++◌, length, map, take, drop, set, ap, subst, sym, refl, arith, ◌∙◌, inl, inr, Result, Ok, Err, ◌==◌, drop_of_length-le}
-use Rattle.std.proofs.lemmas.Bool.{cases_lt, ne_eqb}
+use Rattle.std.proofs.Common.{◌≡◌, ℕ, suc, ◌+◌, ◌<◌, ◌≤◌, List, [], ◌∷◌, ◌++◌, length, map, take, drop, set, ap, subst, sym, refl, arith, ◌∙◌, inl, inr, Result, Ok, Err, drop_of_length-le}
+use Rattle.std.proofs.lemmas.Bool.{cases_lt}
 use Rattle.std.proofs.lemmas.List.{append_assoc, append-nil, drop-set-lt, length-append, length-map, length-set, map-append, map-id, set_past, take-append-le, take_all, take_more_set}
 use Rattle.std.proofs.lemmas.Grind.{drop_more_same}
 use Rattle.goblin_base.specs.declared.error.ErrorOf.{ErrorOf}
 use Rattle.goblin_pe_sect.specs.declared.relocation.Relocation.{Relocation}
 use Rattle.goblin_pe_sect.specs.Relocations.{relocations_in}
 use Rattle.goblin_pe_sect.proofs.RelocationRecords.{length_relocations}
-use Rattle.goblin_base.specs.Tables.{record_items, records_in, rest_item}
-use Rattle.goblin_base.proofs.RecordItems.{length-records_in, record_items-none}
-use Rattle.goblin_pe_head.specs.declared.header.rich.RichMetadata.{RichMetadata}
+use Rattle.goblin_base.proofs.RecordItems.{record_items-none}
 use Rattle.goblin_pe_head.specs.RichMetadata.{metadata_at, metadata_items}
 use Rattle.goblin_pe_records.specs.declared.fault.PeFault.{PeFault}
 use Rattle.goblin_pe_records.specs.Faults.{fault_of, no_fault}
@@ -128,28 +126,6 @@ unfolding metadata_items
 no-entries key padding bytes h =
     let past : length bytes ≤ padding = omega (arith, h) in
     rw (drop_of_length-le bytes past) (record_items-none 8 (λ (entry : List ℕ). metadata_at key entry 0) [] refl refl)
-
--- items of which only a rest after the last value may be a refusal
-values-then : {B : Type 0} (xs : List B) (rest : List (Result B ErrorOf)) → values_of rest ≡ [] → values_of (map (λ x. Ok x) xs ++ rest) ≡ xs
-unfolding values_before
-values-then [] rest none = none
-values-then {B} (x ∷ xs) rest none = ap (λ (ys : List B). x ∷ ys) (values-then xs rest none)
-
-values-rest : (B : Type 0) (n : ℕ) → values_of (rest_item {V = B} n) ≡ []
-unfolding values_before
-values-rest B n =
-    elim (cases_lt 0 n) [
-      | inl some ↦ let more : (n == 0) ≡ false = ne_eqb n 0 (λ e. omega (arith, e, some)) in rw more refl
-      | inr none ↦ let zero : n ≡ 0 = omega (arith, none) in rw zero refl
-    ]
-
--- of a Rich header there are as many as fit
-pub count-entries : (key : ℕ) (bytes : List ℕ) → length (values_of (metadata_items key bytes)) ≡ length bytes / 8
-unfolding metadata_items record_items
-count-entries key bytes =
-    let value : List ℕ → RichMetadata = λ (entry : List ℕ). metadata_at key entry 0 in
-    let all = values-then (records_in 8 value bytes) (rest_item (length bytes % 8)) (values-rest RichMetadata (length bytes % 8)) in
-    ap length all ∙ length-records_in 8 value bytes
 
 -- ---- items without a refusal
 

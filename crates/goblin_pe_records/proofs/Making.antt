@@ -1,16 +1,11 @@
 -- Loops that make records in memory of their own.
-use Rattle.std.proofs.Common.{◌≡◌, ℕ, ◌+◌, ◌<◌, ◌≤◌, arith, List, [], ◌∷◌, ◌++◌, length, map, take, ap, sym, ◌∙◌, OnErr, slice_index_or, Result, Ok, Err}
-use Rattle.std.proofs.lemmas.List.{append_assoc, append-nil, length-append, map-append, map_more, take_all}
+use Rattle.std.proofs.Common.{◌≡◌, ℕ, ◌+◌, ◌<◌, ◌≤◌, List, [], ◌∷◌, ◌++◌, length, map, take, ap, sym, ◌∙◌, slice_index_or, Result, Ok, Err}
+use Rattle.std.proofs.lemmas.List.{append_assoc, append-nil, map-append, map_more, take_all}
 use Rattle.goblin_base.specs.declared.error.ErrorOf.{ErrorOf}
 use Rattle.goblin_pe_records.specs.declared.fault.PeFault.{PeFault}
 use Rattle.goblin_pe_records.specs.Faults.{fault_of, no_fault}
 use Rattle.goblin_pe_records.specs.Items.{rest_of, values_of}
 use Rattle.goblin_pe_records.proofs.Items.{nothing, refused, rest-ok, values-ok}
-
--- what holds of every answer
-pub whichever : {A E : Type 0} (P : Type 0) (result : Result A E) → P → OnErr result P
-whichever P (Ok x) h = tt
-whichever P (Err e) h = h
 
 -- ---- the records of values
 
@@ -44,11 +39,6 @@ items-next {R} {B} view items left more records new b r h is says pushed =
       values = h.values ∙ ap (λ (xs : List B). map view records ++ xs) (values-ok left more b is) ∙ sym (append_assoc (map view records) (b ∷ []) (values_of more)) ∙ ap (λ (xs : List B). xs ++ values_of more) one;
       rest = h.rest ∙ rest-ok left more b is;
     }
-
--- where one more value is left, there is a value
-pub items-some : {R B : Type 0} (view : R → B) (items left more : List (Result B ErrorOf)) (records : List R) (b : B) → IsMakingItems view items left records → left ≡ Ok b ∷ more → 0 < length (values_of items)
-items-some view items left more records b h is =
-    omega (arith, ap length h.values, length-append (map view records) (values_of left), ap length (values-ok left more b is))
 
 -- the records say what the values are, and the fault is the rest's
 pub record IsMade {R B : Type 0} (view : R → B) (items : List (Result B ErrorOf)) (records : List R) (fault : PeFault) : Type 0 where

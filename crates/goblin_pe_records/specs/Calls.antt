@@ -7,15 +7,11 @@ use Rattle.goblin_pe_records.specs.declared.fault.PeFault.{PeFault}
 use Rattle.goblin_pe_records.specs.Faults.{status_of, status_of_part}
 
 -- A call has read the value of a reading, and the records hold it; or there is no value, the cause
--- is true, and everything is unchanged. Memory may be refused for a file that has a header and for
--- which this holds.
-abbrev pub ReadsInto : {A H : Type 0} → Reading H → (H → Type 0) → Reading A → List ℕ
-    → (A → Type 0) → Type 0 → Result Unit ErrorOf → Type 0
-ReadsInto header MayGrow reading bytes Says Left (Ok x) = IsSomeAnd (reading.value bytes) Says
-ReadsInto header MayGrow reading bytes Says Left (Err e) =
-    (¬ IsMemory e → IsRefused reading bytes e)
-    × (IsMemory e → IsSomeAnd (header.value bytes) MayGrow)
-    × Left
+-- is true, or memory was refused, and everything is unchanged.
+abbrev pub ReadsInto : {A : Type 0} → Reading A → List ℕ → (A → Type 0) → Type 0
+    → Result Unit ErrorOf → Type 0
+ReadsInto reading bytes Says Left (Ok x) = IsSomeAnd (reading.value bytes) Says
+ReadsInto reading bytes Says Left (Err e) = (¬ IsMemory e → IsRefused reading bytes e) × Left
 
 -- The same of a call that takes no memory.
 abbrev pub ReadsWithout : {A : Type 0} → Reading A → List ℕ → (A → Type 0) → Type 0

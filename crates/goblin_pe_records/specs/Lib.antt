@@ -1,4 +1,3 @@
-pub mod Blocked
 pub mod Blocks
 pub mod Calls
 pub mod Faults

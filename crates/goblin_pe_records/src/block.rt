@@ -1,10 +1,9 @@
 //! The records of base relocation blocks.
 
-ghost use Rattle.std.specs.Prelude.{◌≡◌, ◌<◌, ◌+◌, ◌++◌, ◌∷◌, [], IfErr, IfOk, OnErr, OnOk};
-ghost use Rattle.std.specs.Prelude.{length, map, vec_capacity, vec_len};
+ghost use Rattle.std.specs.Prelude.{◌≡◌, ◌<◌, ◌+◌, ◌++◌, ◌∷◌, [], IfErr, IfOk, OnOk};
+ghost use Rattle.std.specs.Prelude.{map};
 ghost use Rattle.goblin_base.specs.Answers.{IsMemory};
 ghost use Rattle.goblin_pe_sect.specs.BaseRelocations.{block_items, block_value, relocation_bytes};
-ghost use Rattle.goblin_pe_records.specs.Blocked.{HasLittleRoom, least_more, more_room};
 ghost use Rattle.goblin_pe_records.specs.Blocks.{block_view};
 ghost use Rattle.goblin_pe_records.specs.Items.{rest_of, values_of};
 
@@ -56,11 +55,6 @@ pub fn block_record<'a>(block: &RelocationBlock<'a>) -> PeBlock<'a>
 fn push_block<'a>(records: &mut Vec<PeBlock<'a>>, block: PeBlock<'a>) -> Result<()>
     ensures refused { IfErr result IsMemory }
     ensures items { OnOk result (records.new.items ≡ records.old.items ++ block.entry ∷ []) }
-    ensures room { OnOk result (HasLittleRoom least_more records.old → HasLittleRoom least_more records.new) }
-    ensures more { OnOk result (vec_capacity records.old ≡ vec_len records.old
-        → vec_capacity records.new ≡ vec_len records.old + more_room 0 (vec_len records.old)) }
-    ensures same { OnOk result (vec_len records.old < vec_capacity records.old
-        → vec_capacity records.new ≡ vec_capacity records.old) }
 {
     make_room(records, 0)?;
     records.push_reserved(block);
@@ -82,9 +76,6 @@ pub fn item_records<'a>(
         ≡ values_of (block_items (relocation_bytes relocations.now) 0)) }
     ensures rest { IfOk result
         (λ made. made.1 ≡ rest_of (block_items (relocation_bytes relocations.now) 0)) }
-    ensures none { IfOk result (λ made. HasLittleRoom least_more made.0) }
-    ensures grown { OnErr result
-        (0 < length (values_of (block_items (relocation_bytes relocations.now) 0))) }
 {
     let mut records = Vec::new(alloc);
     'blocks: for block in relocations.blocks() {

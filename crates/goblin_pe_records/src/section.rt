@@ -1,6 +1,6 @@
 //! The records of sections, filled and written.
 
-ghost use Rattle.std.specs.Prelude.{◌≡◌, ◌<◌, IfOk, OnErr, None, Some, length, map};
+ghost use Rattle.std.specs.Prelude.{◌≡◌, ◌<◌, None, Some, length, map};
 ghost use Rattle.std.specs.Prelude.{option_map};
 ghost use Rattle.std.specs.Prelude.{slice_get};
 ghost use Rattle.goblin_base.specs.declared.endian.Endian.TheVariants.{Little};
@@ -11,7 +11,6 @@ ghost use Rattle.goblin_pe_sect.specs.Options.{is_strict};
 ghost use Rattle.goblin_pe_sect.specs.SectionReadings.{SectionWritesBack};
 ghost use Rattle.goblin_pe_sect.specs.SectionTable.{recorded_sections, section_fields, unnamed};
 ghost use Rattle.goblin_pe_head.specs.TeHeader.{section_moved};
-ghost use Rattle.goblin_pe_records.specs.Blocked.{HasNoSpareRoom};
 ghost use Rattle.goblin_pe_records.specs.Filled.{Filled, without_text};
 ghost use Rattle.goblin_pe_records.specs.Sections.{named_in, named_where, real_name_in};
 ghost use Rattle.goblin_pe_records.specs.Sections.{section_said};
@@ -251,17 +250,15 @@ pub fn named_sections<'a>(
     table: usize,
     opts: &ParseOptions,
 ) -> Result<Vec<PeSection<'a>>>
-    ensures made { GivesOrMemory (λ v. map section_said v.items) result
+    ensures { GivesOrMemory (λ v. map section_said v.items) result
         (map (λ s. without_text (named_in (is_strict opts.now.parse_mode) None bytes.now table s))
         (recorded_sections sections.entry)) }
-    ensures grown { OnErr result (0 < length (recorded_sections sections.entry)) }
-    ensures none { IfOk result HasNoSpareRoom }
 {
     let count = sections.len();
     let mut records = Vec::with_capacity(alloc, count)?;
     'records: for i in 0..count {
         let section = sections.at(i);
-        records.push_reserved(section_record(bytes, &section));
+        records.push(section_record(bytes, &section))?;
         name_record(&mut records[i], bytes, &section, table, None, opts);
     }
     Ok(records)

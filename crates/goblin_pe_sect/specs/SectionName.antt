@@ -1,5 +1,6 @@
--- What the eight bytes of a section's name say: the name itself, or its offset in the string table.
-use Rattle.std.specs.Prelude.{IsTrue, IsSomeAnd, ◌≢◌, ◌≡◌, ◌<◌, ◌≤◌, ℕ, ◌-◌, ◌^◌, ◌++◌, ◌==◌}
+-- The eight bytes of a section's name: they are the name itself, or hold its offset in the string
+-- table.
+use Rattle.std.specs.Prelude.{IsTrue, IsSomeAnd, ◌≢◌, ◌≡◌, ◌≤◌, ℕ, ◌-◌, ◌^◌, ◌++◌, ◌==◌}
 use Rattle.std.specs.Prelude.{if◌then◌else◌, Bool, List, ◌∷◌, length, drop, map, slice_index}
 use Rattle.std.specs.Prelude.{replicate, Option, Some, None, option_map, nat_lt, nat_le}
 use Rattle.goblin_base.specs.declared.error.ErrorOf.{ErrorOf}
@@ -13,7 +14,7 @@ use Rattle.goblin_pe_sect.specs.declared.digits.Digits.TheVariants.{Decimal, Bas
 -- Source: PE Format, "Section Table (Section Headers)", for the decimal form; linkers write the
 -- base 64 form for greater numbers.
 
--- a text without the plus that it begins with, if it does
+-- the text without a plus at its front
 abbrev pub without_plus : List ℕ → List ℕ
 without_plus text = if slice_index text 0 == 43 then drop 1 text else text
 
@@ -22,15 +23,15 @@ abbrev pub decimal_number : List ℕ → Option ℕ
 decimal_number text =
     if length (without_plus text) == 0 then None else numeral Decimal (without_plus text)
 
--- what a name with this text after its slashes says: where there is no text, strict mode has no
--- value and permissive mode takes the name as direct
+-- what the text after the slashes of a name gives: the number in it; if there is no text, strict
+-- mode has no value, and permissive mode takes the name as direct
 abbrev pub text_value : Bool → Option (List ℕ) → (List ℕ → Option ℕ) → Option (Option ℕ)
 text_value strict (Some text) number_of = option_map (λ n. Some n) (number_of text)
 text_value strict None number_of = if strict then None else Some None
 
--- What the eight bytes of a name say: nothing where there is no slash, else the name's offset in
--- the string table: a base 64 number after two slashes, a decimal number after one. A malformed
--- number has no value.
+-- The offset in the string table that the eight bytes of a name hold. Without a slash at the front
+-- they hold none. A decimal number follows one slash, a base 64 number two. If the number is
+-- malformed, there is no value.
 unfoldable pub name_value : Bool → List ℕ → Option (Option ℕ)
 name_value strict name =
     if slice_index name 0 == 47 then
@@ -38,7 +39,7 @@ name_value strict name =
     else text_value strict (bounded_text_at name 1 7) decimal_number
     else Some None
 
--- which cause is true of a name that is refused
+-- which cause is true if a name is refused
 abbrev pub IsNameFault : Bool → List ℕ → ErrorOf → Type 0
 IsNameFault strict name (Malformed NameText) =
     IsTrue strict × (slice_index name 0 ≡ 47)
@@ -59,8 +60,9 @@ decimal_width n =
     else if nat_lt n 10000 then 4 else if nat_lt n 100000 then 5 else if nat_lt n 1000000 then 6
     else 7
 
--- The name that holds n: a slash, its decimal digits and NULs up to 9,999,999; two slashes and six
--- base 64 digits below 64 ^ 6; no name holds a greater number.
+-- The name that holds n. If n is at most 9,999,999, it is a slash, the decimal digits of n, and
+-- NULs. If n is greater but below 64 ^ 6, it is two slashes and six base 64 digits. No name holds a
+-- greater number.
 unfoldable pub indirect_name : ℕ → Option (List ℕ)
 indirect_name n =
     if nat_le n 9999999 then Some
@@ -69,11 +71,7 @@ indirect_name n =
     else if nat_lt n (64 ^ 6) then Some (47 ∷ 47 ∷ map (digit_byte Base64) (last_digits 64 6 n))
     else None
 
--- which cause is true of a number that no name holds
+-- which cause is true if no name holds the number
 abbrev pub IsNameOffsetFault : ℕ → ErrorOf → Type 0
 IsNameOffsetFault n (Malformed (NameOffset m)) = (m ≡ n) × (64 ^ 6 ≤ n)
 IsNameOffsetFault n e = ⊥
-
--- there is a text with a byte: a copy of it takes memory, and a copy of an empty one takes none
-abbrev pub HasBytes : Option (List ℕ) → Type 0
-HasBytes text = IsSomeAnd text (λ bytes. 0 < length bytes)

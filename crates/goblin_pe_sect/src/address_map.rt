@@ -1,17 +1,17 @@
-//! Where addresses lie in the file, by the windows of the sections.
+//! The map from addresses (RVAs) to file offsets, by the windows of the sections.
 
-ghost use Rattle.std.specs.Prelude.{◌≡◌, ◌^◌, ◌<◌, ℕ, IfErr, IfOk, length, vec_capacity};
+ghost use Rattle.std.specs.Prelude.{◌≡◌, ◌^◌, ◌<◌, ℕ, IfErr, IfOk, length};
 ghost use Rattle.goblin_base.specs.Answers.{GivesOrMemory, IsMemory};
 ghost use Rattle.goblin_pe_sect.specs.declared.address_map.Windows.TheVariants.{Walked};
 ghost use Rattle.goblin_pe_sect.specs.Mapping.{file_offset};
-ghost use Rattle.goblin_pe_sect.specs.Addresses.{AreMany, IsIndexed, KeepsWindowsAlone, TakesMap};
+ghost use Rattle.goblin_pe_sect.specs.Addresses.{AreMany, IsIndexed, KeepsWindowsAlone};
 ghost use Rattle.goblin_pe_sect.specs.Addresses.{WalksFew, reads_strictly};
 ghost use Rattle.goblin_pe_sect.specs.Addresses.{map_by, map_in, map_of, map_with, offset_of};
 ghost use Rattle.goblin_pe_sect.specs.Addresses.{strict_map, with_longest};
 ghost use Rattle.std.specs.Prelude.{◌⊎◌, IfSome, Some};
 ghost use Rattle.goblin_pe_sect.specs.Runs.{IsRun, offset_in_run};
 ghost use Rattle.goblin_pe_sect.specs.SectionTable.{mapped_of, mapped_sections, recorded_sections};
-ghost use Rattle.goblin_pe_sect.specs.WindowIndex.{HasPieces, located};
+ghost use Rattle.goblin_pe_sect.specs.WindowIndex.{located};
 
 use crate::options::{ParseMode, ParseOptions};
 use crate::section_table::SectionTable;
@@ -29,31 +29,35 @@ pub use records::{MappedRecords, front_section};
 use run::Run;
 use walk::find_in_records;
 
-/// The most sections that are walked over for each address: as many as the Windows loader takes. Of
-/// more an index is made, which takes memory.
+/// The largest number of sections that are walked over for each address. It is the limit of the
+/// Windows loader. For more sections an index is made, which takes memory.
 ///
 /// Source: PE Format, "COFF File Header (Object and Image)".
 pub const MOST_WITHOUT_INDEX: usize = 96;
 
 const _: () = prove!(MOST_WITHOUT_INDEX == 96);
 
-// What addresses are mapped by.
+// What an address map uses to find the window that holds an address.
 #[derive(Drop)]
 pub(crate) enum Windows<'s> {
-    // The records of sections, which are few, or by which no address is looked for, with the file's
-    // front where it is mapped, and the file alignment.
+    // The section headers, with the file's front if it is mapped, and the file alignment. There are
+    // few sections, or the options or the alignment leave no window to find.
     Walked(MappedRecords<'s>, u32),
     // The index of the sections' windows.
     Indexed(WindowIndex),
-    // The same with the window of the file's front.
+    // The index of the windows of the sections and of the file's front.
     IndexedWithFront(WindowIndex),
 }
 
-/// How addresses are mapped to file offsets, and how the bytes there are read: the options, and
-/// what the windows of the sections are found by. That is an index, beside which the sections may
-/// be dropped; or, of records in a file, these themselves where they are few, or where no window is
-/// looked for: by options that addresses are offsets, or an alignment that is no power of two. It may
-/// have a limit for the length of names.
+/// How addresses are mapped to file offsets, and how the bytes there are read. A map has the
+/// options, a way to find the windows of the sections, and maybe a limit for the length of names.
+///
+/// Windows are found in one of two ways:
+///
+/// - By an index. The sections may then be dropped.
+/// - By a walk over section headers in the file. A map of section headers does this if there are at
+///   most 96 of them. It also keeps the headers if there is no window to find, because the options
+///   say that addresses are offsets or the file alignment is not a power of two.
 #[derive(Drop)]
 pub struct AddressMap<'s> {
     opts: ParseOptions,
@@ -61,7 +65,7 @@ pub struct AddressMap<'s> {
     longest: Option<u32>,
 }
 
-// The index of the sections' windows; where there are no sections, one without pieces, which takes
+// The index of the sections' windows. If there are no sections, the index has no pieces and takes
 // no memory.
 #[tactic(auto, using(crate::proofs::AddressMaps::located_nowhere))]
 fn index_of<'e>(
@@ -73,7 +77,6 @@ fn index_of<'e>(
     ensures mapped { let offset_of = file_offset opts.now sections.now file_alignment in
         IfOk result (λ w. (rva : ℕ) → located w rva ≡ offset_of rva) }
     ensures refused { IfErr result IsMemory }
-    ensures grown { IfErr result (λ e. TakesMap opts.now sections.now file_alignment) }
 {
     if sections.is_empty() {
         return Ok(WindowIndex::without_pieces(alloc, opts.resolve_rva));
@@ -81,23 +84,22 @@ fn index_of<'e>(
     WindowIndex::prepare(alloc, sections, file_alignment, opts)
 }
 
-// The sections of records, without their names from the string table, and the file's front where it
-// is mapped.
+// The sections of the section headers, without their names from the string table, and after them
+// the file's front, if it is mapped.
 fn listed<'e>(alloc: Global, records: MappedRecords) -> ResultOf<'e, Vec<SectionTable>>
-    ensures made { GivesOrMemory (λ v. v.items) result (mapped_sections records.entry) }
-    ensures room { IfOk result (λ v. vec_capacity v ≡ length (mapped_sections records.entry)) }
+    ensures { GivesOrMemory (λ v. v.items) result (mapped_sections records.entry) }
 {
     let count = records.len();
     let mut sections = Vec::with_capacity(alloc, count)?;
     'records: for i in 0..count {
-        sections.push_reserved(records.at(i));
+        sections.push(records.at(i))?;
     }
     Ok(sections)
 }
 
 impl<'s> Windows<'s> {
-    // What finds the windows of many records: an index; where the options or the alignment leave
-    // none to be found, the records.
+    // For many sections: an index of their windows, or the section headers themselves if the
+    // options or the alignment leave no window to find.
     #[inline(never)]
     #[tactic(auto, using(crate::proofs::AddressMaps::same_map_alone, crate::proofs::AddressMaps::same_map_with))]
     fn of_many<'e>(
@@ -109,7 +111,6 @@ impl<'s> Windows<'s> {
         ensures made { GivesOrMemory (map_with opts.now) result
             (map_in opts.now (mapped_of records.entry) file_alignment) }
         ensures few { IfOk result (WalksFew opts.now) }
-        ensures grown { IfErr result (λ e. HasPieces opts.now file_alignment) }
     {
         if !opts.resolve_rva || !file_alignment.is_power_of_two() {
             return Ok(Windows::Walked(records, file_alignment));
@@ -124,8 +125,9 @@ impl<'s> Windows<'s> {
 }
 
 impl<'s> AddressMap<'s> {
-    /// Prepares the index of the sections' windows. No memory is taken where there are no sections,
-    /// `opts` says that addresses are offsets or `file_alignment` is not a power of two.
+    /// Prepares a map with an index of the sections' windows. It takes no memory if there are no
+    /// sections, if `opts` says that addresses are offsets, or if `file_alignment` is not a power
+    /// of two.
     ///
     /// # Errors
     /// Only [`Error::Memory`](goblin_base::Error::Memory).
@@ -140,7 +142,6 @@ impl<'s> AddressMap<'s> {
         ensures made { GivesOrMemory map_of result
             (map_by opts.now sections.now file_alignment) }
         ensures indexed { IfOk result IsIndexed }
-        ensures grown { IfErr result (λ e. TakesMap opts.now sections.now file_alignment) }
         ensures whole { KeepsWindowsAlone }
     {
         let index = index_of(alloc, sections, file_alignment, opts)?;
@@ -151,11 +152,13 @@ impl<'s> AddressMap<'s> {
         })
     }
 
-    /// Prepares the map by the sections of these records, and the file's front after them where it
-    /// is mapped; address 0 has no offset then, since tables say by it that there is nothing. At
-    /// most 96 sections, which is as many as Windows loads, take no memory: their windows are walked
-    /// over for each address. More are listed, and get an index, but where
-    /// `opts` says that addresses are offsets or `file_alignment` is not a power of two.
+    /// Prepares a map of these section headers and, if it is mapped, of the file's front after
+    /// them. With the front, address 0 has no offset, because address 0 in a table means that there
+    /// is nothing.
+    ///
+    /// With at most 96 sections, the limit of the Windows loader, the map takes no memory and walks
+    /// over their windows for each address. With more sections it lists them and makes an index,
+    /// except if `opts` says that addresses are offsets or `file_alignment` is not a power of two.
     ///
     /// # Errors
     /// Only [`Error::Memory`](goblin_base::Error::Memory).
@@ -172,7 +175,7 @@ impl<'s> AddressMap<'s> {
         ensures walked { let count = length (recorded_sections records.entry.records) in
             IfOk result (λ m. ¬ AreMany count → m.windows ≡ Walked records.entry file_alignment) }
         ensures grown { let count = length (recorded_sections records.entry.records) in
-            IfErr result (λ e. HasPieces opts.now file_alignment × AreMany count) }
+            IfErr result (λ e. AreMany count) }
     {
         let windows = if MOST_WITHOUT_INDEX < records.records.len() {
             Windows::of_many(alloc, records, file_alignment, opts)?
@@ -186,7 +189,7 @@ impl<'s> AddressMap<'s> {
         })
     }
 
-    /// The same map, by which damaged parts are refused and not passed over.
+    /// The same map in strict mode: damaged parts are refused, and not passed over.
     pub fn strictly(self) -> AddressMap<'s>
         ensures { map_of result ≡ strict_map (map_of self.entry) }
     {
@@ -197,8 +200,9 @@ impl<'s> AddressMap<'s> {
         }
     }
 
-    /// Sets how many bytes a name may have, by this map, before it is cut, as
-    /// [`pread_str_within`](goblin_base::pread_str_within) cuts it. `None` is no limit.
+    /// Sets the length, in bytes, above which names that are read by this map are cut.
+    /// [`pread_str_within`](goblin_base::pread_str_within) says how a longer name is cut. `None` is
+    /// no limit.
     #[inline(always)]
     pub fn set_longest_name(&mut self, longest: Option<u32>)
         ensures { map_of self.new ≡ with_longest longest (map_of self.old) }
@@ -206,7 +210,7 @@ impl<'s> AddressMap<'s> {
         self.longest = longest;
     }
 
-    /// How many bytes a name may have before it is cut, if there is a limit.
+    /// The length, in bytes, above which names are cut, or `None` if there is no limit.
     #[inline(always)]
     pub fn longest_name(&self) -> Option<u32>
         ensures { result ≡ (map_of self.now).addressing.longest }
@@ -214,21 +218,21 @@ impl<'s> AddressMap<'s> {
         self.longest
     }
 
-    /// The options for mapping addresses and for reading there.
+    /// The options by which addresses are mapped and the bytes there are read.
     pub fn opts(&self) -> &ParseOptions
         ensures { result.now ≡ (map_of self.now).opts }
     {
         &self.opts
     }
 
-    /// Whether damaged parts are refused; else they are passed over.
+    /// Whether the mode is strict: damaged parts are refused, and not passed over.
     pub fn reads_strictly(&self) -> bool
         ensures { result ≡ reads_strictly (map_of self.now) }
     {
         matches!(self.opts.parse_mode, ParseMode::Strict)
     }
 
-    /// The file offset of an address.
+    /// The file offset of the address `rva`, or `None` if it has none.
     pub fn offset_of(&self, rva: u32) -> Option<usize>
         ensures { result ≡ offset_of (map_of self.now) rva }
     {
@@ -236,10 +240,10 @@ impl<'s> AddressMap<'s> {
         self.find_run(rva as usize, &mut run)
     }
 
-    // The file offset of an address. `run` becomes addresses about it that have their offsets
-    // without another walk. It may stay as it was where no section owns the address, and always
-    // does by an index. (A result of that size would cost loops that seldom ask here more than an
-    // argument does.)
+    // The file offset of an address. Sets `run` to a run of addresses around it, whose offsets then
+    // need no walk. `run` may stay unchanged if no section owns the address, and always does with
+    // an index. (`run` is an argument because a result of its size would cost more in loops that
+    // seldom call this.)
     #[inline(never)]
     pub(crate) fn find_run(&self, rva: usize, run: &mut Run) -> Option<usize>
         requires is { IsRun (offset_of (map_of self.now)) run.old }

@@ -1,14 +1,14 @@
-//! The section records of a PE file.
+//! The section headers of a PE file.
 
 ghost use Rattle.std.specs.Prelude.{◌≡◌, ◌↔◌, ◌+◌, ◌*◌, ◌<◌, ◌≤◌, Bool, Err, IfErr, IfOk, IfSome};
-ghost use Rattle.std.specs.Prelude.{ℕ, IsSomeAnd, IsTrue, None, Ok, OnErr, OnOk, Some};
+ghost use Rattle.std.specs.Prelude.{ℕ, IsTrue, None, Ok, OnErr, OnOk, Some};
 ghost use Rattle.std.specs.Prelude.{if◌then◌else◌, length, nat_eq, slice_range, string_bytes, true};
 ghost use Rattle.std.specs.Cow.{IsBorrowedSlice, cow_slice_items};
 ghost use Rattle.std.specs.Option.{option_eq, option_map};
 ghost use Rattle.std.specs.Cmp.Lexicographic.{pointwise};
 ghost use Rattle.goblin_base.specs.declared.error.ErrorOf.TheVariants.{Malformed};
 ghost use Rattle.goblin_base.specs.declared.error.CauseOf.TheVariants.{NameText};
-ghost use Rattle.goblin_base.specs.Answers.{Answers, GivesOrMemory, IsMemory, IsSliceFault, Writes};
+ghost use Rattle.goblin_base.specs.Answers.{Answers, GivesOrMemory, IsSliceFault, Writes};
 ghost use Rattle.goblin_base.specs.Bytes.{overwritten, replaced};
 ghost use Rattle.goblin_base.specs.Reading.{Reads, ReadsOrMemory};
 ghost use Rattle.goblin_base.specs.Record.{WritesBack, encoding};
@@ -16,7 +16,7 @@ ghost use Rattle.readings.specs.Reads.{mapped, slice_at};
 ghost use Rattle.goblin_pe_sect.specs.Options.{is_strict};
 ghost use Rattle.goblin_pe_sect.specs.Relocations.{relocations_in, relocations_left};
 ghost use Rattle.goblin_pe_sect.specs.SectionName.{IsNameFault, indirect_name, name_value};
-ghost use Rattle.goblin_pe_sect.specs.SectionName.{HasBytes, IsNameOffsetFault};
+ghost use Rattle.goblin_pe_sect.specs.SectionName.{IsNameOffsetFault};
 ghost use Rattle.goblin_pe_sect.specs.SectionReadings.{SectionWritesBack, named_section_at};
 ghost use Rattle.goblin_pe_sect.specs.SectionReadings.{raw_bytes, raw_data, section_data};
 ghost use Rattle.goblin_pe_sect.specs.SectionReadings.{text_in_table};
@@ -53,45 +53,46 @@ pub use constants::{
 };
 pub use records::SectionRecords;
 
-/// The size of a section record, in bytes.
+/// The size of a section header, in bytes.
 pub const SIZEOF_SECTION_TABLE: usize = 40;
 
 const _: () = prove!(SIZEOF_SECTION_TABLE == 40);
 
-/// A section, as its record describes it.
+/// A section, as its section header describes it.
 ///
-/// Source: PE Format, "Section Table (Section Headers)". Numbers are as stored; a record has 40
-/// bytes, and `at` gives the offset in it of each field but `real_name`.
+/// Source: PE Format, "Section Table (Section Headers)". Numbers are as stored. A section header
+/// has 40 bytes, and `at` gives the offset in it of each field except `real_name`.
 #[derive(Debug, Default, Drop)]
 pub struct SectionTable {
     /// The eight bytes of the name, padded with NULs, at 0. A longer name is in the string table,
-    /// and these then say where. A loader goes by addresses and not by names.
+    /// and these bytes then say where. A loader uses addresses, not names.
     pub name: [u8; 8],
-    /// The name from the string table; `None` if the eight bytes are the name, or there is no text
-    /// where they point to.
+    /// The name from the string table. `None` if the eight bytes are the name, or if there is no
+    /// text where they point.
     pub real_name: Option<String>,
-    /// The section's size in memory, in bytes, at 8: what the raw data lacks of it is zeros. If it
-    /// is 0, as in objects, the raw size is used instead.
+    /// The section's size in memory, in bytes, at 8. If it is above the raw size, zeros follow the
+    /// raw data. If it is 0, as in objects, the raw size is used instead.
     pub virtual_size: u32,
     /// The section's address in memory, relative to the image's base, at 12.
     pub virtual_address: u32,
-    /// The size of the section's data in the file, in bytes, at 16; 0 where it has none there. In
-    /// an image it is rounded up to the file alignment, so it may be above the virtual size.
+    /// The size of the section's raw data in the file, in bytes, at 16; 0 if it has none. In an
+    /// image it is rounded up to the file alignment, so it may be above the virtual size.
     pub size_of_raw_data: u32,
-    /// The file offset of the section's data, at 20. [`RawPointerRule`](crate::RawPointerRule) says
-    /// where the Windows loader rounds it down to 512.
+    /// The file offset of the section's raw data, at 20. [`RawPointerRule`](crate::RawPointerRule)
+    /// says when the Windows loader rounds it down to a multiple of 512.
     pub pointer_to_raw_data: u32,
-    /// The file offset of the section's relocations, at 24; 0 in an image, and where it has none.
+    /// The file offset of the section's relocations, at 24; 0 in an image, or if it has none.
     pub pointer_to_relocations: u32,
-    /// The file offset of the section's line numbers, at 28; 0 where it has none. Deprecated.
+    /// The file offset of the section's line numbers, at 28; 0 if it has none. Deprecated.
     pub pointer_to_linenumbers: u32,
     /// How many relocations the section has, at 32; 0 in an image. 0xFFFF with
-    /// [`IMAGE_SCN_LNK_NRELOC_OVFL`] means that the first relocation says their number.
+    /// [`IMAGE_SCN_LNK_NRELOC_OVFL`] means that the first relocation gives their number.
     pub number_of_relocations: u16,
     /// How many line numbers the section has, at 34. Deprecated.
     pub number_of_linenumbers: u16,
     /// What the section holds and how it may be used, as bits `IMAGE_SCN_*`, at 36. The loader
-    /// protects its pages by them: a section that is both writable and executable is suspicious.
+    /// protects the pages of the section by them. A section that is both writable and executable is
+    /// suspicious.
     pub characteristics: u32,
 }
 
@@ -113,7 +114,7 @@ impl Model for SectionTable {
     } };
 }
 
-// Whether two real names are the same.
+// Whether two real names are equal.
 fn same_text(a: &Option<String>, b: &Option<String>) -> bool
     ensures { result
         ≡ option_eq (pointwise nat_eq) (option_map string_bytes a.now)
@@ -146,12 +147,12 @@ impl PartialEq for SectionTable {
     }
 }
 
-/// So many bytes of a section's raw data in the file, from `begin` on. There may be none, even at the
-/// end of the file.
+/// The `size` bytes of the file from `begin` on, for the raw data of a section. There may be none,
+/// even at the end of the file. The sum of `begin` and `size` must not overflow.
 ///
 /// # Errors
-/// [`Error::Read`] if they run past the end of the file: `BadOffset` if they also begin at or past
-/// the end, else `TooBig`.
+/// [`Error::Read`] if the bytes run past the end of the file: `BadOffset` if they also begin at or
+/// past the end, else `TooBig`.
 pub fn raw_bytes(bytes: &[u8], begin: usize, size: usize) -> Result<&[u8]>
     requires { begin + size ≤ usize.MAX }
     ensures { Reads (λ s. s.now) result (raw_bytes begin size) bytes.now }
@@ -164,7 +165,7 @@ pub fn raw_bytes(bytes: &[u8], begin: usize, size: usize) -> Result<&[u8]>
 }
 
 impl SectionTable {
-    // The section in a record's bytes, with this real name.
+    // The section in the bytes of a section header, with this real name.
     #[inline(always)]
     pub(crate) fn in_record(bytes: &[u8], real_name: Option<String>) -> SectionTable
         requires { length bytes.now ≡ 40 }
@@ -186,8 +187,8 @@ impl SectionTable {
         }
     }
 
-    /// Reads the record at the file offset `offset` and moves `offset` past it, as
-    /// [`SectionTable::parse_with_opts`] with the default options.
+    /// Reads the section header at the file offset `offset` and moves `offset` past it, as
+    /// [`SectionTable::parse_with_opts`] does with the default options.
     ///
     /// # Errors
     /// As [`SectionTable::parse_with_opts`] in strict mode.
@@ -199,11 +200,6 @@ impl SectionTable {
     ) -> Result<SectionTable>
         ensures value { ReadsOrMemory (λ s. s) result
             (named_section_at true string_table_offset offset.old) bytes.now }
-        ensures grown { IfErr result
-            (λ e.
-            IsMemory e
-            → IsSomeAnd ((named_section_at true string_table_offset offset.old).value bytes.now)
-            (λ s. HasBytes s.real_name)) }
         ensures ok { OnOk result (offset.new ≡ offset.old + 40) }
         ensures err { OnErr result (offset.new ≡ offset.old) }
     {
@@ -211,15 +207,14 @@ impl SectionTable {
         SectionTable::parse_with_opts(alloc, bytes, offset, string_table_offset, &opts)
     }
 
-    /// Reads the record at the file offset `offset` and moves `offset` past it. Where its name is
-    /// indirect, the real name is a copy of the text that it points to in the string table at
-    /// `string_table_offset`, a file offset, if there is a text; a copy of an empty text takes no
-    /// memory.
+    /// Reads the section header at the file offset `offset` and moves `offset` past it. If its name
+    /// is indirect, the real name is a copy of the text to which the name points in the string
+    /// table at the file offset `string_table_offset`, if there is a text.
     ///
     /// # Errors
-    /// [`Error::Read`] if the 40 bytes run past the end of the file; as
-    /// [`SectionTable::name_offset_with_opts`] where the name is refused; [`Error::Memory`] if
-    /// memory for the real name is refused. `offset` is then unchanged.
+    /// [`Error::Read`] if the 40 bytes run past the end of the file; the errors of
+    /// [`SectionTable::name_offset_with_opts`] if the name is refused; [`Error::Memory`] if memory
+    /// for the real name is refused. `offset` is then unchanged.
     #[tactic(auto, unfolding(crate::specs::SectionReadings::named_section_at))]
     pub fn parse_with_opts(
         alloc: Global,
@@ -231,10 +226,6 @@ impl SectionTable {
         ensures value { ReadsOrMemory (λ s. s) result
             (named_section_at (is_strict opts.now.parse_mode) string_table_offset offset.old)
             bytes.now }
-        ensures grown { let strict = is_strict opts.now.parse_mode in
-            let read = named_section_at strict string_table_offset offset.old in
-            let section = read.value bytes.now in
-            IfErr result (λ e. IsMemory e → IsSomeAnd section (λ s. HasBytes s.real_name)) }
         ensures ok { OnOk result (offset.new ≡ offset.old + 40) }
         ensures err { OnErr result (offset.new ≡ offset.old) }
     {
@@ -246,14 +237,13 @@ impl SectionTable {
         Ok(SectionTable::in_record(record, real_name))
     }
 
-    /// Reads the record at the file offset `offset` and moves `offset` past it, as
-    /// [`SectionTable::parse_with_opts`], but without its name from the string table: its name is
+    /// Reads the section header at the file offset `offset` and moves `offset` past it, as
+    /// [`SectionTable::parse_with_opts`], but without the name from the string table. The name is
     /// only tested, and no memory is taken.
     ///
     /// # Errors
-    /// [`Error::Read`] if the 40 bytes run past the end of the file; as
-    /// [`SectionTable::name_offset_with_opts`] where the name is refused. `offset` is then
-    /// unchanged.
+    /// [`Error::Read`] if the 40 bytes run past the end of the file; the errors of
+    /// [`SectionTable::name_offset_with_opts`] if the name is refused. `offset` is then unchanged.
     #[inline(always)]
     #[tactic(auto, unfolding(crate::specs::SectionReadings::named_section_at))]
     pub fn parse_unnamed(
@@ -274,14 +264,12 @@ impl SectionTable {
         Ok(SectionTable::in_record(record, None))
     }
 
-    /// A copy with its own text. It takes no memory if there is no real name or the real name is
-    /// empty.
+    /// A copy with a real name of its own.
     ///
     /// # Errors
-    /// [`Error::Memory`] if memory for the text is refused.
+    /// [`Error::Memory`] if memory for the real name is refused.
     pub fn clone(&self, alloc: Global) -> Result<SectionTable>
-        ensures value { GivesOrMemory (λ s. s) result self.now }
-        ensures grown { OnErr result (HasBytes self.now.real_name) }
+        ensures { GivesOrMemory (λ s. s) result self.now }
     {
         let real_name = match &self.real_name {
             Some(name) => Some(copy_of(alloc, name.as_str())?),
@@ -302,13 +290,13 @@ impl SectionTable {
         })
     }
 
-    /// The section's raw data in the file `bytes`, as many bytes at its raw pointer as its record
-    /// says, without the zeros that [`SectionTable::data`] adds. It borrows the file's bytes, so no
-    /// memory is taken. It may be empty, even at the end of the file.
+    /// The section's raw data in the file `bytes`: the bytes at its raw pointer, as many as its raw
+    /// size, without the zeros that [`SectionTable::data`] adds. It borrows the bytes of the file,
+    /// so it takes no memory. It may be empty, even at the end of the file.
     ///
     /// # Errors
-    /// [`Error::Read`] if it runs past the end of the file: `BadOffset` if it also begins at or
-    /// past the end, else `TooBig`.
+    /// [`Error::Read`] if the raw data runs past the end of the file: `BadOffset` if it also begins
+    /// at or past the end, else `TooBig`.
     pub fn raw_data<'b>(&self, bytes: &'b [u8]) -> Result<&'b [u8]>
         ensures { Reads (λ s. s.now) result (raw_data self.now) bytes.now }
     {
@@ -320,9 +308,10 @@ impl SectionTable {
     }
 
     /// The section's data in the file `bytes`: its raw data, followed by zeros up to the virtual
-    /// size where that is greater. It is borrowed where no zeros follow, and then takes no memory;
-    /// else it is a copy of as many bytes as the virtual size, which a hostile file may set up to 4
-    /// GiB. `None` if the raw data runs past the end of the file.
+    /// size if that is greater. `None` if the raw data runs past the end of the file.
+    ///
+    /// If no zeros follow, the data is borrowed and takes no memory. Otherwise it is a copy with as
+    /// many bytes as the virtual size, which a hostile file may set to nearly 4 GiB.
     ///
     /// Source: PE Format, "Section Data".
     ///
@@ -358,7 +347,7 @@ impl SectionTable {
     }
 
     /// The offset of the section's name in the string table, as
-    /// [`SectionTable::name_offset_with_opts`] with the default options.
+    /// [`SectionTable::name_offset_with_opts`] returns it with the default options.
     ///
     /// # Errors
     /// As [`SectionTable::name_offset_with_opts`] in strict mode.
@@ -369,19 +358,19 @@ impl SectionTable {
         self.name_offset_with_opts(&ParseOptions::default())
     }
 
-    /// The offset of the section's name in the string table, in bytes from the table's length
-    /// field, which the table starts with; `None` if the eight bytes are the name.
+    /// The offset of the section's name in the string table, or `None` if the eight bytes are the
+    /// name. The offset is in bytes from the length field with which the table begins.
     ///
-    /// A name that begins with a slash is indirect: a decimal number follows one slash, a number of
-    /// base 64 two, the most significant digit first.
+    /// A name that begins with a slash is indirect. A decimal number follows one slash; a number in
+    /// base 64 follows two. The most significant digit comes first.
     ///
-    /// Source: PE Format, "Section Table (Section Headers)", of the decimal form; the other is what
-    /// linkers write for numbers above 9,999,999.
+    /// Source: PE Format, "Section Table (Section Headers)", for the decimal form. Linkers write
+    /// the other form for numbers above 9,999,999.
     ///
     /// # Errors
-    /// [`Error::Malformed`] with [`Cause::NameDecimal`] or [`Cause::NameBase64`] where no such
-    /// number follows. Where the bytes after the slashes are not UTF-8, [`Cause::NameText`] in
-    /// strict mode; in permissive mode the name is then direct.
+    /// [`Error::Malformed`] with [`Cause::NameDecimal`] or [`Cause::NameBase64`] if no such number
+    /// follows the slash or slashes. If the bytes there are not UTF-8, strict mode refuses them
+    /// with [`Cause::NameText`], and permissive mode takes the eight bytes as the name.
     pub fn name_offset_with_opts(&self, opts: &ParseOptions) -> Result<Option<usize>>
         ensures { let strict = is_strict opts.now.parse_mode in
             Answers (λ v. v) result (name_value strict self.now.name)
@@ -390,13 +379,13 @@ impl SectionTable {
         name_value(&self.name, opts.parse_mode)
     }
 
-    /// Sets the eight bytes to say that the section's name is at `idx` in the string table, in
-    /// bytes from the table's start. The real name stays as it is, so [`SectionTable::name`] still
-    /// returns it.
+    /// Sets the eight bytes to say that the section's name is at `idx` in the string table. `idx`
+    /// is in bytes from the length field with which the table begins. The real name does not
+    /// change, so [`SectionTable::name`] still returns it.
     ///
     /// # Errors
-    /// [`Error::Malformed`] with [`Cause::NameOffset`] if six digits of base 64 can't say `idx`;
-    /// the section is then unchanged.
+    /// [`Error::Malformed`] with [`Cause::NameOffset`] if `idx` does not fit into six digits of
+    /// base 64; the section is then unchanged.
     pub fn set_name_offset(&mut self, idx: usize) -> Result<()>
         ensures name { OnOk result (indirect_name idx ≡ Some self.new.name) }
         ensures others { self.new ≡ record self.old { name = self.new.name } }
@@ -412,11 +401,12 @@ impl SectionTable {
         Ok(())
     }
 
-    /// The section's name: the real name, else the text of the eight bytes up to a NUL.
+    /// The section's name: the real name or, if there is none, the text of the eight bytes before a
+    /// NUL.
     ///
     /// # Errors
-    /// [`Error::Read`] with `BadInput` if the eight bytes up to a NUL are not UTF-8 and there is no
-    /// real name.
+    /// [`Error::Read`] with `BadInput` if there is no real name and the eight bytes before a NUL
+    /// are not UTF-8.
     pub fn name(&self) -> Result<&str>
         ensures { Answers (λ s. s.now) result (name_of self.now.real_name self.now.name)
             (IsNoName self.now.real_name self.now.name) }
@@ -427,14 +417,15 @@ impl SectionTable {
         }
     }
 
-    /// The section's relocations in the file `bytes`, at the file offset and as many as its record
-    /// says. The number 0xFFFF is taken literally, even where [`IMAGE_SCN_LNK_NRELOC_OVFL`] is set.
+    /// The section's relocations in the file `bytes`. The section header gives their file offset
+    /// and their number. The number 0xFFFF is taken literally, even if
+    /// [`IMAGE_SCN_LNK_NRELOC_OVFL`] is set.
     ///
     /// Source: PE Format, "COFF Relocations (Object Only)".
     ///
     /// # Errors
-    /// [`Error::Read`] if they run past the end of the file, or begin at it, even where there are
-    /// none.
+    /// [`Error::Read`] if the relocations run past the end of the file, or begin at or past it,
+    /// even if there are none.
     pub fn relocations<'b>(&self, bytes: &'b [u8]) -> Result<Relocations<'b>>
         ensures { let place = self.now.pointer_to_relocations in
             let count = self.now.number_of_relocations in
@@ -446,8 +437,7 @@ impl SectionTable {
     }
 
     /// Whether the raw data of the two sections overlaps in the file: neither ends at or before the
-    /// offset where the other begins. Empty raw data strictly inside another's therefore overlaps
-    /// it.
+    /// offset where the other begins. So empty raw data strictly inside the other's overlaps it.
     pub fn overlaps_with(&self, other: &SectionTable) -> bool
         ensures overlap { IsTrue result ↔ OverlapRawData self.now other.now }
         ensures symmetric { IsTrue result ↔ OverlapRawData other.now self.now }
@@ -460,19 +450,19 @@ impl SectionTable {
 }
 
 impl SectionTable {
-    /// The size of a section record in bytes: 40 in either byte order.
+    /// The size of a section header in bytes: 40 in either byte order.
     pub fn size_with(_endian: &Endian) -> usize
         ensures { result ≡ 40 }
     {
         SIZEOF_SECTION_TABLE
     }
 
-    /// Writes the record at the front of `bytes` and returns its size, 40. The real name is not
-    /// part of it. A record that was read is written back unchanged, and any section reads back
-    /// from what was written, except for its real name, in the same byte order.
+    /// Writes the section header to the front of `bytes` and returns its size, 40. The real name is
+    /// not part of it. A section header that was read is written back unchanged. Any section reads
+    /// back from what was written, in the same byte order, except for its real name.
     ///
     /// # Errors
-    /// [`Error::Read`] if there is no room; `bytes` is then unchanged.
+    /// [`Error::Read`] if there is no room for 40 bytes; `bytes` is then unchanged.
     #[tactic(auto, using(crate::proofs::SectionTableRoundTrip::round_trips))]
     pub fn try_into_ctx(&self, bytes: &mut [u8], endian: Endian) -> Result<usize>
         ensures size { IfOk result (λ size. size ≡ 40) }
@@ -487,7 +477,7 @@ impl SectionTable {
         Ok(SIZEOF_SECTION_TABLE)
     }
 
-    /// Writes the record at the front of `bytes`, which has room for it.
+    /// Writes the section header to the front of `bytes`, which must have room for 40 bytes.
     pub fn into_ctx(&self, bytes: &mut [u8], endian: Endian)
         requires { 40 ≤ length bytes.old }
         ensures { bytes.new ≡ replaced bytes.old 0 (encoding endian (section_fields self.now)) }
@@ -495,7 +485,7 @@ impl SectionTable {
         put_bytes(bytes, 0, &self.to_bytes(endian));
     }
 
-    // The bytes of the record.
+    // The bytes of the section header.
     #[tactic(auto, using(crate::proofs::SectionTableRoundTrip::round_trips))]
     fn to_bytes(&self, endian: Endian) -> [u8; SIZEOF_SECTION_TABLE]
         ensures made { result ≡ encoding endian (section_fields self.now) }
@@ -517,7 +507,8 @@ impl SectionTable {
     }
 }
 
-// What the name in a record says. Most names begin with no slash and are looked at no further.
+// The offset into the string table that the name in a section header holds, if it holds one. Most
+// names do not begin with a slash, so only their first byte is read.
 #[inline(always)]
 #[tactic(auto, unfolding(crate::specs::SectionName::name_value))]
 pub(crate) fn name_in_record(bytes: &[u8], mode: ParseMode) -> Result<Option<usize>>
@@ -532,7 +523,7 @@ pub(crate) fn name_in_record(bytes: &[u8], mode: ParseMode) -> Result<Option<usi
     name_value(&field_array(bytes, 0), mode)
 }
 
-// What the eight bytes of a name say.
+// The offset into the string table that the eight bytes of a name hold, if they hold one.
 #[tactic(auto, unfolding(crate::specs::SectionName::name_value))]
 fn name_value(name: &[u8; 8], mode: ParseMode) -> Result<Option<usize>>
     ensures { Answers (λ v. v) result (name_value (is_strict mode) name.now)
@@ -559,7 +550,8 @@ fn name_value(name: &[u8; 8], mode: ParseMode) -> Result<Option<usize>>
     }
 }
 
-// What a name that is not UTF-8 after its slashes says.
+// What follows from a name that is not UTF-8 after its slashes: strict mode refuses it, and
+// permissive mode takes it as a name without an offset.
 fn no_text(mode: ParseMode) -> Result<Option<usize>>
     ensures { result ≡ (if is_strict mode then Err (Malformed NameText) else Ok None) }
 {
@@ -576,10 +568,8 @@ fn real_name(
     string_table_offset: usize,
     value: Option<usize>,
 ) -> Result<Option<String>>
-    ensures value { GivesOrMemory (λ name. option_map string_bytes name) result
+    ensures { GivesOrMemory (λ name. option_map string_bytes name) result
         ((text_in_table string_table_offset value).value bytes.now) }
-    ensures grown { OnErr result
-        (HasBytes ((text_in_table string_table_offset value).value bytes.now)) }
 {
     let Some(offset) = value.and_then(|value| string_table_offset.checked_add(value)) else {
         return Ok(None);
@@ -590,10 +580,9 @@ fn real_name(
     }
 }
 
-// A copy of a text; that of an empty one takes no memory.
+// A copy of a text. A copy of an empty text takes no memory.
 fn copy_of(alloc: Global, text: &str) -> Result<String>
-    ensures value { GivesOrMemory string_bytes result text.now }
-    ensures grown { OnErr result (0 < length text.now) }
+    ensures { GivesOrMemory string_bytes result text.now }
 {
     if text.is_empty() {
         return Ok(String::new(alloc));

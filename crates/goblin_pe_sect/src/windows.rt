@@ -1,9 +1,9 @@
 //! An index of the windows of sections, which maps addresses to file offsets by binary search.
 //!
 //! A walk over the sections, as [`find_offset`](crate::utils::find_offset) makes it, takes as many
-//! steps for each address as there are sections. Here the address space is cut once, at 0 and at
-//! each start and end of a window that is not empty, and each piece keeps its first section; an
-//! address is then found among n pieces by about log n comparisons.
+//! steps for each address as there are sections. An index cuts the address space once, at 0 and at
+//! each start and end of a window that is not empty. Each piece keeps the first section whose
+//! window covers it. An address is then found among n pieces with about log n comparisons.
 
 ghost use Rattle.std.specs.Prelude.{◌≡◌, ℕ, ◌+◌, ◌*◌, ◌^◌, ◌<◌, ◌≤◌, IsTrue, IfOk, IfErr};
 ghost use Rattle.std.specs.Prelude.{length, map, []};
@@ -29,7 +29,7 @@ pub use owners::Owner;
 use std::alloc::Global;
 use std::marker::Model;
 
-// How many pieces begin at or before the address, and how many bounds were looked at.
+// How many pieces begin at or before the address, and how many bounds the search compared with it.
 #[inline(always)]
 fn search(pieces: &[Piece], rva: usize) -> (usize, usize)
     requires { IsStrictlyIncreasing (begins_of pieces.now) }
@@ -56,9 +56,9 @@ fn search(pieces: &[Piece], rva: usize) -> (usize, usize)
 }
 
 /// The address space, cut into pieces at the windows of sections. Each piece keeps the index, the
-/// address and the raw pointer of the first section whose window covers it, or none; nothing else
-/// is kept of the sections, which may be dropped. The raw pointer is kept as stored or rounded down
-/// to 512, by the options that the index was prepared with.
+/// address and the raw pointer of the first section whose window covers it, if one does. Nothing
+/// else of the sections is kept, so they may be dropped. The raw pointer is as stored or rounded
+/// down to a multiple of 512, by the options with which the index was prepared.
 #[derive(Drop)]
 pub struct WindowIndex {
     pieces: Vec<Piece>,
@@ -81,8 +81,8 @@ impl Model for WindowIndex {
 }
 
 impl WindowIndex {
-    /// An index that has no pieces: no address is mapped; or, where `resolves` is false, each is
-    /// its own offset. It takes no memory.
+    /// An index without pieces, which takes no memory. It maps no address; or, if `resolves` is
+    /// false, each address is its own file offset.
     pub fn without_pieces(alloc: Global, resolves: bool) -> WindowIndex
         ensures { result ≡ record { resolves = resolves; begins = []; owners = [] } }
     {
@@ -92,10 +92,12 @@ impl WindowIndex {
         }
     }
 
-    /// An index of the sections' windows, which maps every address as
-    /// [`find_offset`](crate::utils::find_offset) does with the same arguments. It has at most two
-    /// pieces for each section and one more; none where `opts` says that addresses are offsets or
-    /// `file_alignment` is not a power of two, and then no memory is taken.
+    /// An index of the sections' windows. It maps every address as
+    /// [`find_offset`](crate::utils::find_offset) does with the same arguments.
+    ///
+    /// The index has at most two pieces for each section, and one more. If `opts` says that
+    /// addresses are offsets, or `file_alignment` is not a power of two, it has no pieces and takes
+    /// no memory.
     ///
     /// # Errors
     /// Only [`Error::Memory`](goblin_base::Error::Memory).
@@ -109,7 +111,6 @@ impl WindowIndex {
             (λ w.
             (rva : ℕ) → located w rva ≡ file_offset opts.now sections.now file_alignment rva) }
         ensures refused { IfErr result IsMemory }
-        ensures grown { IfErr result (λ e. HasPieces opts.now file_alignment) }
         ensures few { IfOk result (λ w. length w.begins ≤ 2 * length sections.now + 1) }
         ensures no_pieces { IfOk result (λ w. ¬ HasPieces opts.now file_alignment → w.begins ≡ []) }
         ensures cut { IfOk result
@@ -132,7 +133,7 @@ impl WindowIndex {
         })
     }
 
-    // Its pieces, in rising order.
+    // The pieces of the index, in rising order.
     #[inline(always)]
     fn in_order(&self) -> &[Piece]
         ensures value { begins_of result.now ≡ self.now.begins }
@@ -149,7 +150,8 @@ impl WindowIndex {
         self.pieces.len()
     }
 
-    // The file offset of an address, by how many pieces begin at or before it: one or more.
+    // The file offset of an address, if `count` pieces begin at or before it. There must be at
+    // least one.
     fn offset_in_piece(&self, count: usize, rva: usize) -> Option<usize>
         requires counted { count ≡ reached self.now.begins rva }
         requires some { 0 < count }
@@ -159,7 +161,7 @@ impl WindowIndex {
         Some(owner.pointer as usize + (rva - owner.address as usize))
     }
 
-    // The file offset of an address, by how many pieces begin at or before it.
+    // The file offset of an address, if `count` pieces begin at or before it.
     fn offset_by_count(&self, count: usize, rva: usize) -> Option<usize>
         requires { count ≡ reached self.now.begins rva }
         ensures { result ≡ located self.now rva }
@@ -170,9 +172,11 @@ impl WindowIndex {
         self.offset_in_piece(count, rva)
     }
 
-    /// The answer of [`WindowIndex::find`], and how many probes were made: calls of
-    /// [`Bounds::reaches`], by which a search sees where a piece begins. Fewer than 2 to the power
-    /// d pieces take at most d probes. The number is that of a binary search for this address.
+    /// The answer of [`WindowIndex::find`], and the number of probes that the search made. A probe
+    /// is a call of [`Bounds::reaches`], through which alone a search sees where a piece begins.
+    ///
+    /// The number of probes is that of a binary search for this address. It is at most d if there
+    /// are fewer than 2 to the power d pieces.
     pub fn find_counted(&self, rva: usize) -> (Option<usize>, usize)
         ensures value { result.0 ≡ located self.now rva }
         ensures most { (d : ℕ) → length self.now.begins < 2 ^ d → result.1 ≤ d }
@@ -185,7 +189,7 @@ impl WindowIndex {
     }
 
     /// The file offset of the address `rva`, as [`find_offset`](crate::utils::find_offset) returns
-    /// it for the arguments that the index was prepared with.
+    /// it for the arguments with which the index was prepared.
     #[inline(never)]
     pub fn find(&self, rva: usize) -> Option<usize>
         ensures { result ≡ located self.now rva }

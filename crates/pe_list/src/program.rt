@@ -1,6 +1,6 @@
-//! A run of the program: the whole input is read, listed, and the listing is written.
+//! A run of the program: it reads the whole input, lists it, and writes the listing.
 
-ghost use Rattle.std.specs.Prelude.{◌≡◌, ◌≢◌, ◌<◌, length, string_bytes, Err, IfErr, IfOk, IfSome};
+ghost use Rattle.std.specs.Prelude.{◌≡◌, ◌≢◌, ◌<◌, string_bytes, Err, IfErr, IfOk, IfSome};
 ghost use Rattle.std.specs.Prelude.{IsSomeAnd, IsTrue, OnErr, OnOk, Some};
 ghost use Rattle.std.specs.Io.KnownBytes.{Appends, Keeps};
 ghost use Rattle.goblin_pe.specs.Reading.{IsRefused};
@@ -16,8 +16,8 @@ use pe_listing::listing::list;
 use std::alloc::Global;
 use std::io::{Read, Write};
 
-// The listing of all that the reader has left, which is judged only when all of it was read.
-#[tactic(auto, using(crate::proofs::Headers::some_bytes))]
+// The listing of all bytes that the reader has left. The file is judged only when all of it was
+// read.
 fn read_listing<R: Read>(
     alloc: Global,
     reader: &mut Watched<R>,
@@ -30,9 +30,6 @@ fn read_listing<R: Read>(
     ensures refused { IfRefused result (λ cause. ¬ IsMemory cause
         → IfSome (R.remaining reader.old.inner) (λ file.
         IsRefused (listing_of mode) file cause)) }
-    ensures grown { IfRefused result
-        (λ cause.
-        IsMemory cause → IfSome (R.remaining reader.old.inner) (λ file. 0 < length file)) }
     ensures output { IfErr result (λ fault. fault ≢ RunFault.Output) }
     ensures input { result ≡ Err RunFault.Input → IsTrue reader.new.failed }
     ensures once { result ≢ Err RunFault.Input → reader.new.failed ≡ reader.old.failed }
@@ -49,10 +46,10 @@ fn read_listing<R: Read>(
 /// Reads to the end, and writes the listing of what was read.
 ///
 /// # Errors
-/// [`RunFault::Refused`] where the bytes have no listing, or where memory was refused;
-/// [`RunFault::Input`] and [`RunFault::Output`] where a read or a write failed, which isn't tried
-/// again. Nothing goes out before the whole listing is there; on `Output` a beginning of it went
-/// out.
+/// [`RunFault::Refused`] if the bytes have no listing, or if memory is refused. [`RunFault::Input`]
+/// if a read fails, and [`RunFault::Output`] if a write fails or takes no byte; neither is tried
+/// again. Nothing is written before the whole listing is there. On `Output` only a beginning of it
+/// was written, perhaps nothing.
 pub fn run<R: Read, W: Write>(
     alloc: Global,
     reader: &mut Watched<R>,
@@ -69,16 +66,11 @@ pub fn run<R: Read, W: Write>(
         → IfSome (R.remaining reader.old.inner) (λ file.
         IsRefused (listing_of mode) file cause)) }
 
-    // Memory is refused only where the input has a byte.
-    ensures grown { IfRefused result
-        (λ cause.
-        IsMemory cause → IfSome (R.remaining reader.old.inner) (λ file. 0 < length file)) }
-
-    // Nothing goes out before the listing is whole.
+    // Nothing is written before the listing is whole.
     ensures nothing_out { OnErr result (result ≢ Err RunFault.Output →
         Keeps (W.contents writer.old.inner) (W.contents writer.new.inner)) }
 
-    // A fault of the reader or the writer comes only where it showed one.
+    // A fault of the reader or the writer is returned only if one of its calls showed it.
     ensures input { result ≡ Err RunFault.Input → IsTrue reader.new.failed }
     ensures output { result ≡ Err RunFault.Output → IsTrue writer.new.failed }
 

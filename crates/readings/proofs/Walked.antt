@@ -5,13 +5,8 @@ use Rattle.std.proofs.lemmas.List.{map-append, map-id}
 use Rattle.goblin_base.specs.declared.error.ErrorOf.{ErrorOf}
 use Rattle.goblin_base.specs.Answers.{all_of}
 use Rattle.goblin_base.specs.Tables.{join}
-use Rattle.readings.specs.Walks.{GivesNext, IsBegun}
+use Rattle.readings.specs.Walks.{GivesNext}
 use Rattle.readings.proofs.WalkValues.{all_of-append, all_of-made}
-
-begun-more : {A : Type 0} (xs : List A) (now : List (Option A)) → IsBegun now
-    → IsBegun (map (λ x. Some x) xs ++ now)
-begun-more [] now h = h
-begun-more (x ∷ xs) now h = tt
 
 -- The walk that began at `start` has yielded xs so far, and is now at `now`.
 pub record AtWalk {S A : Type 0} (left : S → List (Option A)) (IsCause : S → ErrorOf → Type 0)
@@ -60,9 +55,3 @@ module _ {S A : Type 0} (left : S → List (Option A)) (IsCause : S → ErrorOf 
                 ∙ ap (λ (made : Option (List A)). join made None) (all_of-made (λ x. x) xs),
             h.cause e (steps (Err e) is).2,
           )
-
-      -- it has another item, and so an item was the first to come
-      pub walk-begins : (x : X) → r ≡ Ok x → IsBegun (left start)
-      walk-begins x is =
-          subst IsBegun (sym h.yielded)
-          (begun-more xs (left now) (subst IsBegun (sym (steps (Ok x) is).0) tt))

@@ -1,13 +1,10 @@
-//! Which bytes of a file a read of the whole file depends on.
+//! The positions of a file on which a read of the whole file depends.
 
-ghost use Rattle.std.specs.Prelude.{◌≡◌, ◌<◌, IfErr, IfOk, IsSomeAnd, OnErr, OnOk, false, length};
+ghost use Rattle.std.specs.Prelude.{◌≡◌, ◌<◌, IfErr, IfOk, OnOk, false, length};
 ghost use Rattle.std.specs.Prelude.{replicate};
 ghost use Rattle.goblin_base.specs.Answers.{IsMemory};
 ghost use Rattle.goblin_base.specs.Marks.{IsFootprint, marked};
-ghost use Rattle.goblin_pe_head.specs.HeaderReadings.{pe_header};
 ghost use Rattle.goblin_pe_head.specs.PeHeader.{header_value};
-ghost use Rattle.goblin_pe_sect.specs.Options.{is_strict};
-ghost use Rattle.goblin_pe.specs.TakenMemory.{TakesIndex};
 ghost use Rattle.goblin_pe.specs.Whole.{whole_after, whole_file, whole_in};
 
 use crate::whole::Layout;
@@ -18,8 +15,8 @@ use goblin_pe_head::laws::{add_header, add_sections};
 use goblin_pe_sect::{ParseOptions, View};
 use std::alloc::Global;
 
-// Marks the footprint of what follows the header of a file: of its sections, and of its tables if
-// these are there. No name of a section is copied.
+// Marks the footprint of what follows the header of a file: of its sections and, if they can be
+// read, of its tables. No section name is copied.
 fn add_after<'a, 'e>(
     alloc: Global,
     marks: &mut Marks,
@@ -31,7 +28,6 @@ fn add_after<'a, 'e>(
     ensures added { let read = whole_after view opts.now (header_value header.now) in
         OnOk result (marks.new ≡ marked marks.old (read.reaches bytes.now)) }
     ensures refused { IfErr result IsMemory }
-    ensures grown { OnErr result (TakesIndex opts.now bytes.now (header_value header.now)) }
 {
     let pe_pointer = header.dos_header.pe_pointer;
     add_sections(marks, bytes, pe_pointer, header.coff_header, opts);
@@ -45,7 +41,7 @@ fn add_after<'a, 'e>(
     }
 }
 
-// Marks the footprint of a whole file: of its header, and of what follows if there is a header.
+// Marks the footprint of a whole file: of its header and, if it can be read, of what follows.
 #[tactic(auto, unfolding(crate::specs::Whole::whole_in), using(goblin_base::proofs::Marks::marking))]
 fn add_whole<'e>(
     alloc: Global,
@@ -57,9 +53,6 @@ fn add_whole<'e>(
     ensures added { let reached = (whole_in view opts.now).reaches bytes.now in
         OnOk result (marks.new ≡ marked marks.old reached) }
     ensures refused { IfErr result IsMemory }
-    ensures grown { OnErr result
-        (IsSomeAnd ((pe_header (is_strict opts.now.parse_mode)).value bytes.now)
-        (TakesIndex opts.now bytes.now)) }
 {
     add_header(marks, bytes);
     let Ok(header) = Header::parse_with_opts(bytes, opts) else {
@@ -68,11 +61,11 @@ fn add_whole<'e>(
     add_after(alloc, marks, bytes, &header, view, opts)
 }
 
-/// The marks of the positions on which a read of the whole file depends whose addresses are mapped
-/// as the view says: by its sections, [`footprint_whole`] lists them.
+/// The marks of the positions on which a read of the whole file depends, with addresses mapped as
+/// `view` says. For [`View::Sections`], [`footprint_whole`] lists these positions as ranges.
 ///
 /// # Errors
-/// [`Error::Memory`](goblin_base::Error::Memory) only, and only if the file has a byte.
+/// [`Error::Memory`](goblin_base::Error::Memory) only.
 pub fn mark_whole<'e>(
     alloc: Global,
     bytes: &[u8],
@@ -82,25 +75,26 @@ pub fn mark_whole<'e>(
     ensures reached { let footprint = (whole_in view opts.now).reaches bytes.now in
         IfOk result (λ marks. marks ≡ marked (replicate (length bytes.now) false) footprint) }
     ensures refused { IfErr result IsMemory }
-    ensures grown { OnErr result (0 < length bytes.now) }
 {
     let mut marks = Marks::with_room_for(alloc, bytes.len())?;
-    if bytes.is_empty() {
-        return Ok(marks);
-    }
     add_whole(alloc, &mut marks, bytes, view, opts)?;
     Ok(marks)
 }
 
-/// The footprint of a whole file: the ranges (begin, end) of the positions on which
-/// [`Whole::read`](crate::Whole::read) depends, as [`twin_whole`](crate::laws::twin_whole) says. By
-/// the same options a file of the same length with the same bytes there has the same value, or is
-/// refused too, not always for the same cause. A position is in the footprint exactly where it lies
-/// in one of the ranges. They come in order, none is empty, and none runs past the file; a position
-/// lies between each and the next. A file that is refused has a footprint, too.
+/// The footprint of a whole file: the positions on which [`Whole::read`](crate::Whole::read)
+/// depends, as ranges (begin, end). [`twin_whole`](crate::laws::twin_whole) says which parts of the
+/// file it has.
+///
+/// A position is in the footprint exactly if it lies in one of the ranges. They come in order, none
+/// is empty, and none runs past the end of the file. At least one position lies between each range
+/// and the next.
+///
+/// With the same options, a file of the same length with the same bytes there has the same value,
+/// or it is refused too, though perhaps for another cause. A file that is refused has a footprint,
+/// too.
 ///
 /// # Errors
-/// [`Error::Memory`](goblin_base::Error::Memory) only, and only if the file has a byte.
+/// [`Error::Memory`](goblin_base::Error::Memory) only.
 pub fn footprint_whole<'e>(
     alloc: Global,
     bytes: &[u8],
@@ -109,7 +103,6 @@ pub fn footprint_whole<'e>(
     ensures ranges { let footprint = (whole_file opts.now).reaches bytes.now in
         IfOk result (λ v. IsFootprint (length bytes.now) footprint v.items) }
     ensures refused { IfErr result IsMemory }
-    ensures grown { OnErr result (0 < length bytes.now) }
 {
     let marks = mark_whole(alloc, bytes, View::Sections, opts)?;
     marks.ranges(alloc)

@@ -1,7 +1,7 @@
-//! What a file is known by to one who has its answer.
+//! A key by which a cache knows the files whose answer it has.
 
-ghost use Rattle.std.specs.Prelude.{◌≡◌, ◌↔◌, ◌<◌, ◌≤◌, IfErr, IfOk, IsTrue, List, OnErr, length};
-ghost use Rattle.std.specs.Prelude.{map, ℕ, All, vec_capacity, vec_len};
+ghost use Rattle.std.specs.Prelude.{◌≡◌, ◌↔◌, ◌<◌, ◌≤◌, IfErr, IfOk, IsTrue, List, length};
+ghost use Rattle.std.specs.Prelude.{map, ℕ, All};
 ghost use Rattle.goblin_base.specs.Answers.{IsMemory};
 ghost use Rattle.goblin_base.specs.Footprints.{Agree};
 ghost use Rattle.goblin_base.specs.Reading.{IsInFile};
@@ -16,7 +16,7 @@ use std::alloc::Global;
 use std::fmt;
 use std::marker::Model;
 
-// The bytes of a file at the offsets from `begin` on and before `end`.
+// The bytes of a file from the offset `begin` up to, but not including, `end`.
 #[derive(Drop)]
 pub struct KeptRange {
     begin: usize,
@@ -25,20 +25,18 @@ pub struct KeptRange {
 }
 
 impl Model for KeptRange {
-    ghost use Rattle.std.specs.Prelude.{List, ◌≡◌, vec_capacity, vec_len, ℕ};
+    ghost use Rattle.std.specs.Prelude.{List, ℕ};
     ghost use Rattle.goblin_base.specs.Footprints.{Range};
 
     ghost Value = { Range × List ℕ };
 
     ghost view = { λ range. ((range.begin, range.end), range.bytes.items) };
-
-    // There is room for these bytes and no more.
-    ghost invariant = { λ range. vec_capacity range.bytes ≡ vec_len range.bytes };
 }
 
-/// What [`Whole::read`](crate::Whole::read) of a file depends on: its length, and the bytes of its
-/// footprint, copied. A cache keeps it beside what was read, to know later files with the same
-/// answer. The options are not in it: keys of different options are to be kept apart.
+/// All that [`Whole::read`](crate::Whole::read) of a file depends on: the length of the file, and a
+/// copy of the bytes of its footprint. A cache keeps the key beside the answer, and recognizes
+/// later files with the same answer by it. The options are not in the key, so keep keys of
+/// different options apart.
 #[derive(Drop)]
 pub struct FileKey {
     length: usize,
@@ -46,14 +44,13 @@ pub struct FileKey {
 }
 
 impl FileKey {
-    /// The key of a file that is read by these options.
+    /// The key of a file that is read with these options.
     ///
     /// # Errors
-    /// [`Error::Memory`](goblin_base::Error::Memory) only, and only if the file has a byte.
+    /// [`Error::Memory`](goblin_base::Error::Memory) only.
     pub fn of(alloc: Global, file: &[u8], opts: &ParseOptions) -> Result<FileKey>
         ensures value { IfOk result (IsKeyOf opts.now file.now) }
         ensures refused { IfErr result IsMemory }
-        ensures grown { OnErr result (0 < length file.now) }
     {
         let ranges = footprint_whole(alloc, file, opts)?;
         let kept = kept_ranges(alloc, file, &ranges)?;
@@ -63,9 +60,9 @@ impl FileKey {
         })
     }
 
-    /// Whether a file agrees with the one whose key this is on all that its answer depends on. By
-    /// the options that the key was made with, both then have the same answer: one value, or they
-    /// are refused.
+    /// Whether a file agrees with the file of this key on everything that the answer depends on.
+    /// With the options that the key was made with, both files then have the same answer: one
+    /// value, or they are both refused.
     pub fn fits(&self, file: &[u8]) -> bool
         ensures exact { (opts : ParseOptions) (was : List ℕ) → IsKeyOf opts was self.now
             → (IsTrue result ↔ Agree ((whole_file opts).reaches was) was file.now) }
@@ -76,7 +73,7 @@ impl FileKey {
     }
 }
 
-// (The bytes may be as many as the file has.)
+// (The bytes are left out, since there may be as many as the file has.)
 impl fmt::Debug for FileKey {
     fn fmt<W: fmt::Write>(&self, f: &mut fmt::Formatter<W>) -> fmt::Result {
         f.debug_struct("FileKey")
@@ -85,14 +82,14 @@ impl fmt::Debug for FileKey {
     }
 }
 
-// Whether a file has all these bytes.
+// Whether a file has the bytes of all these ranges.
 fn are_there(kept: &[KeptRange], file: &[u8]) -> bool
     ensures { IsTrue result ↔ All (HasKeptRange file.now) kept.now }
 {
     kept.iter().all(|range| is_there(range, file))
 }
 
-// Whether a file has these bytes.
+// Whether a file has the bytes of this range.
 fn is_there(range: &KeptRange, file: &[u8]) -> bool
     ensures { IsTrue result ↔ HasKeptRange file.now range.now }
 {
@@ -107,7 +104,6 @@ fn kept_ranges(alloc: Global, file: &[u8], ranges: &[(usize, usize)]) -> Result<
     ensures value { IfOk result
         (λ v. v.items ≡ map (kept_range file.now) ranges.now) }
     ensures refused { IfErr result IsMemory }
-    ensures grown { OnErr result (0 < length file.now) }
 {
     let mut kept = Vec::new(alloc);
     for (begin, end) in ranges {
@@ -127,15 +123,14 @@ fn kept_range(alloc: Global, file: &[u8], begin: usize, end: usize) -> Result<Ke
     Ok(KeptRange { begin, end, bytes })
 }
 
-// A copy of these bytes, with room for no more.
+// A copy of these bytes.
 fn copy_of(alloc: Global, bytes: &[u8]) -> Result<Vec<u8>>
     ensures value { IfOk result (λ copy. copy.items ≡ bytes.now) }
-    ensures room { IfOk result (λ copy. vec_capacity copy ≡ vec_len copy) }
     ensures refused { IfErr result IsMemory }
 {
     let mut copy = Vec::with_capacity(alloc, bytes.len())?;
     'bytes: for byte in bytes {
-        copy.push_reserved(*byte);
+        copy.push(*byte)?;
     }
     Ok(copy)
 }

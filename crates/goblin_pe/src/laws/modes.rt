@@ -1,16 +1,14 @@
 //! Readers in strict and in permissive mode.
 
-ghost use Rattle.std.specs.Prelude.{IfErr, IsSomeAnd, false, true};
+ghost use Rattle.std.specs.Prelude.{false, true};
 ghost use Rattle.goblin_base.specs.declared.permissive.ParseMode.TheVariants.{Permissive, Strict};
-ghost use Rattle.goblin_base.specs.Answers.{IsMemory};
 ghost use Rattle.goblin_base.specs.Reading.{InModes, Reads, ReadsOrMemory};
 ghost use Rattle.goblin_pe_sect.specs.Options.{is_strict};
 ghost use Rattle.goblin_pe_head.specs.HeaderReadings.{pe_header};
 ghost use Rattle.goblin_pe_head.specs.PeHeader.{header_value};
 ghost use Rattle.goblin_pe_sect.specs.Addresses.{map_by};
 ghost use Rattle.goblin_pe.specs.Modes.{ReadsInModes, in_mode, in_permissive_mode};
-ghost use Rattle.goblin_pe.specs.TableRuns.{AreGrown, AreInModes};
-ghost use Rattle.goblin_pe.specs.TakenMemory.{TakesLists};
+ghost use Rattle.goblin_pe.specs.TableRuns.{AreInModes};
 ghost use Rattle.goblin_pe.specs.Whole.{whole_file};
 
 use crate::header::Header;
@@ -22,17 +20,16 @@ use crate::whole::Whole;
 use goblin_base::{Result, TryFromCtx};
 use std::alloc::Global;
 
-// The header of a file in a mode.
 fn header_in<'a>(bytes: &'a [u8], mode: ParseMode, opts: &ParseOptions) -> Result<Header<'a>>
     ensures { Reads header_value result (pe_header (is_strict mode)) bytes.now }
 {
     Header::parse_with_opts(bytes, &opts.with_parse_mode(mode))
 }
 
-/// The header of a file in strict and in permissive mode, with all other options of `opts`. It
-/// takes no memory.
+/// Reads the header of a file in strict and in permissive mode, with all other options from `opts`.
+/// It takes no memory.
 ///
-/// Where strict mode has a header, permissive mode has the same.
+/// If strict mode has a header, permissive mode has the same.
 #[tactic(auto, using(crate::proofs::PermissiveReads::header_in_modes))]
 pub fn mode_header<'a>(
     bytes: &'a [u8],
@@ -46,44 +43,33 @@ pub fn mode_header<'a>(
     (strict, permissive)
 }
 
-// A whole file in a mode.
 fn whole_in<'a>(
     alloc: Global,
     bytes: &'a [u8],
     mode: ParseMode,
     opts: &ParseOptions,
 ) -> Result<Whole<'a>>
-    ensures value { ReadsOrMemory (λ whole. whole) result (whole_file (in_mode mode opts.now))
+    ensures { ReadsOrMemory (λ whole. whole) result (whole_file (in_mode mode opts.now))
         bytes.now }
-    ensures grown { IfErr result
-        (λ e.
-        IsMemory e
-        → IsSomeAnd ((pe_header (is_strict mode)).value bytes.now)
-        (TakesLists (in_mode mode opts.now) bytes.now)) }
 {
     Whole::read(alloc, bytes, &opts.with_parse_mode(mode))
 }
 
-/// A whole file in strict and in permissive mode, with all other options of `opts`. A refusal of
-/// one, even `Error::Memory`, is returned in its place, and the other still runs.
+/// Reads a whole file in strict and in permissive mode, with all other options from `opts`. A
+/// refusal of one, even `Error::Memory`, is returned in its place, and the other still runs.
 ///
-/// Where strict mode has a value, permissive mode has the same, unless it returns `Error::Memory`,
-/// or the imports are those of which [`ParseOptions::parse_mode`] tells.
+/// If strict mode has a value, permissive mode has the same, unless it returns `Error::Memory`. One
+/// exception: an import directory at file offset 0 is an empty list in permissive mode, as
+/// [`ParseOptions::parse_mode`] says.
 #[tactic(auto, using(crate::proofs::PermissiveReads::whole_in_modes))]
 pub fn mode_whole<'a>(
     alloc: Global,
     bytes: &'a [u8],
     opts: &ParseOptions,
 ) -> (Result<Whole<'a>>, Result<Whole<'a>>)
-    ensures modes { InModes (λ whole. whole) (in_permissive_mode opts.now)
+    ensures { InModes (λ whole. whole) (in_permissive_mode opts.now)
         (whole_file (in_mode Strict opts.now)) (whole_file (in_mode Permissive opts.now)) bytes.now
         result }
-    ensures strict_grown { IfErr result.0
-        (λ e. IsMemory e → IsSomeAnd ((pe_header true).value bytes.now)
-        (TakesLists (in_mode Strict opts.now) bytes.now)) }
-    ensures permissive_grown { IfErr result.1
-        (λ e. IsMemory e → IsSomeAnd ((pe_header false).value bytes.now)
-        (TakesLists (in_mode Permissive opts.now) bytes.now)) }
 {
     let strict = whole_in(alloc, bytes, ParseMode::Strict, opts);
     let permissive = whole_in(alloc, bytes, ParseMode::Permissive, opts);
@@ -91,11 +77,12 @@ pub fn mode_whole<'a>(
 }
 
 /// Runs the readers of [`Tables`](crate::laws::Tables) in strict and in permissive mode, with all
-/// other options of `opts`. A refusal of one reader, even `Error::Memory`, is returned in its
+/// other options from `opts`. A refusal of one reader, even `Error::Memory`, is returned in its
 /// place, and the others still run.
 ///
-/// Where a reader has a value in strict mode, it has the same in permissive mode, unless it returns
-/// `Error::Memory`, or the imports are those of which [`ParseOptions::parse_mode`] tells.
+/// If a reader has a value in strict mode, it has the same in permissive mode, unless it returns
+/// `Error::Memory`. One exception: an import directory at file offset 0 is an empty list in
+/// permissive mode, as [`ParseOptions::parse_mode`] says.
 pub fn mode_tables<'a, 'e, T: Bitfield<'a>, D: TryFromCtx<'a>>(
     alloc: Global,
     bytes: &'a [u8],
@@ -104,15 +91,9 @@ pub fn mode_tables<'a, 'e, T: Bitfield<'a>, D: TryFromCtx<'a>>(
     file_alignment: u32,
     opts: &ParseOptions,
 ) -> (TablesOf<'a, 'e, D>, TablesOf<'a, 'e, D>)
-    ensures modes { let m = map_by opts.now sections.now file_alignment in
+    ensures { let m = map_by opts.now sections.now file_alignment in
         AreInModes T.format D.plain D.value_of D.refusal m.addressing request.now bytes.now
         result }
-    ensures strict_grown { let m = map_by opts.now sections.now file_alignment in
-        AreGrown T.format true opts.now sections.now file_alignment m.addressing bytes.now
-        request.now result.0 }
-    ensures permissive_grown { let m = map_by opts.now sections.now file_alignment in
-        AreGrown T.format false opts.now sections.now file_alignment m.addressing bytes.now
-        request.now result.1 }
 {
     let strictly = opts.with_parse_mode(ParseMode::Strict);
     let permissively = opts.with_parse_mode(ParseMode::Permissive);

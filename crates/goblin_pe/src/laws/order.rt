@@ -1,8 +1,8 @@
-//! The readers that map addresses, under two tables of sections.
+//! The readers that map addresses, run with two tables of sections.
 
 ghost use Rattle.goblin_pe_sect.specs.WindowOrder.{IsReordering};
 ghost use Rattle.goblin_pe_sect.specs.Addresses.{map_by, reads_strictly};
-ghost use Rattle.goblin_pe.specs.TableRuns.{AreAlike, AreGrown, AreTables};
+ghost use Rattle.goblin_pe.specs.TableRuns.{AreAlike, AreTables};
 
 use crate::data_directories::DataDirectory;
 use crate::import::{Bitfield, ImportData, ImportLookupTable, SyntheticImportLookupTableEntry};
@@ -14,7 +14,7 @@ use goblin_base::{ResultOf, TryFromCtx, answer_for};
 use goblin_pe_export::laws::{ExportRead, read_exports};
 use std::alloc::Global;
 
-/// What the readers of [`Tables`] are asked for.
+/// What the readers of [`Tables`] read.
 #[derive(Debug, PartialEq, Copy, Clone)]
 pub struct Request {
     /// The file offset of an import lookup table.
@@ -25,14 +25,14 @@ pub struct Request {
     pub exports: DataDirectory,
     /// The directory of the base relocations.
     pub relocations: DataDirectory,
-    /// The directory whose address is that of a value.
+    /// The data directory at whose address a value lies.
     pub value: DataDirectory,
     /// The address of a name.
     pub name: usize,
 }
 
 /// The answers of the six readers that map addresses by a table of sections, with errors whose
-/// texts live for `'e`. Use it by its name [`Tables`].
+/// texts live for `'e`. Use it under its name [`Tables`].
 #[derive(Debug, Drop)]
 pub struct TablesOf<'a, 'e, D> {
     /// The import lookup table at an offset.
@@ -62,12 +62,9 @@ pub(super) fn read_tables<'a, 'e, T: Bitfield<'a>, D: TryFromCtx<'a>>(
     file_alignment: u32,
     opts: &ParseOptions,
 ) -> TablesOf<'a, 'e, D>
-    ensures read { let m = map_by opts.now sections.now file_alignment in
+    ensures { let m = map_by opts.now sections.now file_alignment in
         AreTables T.format D.plain D.value_of D.refusal (reads_strictly m) m.addressing bytes.now
         request.now result }
-    ensures grown { let m = map_by opts.now sections.now file_alignment in
-        AreGrown T.format (reads_strictly m) opts.now sections.now file_alignment m.addressing
-        bytes.now request.now result }
 {
     let lookup = SyntheticImportLookupTableEntry::parse_with_opts::<T>(
         alloc,
@@ -111,8 +108,8 @@ pub(super) fn read_tables<'a, 'e, T: Bitfield<'a>, D: TryFromCtx<'a>>(
 /// Runs the readers of [`Tables`] with two tables of sections. A refusal of one reader, even
 /// `Error::Memory`, is returned in its place, and the others still run.
 ///
-/// Each answer is its reader's own. Where the second table is the first in another order and the
-/// windows of any two sections are disjoint, both answers of a reader are equal, or both are
+/// Each answer is its reader's own. If the second table is the first in another order, and the
+/// windows of any two sections are disjoint, both answers of a reader are equal or both are
 /// refusals, unless one is `Error::Memory`.
 pub fn reorder_whole_tables<'a, 'e, T: Bitfield<'a>, D: TryFromCtx<'a>>(
     alloc: Global,
@@ -129,12 +126,6 @@ pub fn reorder_whole_tables<'a, 'e, T: Bitfield<'a>, D: TryFromCtx<'a>>(
     ensures second { let m = map_by opts.now second.now file_alignment in
         AreTables T.format D.plain D.value_of D.refusal (reads_strictly m) m.addressing bytes.now
         request.now result.1 }
-    ensures first_grown { let m = map_by opts.now first.now file_alignment in
-        AreGrown T.format (reads_strictly m) opts.now first.now file_alignment m.addressing
-        bytes.now request.now result.0 }
-    ensures second_grown { let m = map_by opts.now second.now file_alignment in
-        AreGrown T.format (reads_strictly m) opts.now second.now file_alignment m.addressing
-        bytes.now request.now result.1 }
     ensures alike { IsReordering file_alignment first.now second.now
         → AreAlike D.plain result.0 result.1 }
 {

@@ -1,12 +1,10 @@
-//! The readers of headers and of single tables, on two files.
+//! The readers of headers and of single tables, run on two files.
 
-ghost use Rattle.std.specs.Prelude.{ℕ, IfErr, IsSomeAnd, List};
-ghost use Rattle.goblin_base.specs.Answers.{IsMemory};
+ghost use Rattle.std.specs.Prelude.{ℕ, List};
 ghost use Rattle.goblin_base.specs.Reading.{ReadsOrMemory};
-ghost use Rattle.goblin_pe_head.specs.TeReadings.{te_header, te_image};
+ghost use Rattle.goblin_pe_head.specs.TeReadings.{te_image};
 ghost use Rattle.goblin_pe_sect.specs.Addresses.{map_by, reads_strictly};
-ghost use Rattle.goblin_pe_head.specs.SectionRoom.{TakesSections};
-ghost use Rattle.goblin_pe.specs.TwinParts.{AreParts, ArePartsGrown, AreTwinParts, asked_by};
+ghost use Rattle.goblin_pe.specs.TwinParts.{AreParts, AreTwinParts, asked_by};
 ghost use Rattle.goblin_pe.specs.TwinParts.{te_view};
 
 use crate::data_directories::DataDirectory;
@@ -20,18 +18,18 @@ use goblin_base::{Result, ResultOf, Strtab, TryFromCtx, answer_for};
 use std::alloc::Global;
 
 /// The answers of the readers of headers and of single tables, with errors whose texts live for
-/// `'e`. Use it by its name [`Parts`].
+/// `'e`. Use it under its name [`Parts`].
 #[derive(Drop)]
 pub struct PartsOf<'a, 'e, D> {
     /// The header of bytes that begin with a signature, as [`Header::parse_without_dos`] reads it.
     pub header: ResultOf<'e, Header<'a>>,
     /// The sections of a COFF header, at an offset.
     pub sections: ResultOf<'e, Vec<SectionTable>>,
-    /// Its symbol table.
+    /// The symbol table of that COFF header.
     pub symbols: ResultOf<'e, Option<SymbolTable<'a>>>,
-    /// Its string table.
+    /// The string table of that COFF header.
     pub strings: ResultOf<'e, Option<Strtab<'a>>>,
-    /// The header of a Terse Executable at the offset, and its sections after it.
+    /// The header of a Terse Executable at the same offset, and the sections after it.
     pub te: ResultOf<'e, (TeHeader, Vec<SectionTable>)>,
     /// The base relocations of a directory.
     pub relocations: ResultOf<'e, RelocationData<'a>>,
@@ -42,15 +40,10 @@ pub struct PartsOf<'a, 'e, D> {
 /// The answers of the readers of headers and of single tables.
 pub type Parts<'a, D> = PartsOf<'a, 'static, D>;
 
-// The header of a Terse Executable at an offset, and its sections after it.
-#[tactic(auto, unfolding(goblin_pe_head::specs::TeReadings::te_image), using(crate::proofs::TwinParts::te_there, crate::proofs::SectionRoom::te_sections_take))]
+// The header of a Terse Executable at an offset, and the sections after it.
+#[tactic(auto, unfolding(goblin_pe_head::specs::TeReadings::te_image))]
 fn read_te(alloc: Global, bytes: &[u8], offset: usize) -> Result<(TeHeader, Vec<SectionTable>)>
-    ensures value { ReadsOrMemory te_view result (te_image offset) bytes.now }
-    ensures grown { IfErr result
-        (λ e.
-        IsMemory e
-        → IsSomeAnd ((te_header offset).value bytes.now)
-        (λ header. TakesSections header.number_of_sections bytes.now)) }
+    ensures { ReadsOrMemory te_view result (te_image offset) bytes.now }
 {
     let mut end = offset;
     let header = TeHeader::parse(bytes, &mut end)?;
@@ -70,12 +63,10 @@ fn read_parts<'a, 'e, D: TryFromCtx<'a>>(
     file_alignment: u32,
     opts: &ParseOptions,
 ) -> PartsOf<'a, 'e, D>
-    ensures read { let m = map_by opts.now sections.now file_alignment in
+    ensures { let m = map_by opts.now sections.now file_alignment in
         let asked = asked_by coff_header offset relocations value in
         AreParts D.plain D.value_of D.refusal (reads_strictly m) m.addressing asked
         bytes.now result }
-    ensures grown { let asked = asked_by coff_header offset relocations value in
-        ArePartsGrown asked bytes.now result }
 {
     let mut end = offset;
     PartsOf {
@@ -95,8 +86,8 @@ fn read_parts<'a, 'e, D: TryFromCtx<'a>>(
     }
 }
 
-// What reads a file into an answer. Its users know the answer as a type parameter: the proof that
-// two answers which own as much as `PartsOf` may be moved is too large for the checker.
+// A reader of a file into an answer. The answer is a type parameter for its users, because the
+// proof that two answers that own as much as `PartsOf` may be moved is too large for the checker.
 trait Reader<'a, T> {
     ghost is_answer: { Self → List ℕ → T → Type 0 };
 
@@ -114,7 +105,7 @@ fn both_of<'a, T, R: Reader<'a, T>>(reader: &R, a: &'a [u8], b: &'a [u8]) -> (T,
     (first, second)
 }
 
-// What the readers of a file are asked for.
+// The arguments of the readers.
 #[derive(Copy, Clone)]
 struct Asked<'s> {
     alloc: Global,
@@ -131,8 +122,7 @@ impl<'a, 'e, 's, D: TryFromCtx<'a>> Reader<'a, PartsOf<'a, 'e, D>> for Asked<'s>
     ghost is_answer = { λ reader bytes parts.
         let m = map_by reader.opts.now reader.sections.now reader.file_alignment in
         let asked = asked_by reader.coff_header reader.offset reader.relocations reader.value in
-        AreParts D.plain D.value_of D.refusal (reads_strictly m) m.addressing asked bytes parts
-        × ArePartsGrown asked bytes parts };
+        AreParts D.plain D.value_of D.refusal (reads_strictly m) m.addressing asked bytes parts };
 
     fn read(&self, bytes: &'a [u8]) -> PartsOf<'a, 'e, D> {
         read_parts(
@@ -149,21 +139,25 @@ impl<'a, 'e, 's, D: TryFromCtx<'a>> Reader<'a, PartsOf<'a, 'e, D>> for Asked<'s>
     }
 }
 
-/// Runs the readers of [`Parts`] on two files: the sections of `coff_header` at `offset`, where a
-/// Terse Executable is read too; its symbols and strings; the base relocations of the directory
-/// `relocations`, and the value at the address of the directory `value`, by the given table of
-/// sections. A refusal of one reader, even `Error::Memory`, is returned in its place, and the
-/// others still run.
+/// Runs the readers of [`Parts`] on two files. `coff_header` leads to its sections, whose headers
+/// begin at `offset`, and to its symbols and strings. A Terse Executable is read at `offset`, too.
+/// `relocations` is the directory of the base relocations, and `value` is a directory at whose
+/// address a value is read. `sections` map these addresses. A refusal of one reader, even
+/// `Error::Memory`, is returned in its place, and the others still run.
 ///
-/// Each reader has a footprint of its own. The header's: the signature, the COFF header, and what
-/// [`twin_header`](crate::laws::twin_header) says of an optional header. That of sections: each
-/// record, and the text that its name points to. The symbol table's bytes; the string table's
-/// length and bytes; a Terse Executable's record and, where its header is there, its sections; the
-/// bytes of the base relocations; and of the value all from its offset on.
+/// Each reader has a footprint of its own:
+///
+/// - The header: the signature, the COFF header, and of an optional header the parts that
+///   [`twin_header`](crate::laws::twin_header) names.
+/// - The sections: each section header, and the text to which its name points.
+/// - The symbol table: its bytes.
+/// - The string table: its length and its bytes.
+/// - The Terse Executable: its header and, if that can be read, its sections.
+/// - The base relocations: the bytes of their directory.
+/// - The value: all bytes from its file offset on.
 ///
 /// # Errors
-/// For each file as the readers that the fields of [`PartsOf`] name; memory is asked for only for
-/// sections that the file has room for.
+/// For each file as the readers that the fields of [`PartsOf`] name.
 pub fn twin_parts<'a, 'e, D: TryFromCtx<'a>>(
     alloc: Global,
     a: &'a [u8],
@@ -176,14 +170,10 @@ pub fn twin_parts<'a, 'e, D: TryFromCtx<'a>>(
     file_alignment: u32,
     opts: &ParseOptions,
 ) -> (PartsOf<'a, 'e, D>, PartsOf<'a, 'e, D>)
-    ensures twins { let m = map_by opts.now sections.now file_alignment in
+    ensures { let m = map_by opts.now sections.now file_alignment in
         let asked = asked_by coff_header offset relocations value in
         AreTwinParts D.plain D.value_of D.refusal (reads_strictly m) m.addressing asked
         a.now b.now result }
-    ensures first_grown { let asked = asked_by coff_header offset relocations value in
-        ArePartsGrown asked a.now result.0 }
-    ensures second_grown { let asked = asked_by coff_header offset relocations value in
-        ArePartsGrown asked b.now result.1 }
 {
     let asked = Asked {
         alloc,

@@ -1,4 +1,4 @@
-//! Why a file is damaged, part by part.
+//! What is damaged in a file, part by part.
 
 ghost use Rattle.std.specs.Prelude.{true, IfErr, IfOk, IsSomeAnd};
 ghost use Rattle.goblin_base.specs.Answers.{IsMemory, all_of};
@@ -23,32 +23,34 @@ use goblin_pe_head::header::{DosStub, Header};
 use goblin_pe_sect::options::{ParseOptions, View};
 use std::alloc::Global;
 
-/// What strict mode would refuse of a file, part by part: `None` where it would read the part, or
-/// the file has no such part; else why not, as the part's own reader says it.
+/// What strict mode would refuse in a file, part by part. A part is `None` if strict mode would
+/// read it, or if the file has no such part. Otherwise it is the error that the part's own reader
+/// returns.
 ///
-/// Damage of one part says nothing of the others: each is read for itself.
+/// Damage of one part says nothing about the others, since each is read by itself.
 #[derive(Debug, Drop)]
 pub struct Damage {
     /// The DOS stub.
     pub dos_stub: Option<Error>,
-    /// The names of the sections: one that begins with a slash and goes on with bytes that are no
-    /// text.
+    /// The names of the sections. A name is damaged if it begins with a slash and the bytes after
+    /// the slash are no text.
     pub section_names: Option<Error>,
-    /// The imports, if they are asked for.
+    /// The imports, if the options ask for them.
     pub imports: Option<Error>,
     /// The exports.
     pub exports: Option<Error>,
     /// The base relocations: their directory, not its blocks.
     pub relocations: Option<Error>,
-    /// How much is left out of the imports; nothing where they are not asked for.
+    /// How much is left out of the imports. All counts are 0 if the options ask for no imports.
     pub left_out: LeftOut,
-    /// How many name pointers of the export directory give no export, in either mode: there is no
-    /// ordinal, the ordinal lies past the address table, or it leads to a forwarder whose text
-    /// cannot be read. 0 where there is no export directory, or it is refused.
+    /// How many name pointers of the export directory give no export, in either mode. Such a
+    /// pointer has no ordinal, or its ordinal lies past the address table, or it leads to a
+    /// forwarder whose text cannot be read. The count is 0 if there is no export directory, or if
+    /// it is refused.
     pub left_out_exports: usize,
 }
 
-// The refusal that ends a walk, if one does.
+// The error that ends a walk, if one does.
 fn refusal_of<'a, 'm, 'e, T: Bitfield<'a>>(imports: Imports<'a, 'm, 'e, T>) -> Option<ErrorOf<'e>>
     ensures { IsDamageOf (all_of (imports_left T.format imports.entry))
         (IsImportsCause T.format imports.entry) result }
@@ -62,7 +64,7 @@ fn refusal_of<'a, 'm, 'e, T: Bitfield<'a>>(imports: Imports<'a, 'm, 'e, T>) -> O
     None
 }
 
-// The same of a file's imports.
+// The error that ends a walk over a file's imports, if one does.
 fn file_refusal_of<'a, 'm, 'e>(imports: FileImports<'a, 'm, 'e>) -> Option<ErrorOf<'e>>
     ensures { IsDamageOf (all_of (file_imports_left imports.entry))
         (IsFileImportsCause imports.entry) result }
@@ -73,7 +75,7 @@ fn file_refusal_of<'a, 'm, 'e>(imports: FileImports<'a, 'm, 'e>) -> Option<Error
     }
 }
 
-// What is refused of the imports.
+// Why the imports are refused, if they are.
 pub(super) fn import_damage(layout: &Layout) -> Option<Error>
     ensures { IsDamage (layout_table import_list layout.now) (layout_bytes layout.now) result }
 {
@@ -84,7 +86,7 @@ pub(super) fn import_damage(layout: &Layout) -> Option<Error>
     }
 }
 
-// What strict mode refuses of the names of sections after this header.
+// Why strict mode refuses the sections after this header, if it does.
 #[tactic(auto, using(crate::proofs::SectionNames::damage_made))]
 fn name_damage(bytes: &[u8], header: &Header) -> Option<Error>
     ensures { IsDamage (sections_after true (header_value header.now)) bytes.now result }
@@ -92,8 +94,8 @@ fn name_damage(bytes: &[u8], header: &Header) -> Option<Error>
     section_records_of(bytes, header, &ParseOptions::default()).err()
 }
 
-// What strict mode refuses of the imports, the exports and the base relocations, and how much is
-// left out of the imports.
+// Why strict mode refuses the imports, the exports and the base relocations, and how much is left
+// out of the imports.
 fn table_damage(layout: Layout) -> (Option<Error>, Option<Error>, Option<Error>, LeftOut)
     ensures { let m = layout_map layout.entry in
         AreDamaged m.opts m.addressing (layout_places layout.entry) (layout_bytes layout.entry)
@@ -107,14 +109,14 @@ fn table_damage(layout: Layout) -> (Option<Error>, Option<Error>, Option<Error>,
     (imports, exports, relocations, left_out)
 }
 
-// What strict mode refuses of a file whose header and sections are read by these options, in a view.
+// What strict mode refuses in a file whose header and sections these options read, in a view.
 #[tactic(auto, unfolding(crate::specs::Whole::layout))]
 fn file_damage(alloc: Global, bytes: &[u8], view: View, opts: &ParseOptions) -> Result<Damage>
     ensures tells { TellsDamage view opts.now bytes.now result }
     ensures grown { IfErr result
         (λ e.
         IsMemory e → IsSomeAnd ((pe_header (is_strict opts.now.parse_mode)).value bytes.now)
-        (TakesIndex opts.now bytes.now)) }
+        TakesIndex) }
 {
     let header = Header::parse_with_opts(bytes, opts)?;
     let layout = Layout::in_view(alloc, bytes, &header, view, opts)?;
@@ -132,33 +134,33 @@ fn file_damage(alloc: Global, bytes: &[u8], view: View, opts: &ParseOptions) -> 
 }
 
 impl Whole<'_> {
-    /// Tells what strict mode would refuse of a file, part by part, where its header and its
-    /// sections are read as `opts` say. In permissive mode a stub and names of sections can be
-    /// damaged; in strict mode these refuse the file as ever. No table is listed: memory is taken
-    /// only for what maps the addresses of a file of more than 96 sections. A file can list very
-    /// many imports; each is looked at.
+    /// Reports what strict mode would refuse in a file, part by part. The header and the sections
+    /// are read as `opts` say. So in permissive mode a stub and names of sections can be damaged.
+    /// In strict mode such damage refuses the file.
     ///
-    /// A file without damage, of which no library is left out, is one that both modes read, and read
-    /// alike.
+    /// No table is listed. Memory is taken only for an index of more than 96 sections. Each import
+    /// is looked at, and a file can list very many.
+    ///
+    /// If a file has no damage and no library is left out, both modes read it, and read it alike.
     ///
     /// # Errors
-    /// As [`Header::parse_with_opts`]; as
-    /// [`CoffHeader::sections_with_opts`](goblin_pe_head::CoffHeader::sections_with_opts);
-    /// [`Error::Memory`] if memory is refused, and only of a file that has more than 96 sections,
-    /// by whose windows addresses are mapped, and room for as many as its header says.
+    /// As [`Header::parse_with_opts`], and as
+    /// [`CoffHeader::sections_with_opts`](goblin_pe_head::CoffHeader::sections_with_opts).
+    /// [`Error::Memory`] if memory is refused, and only if the file has more than 96 sections.
     pub fn damage(alloc: Global, bytes: &[u8], opts: &ParseOptions) -> Result<Damage>
         ensures tells { TellsDamage Sections opts.now bytes.now result }
         ensures sound { IfOk result (λ d. IsSound d → IsReadByBoth Sections opts.now bytes.now) }
         ensures grown { IfErr result
             (λ e.
             IsMemory e → IsSomeAnd ((pe_header (is_strict opts.now.parse_mode)).value bytes.now)
-            (TakesIndex opts.now bytes.now)) }
+            TakesIndex) }
     {
         file_damage(alloc, bytes, View::Sections, opts)
     }
 
-    /// The damage, as [`Whole::damage`] tells it, of a file whose addresses are mapped as the view
-    /// says.
+    /// Reports the damage of a file, as [`Whole::damage`] does, with addresses mapped as `view`
+    /// says. Only for [`View::Sections`] is it proved that both modes read a file without damage
+    /// alike.
     ///
     /// # Errors
     /// As [`Whole::damage`].
@@ -167,7 +169,7 @@ impl Whole<'_> {
         ensures grown { IfErr result
             (λ e.
             IsMemory e → IsSomeAnd ((pe_header (is_strict opts.now.parse_mode)).value bytes.now)
-            (TakesIndex opts.now bytes.now)) }
+            TakesIndex) }
     {
         file_damage(alloc, bytes, view, opts)
     }

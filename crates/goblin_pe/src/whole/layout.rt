@@ -1,7 +1,7 @@
-//! What all tables of a file are read by.
+//! What a reader of any table of a file needs.
 
 ghost use Rattle.std.specs.Prelude.{◌+◌, ◌/◌, ◌<◌, ◌≡◌, IfErr, IfOk, IsErrAnd, Ok, Some};
-ghost use Rattle.std.specs.Prelude.{Option, length, map, ℕ};
+ghost use Rattle.std.specs.Prelude.{Option, length, map};
 ghost use Rattle.std.specs.List.{flat_map};
 ghost use Rattle.goblin_base.specs.declared.error.ErrorOf.{ErrorOf};
 ghost use Rattle.goblin_base.specs.Answers.{GivesOrMemory, IsMemory};
@@ -15,7 +15,6 @@ ghost use Rattle.goblin_pe_sect.specs.Addresses.{reads_strictly, strict_map, wit
 ghost use Rattle.goblin_pe_sect.specs.BaseRelocations.{relocation_bytes};
 ghost use Rattle.goblin_pe_sect.specs.Options.{is_strict, rule_by_alignment};
 ghost use Rattle.goblin_pe_sect.specs.SectionTable.{mapped_of, recorded_sections, unnamed};
-ghost use Rattle.goblin_pe_sect.specs.WindowIndex.{HasPieces};
 ghost use Rattle.goblin_pe_head.specs.CoffHeader.{IsTooManySections};
 ghost use Rattle.goblin_pe_head.specs.PeHeader.{header_value};
 ghost use Rattle.goblin_pe_import.specs.ImportCursors.{first_import};
@@ -31,9 +30,8 @@ ghost use Rattle.goblin_pe.specs.Layouts.{file_imports_left, layout_bytes};
 ghost use Rattle.goblin_pe.specs.Layouts.{layout_map, layout_places, layout_sections};
 ghost use Rattle.goblin_pe.specs.Layouts.{address_part, walked_exports};
 ghost use Rattle.goblin_pe_export.specs.ExportWalks.{walked_tables};
-ghost use Rattle.goblin_pe_head.specs.SectionRoom.{TakesSections};
 ghost use Rattle.goblin_pe.specs.TakenMemory.{TakesIndex};
-ghost use Rattle.goblin_pe.specs.Whole.{IfRead, TablePlaces, entry_format, export_part};
+ghost use Rattle.goblin_pe.specs.Whole.{IfRead, entry_format, export_part};
 ghost use Rattle.goblin_pe.specs.Whole.{import_list};
 ghost use Rattle.goblin_pe.specs.Whole.{part_map, relocation_part, section_table_offset};
 ghost use Rattle.goblin_pe.specs.Whole.{places_in, sections_after, table_places};
@@ -53,9 +51,11 @@ use goblin_pe_sect::{DataDirectory, ParseOptions, RawPointerRule, SectionTable, 
 use std::alloc::Global;
 use std::fmt;
 
-/// What all tables of a file are read by: where they lie, the records of the sections, and where
-/// addresses lie in the file. Each table is read when it is asked for: imports and exports one by
-/// one, without memory.
+/// What a reader of any table of a file needs: the bytes of the file, where its tables lie, its
+/// section headers, and the map from addresses to file offsets.
+///
+/// A layout lists nothing. Each table is read when you ask for it: imports and exports one at a
+/// time, without memory.
 ///
 /// Source: PE Format, "Overview".
 #[derive(Drop)]
@@ -74,15 +74,15 @@ impl<'a> fmt::Debug for Layout<'a> {
     }
 }
 
-// The file offset of the section table after an optional header of this size.
+// The file offset of the section table that follows an optional header of this size.
 fn section_table_after(pe_pointer: u32, size_of_optional_header: u16) -> usize
     ensures { result ≡ pe_pointer + 24 + size_of_optional_header }
 {
     pe_pointer as usize + SIZEOF_PE_MAGIC + SIZEOF_COFF_HEADER + size_of_optional_header as usize
 }
 
-/// The file offset of the section table, which follows the optional header, by the size that the
-/// COFF header says.
+/// The file offset of the section table. It follows the optional header, whose size the COFF header
+/// gives.
 ///
 /// Source: PE Format, "Section Table (Section Headers)".
 #[inline(always)]
@@ -93,13 +93,13 @@ pub fn section_table_offset(header: &Header) -> usize
     section_table_after(header.dos_header.pe_pointer, size)
 }
 
-/// The records of the sections of a file with this header, in its bytes. They take no memory, and
-/// their sections have no names from the string table.
+/// The section headers of a file with this header, as they lie in its bytes. They take no memory.
+/// Their sections lack the names from the string table.
 ///
 /// Source: PE Format, "Section Table (Section Headers)".
 ///
 /// # Errors
-/// As [`CoffHeader::sections_with_opts`](goblin_pe_head::CoffHeader::sections_with_opts), but for
+/// As [`CoffHeader::sections_with_opts`](goblin_pe_head::CoffHeader::sections_with_opts), but never
 /// [`Error::Memory`](goblin_base::Error::Memory).
 #[inline(always)]
 #[tactic(auto, unfolding(crate::specs::Whole::sections_after))]
@@ -120,8 +120,8 @@ pub fn section_records_of<'a>(
         .section_records_with_opts(bytes, &mut offset, opts)
 }
 
-/// The sections of a file with this header, in the order of their records, with their names from
-/// the string table, in memory of their own: as much as
+/// The sections of a file with this header, in the order of their section headers, with their names
+/// from the string table. They take memory, as much as
 /// [`CoffHeader::sections_with_opts`](goblin_pe_head::CoffHeader::sections_with_opts) says.
 ///
 /// Source: PE Format, "Section Table (Section Headers)".
@@ -141,8 +141,6 @@ pub fn sections_of(
         bytes.now }
     ensures first { let count = header.now.coff_header.number_of_sections in
         length bytes.now / 40 < count → IsErrAnd result (IsTooManySections count bytes.now) }
-    ensures grown { IfErr result
-        (λ e. IsMemory e → TakesSections header.now.coff_header.number_of_sections bytes.now) }
 {
     let mut offset = section_table_offset(header);
     header
@@ -151,8 +149,8 @@ pub fn sections_of(
 }
 
 impl<'a> Layout<'a> {
-    /// The layout of a file with this header, by its sections, as goblin maps addresses:
-    /// [`Layout::in_view`] says the rest.
+    /// The layout of a file with this header. Addresses are mapped as goblin maps them: by the
+    /// sections alone. See [`Layout::in_view`].
     ///
     /// # Errors
     /// As [`Layout::in_view`].
@@ -170,15 +168,19 @@ impl<'a> Layout<'a> {
         ensures first { let count = header.now.coff_header.number_of_sections in
             length bytes.now / 40 < count → IsErrAnd result (IsTooManySections count bytes.now) }
         ensures grown { IfErr result
-            (λ e. IsMemory e → TakesIndex opts.now bytes.now (header_value header.now)) }
+            (λ e. IsMemory e → TakesIndex (header_value header.now)) }
     {
         Layout::in_view(alloc, bytes, header, View::Sections, opts)
     }
 
-    /// The layout of a file with this header as the Windows loader maps it: raw pointers by the
-    /// file alignment ([`RawPointerRule::by_file_alignment`], whatever `opts` say), and the file's
-    /// front, as many bytes as the header says, at the image's base. So it has the names and
-    /// tables that stand in the headers, where packers hide them.
+    /// The layout of a file with this header. Addresses are mapped as the Windows loader maps them:
+    ///
+    /// - Raw pointers follow the file alignment ([`RawPointerRule::by_file_alignment`]), whatever
+    ///   rule `opts` name.
+    /// - The front of the file is mapped at the image's base: as many bytes as the header says that
+    ///   the headers have, in whole file blocks.
+    ///
+    /// So this layout finds names and tables in the headers, where packers hide them.
     ///
     /// # Errors
     /// As [`Layout::in_view`].
@@ -201,16 +203,16 @@ impl<'a> Layout<'a> {
         Layout::in_view(alloc, bytes, header, View::Loader, &opts)
     }
 
-    /// The layout of a file with this header, whose addresses are mapped as the view says. Its
-    /// sections are refused where [`Whole::read`](crate::Whole::read) refuses them. Memory is taken
-    /// only for an index of more than 96 sections, by whose windows addresses are mapped.
+    /// The layout of a file with this header, with addresses mapped as `view` says. It refuses the
+    /// sections that [`Whole::read`](crate::Whole::read) refuses. It takes memory only for an index
+    /// of more than 96 sections.
     ///
     /// # Errors
-    /// As [`CoffHeader::sections_with_opts`](goblin_pe_head::CoffHeader::sections_with_opts), but
-    /// [`Error::Memory`](goblin_base::Error::Memory) only of more than 96 sections, where their
-    /// windows map addresses.
+    /// As [`CoffHeader::sections_with_opts`](goblin_pe_head::CoffHeader::sections_with_opts). But
+    /// [`Error::Memory`](goblin_base::Error::Memory) can come only if there are more than 96
+    /// sections.
     #[inline(always)]
-    #[tactic(auto, using(crate::proofs::SectionNames::mapped_by_names, crate::proofs::SectionNames::takes_index))]
+    #[tactic(auto, using(crate::proofs::SectionNames::mapped_by_names))]
     pub fn in_view(
         alloc: Global,
         bytes: &'a [u8],
@@ -225,7 +227,7 @@ impl<'a> Layout<'a> {
         ensures first { let count = header.now.coff_header.number_of_sections in
             length bytes.now / 40 < count → IsErrAnd result (IsTooManySections count bytes.now) }
         ensures grown { IfErr result
-            (λ e. IsMemory e → TakesIndex opts.now bytes.now (header_value header.now)) }
+            (λ e. IsMemory e → TakesIndex (header_value header.now)) }
     {
         let records = section_records_of(bytes, header, opts)?;
         let front = view.front(size_of_headers(&header.optional_header));
@@ -234,12 +236,12 @@ impl<'a> Layout<'a> {
         Ok(layout)
     }
 
-    /// The layout of a file whose tables lie at these places, and whose addresses are mapped by
-    /// these records, whatever its header says.
+    /// The layout of a file whose tables lie at `places` and whose addresses `mapped` maps,
+    /// whatever its header says.
     ///
     /// # Errors
-    /// Only [`Error::Memory`](goblin_base::Error::Memory), of more than 96 sections, where their
-    /// windows map addresses.
+    /// Only [`Error::Memory`](goblin_base::Error::Memory), and only if there are more than 96
+    /// sections.
     #[inline(always)]
     pub fn by<'e>(
         alloc: Global,
@@ -255,7 +257,7 @@ impl<'a> Layout<'a> {
         ensures recorded { IfOk result
             (λ l. layout_sections l ≡ recorded_sections mapped.entry.records) }
         ensures grown { let count = length (recorded_sections mapped.entry.records) in
-            IfErr result (λ e. HasPieces opts.now places.file_alignment × AreMany count) }
+            IfErr result (λ e. AreMany count) }
     {
         let records = mapped.records;
         let address_map = AddressMap::of_records(alloc, mapped, places.file_alignment, opts)?;
@@ -267,7 +269,7 @@ impl<'a> Layout<'a> {
         })
     }
 
-    // The same layout, by which damaged tables are refused and not passed over.
+    // The same layout in strict mode: damaged tables are refused, and not passed over.
     pub(super) fn strictly(self) -> Layout<'a>
         ensures over { layout_bytes result ≡ layout_bytes self.entry }
         ensures placed { layout_places result ≡ layout_places self.entry }
@@ -281,11 +283,13 @@ impl<'a> Layout<'a> {
         }
     }
 
-    /// Sets how many bytes the names of imports, libraries and exports may have before they are cut,
-    /// as [`pread_str_within`](goblin_base::pread_str_within) and, of forwarders,
-    /// [`Reexport::parse_within`](crate::export::Reexport::parse_within) cut them. `None` is no
-    /// limit. With one, the tables are no longer those of the whole file: what follows a cut is not
-    /// tested.
+    /// Sets a limit, in bytes, on the names of imports, libraries and exports. A longer name is cut
+    /// as [`pread_str_within`](goblin_base::pread_str_within) says: what is left of it is longer
+    /// than the limit by up to four bytes. The text of a forwarder is cut as
+    /// [`Reexport::parse_within`](crate::export::Reexport::parse_within) says. `None` is no limit.
+    ///
+    /// With a limit, the tables are no longer those of [`Whole::read`](crate::Whole::read), since
+    /// the text after a cut is not tested.
     #[inline(always)]
     pub fn set_longest_name(&mut self, longest: Option<u32>)
         ensures over { layout_bytes self.new ≡ layout_bytes self.old }
@@ -311,16 +315,20 @@ impl<'a> Layout<'a> {
         self.bytes
     }
 
-    /// The records of the sections, by which the addresses are mapped. Their sections have no names
-    /// from the string table.
+    /// The section headers, by which addresses are mapped. Their sections lack the names from the
+    /// string table.
     pub fn section_records(&self) -> SectionRecords<'a>
         ensures { recorded_sections result ≡ layout_sections self.now }
     {
         self.records
     }
 
-    /// The imports that the import directory leads to, one by one, where they are asked for. What
-    /// gives none is counted by [`Layout::left_out`], by its `unmapped_entries` in either mode.
+    /// A walk over the imports, which yields them one at a time. The table is
+    /// [absent](Part::Absent) if the file has no import directory, or if the options do not ask for
+    /// imports.
+    ///
+    /// [`Layout::left_out`] counts the entries that give no import. Those that it counts in
+    /// `unmapped_entries` give none in either mode.
     ///
     /// # Errors
     /// In strict mode as [`Imports::of`](crate::import::Imports::of).
@@ -345,8 +353,8 @@ impl<'a> Layout<'a> {
         }
     }
 
-    /// Before the first import, where the file has an import directory and they are asked for; else
-    /// at the end.
+    /// The cursor before the first import. If the file has no import directory, or if the options
+    /// do not ask for imports, it is the cursor at the end.
     ///
     /// # Errors
     /// In strict mode as [`ImportCursor::first`].
@@ -364,7 +372,8 @@ impl<'a> Layout<'a> {
         }
     }
 
-    /// The imports at a cursor, as [`FileImports::cursor`] gave it: what was still to come there.
+    /// The walk over the imports from a cursor on. At a cursor that [`FileImports::cursor`]
+    /// returned, it yields what that walk had yet to yield.
     #[tactic(auto, unfolding(crate::specs::Whole::entry_format))]
     pub fn imports_at<'m, 'e>(&'m self, at: ImportCursor) -> FileImports<'a, 'm, 'e>
         ensures walk { let m = layout_map self.now in
@@ -383,7 +392,9 @@ impl<'a> Layout<'a> {
         }
     }
 
-    /// The exports that the export directory lists, one by one, each with its numbers.
+    /// A walk over the exports, which yields them one at a time, each with its ordinal, its hint
+    /// and the address of its name. The table is [absent](Part::Absent) if the file has no export
+    /// directory.
     ///
     /// # Errors
     /// In strict mode as [`Exports::of`](crate::export::Exports::of).
@@ -397,8 +408,8 @@ impl<'a> Layout<'a> {
         self.exports_by(self.finder())
     }
 
-    /// The exports, as [`Layout::exports`], by a finder of this layout: what it has at hand takes
-    /// no search.
+    /// The exports, as [`Layout::exports`], with a finder of this layout. An address that the
+    /// finder has at hand takes no search.
     ///
     /// # Errors
     /// As [`Layout::exports`].
@@ -418,10 +429,12 @@ impl<'a> Layout<'a> {
         part_of(Exports::by(self.bytes, directory, finder), &opts)
     }
 
-    /// What the export directory leads to besides the names of exports: its record, the library's
-    /// name and the address table, by which a loader finds an export by its ordinal. A walk over it
-    /// has no exports. Where the exports are read, these are their addresses; where they are refused
-    /// only for the number of their name pointers, it is read all the same.
+    /// The export directory without the names of the exports: its export directory table, the name
+    /// of the library, and the address table, in which a loader finds an export by its ordinal. As
+    /// a walk it yields no exports.
+    ///
+    /// If [`Layout::exports`] reads the exports, the addresses are theirs. If it refuses them only
+    /// because of the number of their name pointers, this call reads the addresses all the same.
     ///
     /// # Errors
     /// In strict mode as [`Exports::addresses_of`](crate::export::Exports::addresses_of).
@@ -440,7 +453,7 @@ impl<'a> Layout<'a> {
         )
     }
 
-    /// A finder by the map of the file's addresses.
+    /// A finder of file offsets, over the address map of this layout.
     #[inline(always)]
     pub fn finder<'m>(&'m self) -> Finder<'m>
         ensures { map_of result ≡ layout_map self.now }
@@ -448,7 +461,7 @@ impl<'a> Layout<'a> {
         Finder::of(&self.address_map)
     }
 
-    /// The base relocations: the bytes of their directory, whose blocks are read one by one.
+    /// The base relocations: the bytes of their directory. Its blocks are read one at a time.
     ///
     /// # Errors
     /// In strict mode as [`RelocationData::parse_at`].
@@ -459,13 +472,14 @@ impl<'a> Layout<'a> {
         self.places.relocations(self.bytes, &self.address_map)
     }
 
-    /// The bytes of the data directory at an index, at its address; so they are none of the
-    /// certificates', whose address is a file offset.
+    /// The bytes of the data directory at an index, which lie at its address. The certificate
+    /// directory has a file offset in place of an address, so these are not the bytes of the
+    /// certificates.
     ///
     /// # Errors
     /// In strict mode [`Error::Malformed`] with [`Cause::Unmapped`] if the address has no file
-    /// offset, and [`Error::Read`] if the bytes there run past the end of the file, or begin at or
-    /// past it.
+    /// offset, and [`Error::Read`] if the bytes begin at or past the end of the file, or run past
+    /// it.
     #[tactic(auto, unfolding(crate::specs::DirectoryParts::directory_part))]
     pub fn directory(&self, index: usize) -> Result<Part<&'a [u8]>>
         requires { index < 16 }
@@ -478,7 +492,7 @@ impl<'a> Layout<'a> {
         part_of(self.bytes_of(directory), self.address_map.opts())
     }
 
-    // The bytes of a directory.
+    // The bytes of a data directory.
     fn bytes_of(&self, directory: DataDirectory) -> Result<&'a [u8]>
         ensures { let m = layout_map self.now in
             Reads (λ b. b.now) result (directory_data m.addressing directory)
@@ -491,7 +505,7 @@ impl<'a> Layout<'a> {
         }
     }
 
-    /// How much is left out of the imports; nothing where they are not asked for.
+    /// How much is left out of the imports. All counts are 0 if the options ask for no imports.
     #[tactic(auto, unfolding(crate::specs::Damages::left_out_of))]
     pub fn left_out(&self) -> LeftOut
         ensures { let m = layout_map self.now in
@@ -505,9 +519,10 @@ impl<'a> Layout<'a> {
         }
     }
 
-    /// How many name pointers of the export directory give no export, in either mode: there is no
-    /// ordinal, the ordinal lies past the address table, or it leads to a forwarder whose text
-    /// cannot be read. 0 where the file has no export directory, or a refused one.
+    /// How many name pointers of the export directory give no export, in either mode. Such a
+    /// pointer has no ordinal, or its ordinal lies past the address table, or it leads to a
+    /// forwarder whose text cannot be read. The count is 0 if there is no export directory, or if
+    /// it is refused.
     #[tactic(auto, unfolding(crate::specs::Damages::exports_left_out))]
     pub fn left_out_exports(&self) -> usize
         ensures { let m = layout_map self.now in
@@ -523,7 +538,7 @@ impl<'a> Layout<'a> {
         }
     }
 
-    // The imports of a directory, as a walk.
+    // A walk over the imports of a directory.
     #[inline(always)]
     #[tactic(auto, unfolding(crate::specs::Whole::entry_format))]
     fn imports_in<'m, 'e>(
@@ -552,7 +567,6 @@ impl<'a> Layout<'a> {
         }
     }
 
-    // How much is left out of the imports of a directory.
     #[tactic(auto, unfolding(crate::specs::Whole::entry_format))]
     fn imports_left_out_at(&self, directory: DataDirectory) -> LeftOut
         ensures { let format = entry_format (layout_places self.now).magic in

@@ -1,18 +1,15 @@
 //! The tables that a file's data directories lead to, as lists.
 
-ghost use Rattle.std.specs.Prelude.{◌≡◌, ◌<◌, IfErr, IfOk, IsSomeAnd, Some};
-ghost use Rattle.goblin_base.specs.Answers.{AnswersOrMemory, IsMemory};
+ghost use Rattle.std.specs.Prelude.{◌≡◌, ◌<◌, IfOk, Some};
+ghost use Rattle.goblin_base.specs.Answers.{AnswersOrMemory};
 ghost use Rattle.goblin_base.specs.Reading.{ReadsOrMemory};
 ghost use Rattle.readings.specs.Reads.{mapped};
-ghost use Rattle.goblin_pe_sect.specs.Addresses.{IsIndexed, map_of, offset_of, reads_strictly};
+ghost use Rattle.goblin_pe_sect.specs.Addresses.{IsIndexed, map_of, reads_strictly};
 ghost use Rattle.goblin_pe_export.specs.ExportReadings.{export_read};
 ghost use Rattle.goblin_pe_export.specs.ExportRecords.{export_read_view, read_rows};
-ghost use Rattle.goblin_pe_export.specs.Exports.{HasExportEntries, TakesRoomFor, export_data};
-ghost use Rattle.goblin_pe_import.specs.ImportDirectory.{TakesLibraries};
-ghost use Rattle.goblin_pe_import.specs.ImportReadings.{first_record_offset, import_data};
-ghost use Rattle.goblin_pe_import.specs.Imports.{IsImportListFault, imports_of, kept_count};
-ghost use Rattle.goblin_pe.specs.TakenMemory.{TakesExports, TakesImports, TakesTables};
-ghost use Rattle.goblin_pe.specs.Whole.{IsReadAnd, IsListedImportsFault, both_lists, entry_format};
+ghost use Rattle.goblin_pe_import.specs.ImportReadings.{import_data};
+ghost use Rattle.goblin_pe_import.specs.Imports.{IsImportListFault, imports_of};
+ghost use Rattle.goblin_pe.specs.Whole.{IsListedImportsFault, both_lists, entry_format};
 ghost use Rattle.goblin_pe.specs.Whole.{export_part, import_data_part, import_read_view};
 ghost use Rattle.goblin_pe.specs.Whole.{items_part, listed_imports_part, listed_tables, listed_view};
 ghost use Rattle.goblin_pe.specs.Whole.{numbered_data_part, part_map, table_places};
@@ -28,7 +25,6 @@ use goblin_pe_sect::{DataDirectory, ParseOptions, SectionTable};
 use std::alloc::Global;
 
 impl Places {
-    // The import data of a directory.
     #[tactic(auto, unfolding(crate::specs::Whole::entry_format))]
     fn import_data_of<'a>(
         &self,
@@ -37,17 +33,11 @@ impl Places {
         directory: DataDirectory,
         address_map: &AddressMap,
     ) -> Result<ImportData<'a>>
-        ensures made { let m = map_of address_map.now in
+        ensures { let m = map_of address_map.now in
             let format = entry_format self.now.magic in
             let rva = directory.virtual_address in
             ReadsOrMemory (λ x. x) result
             (import_data (reads_strictly m) format m.addressing rva) bytes.now }
-        ensures grown { let m = map_of address_map.now in
-            let format = entry_format self.now.magic in
-            let place = offset_of m directory.virtual_address in
-            IfErr result
-            (λ e. IsMemory e → IsSomeAnd (first_record_offset (reads_strictly m) place)
-            (TakesLibraries (reads_strictly m) format m.addressing bytes.now)) }
     {
         if self.has_narrow_entries() {
             ImportData::parse_by::<u32>(alloc, bytes, directory, address_map)
@@ -56,20 +46,17 @@ impl Places {
         }
     }
 
-    // The import data, if it was asked for.
-    #[tactic(auto, unfolding(crate::specs::Whole::import_data_part), using(crate::proofs::Parts::becomes_same, crate::proofs::TakenTables::becomes_taken))]
+    // The import data, if the options ask for it.
+    #[tactic(auto, unfolding(crate::specs::Whole::import_data_part), using(crate::proofs::Parts::becomes_same))]
     fn import_data<'a>(
         &self,
         alloc: Global,
         bytes: &'a [u8],
         address_map: &AddressMap,
     ) -> Result<Part<ImportData<'a>>>
-        ensures made { let m = map_of address_map.now in
+        ensures { let m = map_of address_map.now in
             let places = table_places self.now in
             ReadsOrMemory (λ x. x) result (import_data_part m.opts m.addressing places) bytes.now }
-        ensures grown { let m = map_of address_map.now in
-            IfErr result
-            (λ e. IsMemory e → TakesImports m (table_places self.now) bytes.now) }
     {
         let opts = address_map.opts();
         match self.directory(IMPORT_TABLE) {
@@ -81,7 +68,6 @@ impl Places {
         }
     }
 
-    // The imports of import data.
     #[tactic(auto, unfolding(crate::specs::Whole::entry_format))]
     fn imports_of<'a>(
         &self,
@@ -90,10 +76,9 @@ impl Places {
         libraries: &ImportData<'a>,
         sections: &[SectionTable],
     ) -> Result<Vec<Import<'a>>>
-        ensures made { AnswersOrMemory (λ v. v.items) result
+        ensures { AnswersOrMemory (λ v. v.items) result
             (imports_of (entry_format self.now.magic).width libraries.now)
             (IsImportListFault libraries.now) }
-        ensures grown { IfErr result (λ e. IsMemory e → 0 < kept_count libraries.now) }
     {
         if self.has_narrow_entries() {
             Import::parse::<u32>(alloc, bytes, libraries, sections)
@@ -102,8 +87,8 @@ impl Places {
         }
     }
 
-    // The list of imports.
-    #[tactic(auto, unfolding(crate::specs::Whole::listed_imports_part), using(crate::proofs::Parts::becomes_answered, crate::proofs::TakenTables::becomes_taken))]
+    // The list of imports, as a part.
+    #[tactic(auto, unfolding(crate::specs::Whole::listed_imports_part), using(crate::proofs::Parts::becomes_answered))]
     fn imports<'a>(
         &self,
         alloc: Global,
@@ -112,11 +97,9 @@ impl Places {
         sections: &[SectionTable],
         opts: &ParseOptions,
     ) -> Result<Part<Vec<Import<'a>>>>
-        ensures made { AnswersOrMemory items_part result
+        ensures { AnswersOrMemory items_part result
             (listed_imports_part opts.now (table_places self.now) import_data.now)
             (IsListedImportsFault import_data.now) }
-        ensures grown { IfErr result (λ e. IsMemory e
-            → IsReadAnd (λ libraries. 0 < kept_count libraries) import_data.now) }
     {
         match import_data {
             Part::Absent => Ok(Part::Absent),
@@ -141,9 +124,6 @@ impl Places {
         ensures listed { let m = map_of address_map.now in
             IfOk result (λ read.
             listed_imports_part m.opts (table_places self.now) read.0 ≡ Some (items_part read.1)) }
-        ensures grown { let m = map_of address_map.now in
-            IfErr result
-            (λ e. IsMemory e → TakesImports m (table_places self.now) bytes.now) }
     {
         let import_data = self.import_data(alloc, bytes, address_map)?;
         let imports = self.imports(alloc, bytes, &import_data, sections, address_map.opts())?;
@@ -151,20 +131,17 @@ impl Places {
     }
 
     // The export data, and the exports that it lists.
-    #[tactic(auto, unfolding(crate::specs::Whole::export_part, goblin_pe_export::specs::ExportReadings::export_read), using(crate::proofs::Parts::becomes_mapped, crate::proofs::TakenTables::becomes_taken))]
+    #[tactic(auto, unfolding(crate::specs::Whole::export_part, goblin_pe_export::specs::ExportReadings::export_read), using(crate::proofs::Parts::becomes_mapped))]
     fn exports<'a>(
         &self,
         alloc: Global,
         bytes: &'a [u8],
         address_map: &AddressMap,
     ) -> Result<Part<ExportRead<'a>>>
-        ensures made { let m = map_of address_map.now in
+        ensures { let m = map_of address_map.now in
             let places = table_places self.now in
             ReadsOrMemory (part_map export_read_view) result
             (mapped (part_map read_rows) (export_part m.opts m.addressing places)) bytes.now }
-        ensures grown { let m = map_of address_map.now in
-            IfErr result
-            (λ e. IsMemory e → TakesExports m (table_places self.now) bytes.now) }
     {
         let Some(directory) = self.directory(EXPORT_TABLE) else {
             return Ok(Part::Absent);
@@ -175,7 +152,7 @@ impl Places {
         )
     }
 
-    // All tables, by this index of the sections.
+    // All tables, with addresses mapped by this index of the sections.
     pub(super) fn listed<'a>(
         &self,
         alloc: Global,
@@ -190,9 +167,6 @@ impl Places {
         ensures listed { let m = map_of address_map.now in
             IfOk result (λ t. listed_imports_part m.opts (table_places self.now) t.imports.0
             ≡ Some (items_part t.imports.1)) }
-        ensures grown { let m = map_of address_map.now in
-            IfErr result
-            (λ e. IsMemory e → TakesTables m (table_places self.now) bytes.now) }
     {
         let imports = self.import_lists(alloc, bytes, address_map, sections)?;
         let exports = self.exports(alloc, bytes, address_map)?;
@@ -211,7 +185,6 @@ pub(super) type ImportRead<'a> = (Part<ImportData<'a>>, Part<Vec<Import<'a>>>);
 // Export data, and the exports that it lists.
 pub(super) type ExportRead<'a> = (ExportData<'a>, Vec<Export<'a>>);
 
-// The tables of a file.
 pub(super) struct ListedTables<'a> {
     pub(super) imports: ImportRead<'a>,
     pub(super) exports: Part<ExportRead<'a>>,
@@ -226,12 +199,8 @@ fn exports_of<'a>(
     directory: DataDirectory,
     address_map: &AddressMap,
 ) -> Result<ExportRead<'a>>
-    ensures made { let m = map_of address_map.now in
+    ensures { let m = map_of address_map.now in
         ReadsOrMemory export_read_view result (export_read m.addressing directory) bytes.now }
-    ensures grown { let m = map_of address_map.now in
-        IfErr result (λ e. IsMemory e
-        → IsSomeAnd (export_data m.addressing directory bytes.now) HasExportEntries) }
-    ensures room { IfOk result (λ read. TakesRoomFor 32 read.1) }
 {
     let data = ExportData::parse_by(alloc, bytes, directory, address_map)?;
     let exports = Export::parse_by(alloc, bytes, &data, address_map)?;

@@ -1,15 +1,12 @@
 //! Which part of a file is refused.
 
-ghost use Rattle.std.specs.Prelude.{◌≡◌, IfErr, IsSomeAnd};
+ghost use Rattle.std.specs.Prelude.{◌≡◌};
 ghost use Rattle.goblin_base.specs.Answers.{GivesOrMemory};
 ghost use Rattle.goblin_pe_sect.specs.declared.options.View.TheVariants.{Sections};
-ghost use Rattle.goblin_pe_sect.specs.Options.{is_strict};
-ghost use Rattle.goblin_pe_head.specs.HeaderReadings.{pe_header};
 ghost use Rattle.goblin_pe_head.specs.PeHeader.{header_value};
 ghost use Rattle.goblin_pe.specs.Layouts.{layout_bytes, layout_map, layout_places};
 ghost use Rattle.goblin_pe.specs.RefusedParts.{IsReadWithout, IsWithoutRead, refused_after};
 ghost use Rattle.goblin_pe.specs.RefusedParts.{refused_part, refused_table};
-ghost use Rattle.goblin_pe.specs.TakenMemory.{TakesIndex};
 
 use crate::whole::damage::import_damage;
 use crate::whole::{Layout, Whole};
@@ -24,9 +21,9 @@ use std::alloc::Global;
 pub enum RefusedPart {
     /// Nothing is refused.
     Nothing = 0,
-    /// The header: all that stands before the section table.
+    /// The header: everything before the section table.
     Header = 1,
-    /// The sections: their records, or a name.
+    /// The sections: their headers, or a name.
     Sections = 2,
     /// The imports.
     Imports = 3,
@@ -62,7 +59,7 @@ fn refused_table(layout: &Layout) -> RefusedPart
     }
 }
 
-// The part that is refused of a file with this header.
+// The part that is refused in a file with this header.
 fn refused_after(
     alloc: Global,
     bytes: &[u8],
@@ -70,9 +67,8 @@ fn refused_after(
     view: View,
     opts: &ParseOptions,
 ) -> Result<RefusedPart>
-    ensures value { GivesOrMemory (λ p. p) result
+    ensures { GivesOrMemory (λ p. p) result
         (refused_after view opts.now bytes.now (header_value header.now)) }
-    ensures grown { IfErr result (λ e. TakesIndex opts.now bytes.now (header_value header.now)) }
 {
     match Layout::in_view(alloc, bytes, header, view, opts) {
         Ok(layout) => Ok(refused_table(&layout)),
@@ -82,28 +78,23 @@ fn refused_after(
 }
 
 impl Whole<'_> {
-    /// Tells for which part these options refuse a file: the first that cannot be read, in the
-    /// order of [`Whole::read`]. Of a file that is read it is [`RefusedPart::Nothing`]. In
-    /// permissive mode it is no table. No table is listed, and memory is taken as for
-    /// [`Whole::damage`].
+    /// Names the part for which these options refuse a file: the first that cannot be read, in the
+    /// order of [`Whole::read`]. If the file is read, it is [`RefusedPart::Nothing`]. In permissive
+    /// mode it is never a table. No table is listed, and memory is taken only as [`Whole::damage`]
+    /// takes it.
     ///
     /// # Errors
-    /// [`Error::Memory`](goblin_base::Error::Memory) if memory is refused, and only of a file that
-    /// has more than 96 sections, by whose windows addresses are mapped, and room for as many as
-    /// its header says.
+    /// [`Error::Memory`](goblin_base::Error::Memory) if memory is refused.
     pub fn refused_part(alloc: Global, bytes: &[u8], opts: &ParseOptions) -> Result<RefusedPart>
         ensures value { GivesOrMemory (λ p. p) result (refused_part Sections opts.now bytes.now) }
         ensures read { IsReadWithout Sections opts.now bytes.now }
         ensures refused { IsWithoutRead Sections opts.now bytes.now }
-        ensures grown { IfErr result
-            (λ e. IsSomeAnd ((pe_header (is_strict opts.now.parse_mode)).value bytes.now)
-            (TakesIndex opts.now bytes.now)) }
     {
         Whole::refused_part_in(alloc, bytes, View::Sections, opts)
     }
 
-    /// The part, as [`Whole::refused_part`] tells it, of a file whose addresses are mapped as the
-    /// view says.
+    /// Names the refused part of a file, as [`Whole::refused_part`] does, with addresses mapped as
+    /// `view` says.
     ///
     /// # Errors
     /// As [`Whole::refused_part`].
@@ -117,9 +108,6 @@ impl Whole<'_> {
         ensures value { GivesOrMemory (λ p. p) result (refused_part view opts.now bytes.now) }
         ensures read { IsReadWithout view opts.now bytes.now }
         ensures refused { IsWithoutRead view opts.now bytes.now }
-        ensures grown { IfErr result
-            (λ e. IsSomeAnd ((pe_header (is_strict opts.now.parse_mode)).value bytes.now)
-            (TakesIndex opts.now bytes.now)) }
     {
         match Header::parse_with_opts(bytes, opts) {
             Ok(header) => refused_after(alloc, bytes, &header, view, opts),

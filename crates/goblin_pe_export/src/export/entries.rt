@@ -1,7 +1,7 @@
 //! The entries of an export directory's tables, in memory or as bytes of the file.
 
-ghost use Rattle.std.specs.Prelude.{◌≡◌, ◌<◌, ◌*◌, IfOk, IfSome, List, OnErr, Some, length};
-ghost use Rattle.std.specs.Prelude.{option_map, slice_get, vec_capacity};
+ghost use Rattle.std.specs.Prelude.{◌≡◌, ◌<◌, ◌*◌, IfSome, List, Some, length};
+ghost use Rattle.std.specs.Prelude.{option_map, slice_get};
 ghost use Rattle.goblin_base.specs.Answers.{GivesOrMemory};
 ghost use Rattle.goblin_base.specs.Bytes.{slice_at};
 ghost use Rattle.goblin_base.specs.Reading.{Reads};
@@ -30,15 +30,15 @@ pub(crate) trait Entries {
     fn pointers(&self) -> usize
         ensures { result ≡ length (entries self.now).export_name_pointer_table };
 
-    // The name pointer at an index, where there is one.
+    // The name pointer at an index, if there is one.
     fn pointer(&self, index: usize) -> Option<u32>
         ensures { result ≡ slice_get (entries self.now).export_name_pointer_table index };
 
-    // The ordinal at an index, where there is one.
+    // The ordinal at an index, if there is one.
     fn ordinal(&self, index: usize) -> Option<u16>
         ensures { result ≡ slice_get (entries self.now).export_ordinal_table index };
 
-    // What the address table has at an index, if it has anything there.
+    // The entry of the address table at an index, if there is one.
     fn address(&self, index: usize) -> Option<ExportAddressTableEntry>
         ensures { result ≡ slice_get (entries self.now).export_address_table index };
 }
@@ -63,12 +63,11 @@ impl<'a> Entries for ExportData<'a> {
     }
 }
 
-// What an export directory leads to, where the tables are the bytes of their entries in the file.
+// What an export directory leads to, with each table as the bytes of its entries in the file.
 #[derive(Copy, Clone)]
 pub(crate) struct TablesInFile<'a> {
     // The library's own name, if there is a text at its address.
     pub(super) name: Option<&'a str>,
-    // The record itself.
     pub(super) export_directory_table: ExportDirectoryTable,
     directory: DataDirectory,
     name_pointers: &'a [u8],
@@ -114,7 +113,8 @@ impl<'a> TablesInFile<'a> {
         }
     }
 
-    // The tables that the record at a directory's address leads to, if its counts fit the file.
+    // The tables that the record at the directory's RVA leads to. A record whose counts do not fit
+    // the file is refused.
     #[inline(always)]
     #[tactic(auto, unfolding(crate::specs::ExportReadings::export_data))]
     pub(crate) fn find(
@@ -135,7 +135,7 @@ impl<'a> TablesInFile<'a> {
         Ok(TablesInFile::of_record(bytes, table, directory, finder))
     }
 
-    // What a record leads to besides the names.
+    // What a record leads to, without the tables of the names.
     #[tactic(auto, unfolding(crate::specs::ExportReadings::address_tables, goblin_pe_sect::specs::AddressReadings::name_at), using(crate::proofs::WholeEntries::counted_is, crate::proofs::WholeEntries::entry_count, crate::proofs::WholeEntries::no_names))]
     fn addresses_of_record(
         bytes: &'a [u8],
@@ -168,8 +168,9 @@ impl<'a> TablesInFile<'a> {
         }
     }
 
-    // What the record at a directory's address leads to besides the names, whatever it says of
-    // these, if its addresses fit the file.
+    // What the record at the directory's RVA leads to, without the tables of the names. A record
+    // whose count of addresses does not fit the file is refused; the count of name pointers does
+    // not matter.
     #[tactic(auto, unfolding(crate::specs::ExportReadings::export_addresses))]
     pub(crate) fn find_addresses(
         bytes: &'a [u8],
@@ -189,23 +190,19 @@ impl<'a> TablesInFile<'a> {
         Ok(TablesInFile::addresses_of_record(bytes, table, directory, finder))
     }
 
-    // The name pointers in memory.
+    // The name pointers, copied into memory.
     pub(super) fn name_pointers(&self, alloc: Global) -> Result<ExportNamePointerTable>
-        ensures value { let entries = (tables_in self.now).export_name_pointer_table in
+        ensures { let entries = (tables_in self.now).export_name_pointer_table in
             GivesOrMemory (λ t. t) result entries }
-        ensures grown { let entries = (tables_in self.now).export_name_pointer_table in
-            OnErr result (0 < length entries) }
     {
         table_of(alloc, self.pointers(), |index| self.pointer(index))
     }
 
-    // The ordinals in memory.
+    // The ordinals, copied into memory.
     #[tactic(auto, using(crate::proofs::WholeEntries::entry_count))]
     pub(super) fn ordinals(&self, alloc: Global) -> Result<ExportOrdinalTable>
-        ensures value { let entries = (tables_in self.now).export_ordinal_table in
+        ensures { let entries = (tables_in self.now).export_ordinal_table in
             GivesOrMemory (λ t. t) result entries }
-        ensures grown { let entries = (tables_in self.now).export_ordinal_table in
-            OnErr result (0 < length entries) }
     {
         let count = self.ordinals.len() / SIZEOF_ORDINAL;
         table_of(alloc, count, |index| self.ordinal(index))
@@ -219,12 +216,10 @@ impl<'a> TablesInFile<'a> {
         self.addresses.len() / SIZEOF_EXPORT_ADDRESS_TABLE_ENTRY
     }
 
-    // The addresses in memory.
+    // The addresses, copied into memory.
     pub(super) fn addresses(&self, alloc: Global) -> Result<ExportAddressTable>
-        ensures value { let entries = (tables_in self.now).export_address_table in
+        ensures { let entries = (tables_in self.now).export_address_table in
             GivesOrMemory (λ t. t) result entries }
-        ensures grown { let entries = (tables_in self.now).export_address_table in
-            OnErr result (0 < length entries) }
     {
         table_of(alloc, self.address_count(), |index| self.address(index))
     }
@@ -237,41 +232,38 @@ fn entries_of<'e, V: Drop, F: Fn(usize) -> Option<V>>(
     entry: F,
 ) -> ResultOf<'e, Vec<V>>
     requires { (index : _) → F.pre entry index }
-    ensures value { (entries : List V) → length entries ≡ count
+    ensures { (entries : List V) → length entries ≡ count
         → ((index : _) (found : _) → F.post entry index found
         → found ≡ slice_get entries index)
         → GivesOrMemory (λ v. v.items) result entries }
-    ensures room { IfOk result (λ v. vec_capacity v ≡ count) }
-    ensures grown { OnErr result (0 < count) }
 {
     let mut entries = Vec::with_capacity(alloc, count)?;
     'entries: for index in 0..count {
         let Some(found) = entry(index) else {
             return Ok(entries);
         };
-        entries.push_reserved(found);
+        entries.push(found)?;
     }
     Ok(entries)
 }
 
-// The table of them.
+// The `count` entries, as a table.
 fn table_of<'e, V: Drop, F: Fn(usize) -> Option<V>>(
     alloc: Global,
     count: usize,
     entry: F,
 ) -> ResultOf<'e, Table<V>>
     requires { (index : _) → F.pre entry index }
-    ensures value { (entries : List V) → length entries ≡ count
+    ensures { (entries : List V) → length entries ≡ count
         → ((index : _) (found : _) → F.post entry index found
         → found ≡ slice_get entries index)
         → GivesOrMemory (λ t. t) result entries }
-    ensures grown { OnErr result (0 < count) }
 {
     let entries = entries_of(alloc, count, entry)?;
     Ok(Table::from(entries))
 }
 
-// The bytes of the entry of `width` bytes at an index, where there is one.
+// The bytes of the entry of `width` bytes at an index, if there is one.
 #[tactic(auto, using(crate::proofs::WholeEntries::entries))]
 fn entry_of(entries: &[u8], width: usize, index: usize) -> Option<&[u8]>
     requires { 0 < width }

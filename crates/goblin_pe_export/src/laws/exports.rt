@@ -1,11 +1,9 @@
 //! The exports of two files.
 
-ghost use Rattle.std.specs.Prelude.{◌⊎◌, IfErr, IsSomeAnd};
-ghost use Rattle.goblin_base.specs.Answers.{IsMemory};
 ghost use Rattle.goblin_base.specs.Reading.{ReadsOrMemory, TwinsOrMemory};
-ghost use Rattle.goblin_pe_sect.specs.Addresses.{TakesMap, map_by};
+ghost use Rattle.goblin_pe_sect.specs.Addresses.{map_by};
 ghost use Rattle.goblin_pe_export.specs.ExportReadings.{export_read};
-ghost use Rattle.goblin_pe_export.specs.Exports.{HasExportEntries, export_data, export_read_view};
+ghost use Rattle.goblin_pe_export.specs.Exports.{export_read_view};
 
 use crate::export::{Export, ExportData};
 use goblin_base::Result;
@@ -30,12 +28,8 @@ pub fn read_exports<'a>(
     file_alignment: u32,
     opts: &ParseOptions,
 ) -> Result<ExportRead<'a>>
-    ensures value { let m = map_by opts.now sections.now file_alignment in
+    ensures { let m = map_by opts.now sections.now file_alignment in
         ReadsOrMemory export_read_view result (export_read m.addressing directory) bytes.now }
-    ensures grown { let m = map_by opts.now sections.now file_alignment in
-        IfErr result (λ e. IsMemory e →
-        IsSomeAnd (export_data m.addressing directory bytes.now) HasExportEntries
-        ⊎ TakesMap opts.now sections.now file_alignment) }
 {
     let tables = ExportData::parse_with_opts(
         alloc,
@@ -51,13 +45,16 @@ pub fn read_exports<'a>(
 
 /// The export data of one directory, with the exports that it lists, in two files.
 ///
-/// The footprint of the read: the record at the directory's address; where its counts fit, the text
-/// of the library's name and of the three tables each entry that is read; and for each name pointer
-/// with an ordinal and an address the text of its name, and that of its forwarder if it is one.
+/// The footprint of the read has three parts:
+///
+/// - the record at the directory's RVA;
+/// - if its counts fit the file, the text of the library's name, and each entry of the three tables
+///   that is read;
+/// - for each name pointer with an ordinal and an address, the text of its name, and that of its
+///   forwarder if the export is one.
 ///
 /// # Errors
-/// For each file as [`ExportData::parse_with_opts`] and [`Export::parse_with_opts`]; memory is
-/// asked for only if a table has an entry or addresses are mapped by sections.
+/// For each file as [`ExportData::parse_with_opts`] and [`Export::parse_with_opts`].
 #[tactic(auto, using(goblin_base::proofs::Readings::twins_or_memory))]
 pub fn twin_exports<'a>(
     alloc: Global,
@@ -68,16 +65,8 @@ pub fn twin_exports<'a>(
     file_alignment: u32,
     opts: &ParseOptions,
 ) -> (Result<ExportRead<'a>>, Result<ExportRead<'a>>)
-    ensures twins { let m = map_by opts.now sections.now file_alignment in
+    ensures { let m = map_by opts.now sections.now file_alignment in
         TwinsOrMemory export_read_view (export_read m.addressing directory) a.now b.now result }
-    ensures first_grown { let m = map_by opts.now sections.now file_alignment in
-        IfErr result.0 (λ e. IsMemory e →
-        IsSomeAnd (export_data m.addressing directory a.now) HasExportEntries
-        ⊎ TakesMap opts.now sections.now file_alignment) }
-    ensures second_grown { let m = map_by opts.now sections.now file_alignment in
-        IfErr result.1 (λ e. IsMemory e →
-        IsSomeAnd (export_data m.addressing directory b.now) HasExportEntries
-        ⊎ TakesMap opts.now sections.now file_alignment) }
 {
     let first = read_exports(alloc, a, directory, sections, file_alignment, opts);
     let second = read_exports(alloc, b, directory, sections, file_alignment, opts);

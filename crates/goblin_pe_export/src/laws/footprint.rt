@@ -1,11 +1,11 @@
 //! Which bytes of a file its exports depend on.
 
-ghost use Rattle.std.specs.Prelude.{◌≡◌, ◌+◌, ◌-◌, ◌*◌, ◌/◌, ◌<◌, ◌⊎◌, IfErr, IfOk};
-ghost use Rattle.std.specs.Prelude.{OnErr, length, min};
+ghost use Rattle.std.specs.Prelude.{◌≡◌, ◌+◌, ◌-◌, ◌*◌, ◌/◌, ◌<◌, IfErr, IfOk};
+ghost use Rattle.std.specs.Prelude.{length, min};
 ghost use Rattle.goblin_base.specs.Answers.{IsMemory};
 ghost use Rattle.goblin_base.specs.Marks.{IsFootprint, marked};
 ghost use Rattle.goblin_base.specs.Footprints.{led_to, positions};
-ghost use Rattle.goblin_pe_sect.specs.Addresses.{TakesMap, map_by, map_of};
+ghost use Rattle.goblin_pe_sect.specs.Addresses.{map_by, map_of};
 ghost use Rattle.goblin_pe_export.specs.ExportReadings as reading;
 
 use crate::export::{
@@ -22,8 +22,8 @@ use goblin_pe_sect::options::ParseOptions;
 use goblin_pe_sect::section_table::SectionTable;
 use std::alloc::Global;
 
-// Marks a table of `count` entries of `width` bytes at a place, up to the first that is not whole;
-// without a place there is none.
+// Marks a table of `count` entries of `width` bytes at `place`, up to the first incomplete entry.
+// Without a place it marks nothing.
 #[tactic(auto, using(goblin_base::proofs::Marks::marking, crate::proofs::WholeEntries::entries_inside))]
 fn add_table(marks: &mut Marks, bytes: &[u8], place: Option<usize>, width: usize, count: u32)
     requires { 0 < width }
@@ -41,7 +41,7 @@ fn add_table(marks: &mut Marks, bytes: &[u8], place: Option<usize>, width: usize
     marks.add(begin, begin + width * whole)
 }
 
-// Marks what an export's record leads to: the library's name, and the three tables.
+// Marks what an export directory's record leads to: the library's name, and the three tables.
 #[tactic(auto, using(goblin_base::proofs::Marks::marking))]
 fn add_tables(
     marks: &mut Marks,
@@ -98,7 +98,7 @@ fn add_export_data(
     add_tables(marks, bytes, table, directory, address_map)
 }
 
-// Marks the texts of a name pointer and of an address, where that is a forwarder's.
+// Marks the text of the name at `pointer`, and the text of the forwarder if `address` is one.
 #[tactic(auto, unfolding(crate::specs::ExportReadings::row_of, goblin_pe_sect::specs::AddressReadings::name_at), using(goblin_base::proofs::Marks::marking, crate::proofs::ExportRanges::forwarder_reach))]
 fn add_names(
     marks: &mut Marks,
@@ -182,13 +182,12 @@ pub fn add_exports(
 
 /// The footprint of the exports of a file: the ranges (begin, end) of the positions on which the
 /// export data of a directory and the exports that it lists depend, as
-/// [`twin_exports`](crate::laws::twin_exports) says. A position is in the footprint exactly where
-/// it lies in one of the ranges. They come in order, none is empty, and none runs past the file; a
-/// position lies between each and the next.
+/// [`twin_exports`](crate::laws::twin_exports) says. A position is in the footprint exactly if it
+/// lies in one of the ranges. The ranges are in order, with at least one position between one range
+/// and the next. None is empty, and none runs past the end of the file.
 ///
 /// # Errors
-/// [`Error::Memory`](goblin_base::Error::Memory) only, and only if the file has a byte or addresses
-/// are mapped by sections.
+/// [`Error::Memory`](goblin_base::Error::Memory) only.
 pub fn footprint_exports<'e>(
     alloc: Global,
     bytes: &[u8],
@@ -201,8 +200,6 @@ pub fn footprint_exports<'e>(
         let footprint = (reading.export_read m.addressing directory).reaches bytes.now in
         IfOk result (λ v. IsFootprint (length bytes.now) footprint v.items) }
     ensures refused { IfErr result IsMemory }
-    ensures grown { OnErr result
-        ((0 < length bytes.now) ⊎ TakesMap opts.now sections.now file_alignment) }
 {
     let address_map = AddressMap::prepare(alloc, sections, file_alignment, opts)?;
     let mut marks = Marks::with_room_for(alloc, bytes.len())?;

@@ -1,10 +1,9 @@
 //! The COFF header, and the tables that it leads to: the section table, the symbol table and the
 //! string table.
 
-ghost use Rattle.std.specs.Prelude.{◌≡◌, ◌+◌, ◌*◌, ◌/◌, ◌<◌, length, option_map, true, IfErr, OnOk};
+ghost use Rattle.std.specs.Prelude.{◌≡◌, ◌+◌, ◌*◌, ◌/◌, ◌<◌, length, option_map, true, OnOk};
 ghost use Rattle.std.specs.Prelude.{OnErr, IsErrAnd, map};
 ghost use Rattle.goblin_base.specs.Reading.{Reads, ReadsOrMemory};
-ghost use Rattle.goblin_base.specs.Answers.{IsMemory};
 ghost use Rattle.goblin_base.specs.Record.{WritesRecord};
 ghost use Rattle.readings.specs.Reads.{mapped, record_at};
 ghost use Rattle.goblin_pe_sect.specs.Options.{is_strict};
@@ -13,7 +12,6 @@ ghost use Rattle.goblin_pe_symbol.specs.Symbols.{symbol_bytes};
 ghost use Rattle.goblin_pe_head.specs.declared.header.coff.CoffHeader.{CoffHeader};
 ghost use Rattle.goblin_pe_head.specs.CoffHeader.{IsTooManySections, coff_fields, coff_header};
 ghost use Rattle.goblin_pe_head.specs.CoffHeader.{string_table_offset, symbols_end};
-ghost use Rattle.goblin_pe_head.specs.SectionRoom.{TakesSections};
 ghost use Rattle.goblin_pe_head.specs.CoffReadings as reading;
 
 use crate::header::sections::{read_section_records, read_sections};
@@ -42,25 +40,26 @@ const LENGTH_FIELD_SIZE: usize = 4;
 #[repr(C)]
 #[derive(Debug, PartialEq, Copy, Clone, Default)]
 pub struct CoffHeader {
-    /// The machine that the file is for, a `COFF_MACHINE_*`, at 0. No reader looks at it: the width
-    /// of an image is what the magic of its optional header says.
+    /// The machine that the file is for, a `COFF_MACHINE_*`, at 0. No reader looks at it, because
+    /// the magic of the optional header gives the width of an image.
     pub machine: u16,
-    /// How many section records follow the optional header, at 2. The Windows loader takes at most
-    /// 96.
+    /// How many section headers follow the optional header, at 2. The Windows loader accepts at
+    /// most 96.
     pub number_of_sections: u16,
-    /// When the file was made, in seconds since the start of 1970, at 4; or what its maker put
-    /// there, such as a hash.
+    /// When the file was made, in seconds since the start of 1970, at 4. Some makers store
+    /// something else there, such as a hash.
     pub time_date_stamp: u32,
-    /// The file offset of the symbol table, at 8; 0 where there is none, as in most images. The
-    /// string table follows the symbol table.
+    /// The file offset of the symbol table, at 8; 0 if there is none, as in most images. The string
+    /// table follows the symbol table.
     pub pointer_to_symbol_table: u32,
-    /// How many records the symbol table has, the auxiliary ones too, at 12.
+    /// How many records the symbol table has, at 12. Auxiliary records are counted.
     pub number_of_symbol_table: u32,
-    /// The size of the optional header, in bytes, at 16; 0 where there is none, as in an object.
-    /// Only this says where the section table begins; it says nothing about the optional header's
-    /// own layout.
+    /// The size of the optional header, in bytes, at 16; 0 if there is none, as in an object. This
+    /// field alone says where the section table begins. It says nothing about the layout of the
+    /// optional header.
     pub size_of_optional_header: u16,
-    /// What kind of file it is, as bits `IMAGE_FILE_*` (PE Format, "Characteristics"), at 18.
+    /// The characteristics of the file, as bits `IMAGE_FILE_*` (PE Format, "Characteristics"), at
+    /// 18.
     pub characteristics: u16,
 }
 
@@ -134,26 +133,27 @@ impl CoffHeader {
             (reading.sections_at true table count offset.old) bytes.now }
         ensures first { length bytes.now / 40 < self.now.number_of_sections
             → IsErrAnd result (IsTooManySections self.now.number_of_sections bytes.now) }
-        ensures grown { IfErr result
-            (λ e. IsMemory e → TakesSections self.now.number_of_sections bytes.now) }
         ensures ok { OnOk result (offset.new ≡ offset.old + 40 * self.now.number_of_sections) }
         ensures err { OnErr result (offset.new ≡ offset.old) }
     {
         self.sections_with_opts(alloc, bytes, offset, &ParseOptions::default())
     }
 
-    /// Reads the section table, whose records follow one another from the file offset `offset` on,
-    /// and moves `offset` past it. In an image it follows the optional header. Indirect names are
-    /// looked up in the string table after the symbol table, and copied: all together may take as
-    /// many bytes as the longest of them has, times the number of sections.
+    /// Reads the section table, whose section headers follow one another from the file offset
+    /// `offset` on, and moves `offset` past it. In an image the section table follows the optional
+    /// header.
+    ///
+    /// An indirect name is looked up in the string table after the symbol table, and copied. All
+    /// names together may take as many bytes as the longest of them has, times the number of
+    /// sections.
     ///
     /// Source: PE Format, "Section Table (Section Headers)".
     ///
     /// # Errors
-    /// [`Error::BufferTooShort`] of the number of sections where the whole file has no room for
-    /// that many records, tested first; as [`SectionTable::parse_with_opts`] where a record runs
-    /// past the end or its name is refused; [`Error::Memory`] if memory is refused. `offset` is
-    /// then unchanged.
+    /// [`Error::BufferTooShort`] with the number of sections if the whole file has no room for that
+    /// many section headers, which is tested first; as [`SectionTable::parse_with_opts`] if a
+    /// section header runs past the end or its name is refused; [`Error::Memory`] if memory is
+    /// refused. `offset` is then unchanged.
     pub fn sections_with_opts(
         &self,
         alloc: Global,
@@ -168,8 +168,6 @@ impl CoffHeader {
             (reading.sections_at strict table count offset.old) bytes.now }
         ensures first { length bytes.now / 40 < self.now.number_of_sections
             → IsErrAnd result (IsTooManySections self.now.number_of_sections bytes.now) }
-        ensures grown { IfErr result
-            (λ e. IsMemory e → TakesSections self.now.number_of_sections bytes.now) }
         ensures ok { OnOk result (offset.new ≡ offset.old + 40 * self.now.number_of_sections) }
         ensures err { OnErr result (offset.new ≡ offset.old) }
     {
@@ -181,14 +179,14 @@ impl CoffHeader {
         read_sections(alloc, bytes, offset, count, table, opts, None)
     }
 
-    /// Tests the section table, whose records follow one another from the file offset `offset` on,
-    /// moves `offset` past it, as [`CoffHeader::sections_with_opts`] does, and returns the records.
-    /// They take no memory, and their sections have no names from the string table.
+    /// Tests the section headers that follow one another from the file offset `offset` on, as
+    /// [`CoffHeader::sections_with_opts`] does, moves `offset` past them, and returns them. They
+    /// take no memory. Their sections lack the names from the string table.
     ///
     /// Source: PE Format, "Section Table (Section Headers)".
     ///
     /// # Errors
-    /// As [`CoffHeader::sections_with_opts`], but for [`Error::Memory`].
+    /// As [`CoffHeader::sections_with_opts`], but never [`Error::Memory`].
     #[inline(always)]
     pub fn section_records_with_opts<'a>(
         &self,
@@ -213,13 +211,13 @@ impl CoffHeader {
         read_section_records(bytes, offset, count, opts)
     }
 
-    /// The symbol table; `None` if the pointer to it is 0.
+    /// The symbol table, or `None` if the pointer to it is 0.
     ///
     /// Source: PE Format, "COFF Symbol Table".
     ///
     /// # Errors
-    /// [`Error::Read`] if its records run past the end of the file, or begin at it, even where
-    /// there are none.
+    /// [`Error::Read`] if the records begin at or past the end of the file, even if there are none,
+    /// or run past it.
     #[tactic(auto, unfolding(crate::specs::CoffReadings::symbols_of))]
     pub fn symbols<'a>(&self, bytes: &'a [u8]) -> Result<Option<SymbolTable<'a>>>
         ensures { Reads (option_map symbol_bytes) result (reading.symbols_of self.now) bytes.now }
@@ -232,9 +230,10 @@ impl CoffHeader {
         Ok(Some(symbols))
     }
 
-    /// The string table, which follows the symbol table; `None` if the pointer to that is 0. Its
-    /// first four bytes say its length, including themselves. They are not part of the result, so
-    /// offsets count from after them. It borrows the file's bytes, so no memory is taken.
+    /// The string table, which follows the symbol table, or `None` if the pointer to the symbol
+    /// table is 0. The first four bytes give the length of the table, these four included. They are
+    /// not part of the result, so offsets count from after them. The result borrows the file's
+    /// bytes and takes no memory.
     ///
     /// Source: PE Format, "COFF String Table".
     ///
@@ -257,9 +256,9 @@ impl CoffHeader {
         Ok(Some(strings))
     }
 
-    /// The file offset of the string table, which follows the symbol table; `None` if the pointer
-    /// to that is 0. The four bytes of its length are there, followed by the texts. It may lie past
-    /// the file.
+    /// The file offset of the string table, which follows the symbol table, or `None` if the
+    /// pointer to the symbol table is 0. The four bytes of the length lie there, and the texts
+    /// follow. The offset may lie past the end of the file.
     ///
     /// Source: PE Format, "COFF String Table".
     #[tactic(auto, unfolding(crate::specs::CoffHeader::string_table_offset))]
@@ -272,9 +271,9 @@ impl CoffHeader {
         Some(self.symbols_end())
     }
 
-    /// The file offset after the last record of the symbol table: the pointer to that, plus 18
-    /// bytes for each record. The string table is there, if there is one. The names of sections are
-    /// looked up from there on in any case, even where the pointer is 0.
+    /// The file offset after the last record of the symbol table: the pointer to the table, plus 18
+    /// bytes for each record. If there is a string table, it begins there. The names of sections
+    /// are looked up from there on in any case, even if the pointer is 0.
     pub fn symbols_end(&self) -> usize
         ensures { result ≡ symbols_end self.now }
     {

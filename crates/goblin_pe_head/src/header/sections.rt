@@ -1,8 +1,6 @@
 //! The loops that read section tables.
 
-ghost use Rattle.std.specs.Prelude.{◌≡◌, ◌+◌, ◌*◌, ◌<◌, ℕ, map, IfErr, OnErr, OnOk};
-ghost use Rattle.std.specs.Prelude.{IfOk, vec_capacity};
-ghost use Rattle.goblin_base.specs.Answers.{IsMemory};
+ghost use Rattle.std.specs.Prelude.{◌≡◌, ◌+◌, ◌*◌, ℕ, map, OnErr, OnOk};
 ghost use Rattle.goblin_base.specs.Reading.{Reads, ReadsOrMemory};
 ghost use Rattle.readings.specs.Reads.{each, mapped};
 ghost use Rattle.goblin_pe_sect.specs.Options.{is_strict};
@@ -16,8 +14,8 @@ use goblin_pe_sect::options::ParseOptions;
 use goblin_pe_sect::section_table::{SectionRecords, SectionTable};
 use std::alloc::Global;
 
-// Reads `count` sections, whose records follow one another from `offset` on, and moves `offset`
-// past them; with a displacement, each as it is in the stripped file.
+// Reads `count` sections, whose section headers follow one another from `offset` on, and moves
+// `offset` past them. If there is a displacement, each section is adjusted to the stripped file.
 pub(super) fn read_sections(
     alloc: Global,
     bytes: &[u8],
@@ -31,8 +29,6 @@ pub(super) fn read_sections(
         ReadsOrMemory (λ v. v.items) result
         (reading.moved_sections displacement strict string_table_offset count offset.old)
         bytes.now }
-    ensures grown { IfErr result (λ e. IsMemory e → 0 < count) }
-    ensures room { IfOk result (λ v. vec_capacity v ≡ count) }
     ensures ok { OnOk result (offset.new ≡ offset.old + 40 * count) }
     ensures err { OnErr result (offset.new ≡ offset.old) }
 {
@@ -47,14 +43,14 @@ pub(super) fn read_sections(
             opts,
         )?;
         adjust_section(&mut section, displacement);
-        sections.push_reserved(section);
+        sections.push(section)?;
     }
     *offset = end;
     Ok(sections)
 }
 
-// Tests the records of `count` sections, which follow one another from `offset` on, and moves
-// `offset` past them. The sections are read from them later.
+// Tests `count` section headers, which follow one another from `offset` on, and moves `offset` past
+// them. Sections are read from them later.
 #[inline(always)]
 pub(super) fn read_section_records<'a>(
     bytes: &'a [u8],
@@ -74,7 +70,7 @@ pub(super) fn read_section_records<'a>(
     'records: for _ in 0..count {
         SectionTable::parse_unnamed(bytes, &mut end, opts)?;
     }
-    // Without sections `offset` may lie past the end.
+    // If there are no sections, `offset` may lie past the end.
     let records = SectionRecords::of(bytes.get(*offset..end).unwrap_or(&[]));
     *offset = end;
     Ok(records)

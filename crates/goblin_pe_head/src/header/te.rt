@@ -1,16 +1,15 @@
-//! The header of a Terse Executable, an image of firmware whose PE headers are stripped, and its
-//! sections.
+//! The header and the sections of a Terse Executable: a firmware image whose PE headers are
+//! stripped.
 
-ghost use Rattle.std.specs.Prelude.{◌≡◌, ◌+◌, ◌*◌, ◌/◌, ◌<◌, ◌≤◌, length, IfErr, IsErrAnd, OnOk};
+ghost use Rattle.std.specs.Prelude.{◌≡◌, ◌+◌, ◌*◌, ◌/◌, ◌<◌, length, IsErrAnd, OnOk};
 ghost use Rattle.std.specs.Prelude.{OnErr, map};
 ghost use Rattle.goblin_base.specs.Reading.{Reads, ReadsOrMemory};
-ghost use Rattle.goblin_base.specs.Answers.{Answers, IsMemory};
+ghost use Rattle.goblin_base.specs.Answers.{Answers};
 ghost use Rattle.goblin_base.specs.Record.{WritesRecord};
 ghost use Rattle.readings.specs.Reads.{mapped};
 ghost use Rattle.goblin_pe_sect.specs.SectionTable.{recorded_sections, unnamed};
 ghost use Rattle.goblin_pe_head.specs.declared.header.te.TeHeader.{TeHeader};
 ghost use Rattle.goblin_pe_head.specs.CoffHeader.{IsTooManySections};
-ghost use Rattle.goblin_pe_head.specs.SectionRoom.{TakesSections};
 ghost use Rattle.goblin_pe_head.specs.TeHeader.{IsStrippedFault, displacement, moved_address};
 ghost use Rattle.goblin_pe_head.specs.TeHeader.{pointer_moved, section_moved, te_fields, te_record};
 ghost use Rattle.goblin_pe_head.specs.TeReadings as reading;
@@ -36,9 +35,10 @@ const SIZEOF_TE_HEADER: usize = 40;
 /// The header of a Terse Executable.
 ///
 /// Source: UEFI Platform Initialization Specification, volume 1, "TE Image". Numbers are as stored,
-/// but for the four that are adjusted when it is read; the record has 40 bytes, and `at` gives a
-/// field's offset in it. It replaces the headers of a PE file and keeps what a loader of firmware
-/// needs of them; its addresses still count the bytes that were stripped.
+/// except for four that are adjusted when the header is parsed; the record has 40 bytes, and `at`
+/// gives a field's offset in it. This header replaces the headers of a PE file, and keeps what a
+/// firmware loader needs of them. The addresses that it stores still count the bytes that were
+/// stripped.
 #[repr(C)]
 #[derive(Debug, PartialEq, Copy, Clone, Default)]
 pub struct TeHeader {
@@ -46,25 +46,24 @@ pub struct TeHeader {
     pub signature: u16,
     /// The machine that the file is for, a `COFF_MACHINE_*`, at 2.
     pub machine: u16,
-    /// How many section records follow, at 4.
+    /// How many section headers follow, at 4.
     pub number_of_sections: u8,
     /// The subsystem that runs the image, at 5.
     pub subsystem: u8,
     /// How many bytes were stripped from the front of the PE file, at 6. This header replaces them,
-    /// so everything after it moved forward by this minus 40.
+    /// so everything after it moved towards the front by this number minus 40.
     pub stripped_size: u16,
-    /// The address of the entry point, relative to the image's base, at 8; in a header that was
-    /// parsed, adjusted.
+    /// The RVA of the entry point, at 8; adjusted in a header that was parsed.
     pub entry_point: u32,
-    /// The address at which the code begins, relative to the image's base, at 12; in a header that
-    /// was parsed, adjusted.
+    /// The RVA at which the code begins, at 12; adjusted in a header that was parsed.
     pub base_of_code: u32,
-    /// The address at which the image is best loaded, at 16; as stored.
+    /// The preferred address of the image in memory, at 16, as stored.
     pub image_base: u64,
-    /// Where the base relocations lie, at 24; in a header that was parsed, with the address
-    /// adjusted.
+    /// The data directory of the base relocations, at 24. Its RVA is adjusted in a header that was
+    /// parsed.
     pub reloc_dir: DataDirectory,
-    /// Where the debug data lies, at 32; in a header that was parsed, with the address adjusted.
+    /// The data directory of the debug data, at 32. Its RVA is adjusted in a header that was
+    /// parsed.
     pub debug_dir: DataDirectory,
 }
 
@@ -121,8 +120,8 @@ impl Record for TeHeader {
 }
 
 impl TeHeader {
-    /// By how much everything moved to the front when the headers were stripped, in bytes: by what
-    /// was stripped, less the 40 that this header takes.
+    /// How many bytes everything moved towards the front when the headers were stripped: the number
+    /// of stripped bytes minus the 40 bytes of this header.
     ///
     /// # Errors
     /// [`Error::Malformed`] with [`Cause::StrippedSize`] if fewer than 40 bytes were stripped.
@@ -136,10 +135,10 @@ impl TeHeader {
         }
     }
 
-    /// Reads the record at the file offset `offset` and moves `offset` past it. Entry point, base
-    /// of code and the addresses of both directories are adjusted to the stripped file: the bytes
-    /// that were stripped beyond the header's own 40 are taken off, modulo 2^32. The signature is
-    /// not looked at.
+    /// Reads the record at the file offset `offset` and moves `offset` past it. The entry point,
+    /// the base of code and the RVAs of both data directories are adjusted to the stripped file:
+    /// [`TeHeader::displacement`] is subtracted from each, modulo 2^32. The signature is not
+    /// tested.
     ///
     /// # Errors
     /// [`Error::Read`] if the 40 bytes run past the end of the file; [`Error::Malformed`] with
@@ -168,19 +167,20 @@ impl TeHeader {
         Ok(header)
     }
 
-    /// Reads the section table, whose records follow one another from the file offset `offset` on,
-    /// and moves `offset` past it. The address of each section, and each of its three pointers that
-    /// is not 0, is adjusted as in [`TeHeader::parse`]. An indirect name would be in a string table
-    /// at the front of the file, and is copied, as
+    /// Reads the section table, whose section headers follow one another from the file offset
+    /// `offset` on, and moves `offset` past it. The RVA of each section, and each of its three
+    /// pointers that is not 0, is adjusted as in [`TeHeader::parse`]. An indirect name is looked up
+    /// as if a string table began at the front of the file, and copied as
     /// [`CoffHeader::sections_with_opts`](crate::CoffHeader::sections_with_opts) says.
     ///
     /// Source: PE Format, "Section Table (Section Headers)".
     ///
     /// # Errors
-    /// [`Error::BufferTooShort`] of the number of sections where the whole file has no room for
-    /// that many records, tested first; [`Error::Malformed`] with [`Cause::StrippedSize`] if fewer
-    /// than 40 bytes were stripped; as [`SectionTable::parse`] where a record runs past the end or
-    /// its name is refused; [`Error::Memory`] if memory is refused. `offset` is then unchanged.
+    /// [`Error::BufferTooShort`] with the number of sections if the whole file has no room for that
+    /// many section headers, which is tested first; [`Error::Malformed`] with
+    /// [`Cause::StrippedSize`] if fewer than 40 bytes were stripped; as [`SectionTable::parse`] if
+    /// a section header runs past the end or its name is refused; [`Error::Memory`] if memory is
+    /// refused. `offset` is then unchanged.
     #[tactic(auto, unfolding(crate::specs::TeReadings::te_sections_at))]
     pub fn sections(
         &self,
@@ -192,9 +192,6 @@ impl TeHeader {
             (reading.te_sections_at self.now offset.old) bytes.now }
         ensures first { length bytes.now / 40 < self.now.number_of_sections
             → IsErrAnd result (IsTooManySections self.now.number_of_sections bytes.now) }
-        ensures grown { IfErr result
-            (λ e. IsMemory e → TakesSections self.now.number_of_sections bytes.now) }
-        ensures stripped { IfErr result (λ e. IsMemory e → 40 ≤ self.now.stripped_size) }
         ensures ok { OnOk result (offset.new ≡ offset.old + 40 * self.now.number_of_sections) }
         ensures err { OnErr result (offset.new ≡ offset.old) }
     {
@@ -207,13 +204,13 @@ impl TeHeader {
         read_sections(alloc, bytes, offset, count, 0, &opts, Some(displacement))
     }
 
-    /// Tests the section table, whose records follow one another from the file offset `offset` on,
-    /// moves `offset` past it, as [`TeHeader::sections`] does, and returns the records. They take
-    /// no memory. [`adjust_section`] makes of each of their sections the one in the stripped file,
-    /// without a name from the string table.
+    /// Tests the section headers that follow one another from the file offset `offset` on, as
+    /// [`TeHeader::sections`] does, moves `offset` past them, and returns them. They take no
+    /// memory. Their sections are as stored, and lack the names from the string table.
+    /// [`adjust_section`] adjusts a section to the stripped file.
     ///
     /// # Errors
-    /// As [`TeHeader::sections`], but for [`Error::Memory`].
+    /// As [`TeHeader::sections`], but never [`Error::Memory`].
     #[tactic(auto, unfolding(crate::specs::TeReadings::te_sections_at))]
     pub fn section_records<'a>(
         &self,
@@ -254,14 +251,14 @@ impl TeHeader {
     }
 }
 
-// A number less the displacement, modulo 2^32.
+// A number minus the displacement, modulo 2^32.
 fn moved_address(number: u32, displacement: u32) -> u32
     ensures { result ≡ moved_address displacement number }
 {
     number.wrapping_sub(displacement)
 }
 
-// A pointer less the displacement, where it points to something.
+// A pointer minus the displacement, modulo 2^32. A pointer of 0 points to nothing and stays 0.
 fn pointer_moved(pointer: u32, displacement: u32) -> u32
     ensures { result ≡ pointer_moved displacement pointer }
 {
@@ -272,9 +269,10 @@ fn pointer_moved(pointer: u32, displacement: u32) -> u32
     }
 }
 
-/// Makes the address of a section, and each of its three pointers that is not 0, those in a file
-/// whose front was stripped, by what [`TeHeader::displacement`] says; without a displacement the
-/// section stays as stored.
+/// Adjusts a section to a file whose front was stripped. The displacement, as
+/// [`TeHeader::displacement`] returns it, is subtracted from the RVA of the section and from each
+/// of its three pointers that is not 0, modulo 2^32. Without a displacement the section stays as
+/// stored.
 #[tactic(auto, unfolding(crate::specs::TeHeader::section_adjusted))]
 pub fn adjust_section(section: &mut SectionTable, displacement: Option<u32>)
     ensures { section.new ≡ section_moved displacement section.old }

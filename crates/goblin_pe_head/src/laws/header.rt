@@ -1,7 +1,7 @@
 //! Lists which positions of a file its header depends on.
 
 ghost use Rattle.std.specs.Prelude.{◌≡◌, ◌<◌, ◌≤◌, ◌+◌, ◌^◌, ◌++◌, Bool, IfErr, IfOk, IfSome};
-ghost use Rattle.std.specs.Prelude.{OnErr, length};
+ghost use Rattle.std.specs.Prelude.{length};
 ghost use Rattle.goblin_base.specs.Answers.{IsMemory};
 ghost use Rattle.goblin_base.specs.Marks.{IsFootprint, marked};
 ghost use Rattle.goblin_base.specs.Footprints.{slice_footprint};
@@ -29,7 +29,7 @@ const SIZEOF_MAGIC: usize = 2;
 // The size of the marker of a Rich header with the key after it, in bytes.
 const SIZEOF_MARKER_AND_KEY: usize = 8;
 
-// Marks the footprint of the DOS header, and of the PE signature where it points.
+// Marks the footprint of the DOS header, and of the PE signature to which it points.
 #[tactic(auto, using(goblin_base::proofs::Marks::marking))]
 fn add_dos_header(marks: &mut Marks, bytes: &[u8])
     ensures { marks.new ≡ marked marks.old (reading.dos_header.reaches bytes.now) }
@@ -43,8 +43,8 @@ fn add_dos_header(marks: &mut Marks, bytes: &[u8])
     add_slice(marks, bytes, header.pe_pointer as usize, SIZEOF_PE_MAGIC)
 }
 
-// Marks what a search in a stretch after the DOS header looked at: through the `width` bytes at the
-// place found, or all if none was found.
+// Marks the bytes that a search in a stretch after the DOS header looked at: up to the end of the
+// `width` bytes found at `place`, or all if none were found.
 #[tactic(auto, using(goblin_base::proofs::Marks::marking))]
 fn add_searched(marks: &mut Marks, stretch: &[u8], place: Option<usize>, width: usize)
     requires small { length stretch.now + 64 < 2 ^ 32 }
@@ -59,7 +59,7 @@ fn add_searched(marks: &mut Marks, stretch: &[u8], place: Option<usize>, width: 
     }
 }
 
-// Marks what the search for a Rich header looked at in a stretch after the DOS header.
+// Marks the bytes that the search for a Rich header looked at in a stretch after the DOS header.
 #[tactic(auto, using(goblin_base::proofs::Marks::marking, crate::proofs::HeaderRanges::no_marker))]
 fn add_markers(marks: &mut Marks, stretch: &[u8])
     requires { length stretch.now + 64 < 2 ^ 32 }
@@ -91,7 +91,7 @@ fn add_rich(marks: &mut Marks, bytes: &[u8], pe_pointer: u32)
     add_markers(marks, &bytes[start..end])
 }
 
-// Marks the two records of these sizes that follow one another from an offset on.
+// Marks two records of these sizes, the first at `offset`, the second after the first.
 #[tactic(auto, using(goblin_base::proofs::Marks::marking))]
 fn add_records(marks: &mut Marks, bytes: &[u8], offset: usize, sizes: (usize, usize))
     requires { offset + sizes.0 < 2 ^ 64 }
@@ -104,7 +104,7 @@ fn add_records(marks: &mut Marks, bytes: &[u8], offset: usize, sizes: (usize, us
     add_slice(marks, bytes, offset + first, second)
 }
 
-// Marks the fields that the magic asks for, of the optional header at an offset.
+// Marks the fields of the optional header at an offset, in the width that the magic gives.
 #[tactic(auto, unfolding(crate::specs::HeaderReadings::fixed_fields), using(goblin_base::proofs::Marks::marking, crate::proofs::HeaderRanges::fields_32, crate::proofs::HeaderRanges::fields_64, crate::proofs::HeaderRanges::no_fields))]
 fn add_fields(marks: &mut Marks, bytes: &[u8], offset: usize, magic: u16)
     requires { offset ≤ length bytes.now }
@@ -175,20 +175,20 @@ pub fn add_header(marks: &mut Marks, bytes: &[u8])
     add_parts(marks, bytes, pe_pointer)
 }
 
-/// The footprint of the header of a file, which is the same in either mode: the ranges (begin, end)
-/// of the positions on which [`Header::parse_with_opts`](crate::Header::parse_with_opts) depends. A
-/// position is in the footprint exactly where it lies in one of the ranges. They come in order,
-/// none is empty, and none runs past the file; a position lies between each and the next.
+/// The footprint of a file's header, which is the same in either mode: the ranges (begin, end) of
+/// the positions on which [`Header::parse_with_opts`](crate::Header::parse_with_opts) depends. A
+/// position is in the footprint exactly if it lies in one of the ranges. The ranges are in order,
+/// with at least one position between one range and the next. None is empty, and none runs past the
+/// end of the file.
 ///
 /// # Errors
-/// [`Error::Memory`](goblin_base::Error::Memory) only, and only if the file has a byte.
+/// [`Error::Memory`](goblin_base::Error::Memory) only.
 pub fn footprint_header<'e>(alloc: Global, bytes: &[u8]) -> ResultOf<'e, Vec<(usize, usize)>>
     ensures ranges { (strict : Bool)
         → IfOk result
         (λ v.
         IsFootprint (length bytes.now) ((reading.pe_header strict).reaches bytes.now) v.items) }
     ensures refused { IfErr result IsMemory }
-    ensures grown { OnErr result (0 < length bytes.now) }
 {
     let mut marks = Marks::with_room_for(alloc, bytes.len())?;
     add_header(&mut marks, bytes);

@@ -1,15 +1,13 @@
-//! Import address tables: numbers, which are addresses once an image is bound.
+//! Import address tables. Their numbers are addresses once an image is bound.
 
-ghost use Rattle.std.specs.Prelude.{◌≡◌, IfErr};
-ghost use Rattle.goblin_base.specs.Answers.{IsMemory};
+ghost use Rattle.std.specs.Prelude.{◌≡◌};
 ghost use Rattle.goblin_base.specs.Reading.{Reads, ReadsOrMemory};
 ghost use Rattle.goblin_base.specs.Tables.{stop};
 ghost use Rattle.readings.specs.Reads.{mapped};
 ghost use Rattle.goblin_pe_sect.specs.AddressReadings.{at_address};
 ghost use Rattle.goblin_pe_sect.specs.Addresses.{map_of, offset_of};
-ghost use Rattle.goblin_pe_import.specs.ImportDirectory.{address_table_rva};
+ghost use Rattle.goblin_pe_import.specs.ImportRecords.{address_table_rva};
 ghost use Rattle.goblin_pe_import.specs.ImportEntries.{entry_slots};
-ghost use Rattle.goblin_pe_import.specs.ImportLookup.{HasAddresses};
 ghost use Rattle.goblin_pe_import.specs.LookupReadings.{address_table};
 ghost use Rattle.goblin_pe_import.specs.StepsAhead.{slots_at_address};
 
@@ -21,8 +19,9 @@ use goblin_pe_sect::address_map::AddressMap;
 use goblin_pe_sect::table::Table;
 use std::alloc::Global;
 
-/// The numbers of an address table, in order, without the 0 that ends it. As a file is linked they
-/// repeat the lookup table; in one that is bound they are the addresses of what is imported.
+/// The numbers of an address table, in order, without the 0 that ends it. In a file as it is
+/// linked, they repeat the lookup table. In a bound file, they are the addresses of what is
+/// imported.
 ///
 /// Source: PE Format, "Import Address Table".
 pub type ImportAddressTable = Table<u64>;
@@ -33,8 +32,7 @@ pub(super) fn address_table<'a, 'e, T: Bitfield<'a>>(
     bytes: &'a [u8],
     offset: usize,
 ) -> ResultOf<'e, ImportAddressTable>
-    ensures value { ReadsOrMemory (λ t. t) result (address_table T.format offset) bytes.now }
-    ensures grown { IfErr result (λ e. IsMemory e → HasAddresses T.format bytes.now offset) }
+    ensures { ReadsOrMemory (λ t. t) result (address_table T.format offset) bytes.now }
 {
     let size = T::size_of();
     let mut addresses = Vec::new(alloc);
@@ -49,8 +47,9 @@ pub(super) fn address_table<'a, 'e, T: Bitfield<'a>>(
     }
 }
 
-// Tests whether there is an address table at an offset, as `address_table` reads it, and tells how
-// many numbers are looked at: those before its zero, or before the file's end. They are not kept.
+// Tests whether there is an address table at an offset, as `address_table` reads it. Also returns
+// how many numbers it looks at: those before the 0, or before the end of the file. They are not
+// kept.
 pub(super) fn test_numbers<'a, 'e, T: Bitfield<'a>>(
     bytes: &'a [u8],
     offset: usize,
@@ -70,7 +69,7 @@ pub(super) fn test_numbers<'a, 'e, T: Bitfield<'a>>(
         }
         place += size;
     }
-    // (the slot at `place` is not whole, so this is refused)
+    // (The slot at `place` is not all in the file, so this is refused.)
     let count = (place - offset) / size;
     if let Err(error) = read_entry::<T>(bytes, place) {
         return (Err(error), count);
@@ -78,8 +77,8 @@ pub(super) fn test_numbers<'a, 'e, T: Bitfield<'a>>(
     (Ok(()), count)
 }
 
-// Tests whether the library of a record has an address table, and tells how many numbers are looked
-// at; they are not kept.
+// Tests whether the library of an import descriptor has an address table, and returns how many
+// numbers it looks at. They are not kept.
 pub(super) fn test_address_table<'a, 'e, T: Bitfield<'a>>(
     bytes: &'a [u8],
     entry: &ImportDirectoryEntry,

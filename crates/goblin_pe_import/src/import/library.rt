@@ -1,16 +1,15 @@
 //! The libraries that an image imports from.
 
-ghost use Rattle.std.specs.Prelude.{◌≡◌, ◌⊎◌, ◌<◌, ◌^◌, [], IfErr, IsSomeAnd, map};
+ghost use Rattle.std.specs.Prelude.{◌≡◌, ◌<◌, ◌^◌, [], map};
 ghost use Rattle.std.specs.Prelude.{option_map, true, unwrap_or};
-ghost use Rattle.goblin_base.specs.Answers.{IsMemory};
 ghost use Rattle.goblin_base.specs.Reading.{Reads, ReadsOrMemory};
 ghost use Rattle.readings.specs.Reads.{or_else};
 ghost use Rattle.goblin_pe_sect.specs.Options.{default_options};
-ghost use Rattle.goblin_pe_sect.specs.Addresses.{TakesMap, map_by, map_of};
+ghost use Rattle.goblin_pe_sect.specs.Addresses.{map_by, map_of};
 ghost use Rattle.goblin_pe_sect.specs.Addresses.{reads_strictly};
-ghost use Rattle.goblin_pe_import.specs.ImportDirectory.{KeepsImports, address_table_rva};
-ghost use Rattle.goblin_pe_import.specs.ImportDirectory.{lookup_offset};
-ghost use Rattle.goblin_pe_import.specs.ImportLookup.{KeepsEntries, entry_view};
+ghost use Rattle.goblin_pe_import.specs.ImportRecords.{address_table_rva};
+ghost use Rattle.goblin_pe_import.specs.ImportRecords.{lookup_offset};
+ghost use Rattle.goblin_pe_import.specs.ImportLookup.{entry_view};
 ghost use Rattle.goblin_pe_import.specs.ImportReadings as reading;
 ghost use Rattle.goblin_pe_sect.specs.AddressReadings.{name_at};
 ghost use Rattle.goblin_pe_import.specs.ImportReadings.{first_record_offset, lookup_if};
@@ -26,29 +25,29 @@ use goblin_pe_sect::section_table::SectionTable;
 use std::alloc::Global;
 use std::marker::Model;
 
-/// What a record of an import directory leads to.
+/// A library that an import descriptor leads to, with its lookup table and its address table.
 ///
 /// Source: PE Format, "Import Directory Table", "Import Lookup Table" and "Import Address Table".
 #[derive(Debug, Drop)]
 pub struct SyntheticImportDirectoryEntry<'a> {
-    /// The record that leads to it.
+    /// The import descriptor that leads to the library.
     pub import_directory_entry: ImportDirectoryEntry,
     /// The name of the library. In permissive mode it is empty if none can be read.
     pub name: &'a str,
-    /// What the lookup table keeps. `None` is for entries that are made by hand: a reader finds a
-    /// table for each record that it keeps.
+    /// What the lookup table keeps. Only entries that are made by hand have `None`: a reader finds
+    /// a table for each descriptor that it keeps.
     pub import_lookup_table: Option<ImportLookupTable<'a>>,
-    /// The slot of each entry of the lookup table, in order, counted from 0; none where there is no
-    /// table. The slot of an entry that is left out is missing.
+    /// The slot of each entry of the lookup table, in order, counted from 0. The slots of entries
+    /// that are left out are missing. There are no slots if there is no table.
     pub import_lookup_slots: Vec<usize>,
-    /// The numbers of the address table up to the first 0: copies of the lookup table's entries, or
-    /// addresses if the imports are bound.
+    /// The numbers of the address table before its first 0. They are copies of the lookup table's
+    /// entries, or addresses if the imports are bound.
     pub import_address_table: ImportAddressTable,
 }
 
 impl<'a> Model for SyntheticImportDirectoryEntry<'a> {
     ghost use Rattle.std.specs.Prelude.{map, option_map};
-    ghost use Rattle.goblin_pe_import.specs.ImportDirectory.{ImportedLibrary};
+    ghost use Rattle.goblin_pe_import.specs.ImportRecords.{ImportedLibrary};
     ghost use Rattle.goblin_pe_import.specs.ImportLookup.{entry_view};
 
     ghost Value = { ImportedLibrary };
@@ -62,8 +61,7 @@ impl<'a> Model for SyntheticImportDirectoryEntry<'a> {
     } };
 }
 
-// The lookup table at an offset with the slots of its entries, and nothing where there is no
-// offset.
+// The lookup table at an offset with the slots of its entries, or nothing if there is no offset.
 #[tactic(auto, unfolding(crate::specs::ImportReadings::lookup_if))]
 fn lookup_table_if<'a, 'e, T: Bitfield<'a>>(
     alloc: Global,
@@ -71,15 +69,9 @@ fn lookup_table_if<'a, 'e, T: Bitfield<'a>>(
     offset: Option<usize>,
     address_map: &AddressMap,
 ) -> ResultOf<'e, (Option<ImportLookupTable<'a>>, Vec<usize>)>
-    ensures value { let m = map_of address_map.now in
+    ensures { let m = map_of address_map.now in
         ReadsOrMemory (λ both. (option_map (map entry_view) both.0, both.1.items)) result
         (lookup_if (reads_strictly m) T.format m.addressing offset) bytes.now }
-    ensures grown { let m = map_of address_map.now in
-        IfErr result
-        (λ e.
-        IsMemory e
-        → IsSomeAnd offset
-        (KeepsEntries (reads_strictly m) T.format m.addressing bytes.now)) }
 {
     let Some(offset) = offset else {
         return Ok((None, Vec::new(alloc)));
@@ -93,7 +85,7 @@ fn lookup_table_if<'a, 'e, T: Bitfield<'a>>(
     Ok((Some(table), slots))
 }
 
-// The name of a library; in permissive mode the empty one where none can be read.
+// The name of a library. In permissive mode it is empty if none can be read.
 #[inline(always)]
 #[tactic(auto, using(crate::proofs::LibraryNames::taken, crate::proofs::LibraryNames::missing))]
 pub(super) fn library_name<'a, 'e>(
@@ -110,7 +102,7 @@ pub(super) fn library_name<'a, 'e>(
     Ok(name.unwrap_or(no_text(bytes)))
 }
 
-// The name at an address; the empty one where none can be read.
+// The name at an address, or the empty one if none can be read.
 #[inline(always)]
 #[tactic(auto, using(crate::proofs::LibraryNames::said))]
 pub(super) fn said_name<'a>(bytes: &'a [u8], rva: u32, finder: &mut Finder<'_>) -> &'a str
@@ -124,8 +116,8 @@ pub(super) fn said_name<'a>(bytes: &'a [u8], rva: u32, finder: &mut Finder<'_>) 
     }
 }
 
-// The offset of the first record of a directory that has this offset, where it has one: permissive
-// mode treats a directory at the front of the file as empty.
+// The offset of the first import descriptor of a directory that has this offset, if it has one.
+// Permissive mode treats a directory at the front of the file as empty.
 #[inline(always)]
 pub(crate) fn first_record_offset(offset: Option<usize>, strictly: bool) -> Option<usize>
     ensures { result ≡ first_record_offset strictly offset }
@@ -136,7 +128,8 @@ pub(crate) fn first_record_offset(offset: Option<usize>, strictly: bool) -> Opti
     }
 }
 
-// The offset of a record's lookup table: at its own address, or at that of the address table.
+// The file offset of the lookup table of an import descriptor. It is that of the lookup table's own
+// address or, if this has none, that of the address table's address.
 #[inline(always)]
 pub(crate) fn lookup_offset(entry: &ImportDirectoryEntry, finder: &mut Finder<'_>) -> Option<usize>
     ensures value { result ≡ lookup_offset (map_of finder.old).addressing entry.now }
@@ -150,7 +143,7 @@ pub(crate) fn lookup_offset(entry: &ImportDirectoryEntry, finder: &mut Finder<'_
     }
 }
 
-// The address of a record's address table.
+// The address of the address table of an import descriptor, or that of the lookup table if it is 0.
 pub(crate) fn address_table_rva(entry: &ImportDirectoryEntry) -> u32
     ensures { result ≡ address_table_rva entry.now }
 {
@@ -161,8 +154,8 @@ pub(crate) fn address_table_rva(entry: &ImportDirectoryEntry) -> u32
 }
 
 impl<'a> SyntheticImportDirectoryEntry<'a> {
-    /// What a record leads to, as [`SyntheticImportDirectoryEntry::parse_with_opts`] with the
-    /// default options.
+    /// Reads what an import descriptor leads to, as
+    /// [`SyntheticImportDirectoryEntry::parse_with_opts`] with the default options.
     ///
     /// # Errors
     /// As [`SyntheticImportDirectoryEntry::parse_with_opts`] in strict mode.
@@ -173,15 +166,9 @@ impl<'a> SyntheticImportDirectoryEntry<'a> {
         sections: &[SectionTable],
         file_alignment: u32,
     ) -> ResultOf<'e, SyntheticImportDirectoryEntry<'a>>
-        ensures value { let m = map_by default_options sections.now file_alignment in
+        ensures { let m = map_by default_options sections.now file_alignment in
             ReadsOrMemory (λ x. x) result
             (reading.library_of true T.format m.addressing import_directory_entry) bytes.now }
-        ensures grown { let m = map_by default_options sections.now file_alignment in
-            IfErr result
-            (λ e.
-            IsMemory e
-            → KeepsImports true T.format m.addressing bytes.now import_directory_entry
-            ⊎ TakesMap default_options sections.now file_alignment) }
     {
         let opts = ParseOptions::default();
         SyntheticImportDirectoryEntry::parse_with_opts::<T>(
@@ -194,23 +181,22 @@ impl<'a> SyntheticImportDirectoryEntry<'a> {
         )
     }
 
-    /// What a record leads to: the library's name, its lookup table and its address table, of
-    /// entries of type `T`.
+    /// Reads what an import descriptor leads to: the library's name, its lookup table and its
+    /// address table, with entries of type `T`.
     ///
     /// The lookup table is read at its address or, if that has no file offset, at the address of
-    /// the address table; if that has none either, there is no lookup table. The address table is
-    /// read at its address or, if that is 0, at the address of the lookup table; it keeps the
+    /// the address table. If that has none either, there is no lookup table. The address table is
+    /// read at its address or, if that is 0, at the address of the lookup table. It keeps the
     /// numbers before the first 0. The slots are those of
     /// [`SyntheticImportLookupTableEntry::parse_with_slots`].
     ///
     /// # Errors
-    /// In strict mode as [`safe_try_name`](goblin_pe_sect::utils::safe_try_name) where no name can
-    /// be read; in permissive mode the name is then empty. As
-    /// [`SyntheticImportLookupTableEntry::parse_with_opts`] where the lookup table is refused. In
-    /// both modes [`Error::Malformed`] with [`Cause::Unmapped`] if the address of the address table
-    /// has no file offset, and [`Error::Read`] if that table reaches the end of the file.
-    /// [`Error::Memory`] if memory is refused; it is asked for only if addresses are mapped by
-    /// sections or either table keeps an entry.
+    /// In strict mode as [`safe_try_name`](goblin_pe_sect::utils::safe_try_name) if no name can be
+    /// read; in permissive mode the name is then empty. As
+    /// [`SyntheticImportLookupTableEntry::parse_with_opts`] if the lookup table is refused. In both
+    /// modes [`Error::Malformed`] with [`Cause::Unmapped`] if the address of the address table has
+    /// no file offset, and [`Error::Read`] if that table reaches the end of the file.
+    /// [`Error::Memory`] if memory is refused.
     pub fn parse_with_opts<'e, T: Bitfield<'a>>(
         alloc: Global,
         bytes: &'a [u8],
@@ -219,17 +205,10 @@ impl<'a> SyntheticImportDirectoryEntry<'a> {
         file_alignment: u32,
         opts: &ParseOptions,
     ) -> ResultOf<'e, SyntheticImportDirectoryEntry<'a>>
-        ensures value { let m = map_by opts.now sections.now file_alignment in
+        ensures { let m = map_by opts.now sections.now file_alignment in
             ReadsOrMemory (λ x. x) result
             (reading.library_of (reads_strictly m) T.format m.addressing import_directory_entry)
             bytes.now }
-        ensures grown { let m = map_by opts.now sections.now file_alignment in
-            IfErr result
-            (λ e.
-            IsMemory e
-            → KeepsImports (reads_strictly m) T.format m.addressing bytes.now
-            import_directory_entry
-            ⊎ TakesMap opts.now sections.now file_alignment) }
     {
         let address_map = AddressMap::prepare(alloc, sections, file_alignment, opts)?;
         SyntheticImportDirectoryEntry::parse_by::<T>(
@@ -240,7 +219,7 @@ impl<'a> SyntheticImportDirectoryEntry<'a> {
         )
     }
 
-    // What a record leads to.
+    // Reads what an import descriptor leads to, with an address map that exists already.
     #[tactic(auto, unfolding(crate::specs::ImportReadings::library_of))]
     pub(super) fn parse_by<'e, T: Bitfield<'a>>(
         alloc: Global,
@@ -253,12 +232,6 @@ impl<'a> SyntheticImportDirectoryEntry<'a> {
             (reading.library_of (reads_strictly m) T.format m.addressing import_directory_entry)
             bytes.now }
         ensures low { import_directory_entry.import_address_table_rva < 2 ^ 32 }
-        ensures grown { let m = map_of address_map.now in
-            IfErr result
-            (λ e.
-            IsMemory e
-            → KeepsImports (reads_strictly m) T.format m.addressing bytes.now
-            import_directory_entry) }
     {
         let record = &import_directory_entry;
         let mut finder = Finder::of(address_map);

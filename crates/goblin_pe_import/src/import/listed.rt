@@ -1,14 +1,14 @@
 //! The list of imports.
 
-ghost use Rattle.std.specs.Prelude.{◌≡◌, ◌+◌, ◌<◌, ◌≤◌, ◌++◌, ◌∷◌, [], IfErr, IfOk, None, OnErr};
-ghost use Rattle.std.specs.Prelude.{OnOk, false, length, map, min, option_map, string_bytes, true};
-ghost use Rattle.std.specs.Prelude.{vec_capacity, vec_len, option_copied};
+ghost use Rattle.std.specs.Prelude.{◌≡◌, ◌+◌, ◌<◌, ◌++◌, ◌∷◌, [], IfErr, IfOk, None};
+ghost use Rattle.std.specs.Prelude.{OnOk, length, map, option_map, string_bytes, true};
+ghost use Rattle.std.specs.Prelude.{option_copied};
 ghost use Rattle.goblin_base.specs.Answers.{AnswersOrMemory, GivesOrMemory, IsMemory};
 ghost use Rattle.goblin_pe_import.specs.ImportBound.{AreFew};
 ghost use Rattle.goblin_pe_import.specs.ImportLookup.{entry_view};
 ghost use Rattle.goblin_pe_import.specs.Imports.{IsImportListFault, IsOverflow, has_slots};
 ghost use Rattle.goblin_pe_import.specs.Imports.{first_without_slots, import_of, import_offset};
-ghost use Rattle.goblin_pe_import.specs.Imports.{imports_by, imports_of, kept_count, kept_entries};
+ghost use Rattle.goblin_pe_import.specs.Imports.{imports_by, imports_of, kept_entries};
 ghost use Rattle.goblin_pe_import.specs.Imports.{library_imports, ordinal_name};
 
 use crate::import::ImportData;
@@ -24,29 +24,31 @@ use std::marker::Model;
 // The length of the longest name of an import by ordinal, in bytes.
 const ORDINAL_NAME_MAX: usize = 13;
 
-/// An import: what is taken, from which library, and where the loader puts its address.
+/// An import: what is imported, from which library, and where the loader writes its address.
+/// Addresses are RVAs, relative to the image's base.
 ///
-/// Source: PE Format, "The .idata Section". Addresses are relative to the image's base.
+/// Source: PE Format, "The .idata Section".
 #[derive(Debug, Drop)]
 pub struct Import<'a> {
-    /// The name that is imported, borrowed from the file; of an import by ordinal `ORDINAL ` and
-    /// the ordinal in decimal digits, which is made. A file may name an import so itself, but only
-    /// a name of the file's is borrowed.
+    /// The name that is imported, borrowed from the file. For an import by ordinal, the name is
+    /// made: `ORDINAL ` and the ordinal in decimal digits. A file may name an import like that,
+    /// too, but only a name from the file is borrowed.
     pub name: CowStr<'a>,
-    /// The name of the library; empty if permissive mode could not read it.
+    /// The name of the library. It is empty if permissive mode could not read it.
     pub dll: &'a str,
-    /// The ordinal; of an import by name, the hint: at which index of the library's name pointers
-    /// the loader looks for the name first. A wrong hint does no harm.
+    /// The ordinal. For an import by name, it is the hint: the index in the library's name pointer
+    /// table at which the loader looks for the name first. A wrong hint does no harm.
     pub ordinal: u16,
-    /// The address (not the file offset) of its own entry in the address table, where the loader
-    /// puts the address of what is imported: the table's address plus `slot` times `size`.
+    /// The address (not the file offset) of the import's entry in the address table, where the
+    /// loader writes the address of what is imported. It is the address of the table plus `slot`
+    /// times `size`.
     pub offset: usize,
-    /// The address of the hint and the name; 0 of an import by ordinal.
+    /// The address of the hint and the name; 0 for an import by ordinal.
     pub rva: usize,
-    /// The size of an entry of the address table, in bytes: 4 in an image for 32 bits, else 8.
+    /// The size of an entry of the address table, in bytes: 4 in a PE32 image, else 8.
     pub size: usize,
-    /// The index of its entry, in the file, in the lookup table and in the address table. Entries
-    /// that are left out count.
+    /// The index of the import's entry in the tables of the file: the lookup table and the address
+    /// table. Entries that are left out are counted.
     pub slot: usize,
 }
 
@@ -78,7 +80,7 @@ fn ordinal_name<'e>(alloc: Global, ordinal: u16) -> ResultOf<'e, String>
     Ok(name)
 }
 
-// The address of a slot of an address table, where it does not overflow 64 bits.
+// The address of a slot of an address table, if it does not overflow 64 bits.
 fn import_offset(rva: u32, size: usize, slot: usize) -> Option<usize>
     ensures { result ≡ import_offset rva size slot }
 {
@@ -87,19 +89,19 @@ fn import_offset(rva: u32, size: usize, slot: usize) -> Option<usize>
 }
 
 impl<'a> Import<'a> {
-    /// The imports of `import_data`, whose address tables have entries of type `T`: one for each
-    /// entry that a lookup table keeps, in the order of the libraries and of the entries. The file
-    /// and the sections are not looked at.
+    /// Lists the imports of `import_data`, whose address tables have entries of type `T`. There is
+    /// one for each lookup table entry that is kept, in the order of the libraries and of the
+    /// entries. The file and the sections are not looked at.
     ///
-    /// Of import data that was read from a file of N bytes there are at most (N / 20) * (N / k)
-    /// imports, for entries of k bytes: the file has room for no more records, and for no more
-    /// entries of each.
+    /// If the import data was read from a file of N bytes, there are at most (N / 20) * (N / k)
+    /// imports, for entries of k bytes. The file has room for no more import descriptors, and for
+    /// no more entries of each.
     ///
     /// # Errors
     /// [`Error::Malformed`] with [`Cause::SlotCount`] if the entries and slots of a library made by
-    /// hand differ in number: the counts of the first such library, before memory is asked for;
-    /// else with [`Cause::Overflow`] if an import's offset overflows 64 bits. [`Error::Memory`] if
-    /// memory is refused; none is asked for where no table keeps an entry.
+    /// hand differ in number. The cause has the counts of the first such library. Otherwise
+    /// [`Error::Malformed`] with [`Cause::Overflow`] if an import's offset overflows 64 bits.
+    /// [`Error::Memory`] if memory is refused.
     #[tactic(auto, using(crate::proofs::ImportBound::are_few))]
     pub fn parse<'e, T: Bitfield<'a>>(
         alloc: Global,
@@ -109,10 +111,6 @@ impl<'a> Import<'a> {
     ) -> ResultOf<'e, Vec<Import<'a>>>
         ensures value { AnswersOrMemory (λ v. v.items) result
             (imports_of T.format.width import_data.now) (IsImportListFault import_data.now) }
-        ensures counted { IfErr result
-            (λ e. IsMemory e → first_without_slots import_data.now ≡ None) }
-        ensures grown { IfErr result (λ e. IsMemory e → 0 < kept_count import_data.now) }
-        ensures room { IfOk result (λ v. vec_capacity v ≡ kept_count import_data.now) }
         ensures bound { IfOk result (λ v. AreFew T.format import_data.now v.items) }
     {
         Ok(imports_of(alloc, &import_data.import_data, T::size_of())?)
@@ -155,10 +153,8 @@ fn first_without_slots<'b, 'a>(
     libraries.iter().find(|library| !has_slots(library))
 }
 
-// How many entries the lookup tables of libraries keep, or the greatest number, if that overflows.
-fn count_of(libraries: &[SyntheticImportDirectoryEntry]) -> usize
-    ensures { result ≡ min (kept_count libraries.now) usize.MAX }
-{
+// How many entries the lookup tables of libraries keep, or `usize::MAX` if that overflows.
+fn count_of(libraries: &[SyntheticImportDirectoryEntry]) -> usize {
     let mut count = 0usize;
     'libraries: for library in libraries {
         count = count.saturating_add(kept_entries(library).len());
@@ -166,7 +162,7 @@ fn count_of(libraries: &[SyntheticImportDirectoryEntry]) -> usize
     count
 }
 
-// Appends the import of an entry, for which there is room.
+// Appends the import of an entry.
 fn push_entry<'a, 'e>(
     alloc: Global,
     imports: &mut Vec<Import<'a>>,
@@ -176,20 +172,15 @@ fn push_entry<'a, 'e>(
     offset: usize,
     size: usize,
 ) -> ResultOf<'e, ()>
-    requires { vec_len imports.old < vec_capacity imports.old }
     ensures added { OnOk result
         (imports.new.items
         ≡ imports.old.items ++ import_of dll.now slot offset size (entry_view entry.now) ∷ []) }
     ensures refused { IfErr result IsMemory }
-    ensures grown { OnErr result
-        ((import_of dll.now slot offset size (entry_view entry.now)).is_borrowed ≡ false) }
-    ensures counted { OnOk result (vec_len imports.new ≡ vec_len imports.old + 1) }
-    ensures same { vec_capacity imports.new ≡ vec_capacity imports.old }
 {
     match entry {
         SyntheticImportLookupTableEntry::OrdinalNumber(ordinal) => {
             let name = ordinal_name(alloc, *ordinal)?;
-            imports.push_reserved(Import {
+            imports.push(Import {
                 name: CowStr::Owned(name),
                 dll,
                 ordinal: *ordinal,
@@ -197,10 +188,10 @@ fn push_entry<'a, 'e>(
                 rva: 0,
                 size,
                 slot,
-            });
+            })?;
         }
         SyntheticImportLookupTableEntry::HintNameTableRVA((rva, named)) => {
-            imports.push_reserved(Import {
+            imports.push(Import {
                 name: CowStr::Borrowed(named.name),
                 dll,
                 ordinal: named.hint,
@@ -208,14 +199,14 @@ fn push_entry<'a, 'e>(
                 rva: *rva as usize,
                 size,
                 slot,
-            });
+            })?;
         }
     }
     Ok(())
 }
 
 // Appends the imports of a table's entries, each in its slot of `size` bytes of the address table
-// at `rva`; there is room for all.
+// at `rva`.
 fn push_entries<'a, 'e>(
     alloc: Global,
     imports: &mut Vec<Import<'a>>,
@@ -225,15 +216,11 @@ fn push_entries<'a, 'e>(
     rva: u32,
     size: usize,
 ) -> ResultOf<'e, ()>
-    requires slots { length slots.now ≡ length entries.now }
-    requires room { vec_len imports.old + length entries.now ≤ vec_capacity imports.old }
-    ensures value { let entries = map entry_view entries.now in
+    requires { length slots.now ≡ length entries.now }
+    ensures { let entries = map entry_view entries.now in
         let made = imports_by size dll.now rva entries slots.now in
         AnswersOrMemory (λ _. imports.new.items) result
         (option_map (λ more. imports.old.items ++ more) made) IsOverflow }
-    ensures grown { IfErr result (λ e. IsMemory e → 0 < length entries.now) }
-    ensures counted { OnOk result (vec_len imports.new ≡ vec_len imports.old + length entries.now) }
-    ensures same { OnOk result (vec_capacity imports.new ≡ vec_capacity imports.old) }
 {
     'entries: for (position, entry) in entries.iter().enumerate() {
         let slot = slots[position];
@@ -245,24 +232,17 @@ fn push_entries<'a, 'e>(
     Ok(())
 }
 
-// Appends the imports from a library, whose address table has entries of `size` bytes; there is
-// room for all.
+// Appends the imports from a library, whose address table has entries of `size` bytes.
 fn push_imports<'a, 'e>(
     alloc: Global,
     imports: &mut Vec<Import<'a>>,
     library: &SyntheticImportDirectoryEntry<'a>,
     size: usize,
 ) -> ResultOf<'e, ()>
-    requires slots { has_slots library.now ≡ true }
-    requires room { vec_len imports.old + length (kept_entries library.now)
-        ≤ vec_capacity imports.old }
-    ensures value { AnswersOrMemory (λ _. imports.new.items) result
+    requires { has_slots library.now ≡ true }
+    ensures { AnswersOrMemory (λ _. imports.new.items) result
         (option_map (λ made. imports.old.items ++ made) (library_imports size library.now))
         IsOverflow }
-    ensures grown { IfErr result (λ e. IsMemory e → 0 < length (kept_entries library.now)) }
-    ensures counted { OnOk result
-        (vec_len imports.new ≡ vec_len imports.old + length (kept_entries library.now)) }
-    ensures same { OnOk result (vec_capacity imports.new ≡ vec_capacity imports.old) }
 {
     push_entries(
         alloc,
@@ -282,11 +262,8 @@ fn imports_of<'a, 'e>(
     libraries: &[SyntheticImportDirectoryEntry<'a>],
     size: usize,
 ) -> ResultOf<'e, Vec<Import<'a>>>
-    ensures value { AnswersOrMemory (λ v. v.items) result (imports_of size libraries.now)
+    ensures { AnswersOrMemory (λ v. v.items) result (imports_of size libraries.now)
         (IsImportListFault libraries.now) }
-    ensures counted { IfErr result (λ e. IsMemory e → first_without_slots libraries.now ≡ None) }
-    ensures grown { IfErr result (λ e. IsMemory e → 0 < kept_count libraries.now) }
-    ensures room { IfOk result (λ v. vec_capacity v ≡ kept_count libraries.now) }
 {
     if let Some(library) = first_without_slots(libraries) {
         let entries = kept_entries(library).len();

@@ -1,15 +1,14 @@
 //! Import lookup tables: what is imported from a library, by name or by ordinal.
 
-ghost use Rattle.std.specs.Prelude.{◌≡◌, ◌<◌, [], ◌⊎◌, Bool, IfErr, IfOk, IfSome, None, Some, length};
+ghost use Rattle.std.specs.Prelude.{◌≡◌, ◌<◌, [], Bool, IfOk, IfSome, None, Some, length};
 ghost use Rattle.std.specs.Prelude.{map, true, All};
 ghost use Rattle.std.specs.List.Sorted.{IsStrictlyIncreasing};
-ghost use Rattle.goblin_base.specs.Answers.{IsMemory};
 ghost use Rattle.goblin_base.specs.Reading.{Reads, ReadsOrMemory};
 ghost use Rattle.goblin_base.specs.Tables.{stop};
 ghost use Rattle.goblin_pe_sect.specs.Options.{default_options, is_strict};
-ghost use Rattle.goblin_pe_sect.specs.Addresses.{TakesMap, map_by, map_of};
+ghost use Rattle.goblin_pe_sect.specs.Addresses.{map_by, map_of};
 ghost use Rattle.goblin_pe_sect.specs.Addresses.{reads_strictly};
-ghost use Rattle.goblin_pe_import.specs.ImportLookup.{KeepsEntries, entry_slots, lookup_slots};
+ghost use Rattle.goblin_pe_import.specs.ImportLookup.{entry_slots, lookup_slots};
 ghost use Rattle.goblin_pe_import.specs.ImportLookup.{entry_view, hint_name_view, kept_view};
 ghost use Rattle.goblin_pe_import.specs.LookupReadings as reading;
 
@@ -25,24 +24,24 @@ use goblin_pe_sect::section_table::SectionTable;
 use goblin_pe_sect::table::Table;
 use std::alloc::Global;
 
-// How many bytes there must be from a plain entry on: the hint, and a lane of 16 bytes for the
-// name.
+// How many bytes the file must have from a plain entry on: those of the hint, and a lane of 16
+// bytes for the name.
 const PLAIN_ROOM: usize = 18;
 
-/// A hint, and the name after it, by which a library exports what is imported.
+/// A hint, and after it the name under which a library exports what is imported.
 ///
 /// Source: PE Format, "Hint/Name Table".
 #[derive(Debug, Clone, Drop)]
 pub struct HintNameTableEntry<'a> {
-    /// The index in the library's export name pointer table at which the loader looks for the name
-    /// first, at 0 in the entry. Where it is wrong, the name is searched for.
+    /// The index in the library's name pointer table at which the loader looks for the name first,
+    /// at 0 in the entry. If the name is not there, the loader searches for it.
     pub hint: u16,
-    /// The name, at 2 in the entry, up to a NUL; empty where permissive mode found no text.
+    /// The name, at 2 in the entry, up to a NUL. It is empty if permissive mode found no text.
     pub name: &'a str,
 }
 
 impl<'a> HintNameTableEntry<'a> {
-    /// The hint and the name at the file offset `offset`, as
+    /// Reads the hint and the name at the file offset `offset`, as
     /// [`HintNameTableEntry::parse_with_opts`] with the default options.
     ///
     /// # Errors
@@ -53,12 +52,12 @@ impl<'a> HintNameTableEntry<'a> {
         HintNameTableEntry::parse_with_opts(bytes, offset, &ParseOptions::default())
     }
 
-    /// The hint and the name at the file offset `offset`. The name begins 2 bytes on, and ends
-    /// before its first NUL or at the end of the file.
+    /// Reads the hint and the name at the file offset `offset`. The name begins 2 bytes later,
+    /// after the hint. It ends before its first NUL or at the end of the file.
     ///
     /// # Errors
-    /// [`Error::Malformed`] with [`Cause::HintEntry`] if the hint runs past the end of the file.
-    /// [`Error::Read`] if no text follows it, in strict mode; in permissive mode the name is then
+    /// [`Error::Malformed`] with [`Cause::HintEntry`] if the hint runs past the end of the file. In
+    /// strict mode [`Error::Read`] if no text follows the hint; in permissive mode the name is then
     /// empty.
     pub fn parse_with_opts<'e>(
         bytes: &'a [u8],
@@ -71,7 +70,7 @@ impl<'a> HintNameTableEntry<'a> {
         HintNameTableEntry::parse_within(bytes, offset, None, opts)
     }
 
-    // The hint and the name at an offset, up to a limit.
+    // The hint at an offset, and the name after it, up to a limit.
     #[inline(always)]
     #[tactic(auto, unfolding(crate::specs::LookupReadings::hint_name))]
     fn parse_within<'e>(
@@ -94,8 +93,8 @@ impl<'a> HintNameTableEntry<'a> {
         Ok(HintNameTableEntry { hint, name })
     }
 
-    // The hint and the name at an offset, where the name is ASCII and its NUL none of the file's
-    // last bytes; `None` says nothing of them. Both modes give the same.
+    // The hint and the name at an offset, if the name is ASCII and its NUL is not among the last
+    // bytes of the file. `None` says nothing about them. Both modes return the same.
     #[inline(always)]
     fn plain(bytes: &'a [u8], offset: usize) -> Option<HintNameTableEntry<'a>>
         ensures { IfSome result (λ named. (strict : Bool)
@@ -118,14 +117,15 @@ impl<'a> HintNameTableEntry<'a> {
 /// Source: PE Format, "Import Lookup Table".
 #[derive(Debug, Clone, Drop)]
 pub enum SyntheticImportLookupTableEntry<'a> {
-    /// The ordinal by which it imports.
+    /// An import by ordinal: the ordinal.
     OrdinalNumber(u16),
-    /// The pair (address of the hint and the name by which it imports, these themselves).
+    /// An import by name: the address of the hint and the name, with the hint and the name.
     HintNameTableRVA((u32, HintNameTableEntry<'a>)),
 }
 
 impl<'a> SyntheticImportLookupTableEntry<'a> {
-    // What a table keeps of an entry: `None` if it leads nowhere, or in permissive mode to no hint.
+    // What a table keeps of an entry. It is `None` if the entry leads nowhere, or in permissive
+    // mode to no hint.
     #[inline(always)]
     #[tactic(auto, unfolding(crate::specs::LookupReadings::kept_entry))]
     pub(super) fn kept<'e, T: Bitfield<'a>>(
@@ -155,8 +155,8 @@ impl<'a> SyntheticImportLookupTableEntry<'a> {
     }
 
     // What a table keeps of an entry that is plain: by ordinal, or by a name that is ASCII and
-    // whose address lies among those about names that the finder keeps. `None` says nothing of the
-    // entry.
+    // whose address lies among those around the last name, as the finder keeps them. `None` says
+    // nothing about the entry.
     #[inline(always)]
     #[tactic(auto, unfolding(crate::specs::LookupReadings::kept_entry))]
     pub(super) fn plain<T: Bitfield<'a>>(
@@ -183,13 +183,13 @@ impl<'a> SyntheticImportLookupTableEntry<'a> {
     }
 }
 
-/// What a lookup table keeps, in order: of some entries nothing, so an index here is not a slot.
+/// What a lookup table keeps, in order. Some entries are left out, so an index here is not a slot.
 ///
 /// Source: PE Format, "Import Lookup Table".
 pub type ImportLookupTable<'a> = Table<SyntheticImportLookupTableEntry<'a>>;
 
 impl<'a> SyntheticImportLookupTableEntry<'a> {
-    /// The lookup table at the file offset `offset`, as
+    /// Reads the lookup table at the file offset `offset`, as
     /// [`SyntheticImportLookupTableEntry::parse_with_opts`] with the default options.
     ///
     /// # Errors
@@ -201,15 +201,9 @@ impl<'a> SyntheticImportLookupTableEntry<'a> {
         sections: &[SectionTable],
         file_alignment: u32,
     ) -> ResultOf<'e, ImportLookupTable<'a>>
-        ensures value { let m = map_by default_options sections.now file_alignment in
+        ensures { let m = map_by default_options sections.now file_alignment in
             ReadsOrMemory (map entry_view) result
             (reading.lookup_table true T.format m.addressing offset) bytes.now }
-        ensures grown { let m = map_by default_options sections.now file_alignment in
-            IfErr result
-            (λ e.
-            IsMemory e
-            → KeepsEntries true T.format m.addressing bytes.now offset
-            ⊎ TakesMap default_options sections.now file_alignment) }
     {
         let opts = ParseOptions::default();
         SyntheticImportLookupTableEntry::parse_with_opts::<T>(
@@ -222,17 +216,17 @@ impl<'a> SyntheticImportLookupTableEntry<'a> {
         )
     }
 
-    /// The lookup table at the file offset `offset`: what is kept of the entries of type `T` there,
-    /// up to one whose number is 0.
+    /// Reads the lookup table at the file offset `offset`: what is kept of the entries of type `T`
+    /// before the first one whose number is 0.
     ///
-    /// An entry by ordinal is kept. One whose address has no file offset is left out, in both
-    /// modes; and in permissive mode also one whose hint is not whole.
+    /// An entry by ordinal is kept. An entry by name is left out in both modes if its address has
+    /// no file offset. In permissive mode it is also left out if its hint is not all in the file.
     ///
     /// # Errors
     /// In strict mode [`Error::Malformed`] with [`Cause::LookupEnd`] if the table reaches the end
-    /// of the file, and as [`HintNameTableEntry::parse_with_opts`] where an entry leads to no hint
-    /// and name; in permissive mode the table ends there. [`Error::Memory`] if memory is refused;
-    /// it is asked for only if addresses are mapped by sections or an entry is kept.
+    /// of the file; in permissive mode it ends there. Also in strict mode as
+    /// [`HintNameTableEntry::parse_with_opts`] if an entry leads to no hint and name.
+    /// [`Error::Memory`] if memory is refused.
     pub fn parse_with_opts<'e, T: Bitfield<'a>>(
         alloc: Global,
         bytes: &'a [u8],
@@ -241,15 +235,9 @@ impl<'a> SyntheticImportLookupTableEntry<'a> {
         file_alignment: u32,
         opts: &ParseOptions,
     ) -> ResultOf<'e, ImportLookupTable<'a>>
-        ensures value { let m = map_by opts.now sections.now file_alignment in
+        ensures { let m = map_by opts.now sections.now file_alignment in
             ReadsOrMemory (map entry_view) result
             (reading.lookup_table (reads_strictly m) T.format m.addressing offset) bytes.now }
-        ensures grown { let m = map_by opts.now sections.now file_alignment in
-            IfErr result
-            (λ e.
-            IsMemory e
-            → KeepsEntries (reads_strictly m) T.format m.addressing bytes.now offset
-            ⊎ TakesMap opts.now sections.now file_alignment) }
     {
         let (table, _) = SyntheticImportLookupTableEntry::parse_with_slots::<T>(
             alloc,
@@ -262,11 +250,11 @@ impl<'a> SyntheticImportLookupTableEntry<'a> {
         Ok(table)
     }
 
-    /// The pair (lookup table at the file offset `offset`, as
-    /// [`SyntheticImportLookupTableEntry::parse_with_opts`] reads it; the slot of each entry that
-    /// it keeps, in order). The slot of an entry is the number of entries before it in the file; in
-    /// the address table its own entry has the same index. The slots rise, and lie below the slot
-    /// where the table ends.
+    /// Reads the lookup table at the file offset `offset`, as
+    /// [`SyntheticImportLookupTableEntry::parse_with_opts`] does, and returns with it the slot of
+    /// each entry that it keeps, in order. The slot of an entry is the number of entries before it
+    /// in the file. The import's entry in the address table has the same index. The slots rise, and
+    /// lie below the slot where the table ends.
     ///
     /// # Errors
     /// As [`SyntheticImportLookupTableEntry::parse_with_opts`].
@@ -282,12 +270,6 @@ impl<'a> SyntheticImportLookupTableEntry<'a> {
         ensures value { let m = map_by opts.now sections.now file_alignment in
             ReadsOrMemory (λ both. map entry_view both.0) result
             (reading.lookup_table (reads_strictly m) T.format m.addressing offset) bytes.now }
-        ensures grown { let m = map_by opts.now sections.now file_alignment in
-            IfErr result
-            (λ e.
-            IsMemory e
-            → KeepsEntries (reads_strictly m) T.format m.addressing bytes.now offset
-            ⊎ TakesMap opts.now sections.now file_alignment) }
         ensures slots { let m = map_by opts.now sections.now file_alignment in
             IfOk result
             (λ both.
@@ -314,11 +296,6 @@ impl<'a> SyntheticImportLookupTableEntry<'a> {
         ensures value { let m = map_of address_map.now in
             ReadsOrMemory (λ both. (map entry_view both.0, both.1.items)) result
             (reading.lookup_with_slots (reads_strictly m) T.format m.addressing offset) bytes.now }
-        ensures grown { let m = map_of address_map.now in
-            IfErr result
-            (λ e.
-            IsMemory e
-            → KeepsEntries (reads_strictly m) T.format m.addressing bytes.now offset) }
         ensures counted { IfOk result (λ both. length both.0 ≡ length both.1.items) }
     {
         let size = T::size_of();

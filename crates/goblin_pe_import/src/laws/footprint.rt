@@ -1,13 +1,13 @@
-//! Which bytes of a file its imports depend on.
+//! The positions of a file on which its imports depend.
 
-ghost use Rattle.std.specs.Prelude.{◌≡◌, ◌+◌, ◌<◌, ◌⊎◌, ◌++◌, IfErr, IfOk, OnErr, if◌then◌else◌};
+ghost use Rattle.std.specs.Prelude.{◌≡◌, ◌+◌, ◌<◌, ◌++◌, IfErr, IfOk, if◌then◌else◌};
 ghost use Rattle.std.specs.Prelude.{length, is_some};
 ghost use Rattle.goblin_base.specs.Answers.{IsMemory};
 ghost use Rattle.goblin_base.specs.Marks.{IsFootprint, marked};
 ghost use Rattle.goblin_base.specs.Bytes.{slice_at};
 ghost use Rattle.goblin_base.specs.Footprints.{led_to, positions, slice_footprint};
 ghost use Rattle.readings.specs.Reads.{text_within};
-ghost use Rattle.goblin_pe_sect.specs.Addresses.{TakesMap, map_by, map_of};
+ghost use Rattle.goblin_pe_sect.specs.Addresses.{map_by, map_of};
 ghost use Rattle.goblin_pe_sect.specs.Addresses.{reads_strictly};
 ghost use Rattle.goblin_pe_import.specs.ImportReadings.{import_data, libraries_at, library_of};
 ghost use Rattle.goblin_pe_import.specs.ImportReadings.{lookup_if};
@@ -63,8 +63,8 @@ fn add_entry<'a, T: Bitfield<'a>>(
     }
 }
 
-// Marks the slots of `width` bytes from an offset on, and the one at `last` if the file has all of
-// it.
+// Marks the slots of `width` bytes from an offset up to `last`, and the one at `last` if the file
+// has all of it.
 #[tactic(auto, using(goblin_base::proofs::Marks::marking))]
 fn add_slots(marks: &mut Marks, bytes: &[u8], offset: usize, last: usize, width: usize)
     ensures { let is_whole = is_some (slice_at bytes.now last width) in
@@ -76,7 +76,7 @@ fn add_slots(marks: &mut Marks, bytes: &[u8], offset: usize, last: usize, width:
     }
 }
 
-// Marks the footprint of the lookup table at a place, where there is one.
+// Marks the footprint of the lookup table at a place, if there is one.
 #[tactic(auto, unfolding(crate::specs::ImportReadings::lookup_if), using(goblin_base::proofs::Marks::marking))]
 fn add_lookup_table<'a, T: Bitfield<'a>>(
     marks: &mut Marks,
@@ -101,7 +101,7 @@ fn add_lookup_table<'a, T: Bitfield<'a>>(
     add_slots(marks, bytes, offset, place, size)
 }
 
-// Marks the footprint of the address table at a place, where there is one.
+// Marks the footprint of the address table at a place, if there is one.
 #[tactic(auto, using(goblin_base::proofs::Marks::marking))]
 fn add_address_table<'a, T: Bitfield<'a>>(marks: &mut Marks, bytes: &'a [u8], table: Option<usize>)
     ensures { let reached =
@@ -119,7 +119,7 @@ fn add_address_table<'a, T: Bitfield<'a>>(marks: &mut Marks, bytes: &'a [u8], ta
     add_slots(marks, bytes, offset, place, size)
 }
 
-// Marks what a record of an import directory leads to.
+// Marks what an import descriptor leads to.
 #[tactic(auto, unfolding(crate::specs::ImportReadings::library_of, goblin_pe_sect::specs::AddressReadings::name_at), using(goblin_base::proofs::Marks::marking))]
 fn add_library<'a, T: Bitfield<'a>>(
     marks: &mut Marks,
@@ -181,14 +181,16 @@ pub fn add_imports<'a, T: Bitfield<'a>>(
     }
 }
 
-/// The footprint of the imports of a file: the ranges (begin, end) of the positions on which the
-/// import data of a directory depends, as [`twin_imports`](crate::laws::twin_imports) says. A
-/// position is in the footprint exactly where it lies in one of the ranges. They come in order,
-/// none is empty, and none runs past the file; a position lies between each and the next.
+/// The footprint of the imports of a file: the positions on which the import data of a directory
+/// depends, as ranges (begin, end). [`twin_imports`](crate::laws::twin_imports) says which parts of
+/// the file it has.
+///
+/// A position is in the footprint exactly if it lies in one of the ranges. They come in order, none
+/// is empty, and none runs past the end of the file. At least one position lies between each range
+/// and the next.
 ///
 /// # Errors
-/// [`Error::Memory`](goblin_base::Error::Memory) only, and only if the file has a byte or addresses
-/// are mapped by sections.
+/// [`Error::Memory`](goblin_base::Error::Memory) only.
 pub fn footprint_imports<'a, 'e, T: Bitfield<'a>>(
     alloc: Global,
     bytes: &'a [u8],
@@ -203,8 +205,6 @@ pub fn footprint_imports<'a, 'e, T: Bitfield<'a>>(
         (import_data (reads_strictly m) T.format m.addressing rva).reaches bytes.now in
         IfOk result (λ v. IsFootprint (length bytes.now) footprint v.items) }
     ensures refused { IfErr result IsMemory }
-    ensures grown { OnErr result
-        ((0 < length bytes.now) ⊎ TakesMap opts.now sections.now file_alignment) }
 {
     let address_map = AddressMap::prepare(alloc, sections, file_alignment, opts)?;
     let mut marks = Marks::with_room_for(alloc, bytes.len())?;

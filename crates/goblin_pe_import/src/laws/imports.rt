@@ -1,12 +1,10 @@
 //! The imports of two files.
 
-ghost use Rattle.std.specs.Prelude.{◌⊎◌, IfErr, IsSomeAnd, map};
-ghost use Rattle.goblin_base.specs.Answers.{IsMemory};
+ghost use Rattle.std.specs.Prelude.{map};
 ghost use Rattle.goblin_base.specs.Reading.{TwinsOrMemory};
-ghost use Rattle.goblin_pe_sect.specs.Addresses.{TakesMap, map_by, offset_of, reads_strictly};
-ghost use Rattle.goblin_pe_import.specs.ImportDirectory.{TakesLibraries};
-ghost use Rattle.goblin_pe_import.specs.ImportLookup.{KeepsEntries, entry_view};
-ghost use Rattle.goblin_pe_import.specs.ImportReadings.{first_record_offset, import_data};
+ghost use Rattle.goblin_pe_sect.specs.Addresses.{map_by, reads_strictly};
+ghost use Rattle.goblin_pe_import.specs.ImportLookup.{entry_view};
+ghost use Rattle.goblin_pe_import.specs.ImportReadings.{import_data};
 ghost use Rattle.goblin_pe_import.specs.LookupReadings.{lookup_table};
 
 use crate::import::{Bitfield, ImportData, ImportLookupTable, SyntheticImportLookupTableEntry};
@@ -16,11 +14,11 @@ use goblin_pe_sect::options::ParseOptions;
 use goblin_pe_sect::section_table::SectionTable;
 use std::alloc::Global;
 
-/// The lookup tables of entries of type `T` at one offset of two files.
+/// Reads the lookup tables of entries of type `T` at one file offset of two files.
 ///
-/// The footprint of the read: the entries up to and with the one whose number is 0, as far as they
-/// lie in the file; and for each entry before that one that imports by name, the hint at its
-/// address and the text after it.
+/// The footprint of the read has the entries up to and including the one whose number is 0, as far
+/// as they lie in the file. For each entry before that one that imports by name, it also has the
+/// hint at its address and the text after the hint.
 ///
 /// # Errors
 /// For each file as [`SyntheticImportLookupTableEntry::parse_with_opts`].
@@ -36,21 +34,9 @@ pub fn twin_lookup<'a, 'e, T: Bitfield<'a>>(
     ResultOf<'e, ImportLookupTable<'a>>,
     ResultOf<'e, ImportLookupTable<'a>>,
 )
-    ensures twins { let m = map_by opts.now sections.now file_alignment in
+    ensures { let m = map_by opts.now sections.now file_alignment in
         TwinsOrMemory (map entry_view)
         (lookup_table (reads_strictly m) T.format m.addressing offset) a.now b.now result }
-    ensures first_grown { let m = map_by opts.now sections.now file_alignment in
-        IfErr result.0
-        (λ e.
-        IsMemory e
-        → KeepsEntries (reads_strictly m) T.format m.addressing a.now offset
-        ⊎ TakesMap opts.now sections.now file_alignment) }
-    ensures second_grown { let m = map_by opts.now sections.now file_alignment in
-        IfErr result.1
-        (λ e.
-        IsMemory e
-        → KeepsEntries (reads_strictly m) T.format m.addressing b.now offset
-        ⊎ TakesMap opts.now sections.now file_alignment) }
 {
     let first = SyntheticImportLookupTableEntry::parse_with_opts::<T>(
         alloc,
@@ -71,13 +57,14 @@ pub fn twin_lookup<'a, 'e, T: Bitfield<'a>>(
     (first, second)
 }
 
-/// The import data of one directory, whose tables have entries of type `T`, in two files.
+/// Reads the import data of one directory, whose tables have entries of type `T`, in two files.
 ///
-/// The footprint of the read: the records up to and with the one that ends the directory, as far as
-/// they lie in the file; and for each record before that one the text of the library's name, the
-/// footprint of its lookup table, and the entries of its address table up to and with the one whose
-/// number is 0. [`footprint_imports`](crate::laws::footprint_imports) lists it. It is empty where
-/// the directory's address has no file offset, and in permissive mode where that offset is 0.
+/// The footprint of the read has the import descriptors up to and including the one that ends the
+/// directory, as far as they lie in the file. For each descriptor before that one, it also has the
+/// text of the library's name, the footprint of its lookup table, and the entries of its address
+/// table up to and including the one whose number is 0.
+/// [`footprint_imports`](crate::laws::footprint_imports) lists it. The footprint is empty if the
+/// directory's address has no file offset, and in permissive mode also if that offset is 0.
 ///
 /// # Errors
 /// For each file as [`ImportData::parse_with_opts`].
@@ -91,24 +78,10 @@ pub fn twin_imports<'a, 'e, T: Bitfield<'a>>(
     file_alignment: u32,
     opts: &ParseOptions,
 ) -> (ResultOf<'e, ImportData<'a>>, ResultOf<'e, ImportData<'a>>)
-    ensures twins { let m = map_by opts.now sections.now file_alignment in
+    ensures { let m = map_by opts.now sections.now file_alignment in
         let rva = directory.virtual_address in
         TwinsOrMemory (λ x. x)
         (import_data (reads_strictly m) T.format m.addressing rva) a.now b.now result }
-    ensures first_grown { let m = map_by opts.now sections.now file_alignment in
-        IfErr result.0
-        (λ e.
-        IsMemory e
-        → IsSomeAnd (first_record_offset (reads_strictly m) (offset_of m directory.virtual_address))
-        (TakesLibraries (reads_strictly m) T.format m.addressing a.now)
-        ⊎ TakesMap opts.now sections.now file_alignment) }
-    ensures second_grown { let m = map_by opts.now sections.now file_alignment in
-        IfErr result.1
-        (λ e.
-        IsMemory e
-        → IsSomeAnd (first_record_offset (reads_strictly m) (offset_of m directory.virtual_address))
-        (TakesLibraries (reads_strictly m) T.format m.addressing b.now)
-        ⊎ TakesMap opts.now sections.now file_alignment) }
 {
     let first = ImportData::parse_with_opts::<T>(
         alloc,

@@ -1,8 +1,8 @@
-//! The pieces of the address space, and whose they are.
+//! The pieces of the address space, with the section to which each belongs.
 //!
-//! Where the windows stand apart and in rising order, as a lawful image has them, one walk over the
-//! sections gives the pieces as they come. Otherwise the cuts are sorted, and then each piece gets
-//! its owner.
+//! If the windows are apart and in rising order, as in a lawful image, one walk over the sections
+//! gives the pieces in order. Otherwise the cuts are sorted first, and then each piece gets its
+//! owner.
 
 ghost use Rattle.std.specs.Prelude.{◌≡◌, ◌+◌, ◌*◌, ◌<◌, ◌≤◌, ◌∷◌, ℕ, [], ◌++◌, length, IsTrue};
 ghost use Rattle.std.specs.Prelude.{IfOk, None, Some, vec_capacity};
@@ -27,8 +27,8 @@ fn push_piece(pieces: &mut Vec<Piece>, begin: usize, owner: Option<Owner>)
     pieces.push_reserved(Piece::new(begin, owner));
 }
 
-// Adds the piece of a window and, where the window does not begin at the end of the one before, the
-// piece between them.
+// Adds the piece of a window. If the window begins after `end`, the end of the window before, also
+// adds the piece between the two windows, which has no owner.
 fn push_window(pieces: &mut Vec<Piece>, end: usize, window: Window)
     requires { HasPieceRoom pieces.old 2 }
     ensures apart_begins { end < window.begin → begins_of pieces.new.items
@@ -48,8 +48,8 @@ fn push_window(pieces: &mut Vec<Piece>, end: usize, window: Window)
     push_piece(pieces, window.begin, Some(window.owner));
 }
 
-// Adds the pieces of the sections' windows, in one walk over the sections, and tells whether it got
-// through: whether each window that is not empty begins at or after the end of those before it.
+// Adds the pieces of the sections' windows in one walk over the sections. Returns false, and leaves
+// the pieces incomplete, if a window that is not empty begins before the end of one before it.
 #[inline(always)]
 fn push_in_order(
     pieces: &mut Vec<Piece>,
@@ -79,7 +79,8 @@ fn push_in_order(
     true
 }
 
-// The pieces of windows in any order, which may overlap, in place of those that are given.
+// The pieces of windows in any order, which may overlap. They replace the pieces that are given,
+// whose memory they use.
 #[inline(never)]
 fn division_of_any(
     alloc: Global,
@@ -90,8 +91,7 @@ fn division_of_any(
 ) -> Result<Vec<Piece>, AllocError>
     requires aligned { 0 < file_alignment }
     requires room { 2 * length sections.now + 1 ≤ vec_capacity pieces }
-    ensures made { IfOk result (λ v. IsDivision opts.now sections.now file_alignment v.items) }
-    ensures same { IfOk result (λ v. vec_capacity v ≡ vec_capacity pieces) }
+    ensures { IfOk result (λ v. IsDivision opts.now sections.now file_alignment v.items) }
 {
     let begins = cuts_of(alloc, sections, file_alignment)?;
     put_pieces(alloc, &begins, sections, file_alignment, opts, &mut pieces)?;
@@ -107,8 +107,7 @@ pub(super) fn division_of(
     opts: &ParseOptions,
 ) -> Result<Vec<Piece>, AllocError>
     requires { 0 < file_alignment }
-    ensures made { IfOk result (λ v. IsDivision opts.now sections.now file_alignment v.items) }
-    ensures room { IfOk result (λ v. vec_capacity v ≡ 2 * length sections.now + 1) }
+    ensures { IfOk result (λ v. IsDivision opts.now sections.now file_alignment v.items) }
 {
     let mut pieces = Vec::with_capacity(alloc, 2 * sections.len() + 1)?;
     if push_in_order(&mut pieces, sections, file_alignment, opts) {

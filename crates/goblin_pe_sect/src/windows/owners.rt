@@ -1,9 +1,9 @@
-//! Which section each piece of the address space belongs to.
+//! The section to which each piece of the address space belongs.
 //!
-//! The pieces are halved again and again: each range of pieces gets the few windows that may own
-//! some of them, and passes them on to its halves, so the steps grow like n log n.
+//! The list of pieces is halved again and again. Each part of it gets the windows that may own some
+//! of its pieces, and passes them on to its halves. So the number of steps grows like n log n.
 
-ghost use Rattle.std.specs.Prelude.{◌≡◌, ◌+◌, ◌^◌, ◌<◌, ◌≤◌, ◌++◌, IfOk, OnOk, map, find, filter};
+ghost use Rattle.std.specs.Prelude.{◌≡◌, ◌+◌, ◌^◌, ◌<◌, ◌≤◌, ◌++◌, IfOk, OnOk, map, filter};
 ghost use Rattle.std.specs.Prelude.{length, position, vec_capacity, vec_len};
 ghost use Rattle.std.specs.List.Sorted.{IsStrictlyIncreasing};
 ghost use Rattle.goblin_pe_sect.specs.WindowDivision.{HasPieceRoom};
@@ -18,19 +18,19 @@ use crate::section_table::SectionTable;
 use crate::utils::{raw_begin, section_window};
 use std::alloc::{AllocError, Global};
 
-/// What an index keeps of the section that a piece belongs to.
+/// What an index keeps of the section to which a piece belongs.
 #[derive(Copy, Clone)]
 pub struct Owner {
     /// The section's index in the table.
     pub index: usize,
     /// The section's address.
     pub address: u32,
-    /// Where the section's raw data begins in the file, for the mapping of addresses.
+    /// The file offset at which the section's raw data begins when addresses are mapped.
     pub pointer: u32,
 }
 
-// At most this many windows are walked over for each piece; more are first divided between halves
-// of the pieces.
+// At most this many windows are walked over for each piece. More are first divided among the halves
+// of the list of pieces.
 const FEW: usize = 16;
 
 /// The window of a section, and what is kept of the section.
@@ -104,8 +104,8 @@ fn cover_place(first: usize, last: usize, windows: &[Window]) -> Option<usize>
         .position(|window| window.begin <= first && last < window.end)
 }
 
-// The windows up to the first that holds all addresses from `first` to `last`: what follows it
-// owns none of them.
+// The windows up to the first that holds all addresses from `first` to `last`. The windows after it
+// own none of these addresses.
 fn up_to_cover(first: usize, last: usize, windows: &[Window]) -> &[Window]
     ensures { FindTheSame first last result.now windows.now }
 {
@@ -115,7 +115,8 @@ fn up_to_cover(first: usize, last: usize, windows: &[Window]) -> &[Window]
     }
 }
 
-// The windows that hold some address from `first` to `last`.
+// The windows that may hold an address from `first` to `last`: they begin at or before `last`, and
+// end after `first`.
 fn meeting(
     alloc: Global,
     first: usize,
@@ -146,14 +147,15 @@ fn nearby(
     Ok(near)
 }
 
-// The piece that begins at the address, and belongs to the first window that holds it.
+// The piece that begins at the address. It belongs to the first window that holds the address, if
+// one does.
 fn piece_at(begin: usize, windows: &[Window]) -> Piece
     ensures { result ≡ piece_among windows.now begin }
 {
     Piece::new(begin, owner_at(begin, windows))
 }
 
-// Adds the piece that begins at each address, by a walk over the windows for each.
+// Adds the piece that begins at each address, with one walk over the windows for each piece.
 fn push_each_piece(begins: &[usize], windows: &[Window], pieces: &mut Vec<Piece>)
     requires { HasPieceRoom pieces.old (length begins.now) }
     ensures made { pieces.new.items
@@ -166,8 +168,8 @@ fn push_each_piece(begins: &[usize], windows: &[Window], pieces: &mut Vec<Piece>
     }
 }
 
-// Adds the piece that begins at each address: halves of the pieces, each with the windows that may
-// own some of them.
+// Adds the piece that begins at each address. Splits the list of pieces into halves, each with the
+// windows that may own some of its pieces.
 fn push_pieces(
     alloc: Global,
     begins: &[usize],
@@ -201,8 +203,8 @@ fn push_pieces(
     Ok(())
 }
 
-/// Puts into `pieces`, in place of what it holds, the piece that begins at each address, with what
-/// is kept of its section: the first whose window holds the piece's start, if one does.
+/// Replaces `pieces` with the piece that begins at each address. A piece belongs to the first
+/// section whose window holds the start of the piece, if one does.
 pub(super) fn put_pieces(
     alloc: Global,
     begins: &[usize],
@@ -218,7 +220,6 @@ pub(super) fn put_pieces(
     ensures owners { OnOk result
         (owners_of pieces.new.items
         ≡ map (first_owner opts.now sections.now file_alignment) begins.now) }
-    ensures same { OnOk result (vec_capacity pieces.new ≡ vec_capacity pieces.old) }
 {
     let windows = windows_of(alloc, sections, file_alignment, opts)?;
     pieces.clear();

@@ -1,4 +1,4 @@
-use Rattle.std.proofs.Common.{◌∙◌, ◌++◌, ◌∷◌, [], List, ap, arith, map, sym, take}
+use Rattle.std.proofs.Common.{◌∙◌, ◌++◌, ◌∷◌, [], List, ap, map, sym, take}
 use Rattle.std.proofs.lemmas.List.{map_more}
 use Rattle.std.proofs.lemmas.Option.{get_or_from_slice_get, slice_get_within}
 use Rattle.goblin_pe_export.specs.ExportWalks.{walked_tables}
@@ -13,11 +13,8 @@ records-preserved c =
     let found = sym c.in-Some.ensures in
     let within = slice_get_within table index c.in-Some.entry found in
     let said = c.address_record.ensures ∙ ap address_said (sym (get_or_from_slice_get table index c.in-Some.entry c.in-Some.entry found)) in
-    let more = map_more address_said table index c.in-Some.entry within in (
-      c.push_reserved.ensures.items
-          ∙ ap (λ (xs : List PeExportAddress). xs ++ c.address_record.result ∷ []) c.records.invariant.0
-          ∙ ap (λ (x : PeExportAddress). map address_said (take index table) ++ x ∷ []) said
-          ∙ sym more,
-      omega (arith, c.push_reserved.ensures.len, c.records.invariant.1),
-      c.push_reserved.ensures.capacity ∙ c.records.invariant.2,
-    )
+    let more = map_more address_said table index c.in-Some.entry within in
+    c.in_ok-push.ensures.items
+    ∙ ap (λ (xs : List PeExportAddress). xs ++ c.address_record.result ∷ []) c.records.invariant
+    ∙ ap (λ (x : PeExportAddress). map address_said (take index table) ++ x ∷ []) said
+    ∙ sym more

@@ -1,14 +1,12 @@
 -- Plain imports have come so far, and the records of these were added.
 use Rattle.std.proofs.Common.{◌≡◌, length, map}
 use Rattle.goblin_pe_import.specs.ImportWalks.{imports_left, plain_at}
-use Rattle.goblin_pe_records.specs.Blocked.{HasLittleRoom, most_first}
 use Rattle.goblin_pe_calls.specs.Imports.{GivesHere, Pushes, import_view}
 use Rattle.goblin_pe_calls.proofs.import.push_here.Given as goal
 
 abbrev pub invariant-plain : goal.invariant-plain
 invariant-plain g l =
     GivesHere g.T.Bitfield.format l.initial.imports (plain_at l.plain) (Pushes (map import_view l.initial.records.items) (map import_view l.records.items))
-    × (HasLittleRoom most_first l.initial.records → HasLittleRoom most_first l.records)
     × (l.plain.imports ≡ l.initial.imports)
 
 abbrev pub decreases-plain : goal.decreases-plain

@@ -3,8 +3,6 @@ use Rattle.std.proofs.lemmas.Result.{err_from_is_err_and}
 use Rattle.goblin_pe_import.specs.ImportWalks.{IsImportsCause, imports_left, walked_value}
 use Rattle.goblin_pe_calls.specs.Imports.{import_said}
 use Rattle.goblin_pe.proofs.Walked.{made-all, made-fault, made-more}
-use Rattle.readings.proofs.Walked.{walk-begins}
-use Rattle.goblin_pe_calls.proofs.Growth.{wherever}
 use Rattle.goblin_pe_calls.proofs.Pushed.{made-pushed}
 use Rattle.goblin_pe_calls.proofs.import.records_of.Goals as goal
 
@@ -14,17 +12,12 @@ returns-in_err-import-clause-value g c =
     rw (e.1, e.2)
     (λ _. made-fault (imports_left g.T.Bitfield.format) (IsImportsCause g.T.Bitfield.format) import_said c.args.imports _ _ c.libraries.invariant.0 walked_value _ _ c.in-Some.ensures.steps.0 _ c.in_err-import.was)
 
-pub returns-in_err-push_import-clause-begun : goal.returns-in_err-push_import-clause-begun
-returns-in_err-push_import-clause-begun g c =
-    wherever _ _ (walk-begins (imports_left g.T.Bitfield.format) (IsImportsCause g.T.Bitfield.format) c.args.imports _ _ c.libraries.invariant.0.at walked_value _ _ c.in-Some.ensures.steps.0 _ c.in_ok-import.was)
-
 pub libraries-preserved : goal.libraries-preserved
 libraries-preserved g c =
-    let one = made-more (imports_left g.T.Bitfield.format) (IsImportsCause g.T.Bitfield.format) import_said c.args.imports _ _ c.libraries.invariant.0 walked_value _ _ c.in-Some.ensures.steps.0 _ c.in_ok-import.was _ (sym c.in_ok-push_import.ensures.value) in
-    let pushed = c.push_here.ensures.pushed in (
+    let one = made-more (imports_left g.T.Bitfield.format) (IsImportsCause g.T.Bitfield.format) import_said c.args.imports _ _ c.libraries.invariant.0 walked_value _ _ c.in-Some.ensures.steps.0 _ c.in_ok-import.was _ (sym c.in_ok-push_import.ensures) in
+    let pushed = c.push_here.ensures in (
       made-pushed g.T.Bitfield.format _ _ _ _ _ one pushed,
-      c.push_here.ensures.room (c.in_ok-push_import.ensures.room c.libraries.invariant.1),
-      pushed.over.1 ∙ c.in-Some.ensures.steps.3.1 ∙ c.libraries.invariant.2,
+      pushed.over.1 ∙ c.in-Some.ensures.steps.3.1 ∙ c.libraries.invariant.1,
     )
 
 pub returns-clause-value : goal.returns-clause-value

@@ -24,7 +24,7 @@ returns-clause-sections c = λ w read.
     let header = sym (ap (λ (x : WholeFile). x.header) same) ∙ of.header in
     let from = sym (ap (λ (x : WholeFile). map unnamed x.sections) same) ∙ of.sections in
     let table = c.symbols_end-table.ensures ∙ sym (ap (λ (h : PeHeader). symbols_end h.coff_header) header) in
-    sym c.in_ok-sections.ensures.made
+    sym c.in_ok-sections.ensures
     ∙ ap (λ (s : List Section). map (λ s. without_text (named_in strict None bytes c.symbols_end-table.result s)) s) (c.section_records.ensures ∙ sym from)
     ∙ said-unnamed strict None bytes c.symbols_end-table.result w.sections
     ∙ ap (λ (t : ℕ). map without_text (map (named_in strict None bytes t) w.sections)) table

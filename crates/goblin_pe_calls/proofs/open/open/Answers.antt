@@ -1,7 +1,5 @@
 use Rattle.std.proofs.Common.{refl}
 use Rattle.std.proofs.lemmas.Result.{err_from_is_err_and}
-use Rattle.goblin_pe_sect.specs.Options.{is_strict}
-use Rattle.goblin_pe_head.specs.HeaderReadings.{pe_header}
 use Rattle.goblin_pe.proofs.Layouts.{header-refused}
 use Rattle.goblin_pe_calls.specs.Opened.{opened_with}
 use Rattle.goblin_pe_calls.proofs.open.open.Goals as goal
@@ -13,6 +11,5 @@ returns-in_err-read_with_opts-clause-opened c =
     let error = err_from_is_err_and c.from_residual.result c.from_residual.ensures.1 in
     rw (error.1, error.2) (
       λ other. header-refused opts (opened_with c.args.view opts) bytes _ c.in_err-read_with_opts.ensures.value,
-      λ memory. absurd ((pe_header (is_strict opts.parse_mode)).not_memory bytes _ c.in_err-read_with_opts.ensures.value.1 memory),
       refl,
     )

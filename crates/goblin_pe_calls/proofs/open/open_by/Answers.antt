@@ -1,19 +1,13 @@
-use Rattle.std.proofs.Common.{◌<◌, ◌∙◌, Some, ap, arith, inl, length, refl, rules, sym}
+use Rattle.std.proofs.Common.{◌∙◌, ap, length, refl, rules, sym}
 use Rattle.std.proofs.lemmas.Result.{err_from_is_err_and}
 use Rattle.std.proofs.lemmas.List.{length-map}
 use Rattle.goblin_base.proofs.Steps.{mapped, unmapped}
-use Rattle.goblin_pe_sect.specs.Options.{is_strict}
 use Rattle.goblin_pe_sect.specs.SectionTable.{unnamed}
 use Rattle.goblin_pe_head.specs.PeHeader.{header_value}
-use Rattle.goblin_base.specs.Answers.{IsMemory}
 use Rattle.goblin_pe.proofs.Layouts.{sections-refused}
-use Rattle.goblin_pe.proofs.SectionRoom.{sections_counted}
-use Rattle.goblin_pe.specs.Whole.{whole_in}
-use Rattle.goblin_pe_calls.specs.Growth.{FileBegins, HasRecords}
 use Rattle.goblin_pe_calls.specs.Opened.{opened_with, records_view}
-use Rattle.goblin_pe_calls.proofs.Growth.{as-read, either-way, layout-begins, layout-kept, made-kept, sections-kept, takes-records}
 use Rattle.goblin_pe_calls.proofs.Opened.{file-of-records, records-read, records-refused}
-use Rattle.goblin_pe_calls.proofs.Refusals.{part-of-table, room-there}
+use Rattle.goblin_pe_calls.proofs.Refusals.{part-of-table}
 use Rattle.goblin_pe_calls.proofs.open.open_by.Goals as goal
 
 pub returns-in_err-layout-clause-opened : goal.returns-in_err-layout-clause-opened
@@ -23,14 +17,8 @@ returns-in_err-layout-clause-opened c =
     let h = header_value c.args.header.now in
     let found = c.requires in
     let error = err_from_is_err_and c.from_residual.result c.from_residual.ensures.1 in
-    let counted_some : IsMemory c.in_err-layout.field-0.0 → 0 < h.coff_header.number_of_sections = λ memory. omega (arith, (c.in_err-layout.ensures.grown memory).1) in
     rw (error.1, error.2) (
       λ other. (let refused = c.in_err-layout.ensures.value other in sections-refused opts (opened_with c.args.view opts) bytes h found _ (unmapped _ _ refused.0, refused.1)),
-      λ memory. takes-records c.args.view opts bytes h found
-          (c.in_err-layout.ensures.grown memory).2
-          (either-way ((whole_in c.args.view opts).value bytes) HasRecords (FileBegins c.args.view opts bytes h)
-          (sections-kept c.args.view opts bytes h found (counted_some memory))
-          (inl (counted_some memory))),
       refl,
     )
 
@@ -43,11 +31,6 @@ returns-in_err-records-clause-opened c =
     let error = err_from_is_err_and c.from_residual-in_err-records.result c.from_residual-in_err-records.ensures.1 in
     rw (error.1, error.2) (
       λ other. records-refused c.args.view opts bytes c.args.header.now found c.in_ok-layout.layout read.value read.is c.in_ok-layout.ensures.over _ c.in_err-records.ensures.value other,
-      λ memory. takes-records c.args.view opts bytes (header_value c.args.header.now) found
-          (room-there (Some (header_value c.args.header.now)) bytes c.in_ok-layout.ensures.first refl)
-          (either-way ((whole_in c.args.view opts).value bytes) HasRecords (FileBegins c.args.view opts bytes (header_value c.args.header.now))
-          (layout-kept c.args.view opts bytes c.args.header.now found c.in_ok-layout.layout read.value read.is c.in_ok-layout.ensures.over c.in_err-records.ensures.grown)
-          (layout-begins c.args.view opts bytes c.args.header.now c.in_ok-layout.layout read.value read.is c.in_ok-layout.ensures.over (c.in_err-records.ensures.begun memory))),
       refl,
     )
 
@@ -58,23 +41,8 @@ made_of-requires c =
 
 pub returns-in_err-made-clause-opened : goal.returns-in_err-made-clause-opened
 returns-in_err-made-clause-opened c =
-    let opts = c.args.opts.now in
-    let bytes = c.args.bytes.now in
-    let h = header_value c.args.header.now in
-    let found = c.requires in
-    let v = records_view c.args.header.now c.in_ok-layout.layout c.in_ok-records.records in
-    let from = mapped _ _ _ c.in_ok-layout.ensures.value in
-    let read = records-read c.args.view opts bytes c.args.header.now found c.in_ok-layout.layout from.value from.is c.in_ok-layout.ensures.over from.made c.in_ok-records.records c.in_ok-records.ensures.value in
-    let of = file-of-records c.args.view opts bytes v read in
-    let counted = λ (some : 0 < length v.sections). sections_counted (is_strict opts.parse_mode) h bytes from.value from.is (omega (arith, some, ap length from.made, length-map from.value unnamed)) in
     let error = err_from_is_err_and c.from_residual-in_err-made.result c.from_residual-in_err-made.ensures.1 in
-    rw (error.1, error.2) (
-      λ other. absurd (other c.in_err-made.ensures.refused),
-      λ memory. takes-records c.args.view opts bytes h found (room-there (Some h) bytes c.in_ok-layout.ensures.first refl)
-          (as-read ((whole_in c.args.view opts).value bytes) _ HasRecords (FileBegins c.args.view opts bytes h) of.is.whole
-          (made-kept c.args.view opts bytes v of counted c.in_err-made.ensures.grown)),
-      refl,
-    )
+    rw (error.1, error.2) (λ other. absurd (other c.in_err-made.ensures.refused), refl)
 
 pub returns-clause-opened : goal.returns-clause-opened
 returns-clause-opened c =

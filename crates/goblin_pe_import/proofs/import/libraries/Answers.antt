@@ -4,7 +4,7 @@ use Rattle.goblin_base.specs.declared.endian.Endian.TheVariants.{Little}
 use Rattle.goblin_base.specs.declared.error.ErrorOf.TheVariants.{Malformed}
 use Rattle.goblin_base.specs.declared.error.CauseOf.TheVariants.{ImportRecordEnd}
 use Rattle.goblin_base.proofs.Steps.{mapped, unmapped}
-use Rattle.readings.proofs.Loops.{read-end, read-missing, read-next, read-refused, read-start, read-takes}
+use Rattle.readings.proofs.Loops.{read-end, read-missing, read-next, read-refused, read-start}
 use Rattle.goblin_pe_import.specs.ImportReadings.{import_record_at}
 use Rattle.goblin_pe_import.specs.ImportRecords.{import_record}
 use Rattle.goblin_pe_import.proofs.Modes.{ends, lacks_end}
@@ -19,11 +19,6 @@ returns-in_err-add_library-clause-value g c =
     rw (e.1, e.2) (λ memory.
     let refused = c.in_err-add_library.ensures.value memory in
     read-refused _ _ _ _ _ _ c.records.invariant _ import_record_at _ _ c.in-Some.ensures.0 c.in-Some.ensures.1 (unmapped _ _ refused.0, refused.1))
-
-pub returns-in_err-add_library-clause-grown : goal.returns-in_err-add_library-clause-grown
-returns-in_err-add_library-clause-grown g c =
-    let e = err_from_is_err_and c.from_residual.result c.from_residual.ensures.1 in
-    rw (e.1, e.2) (λ memory. read-takes _ _ _ _ _ _ c.records.invariant _ _ c.in-Some.ensures.0 c.in-Some.ensures.1 (c.in_err-add_library.ensures.grown memory))
 
 pub records-preserved : goal.records-preserved
 records-preserved g c =

@@ -11,18 +11,18 @@ use Rattle.goblin_pe_records.proofs.section.named_sections.Goals as goal
 
 pub records-init : goal.records-init
 records-init c =
-    (making-start section_said (λ s. without_text (named_in (is_strict c.args.opts.now.parse_mode) None c.args.bytes.now c.args.table s)) (recorded_sections c.args.sections) _ c.in_ok-records.ensures.items, c.in_ok-records.ensures.len, c.in_ok-records.ensures.exact ∙ c.len-count.ensures.value)
+    (making-start section_said (λ s. without_text (named_in (is_strict c.args.opts.now.parse_mode) None c.args.bytes.now c.args.table s)) (recorded_sections c.args.sections) _ c.in_ok-records.ensures.items, c.in_ok-records.ensures.len)
 
 pub records-preserved : goal.records-preserved
 records-preserved c =
     let before = c.records.records in
     let named = c.name_record.new.place in
     let count : c.records.i ≡ length before.items = sym c.records.invariant.1 ∙ before.ok.0 in
-    let put : set c.push_reserved.new.self.items c.records.i named ≡ before.items ++ named ∷ [] =
-    ap (λ (xs : List PeSection). set xs c.records.i named) c.push_reserved.ensures.items
+    let put : set c.push.new.self.items c.records.i named ≡ before.items ++ named ∷ [] =
+    ap (λ (xs : List PeSection). set xs c.records.i named) c.in_ok-push.ensures.items
     ∙ ap (λ (n : ℕ). set (before.items ++ c.section_record.result ∷ []) n named) count
     ∙ set-append_seam before.items c.section_record.result [] named in
-    (making-next _ _ _ _ _ _ _ _ c.records.invariant.0 (omega (arith, c.records-test.true, c.records.auto.i-end, c.len-count.ensures.value)) (sym (get_or_from_slice_get (recorded_sections c.args.sections) c.records.i c.at-section.result c.at-section.result c.at-section.ensures)) c.name_record.ensures put, omega (arith, c.push_reserved.ensures.len, c.records.invariant.1), c.push_reserved.ensures.capacity ∙ c.records.invariant.2)
+    (making-next _ _ _ _ _ _ _ _ c.records.invariant.0 (omega (arith, c.records-test.true, c.records.auto.i-end, c.len-count.ensures.value)) (sym (get_or_from_slice_get (recorded_sections c.args.sections) c.records.i c.at-section.result c.at-section.result c.at-section.ensures)) c.name_record.ensures put, omega (arith, c.in_ok-push.ensures.len, c.records.invariant.1))
 
-pub returns-clause-made : goal.returns-clause-made
-returns-clause-made c = making-end _ _ _ _ _ c.records.invariant.0 (omega (arith, c.records-test.false, c.records.auto.i-end, c.len-count.ensures.value))
+pub returns : goal.returns
+returns c = making-end _ _ _ _ _ c.records.invariant.0 (omega (arith, c.records-test.false, c.records.auto.i-end, c.len-count.ensures.value))

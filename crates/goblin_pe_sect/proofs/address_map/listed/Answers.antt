@@ -9,8 +9,7 @@ records-preserved c =
     let all : List Section = mapped_sections c.args.records in
     let i = c.records.i in
     let s : Section = c.at.result in
-    let within : i < length all = omega (arith, c.records-test.true, c.len-count.ensures, c.records.auto.i-end) in (
-      c.push_reserved.ensures.items ∙ ap (λ (xs : List Section). xs ++ s ∷ []) c.records.invariant.0
-          ∙ sym (take_more all i s within ∙ ap (λ (x : Section). take i all ++ x ∷ []) (get_or_from_slice_get all i s s c.at.ensures)),
-      c.push_reserved.ensures.capacity ∙ c.records.invariant.1,
-    )
+    let within : i < length all = omega (arith, c.records-test.true, c.len-count.ensures, c.records.auto.i-end) in
+    c.in_ok-push.ensures.items
+    ∙ ap (λ (xs : List Section). xs ++ s ∷ []) c.records.invariant
+    ∙ sym (take_more all i s within ∙ ap (λ (x : Section). take i all ++ x ∷ []) (get_or_from_slice_get all i s s c.at.ensures))

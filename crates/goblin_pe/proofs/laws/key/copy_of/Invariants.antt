@@ -1,6 +1,5 @@
-use Rattle.std.proofs.Common.{◌≡◌, length, take}
-use Rattle.std.specs.Prelude.{vec_capacity}
+use Rattle.std.proofs.Common.{◌≡◌, take}
 use Rattle.goblin_pe.proofs.laws.key.copy_of.Given as goal
 
 abbrev pub invariant-bytes : goal.invariant-bytes
-invariant-bytes l = (l.copy.items ≡ take l.byte-index l.fn.bytes) × (vec_capacity l.copy ≡ length l.fn.bytes)
+invariant-bytes l = l.copy.items ≡ take l.byte-index l.fn.bytes

@@ -10,4 +10,4 @@ returns-clause-alike g c = λ reordered.
     (ap with_whole_names
     (map-reordered c.args.opts.now c.args.first.now c.args.second.now c.args.file_alignment
     reordered))
-    c.read_tables-one.ensures.read c.read_tables-other.ensures.read
+    c.read_tables-one.ensures c.read_tables-other.ensures

@@ -1,4 +1,4 @@
-use Rattle.std.proofs.Common.{◌≡◌, ℕ, Option, List, length, sym, arith}
+use Rattle.std.proofs.Common.{◌≡◌, ℕ, List, length, sym, arith}
 use Rattle.goblin_base.specs.Footprints.{Range}
 use Rattle.goblin_base.proofs.Marks.{marked_nil}
 use Rattle.goblin_base.proofs.Ranges.{marked_below}

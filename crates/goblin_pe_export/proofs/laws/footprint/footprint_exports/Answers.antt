@@ -1,8 +1,8 @@
-use Rattle.std.proofs.Common.{◌≡◌, Bool, List, false, length, replicate, ap, subst, sym, ◌∙◌, inl}
-use Rattle.std.proofs.lemmas.Result.{IfOk-weaker, on_err_weaker}
+use Rattle.std.proofs.Common.{◌≡◌, Bool, List, false, length, replicate, ap, subst, sym, ◌∙◌}
+use Rattle.std.proofs.lemmas.Result.{IfOk-weaker}
 use Rattle.goblin_base.specs.Footprints.{Range}
 use Rattle.goblin_base.specs.Marks.{marked}
-use Rattle.goblin_base.proofs.MarkRanges.{footprint_of, some_of}
+use Rattle.goblin_base.proofs.MarkRanges.{footprint_of}
 use Rattle.goblin_pe_sect.specs.Addresses.{MapOfAddresses, map_by, map_of}
 use Rattle.goblin_pe_export.specs.ExportReadings.{export_read}
 use Rattle.goblin_pe_export.proofs.laws.footprint.footprint_exports.Goals as goal
@@ -19,11 +19,3 @@ returns-clause-ranges c =
     IfOk-weaker c.ranges-2.result _ _
     (λ v is. footprint_of n (reached m) v.items c.add_exports.new.marks ((export_read m.addressing c.args.directory).is_inside bytes) all is)
     c.ranges-2.ensures.listed
-
-pub returns-clause-grown : goal.returns-clause-grown
-unfolding export_read
-returns-clause-grown c =
-    let bytes = c.args.bytes.now in
-    let reached = (export_read (map_of c.in_ok-address_map.address_map).addressing c.args.directory).reaches bytes in
-    let own = c.add_exports.ensures ∙ ap (λ (x : List Bool). marked x reached) c.in_ok-marks.ensures.none in
-    on_err_weaker c.ranges-2.result (λ some. inl (some_of (length bytes) reached c.add_exports.new.marks own some)) c.ranges-2.ensures.grown

@@ -1,4 +1,4 @@
-use Rattle.std.proofs.Common.{◌≡◌, ◌+◌, map, vec_capacity, vec_len}
+use Rattle.std.proofs.Common.{map}
 use Rattle.goblin_pe_import.specs.ImportLookup.{entry_view}
 use Rattle.goblin_pe_import.proofs.Imports.{AtEntry}
 use Rattle.goblin_pe_import.proofs.import.listed.push_entries.Given as goal
@@ -7,5 +7,3 @@ abbrev pub invariant-entries : goal.invariant-entries
 invariant-entries l =
     AtEntry l.fn.size l.fn.dll l.fn.rva (map entry_view l.fn.entries) l.fn.slots l.position
     l.initial.imports.items l.imports.items
-    × (vec_len l.imports ≡ vec_len l.initial.imports + l.position)
-    × (vec_capacity l.imports ≡ vec_capacity l.initial.imports)

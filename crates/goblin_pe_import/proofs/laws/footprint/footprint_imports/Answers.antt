@@ -1,8 +1,8 @@
-use Rattle.std.proofs.Common.{◌≡◌, Bool, List, false, length, replicate, ap, subst, sym, ◌∙◌, inl}
-use Rattle.std.proofs.lemmas.Result.{IfOk-weaker, on_err_weaker}
+use Rattle.std.proofs.Common.{◌≡◌, Bool, List, false, length, replicate, ap, subst, sym, ◌∙◌}
+use Rattle.std.proofs.lemmas.Result.{IfOk-weaker}
 use Rattle.goblin_base.specs.Footprints.{Range}
 use Rattle.goblin_base.specs.Marks.{marked}
-use Rattle.goblin_base.proofs.MarkRanges.{footprint_of, some_of}
+use Rattle.goblin_base.proofs.MarkRanges.{footprint_of}
 use Rattle.goblin_pe_sect.specs.Addresses.{MapOfAddresses, map_by, map_of, reads_strictly}
 use Rattle.goblin_pe_import.specs.ImportReadings.{import_data}
 use Rattle.goblin_pe_import.proofs.laws.footprint.footprint_imports.Goals as goal
@@ -20,11 +20,3 @@ returns-clause-ranges g c =
     IfOk-weaker c.ranges-2.result _ _
     (λ v is. footprint_of n (reached m) v.items c.add_imports.new.marks ((import_data (reads_strictly m) g.T.Bitfield.format m.addressing rva).is_inside bytes) all is)
     c.ranges-2.ensures.listed
-
-pub returns-clause-grown : goal.returns-clause-grown
-returns-clause-grown g c =
-    let bytes = c.args.bytes.now in
-    let m = map_of c.in_ok-address_map.address_map in
-    let reached = (import_data (reads_strictly m) g.T.Bitfield.format m.addressing c.args.directory.virtual_address).reaches bytes in
-    let own = c.add_imports.ensures ∙ ap (λ (x : List Bool). marked x reached) c.in_ok-marks.ensures.none in
-    on_err_weaker c.ranges-2.result (λ some. inl (some_of (length bytes) reached c.add_imports.new.marks own some)) c.ranges-2.ensures.grown

@@ -13,8 +13,8 @@ returns-then-not-is_power_of_two-clause-mapped c =
 
 pub invariant_of-result : goal.invariant_of-result
 invariant_of-result c =
-    rw c.in_ok-pieces.ensures.made.owned (index_is c.args.opts.now c.args.sections.now c.args.file_alignment (begins_of c.in_ok-pieces.pieces.items) c.in_ok-pieces.ensures.made.cut c.in_ok-pieces.ensures.made.near)
+    rw c.in_ok-pieces.ensures.owned (index_is c.args.opts.now c.args.sections.now c.args.file_alignment (begins_of c.in_ok-pieces.pieces.items) c.in_ok-pieces.ensures.cut c.in_ok-pieces.ensures.near)
 
 pub returns-clause-mapped : goal.returns-clause-mapped
 returns-clause-mapped c =
-    λ rva. located-prepared c.args.opts.now c.args.sections.now c.args.file_alignment (begins_of c.in_ok-pieces.pieces.items) (owners_of c.in_ok-pieces.pieces.items) (search rules) (cc) c.in_ok-pieces.ensures.made.cut c.in_ok-pieces.ensures.made.owned rva
+    λ rva. located-prepared c.args.opts.now c.args.sections.now c.args.file_alignment (begins_of c.in_ok-pieces.pieces.items) (owners_of c.in_ok-pieces.pieces.items) (search rules) (cc) c.in_ok-pieces.ensures.cut c.in_ok-pieces.ensures.owned rva

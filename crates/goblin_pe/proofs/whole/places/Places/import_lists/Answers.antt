@@ -3,7 +3,6 @@ use Rattle.std.proofs.lemmas.Result.{err_from_is_err_and}
 use Rattle.goblin_pe_sect.specs.Addresses.{map_of}
 use Rattle.goblin_pe.specs.Whole.{both_lists, table_places}
 use Rattle.goblin_pe.proofs.ImportParts.{both_listed, data-refused, never_unlisted}
-use Rattle.goblin_pe.proofs.TakenTables.{imports_taken}
 use Rattle.goblin_pe.proofs.whole.places.Places.import_lists.Goals as goal
 
 pub returns-in_err-import_data-clause-made : goal.returns-in_err-import_data-clause-made
@@ -13,7 +12,7 @@ returns-in_err-import_data-clause-made c =
     let e = err_from_is_err_and c.from_residual.result c.from_residual.ensures.1 in
     rw (e.1, e.2)
     (λ other.
-    let refused = data-refused m.opts m.addressing places c.args.bytes.now _ (c.in_err-import_data.ensures.made other) in
+    let refused = data-refused m.opts m.addressing places c.args.bytes.now _ (c.in_err-import_data.ensures other) in
     (ap (option_map (both_lists places.magic)) refused.0, refused.1))
 
 pub returns-in_err-imports-clause-made : goal.returns-in_err-imports-clause-made
@@ -24,16 +23,11 @@ returns-in_err-imports-clause-made c =
     (λ other.
     absurd (never_unlisted m.opts m.addressing (table_places c.args.self.now) c.args.bytes.now
     (let fits = c.type_inv.bytes in grind (arith, fits)) (λ k. (let fits = c.type_inv.bytes in grind (arith, fits)))
-    _ c.in_ok-import_data.ensures.made (rw c.opts.ensures at (c.in_err-imports.ensures.made other).0)))
+    _ c.in_ok-import_data.ensures (rw c.opts.ensures at (c.in_err-imports.ensures other).0)))
 
 pub returns-clause-made : goal.returns-clause-made
 returns-clause-made c =
     let m = map_of c.args.address_map.now in
     both_listed m.opts m.addressing (table_places c.args.self.now) c.args.bytes.now
     (let fits = c.type_inv.bytes in grind (arith, fits)) (λ k. (let fits = c.type_inv.bytes in grind (arith, fits)))
-    _ _ c.in_ok-import_data.ensures.made (rw c.opts.ensures at c.in_ok-imports.ensures.made)
-
-pub returns-in_err-imports-clause-grown : goal.returns-in_err-imports-clause-grown
-returns-in_err-imports-clause-grown c =
-    let e = err_from_is_err_and c.from_residual-in_err-imports.result c.from_residual-in_err-imports.ensures.1 in
-    rw (e.1, e.2) (λ memory. imports_taken (map_of c.args.address_map.now) (table_places c.args.self.now) c.args.bytes.now _ c.in_ok-import_data.ensures.made (c.in_err-imports.ensures.grown memory))
+    _ _ c.in_ok-import_data.ensures (rw c.opts.ensures at c.in_ok-imports.ensures)

@@ -1,4 +1,4 @@
-use Rattle.std.proofs.Common.{◌≡◌, Some, None, sym, ap, ◌∙◌, arith, option_map}
+use Rattle.std.proofs.Common.{Some, None, sym, ap, ◌∙◌, arith, option_map}
 use Rattle.std.proofs.lemmas.Str.Pattern.{split_once_first, strip_prefix_char}
 use Rattle.goblin_pe_export.specs.Forwarders.Forwarder.{ByOrdinal}
 use Rattle.goblin_pe_export.proofs.Grammar.{forwarder-parts, nothing-after, forwarder-missing, export-numbered, export-named, no-hash, no-length, some-length, not_longer}

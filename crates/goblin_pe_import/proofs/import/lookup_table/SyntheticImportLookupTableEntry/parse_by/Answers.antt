@@ -2,7 +2,7 @@ use Rattle.std.proofs.Common.{◌≤◌, map, ap, arith, ◌∙◌}
 use Rattle.std.proofs.lemmas.List.{length-map, map-append}
 use Rattle.std.proofs.lemmas.Result.{err_from_is_err_and}
 use Rattle.goblin_pe_import.specs.ImportLookup.{entry_view}
-use Rattle.goblin_pe_import.proofs.LookupWalk.{entries-all, entries-counted, entries-fault, entries-kept}
+use Rattle.goblin_pe_import.proofs.LookupWalk.{entries-all, entries-counted, entries-fault}
 use Rattle.goblin_pe_import.proofs.LookupWalk.{entries-more, entries-start}
 use Rattle.goblin_pe_import.proofs.import.lookup_table.SyntheticImportLookupTableEntry.parse_by.Goals as goal
 
@@ -15,16 +15,6 @@ pub returns-in_err-kept-clause-value : goal.returns-in_err-kept-clause-value
 returns-in_err-kept-clause-value g c =
     let e = err_from_is_err_and c.from_residual.result c.from_residual.ensures.1 in
     rw (e.1, e.2, ← c.entries.invariant.1) (λ _. entries-fault _ _ _ _ _ _ _ _ c.entries.invariant.0 _ c.in-Some.ensures.steps _ c.in_err-kept.was)
-
-pub returns-in_err-push-clause-grown : goal.returns-in_err-push-clause-grown
-returns-in_err-push-clause-grown g c =
-    let e = err_from_is_err_and c.from_residual-in_err-push.result c.from_residual-in_err-push.ensures.1 in
-    rw (e.1, e.2, ← c.entries.invariant.1) (λ _. entries-kept _ _ _ _ _ _ _ _ c.entries.invariant.0 _ c.in-Some.ensures.steps _ c.in_ok-kept.was)
-
-pub returns-in_err-push-2-clause-grown : goal.returns-in_err-push-2-clause-grown
-returns-in_err-push-2-clause-grown g c =
-    let e = err_from_is_err_and c.from_residual-in_err-push-2.result c.from_residual-in_err-push-2.ensures.1 in
-    rw (e.1, e.2, ← c.entries.invariant.1) (λ _. entries-kept _ _ _ _ _ _ _ _ c.entries.invariant.0 _ c.in-Some.ensures.steps _ c.in_ok-kept.was)
 
 pub entries-preserved : goal.entries-preserved
 entries-preserved g c =
