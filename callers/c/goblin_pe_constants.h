@@ -437,7 +437,7 @@
 /* ARM: nothing is changed. */
 #define GOBLIN_PE_IMAGE_REL_ARM_ABSOLUTE 0x00
 /* ARM: the target's address, 32 bits. */
-#define GOBLIN_PE_IMAGE_REL_ARM_ADDR32 0x01
+#define GOBLIN_PE_IMAGE_REL_ARM_ADDR 0x01
 /* ARM: the target's address relative to the image's base, 32 bits. */
 #define GOBLIN_PE_IMAGE_REL_ARM_ADDR32NB 0x02
 /* ARM: the distance of a branch, 24 bits. */

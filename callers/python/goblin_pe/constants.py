@@ -442,7 +442,7 @@ IMAGE_REL_AMD64_SSPAN32 = 0x10
 # ARM: nothing is changed.
 IMAGE_REL_ARM_ABSOLUTE = 0x00
 # ARM: the target's address, 32 bits.
-IMAGE_REL_ARM_ADDR32 = 0x01
+IMAGE_REL_ARM_ADDR = 0x01
 # ARM: the target's address relative to the image's base, 32 bits.
 IMAGE_REL_ARM_ADDR32NB = 0x02
 # ARM: the distance of a branch, 24 bits.

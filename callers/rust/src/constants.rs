@@ -442,7 +442,7 @@ pub const IMAGE_REL_AMD64_SSPAN32: u16 = 0x10;
 /// ARM: nothing is changed.
 pub const IMAGE_REL_ARM_ABSOLUTE: u16 = 0x00;
 /// ARM: the target's address, 32 bits.
-pub const IMAGE_REL_ARM_ADDR32: u16 = 0x01;
+pub const IMAGE_REL_ARM_ADDR: u16 = 0x01;
 /// ARM: the target's address relative to the image's base, 32 bits.
 pub const IMAGE_REL_ARM_ADDR32NB: u16 = 0x02;
 /// ARM: the distance of a branch, 24 bits.

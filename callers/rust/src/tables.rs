@@ -220,7 +220,7 @@ pub const AMD64_RELOCATIONS: &[(&str, u32)] = &[
 
 pub const ARM_RELOCATIONS: &[(&str, u32)] = &[
     ("IMAGE_REL_ARM_ABSOLUTE", 0x00),
-    ("IMAGE_REL_ARM_ADDR32", 0x01),
+    ("IMAGE_REL_ARM_ADDR", 0x01),
     ("IMAGE_REL_ARM_ADDR32NB", 0x02),
     ("IMAGE_REL_ARM_BRANCH24", 0x03),
     ("IMAGE_REL_ARM_BRANCH11", 0x04),

@@ -41,7 +41,7 @@ pub use constants::IMAGE_REL_AMD64_SREL32;
 pub use constants::IMAGE_REL_AMD64_SSPAN32;
 pub use constants::IMAGE_REL_AMD64_TOKEN;
 pub use constants::IMAGE_REL_ARM_ABSOLUTE;
-pub use constants::IMAGE_REL_ARM_ADDR32;
+pub use constants::IMAGE_REL_ARM_ADDR;
 pub use constants::IMAGE_REL_ARM_ADDR32NB;
 pub use constants::IMAGE_REL_ARM_BLX11;
 pub use constants::IMAGE_REL_ARM_BLX23T;

@@ -97,7 +97,7 @@ const _: () = prove!(
 /// ARM: nothing is changed.
 pub const IMAGE_REL_ARM_ABSOLUTE: u16 = 0x00;
 /// ARM: the target's address, 32 bits.
-pub const IMAGE_REL_ARM_ADDR32: u16 = 0x01;
+pub const IMAGE_REL_ARM_ADDR: u16 = 0x01;
 /// ARM: the target's address relative to the image's base, 32 bits.
 pub const IMAGE_REL_ARM_ADDR32NB: u16 = 0x02;
 /// ARM: the distance of a branch, 24 bits.
@@ -135,7 +135,7 @@ pub const IMAGE_REL_ARM_PAIR: u16 = 0x16;
 
 const _: () = prove!(
     IMAGE_REL_ARM_ABSOLUTE == 0x0
-        && IMAGE_REL_ARM_ADDR32 == 0x1
+        && IMAGE_REL_ARM_ADDR == 0x1
         && IMAGE_REL_ARM_ADDR32NB == 0x2
         && IMAGE_REL_ARM_BRANCH24 == 0x3
         && IMAGE_REL_ARM_BRANCH11 == 0x4
