@@ -11,10 +11,6 @@ use Rattle.readings.specs.Reads.{each, mapped, needs, pick, record_at}
 use Rattle.goblin_pe_sect.specs.declared.data_directories.DataDirectory.{DataDirectory}
 use Rattle.goblin_pe_sect.specs.DataDirectories.{directory_record, entries_fields, entry_ending}
 
--- the directory at index i of consecutive directories from p on
-abbrev pub directory_at : ℕ → ℕ → Reading DataDirectory
-directory_at p i = record_at 8 (directory_record Little) (p + 8 * i)
-
 -- the sixteen entries of the directories from p on; each has the offset just past its directory,
 -- and the entries after the last directory are none
 abbrev pub sixteen : ℕ → List DataDirectory → List (Option (ℕ × DataDirectory))
@@ -25,7 +21,8 @@ sixteen p directories =
 -- the sixteen entries, of which the file has `count` from p on; a count above sixteen is refused
 unfoldable pub directories_at : ℕ → ℕ → Reading (List (Option (ℕ × DataDirectory)))
 directories_at count p =
-    pick (nat_le count 16) (mapped (sixteen p) (each (directory_at p) count))
+    pick (nat_le count 16)
+    (mapped (sixteen p) (each (λ i. record_at 8 (directory_record Little) (p + 8 * i)) count))
     (needs None (DirectoryCount count))
 
 -- Entries that were read are written back unchanged. The entries after them, up to the sixteenth,

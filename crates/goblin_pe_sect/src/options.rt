@@ -91,7 +91,8 @@ pub struct ParseOptions {
     /// - an optional header whose magic is unknown;
     /// - more than sixteen data directories;
     /// - a section name such as `/abc`, which is a slash and a text that is no number;
-    /// - the marker `Rich` without the marker `DanS` before it.
+    /// - the marker `Rich` without the marker `DanS` before it, or with no data or no whole 4-byte
+    ///   words between the two.
     pub parse_mode: ParseMode,
     /// Whether the reader of a whole file reads the imports; true by default.
     pub parse_imports: bool,

@@ -148,16 +148,19 @@ impl PartialEq for SectionTable {
 }
 
 /// The `size` bytes of the file from `begin` on, for the raw data of a section. There may be none,
-/// even at the end of the file. The sum of `begin` and `size` must not overflow.
+/// even at the end of the file.
 ///
 /// # Errors
 /// [`Error::Read`] if the bytes run past the end of the file: `BadOffset` if they also begin at or
 /// past the end, else `TooBig`.
 pub fn raw_bytes(bytes: &[u8], begin: usize, size: usize) -> Result<&[u8]>
-    requires { begin + size ≤ usize.MAX }
     ensures { Reads (λ s. s.now) result (raw_bytes begin size) bytes.now }
 {
-    match bytes.get(begin..begin + size) {
+    let found = match begin.checked_add(size) {
+        Some(end) => bytes.get(begin..end),
+        None => None,
+    };
+    match found {
         Some(found) => Ok(found),
         None if bytes.len() <= begin => Err(Error::Read(ReadFault::BadOffset)),
         None => Err(Error::Read(ReadFault::TooBig)),
