@@ -180,7 +180,8 @@ static inline uint32_t goblin_pe_kind_of(const uint8_t *bytes, size_t length)
 
    Neither mode passes over more than sixteen data directories, a magic that is neither of the two, a header or a section
    table that the file's end cuts, a section's name that is a slash and a text which is no number, or the marker `Rich`
-   of a Rich header without `DanS` before it. What is there of such a file goblin_pe_read_parts gives. */
+   of a Rich header without `DanS` before it, or with no data or no whole 4-byte words between the two. What is there of
+   such a file goblin_pe_read_parts gives. */
 static inline struct goblin_pe_fault goblin_pe_open(
     const uint8_t *bytes, size_t length, const struct goblin_pe_options *options, struct goblin_pe_file *file,
     struct goblin_pe_tables *tables)

@@ -369,7 +369,7 @@ struct goblin_pe_options {
        0 is an empty list there, whatever it holds; the damage of a file tells what strict mode
        would refuse of it, and how much is left out. Neither mode passes over more than sixteen data
        directories, an odd magic, a cut header or section table, a section's name that is a slash
-       and no number, or a Rich marker without `DanS`. */
+       and no number, or a Rich marker without `DanS` and whole 4-byte words before it. */
     bool is_permissive;
     /* Whether an address is mapped to a file offset by the sections; where not, it is the offset. */
     bool resolve_rva;

@@ -270,8 +270,8 @@ class Options:
     What both modes refuse: more than sixteen data directories (so number_of_rva_and_sizes is at
     most sixteen in a file that was read, and was not cut to that); an unknown magic; a header or a
     section table that the end of the file cuts; a section name that is a slash and a text which is
-    no number; the marker `Rich` of a Rich header without `DanS` before it. Parts has what is there
-    of such a file.
+    no number; the marker `Rich` of a Rich header without `DanS` before it, or with no data or no
+    whole 4-byte words between the two. Parts has what is there of such a file.
     """
 
     is_permissive: bool = False

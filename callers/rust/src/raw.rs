@@ -56,7 +56,8 @@ impl Options {
     ///
     /// Neither mode passes over more than sixteen data directories, a magic that is neither of the two, a header or a
     /// section table that the file's end cuts, a section's name that is a slash and a text which is no number, or the
-    /// marker `Rich` of a Rich header without `DanS` before it. [`Parts`](crate::Parts) has what is there of such a file.
+    /// marker `Rich` of a Rich header without `DanS` before it, or with no data or no whole 4-byte words between the two.
+    /// [`Parts`](crate::Parts) has what is there of such a file.
     #[must_use]
     pub const fn permissive() -> Options {
         Options {

@@ -40,12 +40,11 @@ pub extern "C" fn goblin_pe_raw_kind_of(bytes: &[u8]) -> u32
     kind::kind_of(bytes) as u32
 }
 
-/// Reads a whole file once: says in `file` what it is, fills the records of its data directories as
-/// far as there is room, and puts into `tables` its Rich header's entries, sections, imports,
-/// exports, export addresses and base relocation blocks, all of them, with what the export
-/// directory says and the DOS stub. Each table that is not empty is a block of memory that the
-/// caller frees. After a refusal, whose `part` says which part of the file is refused, nothing is
-/// changed, and nothing is to be freed; memory is refused with the status 5.
+/// Reads a whole file once: says in `file` what it is, and puts into `tables` its Rich header's
+/// entries, sections, imports, exports, export addresses and base relocation blocks, all of them,
+/// with what the export directory says and the DOS stub. Each table that is not empty is a block of
+/// memory that the caller frees. After a refusal, whose `part` says which part of the file is
+/// refused, nothing is changed, and nothing is to be freed; memory is refused with the status 5.
 #[unsafe(no_mangle)]
 pub extern "C" fn goblin_pe_raw_open<'a>(
     alloc: Global,
@@ -103,9 +102,9 @@ pub extern "C" fn goblin_pe_raw_read_layout<'a>(
 }
 
 /// Reads the parts of an image's header, each by itself, whatever the others are: says in `parts`
-/// what is there, fills the records of its data directories and of its sections as far as there is
-/// room, and answers whether the header and the sections can be read as a whole. The walks over the
-/// tables, and what is looked up by addresses, go by these as by those of
+/// what is there, fills the records of its sections as far as there is room, and answers whether
+/// the header and the sections can be read as a whole. The walks over the tables, and what is
+/// looked up by addresses, use the places in `parts` and these sections as they use those of
 /// [`goblin_pe_raw_read_layout`]. It takes no memory, and no file is refused: what that call
 /// answers by these options is the `refusal` of the parts, and each part that is not given has its
 /// own fault. Of a header that can be read as a whole, the parts are its parts.

@@ -17,12 +17,11 @@ use goblin_pe_records::fault::{PeFault, status_of};
 use goblin_pe_records::file::PeFile;
 use goblin_pe_records::section::{PeSection, set_name_offset, write_section};
 
-/// Writes the header that `file`, the records of its data directories and the bytes of its DOS stub
-/// say to the front of `out`, and puts into `written` how many bytes it takes: the DOS header, the
-/// stub, the PE signature, the COFF header, and an optional header where `file` says that it has
-/// directories. Sixteen of these are written, zeros for those that are not there; further records
-/// are not looked at. Numbers are little-endian. The Rich header is part of the stub, and no other
-/// field of `file` is looked at.
+/// Writes the header that `file` and the bytes of its DOS stub say to the front of `out`, and puts
+/// into `written` how many bytes it takes: the DOS header, the stub, the PE signature, the COFF
+/// header, and an optional header if `file` says that it has directories. The sixteen in its places
+/// are written, zeros for those that are not there. Numbers are little-endian. The Rich header is
+/// part of the stub, and the call uses no other field of `file`.
 ///
 /// What strict mode read is written as the bytes of the file up to the header's end, and zeros for
 /// the directories that it lacks.
