@@ -11,7 +11,7 @@ use Rattle.goblin_pe_sect.specs.DataDirectories.{directory_fields, directory_or_
 use Rattle.goblin_pe_head.specs.declared.optional_header.OptionalHeader.{OptionalHeader}
 use Rattle.goblin_pe_head.specs.HeaderLaws.{HeaderWritesBack}
 use Rattle.goblin_pe_head.specs.HeaderReadings.{pe_header}
-use Rattle.goblin_pe_head.specs.PeHeader.{header_bytes, header_parts, optional_part}
+use Rattle.goblin_pe_head.specs.PeHeader.{header_bytes, header_parts, written_part}
 use Rattle.goblin_pe_head.specs.OptionalHeader.{optional_bytes}
 use Rattle.goblin_pe_head.proofs.PeHeaderRoundTrip.{dos_of, header_back, parts_of}
 use Rattle.goblin_pe.specs.Whole.{TablePlaces, WholeFile, listed_tables, mapped_in, addressing_by, places_in, sections_after, whole_in, whole_of, whole_with}
@@ -42,7 +42,7 @@ same-bytes h entries same = rw same refl
 
 part-back : (file : PeFile) (optional : Option OptionalHeader) → file.optional_header ≡ optional_record optional
     → file.directories ≡ directory_count optional → file.places.directories ≡ (places_in optional).directories
-    → optional_part Little (optional_said file) ≡ optional_part Little optional
+    → written_part Little (optional_said file) ≡ written_part Little optional
 unfolding places_in
 part-back file None fields count places = rw count refl
 part-back file (Some h) fields count places =

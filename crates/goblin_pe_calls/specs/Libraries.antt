@@ -1,6 +1,5 @@
 -- The records of libraries, and batches of them.
-use Rattle.std.specs.Prelude.{◌≡◌, ◌⊎◌, ℕ, Bool, List, [], ◌∷◌, Option, option_map, take, Result}
-use Rattle.std.specs.Prelude.{Ok, Err}
+use Rattle.std.specs.Prelude.{◌≡◌, ◌⊎◌, ℕ, Bool, List, [], ◌∷◌, Option, option_map, take}
 use Rattle.goblin_base.specs.declared.error.ErrorOf.{ErrorOf}
 use Rattle.goblin_pe_import.specs.declared.import.directory_entry.ImportDirectoryEntry.{ImportDirectoryEntry}
 use Rattle.goblin_pe.specs.Addresses.{MapOfAddresses}
@@ -11,6 +10,7 @@ use Rattle.goblin_pe.specs.Whole.{TablePlaces, entry_format}
 use Rattle.goblin_pe_calls.specs.declared.library.PeLibrary.{PeLibrary}
 use Rattle.goblin_pe_calls.specs.declared.next.PeImportCursor.{PeImportCursor}
 use Rattle.goblin_pe_calls.specs.Batches.{cursor_numbers, import_cursor}
+use Rattle.goblin_pe_calls.specs.Parts.{given_or}
 use Rattle.goblin_pe_records.specs.Onward.{Batch, EndsAt, GivesFrom, IsNextFault, Table, values_before}
 use Rattle.goblin_pe_records.specs.Faults.{status_of}
 use Rattle.goblin_pe_records.specs.declared.fault.PeFault.{PeFault}
@@ -27,15 +27,10 @@ pub record LibrarySaid : Type 0 where
   pub has_imports : Bool
   pub reserved : ℕ
 
--- a name, no bytes where it can't be read
-abbrev pub name_said : Result (List ℕ) ErrorOf → List ℕ
-name_said (Ok name) = name
-name_said (Err e) = []
-
 -- the record of a library
 abbrev pub library_said : LibraryValue → LibrarySaid
 library_said x = record {
-  name = name_said x.name;
+  name = given_or [] x.name;
   index = x.index;
   record_offset = x.offset;
   cursor = cursor_numbers x.cursor;

@@ -11,12 +11,11 @@ use Rattle.goblin_base.specs.declared.error.ErrorOf.{ErrorOf}
 use Rattle.goblin_base.specs.Bytes.{IsBytes, number, number_at, number_bytes, replaced}
 use Rattle.goblin_base.specs.Reading.{Reads}
 use Rattle.goblin_base.specs.Record.{FieldValue, FieldsFit, ReadsBack, encoding, record_at, uint}
-use Rattle.goblin_base.proofs.Numbers.{number-of_slice, number-slice, number_at-some, read_number}
+use Rattle.goblin_base.proofs.Numbers.{number-of_slice, number-slice, read_number}
 use Rattle.goblin_base.proofs.Records.{record_at-some}
 use Rattle.goblin_base.proofs.RecordRoundTrip.{IsBytes-slice, number-lt, slice-is}
 use Rattle.goblin_base.proofs.Steps.{mapped, same_value, step}
 use Rattle.goblin_base.proofs.Writing.{encoding_append, length_encoding}
-use Rattle.readings.specs.Reads.{pair_of}
 use Rattle.goblin_pe_sect.specs.declared.data_directories.DataDirectory.{DataDirectory}
 use Rattle.goblin_pe_sect.specs.DataDirectories.{directory_fields, directory_or_zeros, directory_record, entries_fields, entry_ending}
 use Rattle.goblin_pe_sect.specs.DirectoryReadings.{directories_at}
@@ -26,7 +25,6 @@ use Rattle.goblin_pe_sect.proofs.Entries.{directory_entry_at, directory_entry_at
 use Rattle.goblin_pe_head.specs.declared.header.dos.DosHeader.{DosHeader}
 use Rattle.goblin_pe_head.specs.declared.header.pe_header.Header.{Header}
 use Rattle.goblin_pe_head.specs.declared.optional_header.OptionalHeader.{OptionalHeader}
-use Rattle.goblin_pe_head.specs.declared.optional_header.FixedFields.{FixedFields}
 use Rattle.goblin_pe_head.specs.declared.optional_header.standard_fields.StandardFields.{StandardFields}
 use Rattle.goblin_pe_head.specs.declared.optional_header.standard_fields.StandardFields32.{StandardFields32}
 use Rattle.goblin_pe_head.specs.declared.optional_header.standard_fields.StandardFields64.{StandardFields64}
@@ -34,14 +32,14 @@ use Rattle.goblin_pe_head.specs.declared.optional_header.windows_fields.WindowsF
 use Rattle.goblin_pe_head.specs.declared.optional_header.windows_fields.WindowsFields64.{WindowsFields64}
 use Rattle.goblin_pe_head.specs.CoffHeader.{coff_fields, coff_header}
 use Rattle.goblin_pe_head.specs.DosHeader.{dos_fields, dos_record}
-use Rattle.goblin_pe_head.specs.HeaderLaws.{FieldsReadBack, IsConsistent, IsConsistentOptional, IsConsistentPart, IsEntryAt, fields_size}
-use Rattle.goblin_pe_head.specs.HeaderReadings.{fields_32, fields_64, fixed_fields, optional_at, optional_header, pe_header}
-use Rattle.goblin_pe_head.specs.OptionalHeader.{bytes_32, bytes_64, narrowed, optional_bytes, standard_32_fields, standard_32_record, standard_64_fields, standard_64_record, standard_from_32, standard_from_64, standard_to_32, standard_to_64, windows_32_fields, windows_32_record, windows_64_fields, windows_64_record, windows_from_32, windows_to_32}
-use Rattle.goblin_pe_head.specs.PeHeader.{PeHeader, header_parts, header_value, optional_part}
+use Rattle.goblin_pe_head.specs.HeaderLaws.{FieldsReadBack, IsConsistent, IsConsistentOptional, IsConsistentPart, IsEntryAt}
+use Rattle.goblin_pe_head.specs.HeaderReadings.{optional_at, optional_header, pe_header, standard_by, stub_in, windows_by}
+use Rattle.goblin_pe_head.specs.OptionalHeader.{bytes_32, bytes_64, fields_size, narrowed, optional_bytes, standard_32_fields, standard_32_record, standard_64_fields, standard_64_record, standard_from_32, standard_from_64, standard_to_32, standard_to_64, windows_32_fields, windows_32_record, windows_64_fields, windows_64_record, windows_from_32, windows_to_32}
+use Rattle.goblin_pe_head.specs.PeHeader.{PeHeader, header_parts, header_value, written_part}
 use Rattle.goblin_pe_head.specs.RichReadings.{rich_at, rich_in}
-use Rattle.goblin_pe_head.proofs.Beside.{both}
-use Rattle.goblin_pe_head.proofs.OptionalHeaderRoundTrip.{bytes_after, pick}
-use Rattle.goblin_pe_head.proofs.PeHeaderRoundTrip.{dos_of, of_dos, of_parts, parts_of}
+use Rattle.goblin_pe_head.proofs.OptionalHeaderRoundTrip.{bytes_after}
+use Rattle.goblin_pe_head.proofs.OptionalParts.{IsOptionalOf, magic_32, magic_64, of_optional, optional_of, pick, same_magic}
+use Rattle.goblin_pe_head.proofs.PeHeaderRoundTrip.{dos_of, of_dos, of_parts, parts_of, strict_stub}
 
 -- ---- what stands at a place
 
@@ -190,21 +188,17 @@ module _ (h : OptionalHeader) (agree : IsConsistentOptional h) (bytes rest : Lis
   abbrev table : List ℕ
   table = encoding Little (entries_fields entries)
 
-  -- the header is there, after fields of either width
-  with-fields : (magic size : ℕ) → number_at Little 2 bytes 0 ≡ Some magic → fields_size s.magic ≡ size
-      → (fixed_fields magic).value bytes ≡ Some (record { standard_fields = s; windows_fields = h.windows_fields; size = size })
-      → drop size bytes ≡ table ++ rest → optional_header.value bytes ≡ Some (h, size + 8 * count)
-  unfolding optional_header
-  with-fields magic size is width fields after =
+  -- the data directories are there, after fields of either width
+  table-again : (size : ℕ) → fields_size s.magic ≡ size → drop size bytes ≡ table ++ rest → (directories_at count size).value bytes ≡ Some entries
+  table-again size width after =
       let each = subst (λ (start : ℕ). (i : ℕ) → i < 16 → IsEntryAt start count i (get_or entries i None)) width agree.2 in
-      let three = entries-again bytes size count entries rest after agree.0 agree.1 each in
-      rw (is, fields, three) refl
+      entries-again bytes size count entries rest after agree.0 agree.1 each
 
   narrow-again : (w : WindowsFields32) → s.magic ≡ 0x10B → windows_to_32 h.windows_fields ≡ Some w
       → bytes ≡ encoding Little (standard_32_fields (standard_to_32 s)) ++ (encoding Little (windows_32_fields w) ++ (table ++ rest))
       → ReadsBack 28 standard_32_record standard_32_fields (standard_to_32 s) → ReadsBack 68 windows_32_record windows_32_fields w
       → optional_header.value bytes ≡ Some (h, 96 + 8 * count)
-  unfolding fixed_fields standard_to_32
+  unfolding standard_by windows_by standard_to_32
   narrow-again w magic narrowed is standard windows =
       let first = encoding Little (standard_32_fields (standard_to_32 s)) in
       let second = encoding Little (windows_32_fields w) in
@@ -218,16 +212,19 @@ module _ (h : OptionalHeader) (agree : IsConsistentOptional h) (bytes rest : Lis
       let two = stand-record bytes 28 68 windows_32_record windows_32_fields w back long_second windows in
       let own = record_at-some 28 (standard_32_record Little) bytes 0 (standard_to_32 s) one in
       let number = front-magic bytes 28 0x10B own.end (omega arith) (sym magic ∙ ap (λ (x : StandardFields32). x.magic) own.is) in
-      let fields : (fixed_fields 0x10B).value bytes ≡ Some (record { standard_fields = s; windows_fields = h.windows_fields; size = 96 }) =
-      rw (one, two) (ap (λ (f : StandardFields). Some (record { standard_fields = f; windows_fields = windows_from_32 w; size = 96 })) (standard_32-same s agree.3 agree.4 agree.5 agree.6)
-      ∙ ap (λ (f : WindowsFields64). Some (record { standard_fields = s; windows_fields = f; size = 96 })) (windows-same h.windows_fields w narrowed)) in
-      with-fields 0x10B 96 number (rw magic refl) fields last
+      of_optional 0x10B bytes (h, 96 + 8 * count) (record {
+        front = number;
+        standard = rw one (ap (λ (f : StandardFields). Some f) (standard_32-same s agree.3 agree.4 agree.5 agree.6));
+        windows = rw two (ap (λ (f : WindowsFields64). Some f) (windows-same h.windows_fields w narrowed));
+        directories = table-again 96 (rw magic refl) last;
+        size = refl;
+      })
 
   wide-again : s.magic ≡ 0x20B
       → bytes ≡ encoding Little (standard_64_fields (standard_to_64 s)) ++ (encoding Little (windows_64_fields h.windows_fields) ++ (table ++ rest))
       → ReadsBack 24 standard_64_record standard_64_fields (standard_to_64 s) → ReadsBack 88 windows_64_record windows_64_fields h.windows_fields
       → optional_header.value bytes ≡ Some (h, 112 + 8 * count)
-  unfolding fixed_fields standard_to_64
+  unfolding standard_by windows_by standard_to_64
   wide-again magic is standard windows =
       let first = encoding Little (standard_64_fields (standard_to_64 s)) in
       let second = encoding Little (windows_64_fields h.windows_fields) in
@@ -241,9 +238,13 @@ module _ (h : OptionalHeader) (agree : IsConsistentOptional h) (bytes rest : Lis
       let two = stand-record bytes 24 88 windows_64_record windows_64_fields h.windows_fields back long_second windows in
       let own = record_at-some 24 (standard_64_record Little) bytes 0 (standard_to_64 s) one in
       let number = front-magic bytes 24 0x20B own.end (omega arith) (sym magic ∙ ap (λ (x : StandardFields64). x.magic) own.is) in
-      let fields : (fixed_fields 0x20B).value bytes ≡ Some (record { standard_fields = s; windows_fields = h.windows_fields; size = 112 }) =
-      rw (one, two) (ap (λ (f : StandardFields). Some (record { standard_fields = f; windows_fields = h.windows_fields; size = 112 })) (standard_64-same s agree.3 agree.4 agree.5 agree.6 (agree.7 magic))) in
-      with-fields 0x20B 112 number (rw magic refl) fields last
+      of_optional 0x20B bytes (h, 112 + 8 * count) (record {
+        front = number;
+        standard = rw one (ap (λ (f : StandardFields). Some f) (standard_64-same s agree.3 agree.4 agree.5 agree.6 (agree.7 magic)));
+        windows = two;
+        directories = table-again 112 (rw magic refl) last;
+        size = refl;
+      })
 
 pieces : (first second third whole rest : List ℕ) → first ++ (second ++ (third ++ [])) ≡ whole → whole ++ rest ≡ first ++ (second ++ (third ++ rest))
 pieces first second third whole rest is =
@@ -280,7 +281,7 @@ optional-again h written bytes rest agree fields made is =
           }
     ]
 
-part-again : (size p : ℕ) (optional : Option OptionalHeader) (written bytes rest : List ℕ) → IsConsistentPart size optional → IfSome optional FieldsReadBack → optional_part Little optional ≡ Some written
+part-again : (size p : ℕ) (optional : Option OptionalHeader) (written bytes rest : List ℕ) → IsConsistentPart size optional → IfSome optional FieldsReadBack → written_part Little optional ≡ Some written
     → drop p bytes ≡ written ++ rest → (optional_at size p).value bytes ≡ Some optional
 unfolding optional_at
 part-again size p None written bytes rest agree fields made is = rw agree refl
@@ -315,10 +316,10 @@ module _ (h : PeHeader) (agree : IsConsistent h) (bytes rest optional : List ℕ
   abbrev coff : List ℕ
   coff = encoding Little (coff_fields h.coff_header)
 
-  laid-again : bytes ≡ dos ++ (h.dos_stub ++ (sign ++ (coff ++ (optional ++ rest)))) → optional_part Little h.optional_header ≡ Some optional
+  laid-again : bytes ≡ dos ++ (h.dos_stub ++ (sign ++ (coff ++ (optional ++ rest)))) → written_part Little h.optional_header ≡ Some optional
       → ReadsBack 64 dos_record dos_fields h.dos_header → ReadsBack 20 coff_header coff_fields h.coff_header → IfSome h.optional_header FieldsReadBack
       → (pe_header true).value bytes ≡ Some h
-  unfolding rich_at
+  unfolding rich_at stub_in
   laid-again is made dos_back coff_back fields =
       let stub = h.dos_stub in
       let tail = sign ++ (coff ++ (optional ++ rest)) in
@@ -342,7 +343,7 @@ module _ (h : PeHeader) (agree : IsConsistent h) (bytes rest optional : List ℕ
       let room : nat_le p (length bytes) ≡ true = le-leb _ _ (omega (arith, stand-end bytes p sign sign_stands)) in
       let width : p - 64 ≡ length stub = omega (arith, pointer) in
       let stretch : slice_range bytes 64 p ≡ stub = rw width (ap (take (length stub)) at_stub ∙ take_at stub tail (length stub) refl) in
-      of_parts bytes h (record {
+      of_parts true bytes h (record {
         dos = of_dos bytes h.dos_header (record {
           magic = front-magic bytes 64 0x5A4D record_is.end (omega arith) (sym agree.0 ∙ ap (λ (x : DosHeader). x.signature) record_is.is);
           own = own;
@@ -363,12 +364,12 @@ five a b c d e rest =
     ∙ ap (λ (xs : List ℕ). c ++ xs) (append_assoc d (e ++ []) rest ∙ ap (λ (xs : List ℕ). d ++ (xs ++ rest)) (append-nil e))))
 
 -- a header whose parts agree reads back, whatever bytes it was written over
-pub consistent_again : (endian : Endian) (old new optional : List ℕ) (h : PeHeader) → optional_part endian h.optional_header ≡ Some optional → new ≡ replaced old 0 (header_parts endian h optional)
+pub consistent_again : (endian : Endian) (old new optional : List ℕ) (h : PeHeader) → written_part endian h.optional_header ≡ Some optional → new ≡ replaced old 0 (header_parts endian h optional)
     → ReadsBack 64 dos_record dos_fields h.dos_header → ReadsBack 20 coff_header coff_fields h.coff_header → IfSome h.optional_header FieldsReadBack
     → endian ≡ Little → IsConsistent h → (pe_header true).value new ≡ Some h
 unfolding header_parts
 consistent_again endian old new optional h made written dos coff fields little agree =
-    let part : optional_part Little h.optional_header ≡ Some optional = subst (λ (e : Endian). optional_part e h.optional_header ≡ Some optional) little made in
+    let part : written_part Little h.optional_header ≡ Some optional = subst (λ (e : Endian). written_part e h.optional_header ≡ Some optional) little made in
     let parts = header_parts Little h optional in
     let rest = drop (0 + length (header_parts endian h optional)) old in
     let is : new ≡ parts ++ rest = written ∙ ap (λ (e : Endian). header_parts e h optional ++ rest) little in
@@ -406,108 +407,84 @@ entries-agree bytes p count entries fits read =
           (entry-agrees (nat_lt i count) (d.virtual_address == 0) (d.size == 0) (p + 8 * i + 8) d refl refl (directory-fits own (IsBytes-slice bytes (p + 8 * i) 8 fits))),
     )
 
--- fields of either width that were read
-record AreConsistent (f : FixedFields) : Type 0 where
-  size : fields_size f.standard_fields.magic ≡ f.size
-  code : f.standard_fields.size_of_code < 2 ^ 32
-  initialized : f.standard_fields.size_of_initialized_data < 2 ^ 32
-  uninitialized : f.standard_fields.size_of_uninitialized_data < 2 ^ 32
-  base : f.standard_fields.base_of_code < 2 ^ 32
-  no_data : f.standard_fields.magic ≡ 0x20B → f.standard_fields.base_of_data ≡ 0
+-- standard fields of either width that were read
+record AreConsistent (s : StandardFields) : Type 0 where
+  code : s.size_of_code < 2 ^ 32
+  initialized : s.size_of_initialized_data < 2 ^ 32
+  uninitialized : s.size_of_uninitialized_data < 2 ^ 32
+  base : s.base_of_code < 2 ^ 32
+  no_data : s.magic ≡ 0x20B → s.base_of_data ≡ 0
 
 four-bytes : (own : List ℕ) (p : ℕ) → IsBytes own → number Little 4 own p < 2 ^ 32
 four-bytes own p fits = number-lt Little 4 own p fits
 
-front-number : (bytes : List ℕ) (n magic : ℕ) → 2 ≤ n → number_at Little 2 bytes 0 ≡ Some magic → number Little 2 (slice_range bytes 0 (0 + n)) 0 ≡ magic
-front-number bytes n magic two is = number-of_slice Little 2 bytes 0 n 0 two ∙ sym (number_at-some Little 2 bytes 0 magic is).value
-
-narrow-agrees : (bytes : List ℕ) (f : FixedFields) → IsBytes bytes → number_at Little 2 bytes 0 ≡ Some 0x10B → fields_32.value bytes ≡ Some f → AreConsistent f
-unfolding standard_from_32
-narrow-agrees bytes f fits magic e =
-    let first = record_at 28 (standard_32_record Little) bytes 0 in
-    let second = record_at 68 (windows_32_record Little) bytes 28 in
-    let all = mapped (pair_of first second) _ f e in
-    let own = both first second all.value all.is in
-    let is = (record_at-some 28 (standard_32_record Little) bytes 0 all.value.0 own.first).is in
+narrow-agrees : (bytes : List ℕ) (x : OptionalHeader × ℕ) → IsBytes bytes → IsOptionalOf 0x10B bytes x → AreConsistent x.0.standard_fields
+unfolding standard_by standard_from_32
+narrow-agrees bytes x fits is =
+    let read = mapped (record_at 28 (standard_32_record Little) bytes 0) standard_from_32 x.0.standard_fields is.standard in
     let s = slice_range bytes 0 (0 + 28) in
     let within = IsBytes-slice bytes 0 28 fits in
-    let number = front-number bytes 28 0x10B (omega arith) magic in
-    let made : (x : StandardFields32) → x ≡ standard_32_record Little s → AreConsistent (record { standard_fields = standard_from_32 x; windows_fields = windows_from_32 all.value.1; size = 96 }) =
-    λ x same. subst (λ (x : StandardFields32). AreConsistent (record { standard_fields = standard_from_32 x; windows_fields = windows_from_32 all.value.1; size = 96 })) (sym same) (record {
-      size = rw number refl;
+    let same : standard_from_32 (standard_32_record Little s) ≡ x.0.standard_fields = ap standard_from_32 (sym (record_at-some 28 (standard_32_record Little) bytes 0 read.value read.is).is) ∙ read.made in
+    let magic = ap (λ (f : StandardFields). f.magic) same ∙ magic_32 bytes x is in
+    subst AreConsistent same (record {
       code = four-bytes s 4 within;
       initialized = four-bytes s 8 within;
       uninitialized = four-bytes s 12 within;
       base = four-bytes s 20 within;
-      no_data = λ wide. absurd (omega (arith, wide, number));
-    }) in
-    subst AreConsistent all.made (made all.value.0 is)
+      no_data = λ wide. absurd (omega (arith, wide, magic));
+    })
 
-wide-agrees : (bytes : List ℕ) (f : FixedFields) → IsBytes bytes → number_at Little 2 bytes 0 ≡ Some 0x20B → fields_64.value bytes ≡ Some f → AreConsistent f
-unfolding standard_from_64
-wide-agrees bytes f fits magic e =
-    let first = record_at 24 (standard_64_record Little) bytes 0 in
-    let second = record_at 88 (windows_64_record Little) bytes 24 in
-    let all = mapped (pair_of first second) _ f e in
-    let own = both first second all.value all.is in
-    let is = (record_at-some 24 (standard_64_record Little) bytes 0 all.value.0 own.first).is in
+wide-agrees : (bytes : List ℕ) (x : OptionalHeader × ℕ) → IsBytes bytes → IsOptionalOf 0x20B bytes x → AreConsistent x.0.standard_fields
+unfolding standard_by standard_from_64
+wide-agrees bytes x fits is =
+    let read = mapped (record_at 24 (standard_64_record Little) bytes 0) standard_from_64 x.0.standard_fields is.standard in
     let s = slice_range bytes 0 (0 + 24) in
     let within = IsBytes-slice bytes 0 24 fits in
-    let number = front-number bytes 24 0x20B (omega arith) magic in
-    let made : (x : StandardFields64) → x ≡ standard_64_record Little s → AreConsistent (record { standard_fields = standard_from_64 x; windows_fields = all.value.1; size = 112 }) =
-    λ x same. subst (λ (x : StandardFields64). AreConsistent (record { standard_fields = standard_from_64 x; windows_fields = all.value.1; size = 112 })) (sym same) (record {
-      size = rw number refl;
+    let same : standard_from_64 (standard_64_record Little s) ≡ x.0.standard_fields = ap standard_from_64 (sym (record_at-some 24 (standard_64_record Little) bytes 0 read.value read.is).is) ∙ read.made in
+    subst AreConsistent same (record {
       code = four-bytes s 4 within;
       initialized = four-bytes s 8 within;
       uninitialized = four-bytes s 12 within;
       base = four-bytes s 20 within;
       no_data = λ wide. refl;
-    }) in
-    subst AreConsistent all.made (made all.value.0 is)
+    })
 
-fixed-agrees : (magic : ℕ) (bytes : List ℕ) (f : FixedFields) → IsBytes bytes → number_at Little 2 bytes 0 ≡ Some magic → (fixed_fields magic).value bytes ≡ Some f → AreConsistent f
-unfolding fixed_fields
-fixed-agrees magic bytes f fits is e =
-    elim (pick (nat_eq magic 0x10B) (nat_eq magic 0x20B) (fields_32.value bytes) (fields_64.value bytes) f e) [
-      | inl narrow ↦ narrow-agrees bytes f fits (is ∙ ap (λ (m : ℕ). Some m) (eqb-true magic 0x10B narrow.0)) narrow.1
-      | inr wide ↦ wide-agrees bytes f fits (is ∙ ap (λ (m : ℕ). Some m) (eqb-true magic 0x20B wide.0)) wide.1
-    ]
-
-optional-agrees : (bytes : List ℕ) (h : OptionalHeader) (n : ℕ) → IsBytes bytes → optional_header.value bytes ≡ Some (h, n) → IsConsistentOptional h
-unfolding optional_header
-optional-agrees bytes h n fits e =
-    let first = step (number_at Little 2 bytes 0) _ (h, n) e in
-    let second = step ((fixed_fields first.value).value bytes) _ (h, n) first.then in
-    let f = second.value in
-    let count = f.windows_fields.number_of_rva_and_sizes in
-    let third = mapped ((directories_at count f.size).value bytes) _ (h, n) second.then in
-    let fields = fixed-agrees first.value bytes f fits first.is second.is in
-    let table = entries-agree bytes f.size count third.value fits third.is in
-    let each = subst (λ (start : ℕ). (i : ℕ) → i < 16 → IsEntryAt start count i (get_or third.value i None)) (sym fields.size) table.2 in
-    subst (λ (x : OptionalHeader × ℕ). IsConsistentOptional x.0) third.made
+whole-agrees : (magic : ℕ) (bytes : List ℕ) (x : OptionalHeader × ℕ) → IsBytes bytes → IsOptionalOf magic bytes x → x.0.standard_fields.magic ≡ magic → AreConsistent x.0.standard_fields
+    → IsConsistentOptional x.0
+whole-agrees magic bytes x fits is same fields =
+    let count = x.0.windows_fields.number_of_rva_and_sizes in
+    let entries = x.0.data_directories.data_directories in
+    let table = entries-agree bytes (fields_size magic) count entries fits is.directories in
+    let each = subst (λ (magic : ℕ). (i : ℕ) → i < 16 → IsEntryAt (fields_size magic) count i (get_or entries i None)) (sym same) table.2 in
     (table.0, table.1, each, fields.code, fields.initialized, fields.uninitialized, fields.base, fields.no_data)
+
+optional-agrees : (bytes : List ℕ) (x : OptionalHeader × ℕ) → IsBytes bytes → optional_header.value bytes ≡ Some x → IsConsistentOptional x.0
+optional-agrees bytes x fits e = elim (optional_of bytes x e) [
+  | inl is ↦ whole-agrees 0x10B bytes x fits is (magic_32 bytes x is) (narrow-agrees bytes x fits is)
+  | inr is ↦ whole-agrees 0x20B bytes x fits is (magic_64 bytes x is) (wide-agrees bytes x fits is)
+]
 
 part-agrees : (size : ℕ) (test : Bool) (optional : Option OptionalHeader) (bytes : List ℕ) → (size == 0) ≡ test → IsBytes bytes
     → cond test (Some None) (option_map (λ (header : OptionalHeader × ℕ). Some header.0) (optional_header.value bytes)) ≡ Some optional → IsConsistentPart size optional
 part-agrees size true optional bytes none fits e = subst (IsConsistentPart size) (same_value None optional e) (eqb-true size 0 none)
 part-agrees size false optional bytes some fits e =
     let found = mapped (optional_header.value bytes) (λ (header : OptionalHeader × ℕ). Some header.0) optional e in
-    subst (IsConsistentPart size) found.made (some, optional-agrees bytes found.value.0 found.value.1 fits found.is)
+    subst (IsConsistentPart size) found.made (some, optional-agrees bytes found.value fits found.is)
 
 -- the parts of a header that strict mode read agree
 pub header_consistent : (bytes : List ℕ) (h : PeHeader) → IsBytes bytes → (pe_header true).value bytes ≡ Some h → IsConsistent h
 unfolding rich_at optional_at
 header_consistent bytes h fits e =
-    let is = parts_of bytes h e in
+    let is = parts_of true bytes h e in
     let dos = dos_of bytes h.dos_header is.dos in
     let p = h.dos_header.pe_pointer in
     let own = (record_at-some 64 (dos_record Little) bytes 0 h.dos_header dos.own).is in
-    let stub = cond_some (nat_le 64 p && nat_le p (length bytes)) (slice_range bytes 64 p) h.dos_stub is.stub in
+    let stub = cond_some (nat_le 64 p && nat_le p (length bytes)) (slice_range bytes 64 p) h.dos_stub (strict_stub bytes h is) in
     let tests = and_parts (nat_le 64 p) (nat_le p (length bytes)) stub.0 in
     let low = leb-true 64 p tests.0 in
     let high = leb-true p (length bytes) tests.1 in
     let long : length h.dos_stub ≡ p - 64 = ap length (sym stub.1) ∙ length-take-le (p - 64) (drop 64 bytes) (omega (arith, low, high, length-drop 64 bytes)) in (
-      ap (λ (x : DosHeader). x.signature) own ∙ front-number bytes 64 0x5A4D (omega arith) dos.magic,
+      ap (λ (x : DosHeader). x.signature) own ∙ same_magic bytes 64 0x5A4D (omega arith) dos.magic,
       omega (arith, long, low),
       ap (λ (xs : List ℕ). cond (nat_lt p 68) (Some None) (rich_in.value xs)) (sym stub.1) ∙ is.rich,
       same_value h.signature 0x4550 (sym is.signature ∙ dos.signature),

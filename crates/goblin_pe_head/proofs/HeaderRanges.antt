@@ -19,7 +19,7 @@ use Rattle.goblin_pe_head.specs.declared.header.coff.CoffHeader.{CoffHeader}
 use Rattle.goblin_pe_head.specs.CoffHeader.{coff_header}
 use Rattle.goblin_pe_head.specs.DosHeader.{dos_record}
 use Rattle.goblin_pe_head.specs.HeaderReadings.{dos_header, fixed_fields, optional_at}
-use Rattle.goblin_pe_head.specs.HeaderReadings.{optional_header, parts_at}
+use Rattle.goblin_pe_head.specs.HeaderReadings.{optional_header, parts_at, standard_by, windows_by}
 use Rattle.goblin_pe_head.specs.RichHeader.{dans_place, marker_place, word_at}
 use Rattle.goblin_pe_head.specs.RichReadings.{rich_in}
 
@@ -91,18 +91,18 @@ two-records p bytes m n =
 pub fields_32 : (p : ℕ) (bytes : List ℕ)
     → (in_rest p (fixed_fields 0x10B)).reaches bytes
     ≡ slice_footprint bytes p 28 ++ slice_footprint bytes (p + 28) 68
-unfolding fixed_fields
+unfolding fixed_fields standard_by windows_by
 fields_32 p bytes = two-records p bytes 28 68
 
 pub fields_64 : (p : ℕ) (bytes : List ℕ)
     → (in_rest p (fixed_fields 0x20B)).reaches bytes
     ≡ slice_footprint bytes p 24 ++ slice_footprint bytes (p + 24) 88
-unfolding fixed_fields
+unfolding fixed_fields standard_by windows_by
 fields_64 p bytes = two-records p bytes 24 88
 
 pub no_fields : (p magic : ℕ) (bytes : List ℕ) → (magic == 0x10B) ≡ false → (magic == 0x20B) ≡ false
     → (in_rest p (fixed_fields magic)).reaches bytes ≡ []
-unfolding fixed_fields
+unfolding fixed_fields standard_by windows_by
 no_fields p magic bytes other wide = rw (other, wide) refl
 
 -- ---- the directories

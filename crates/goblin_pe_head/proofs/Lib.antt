@@ -5,6 +5,7 @@ pub mod DosHeaderRoundTrip
 mod HeaderRanges
 pub mod OptionalFieldsRoundTrip
 pub mod OptionalHeaderRoundTrip
+pub mod OptionalParts
 pub mod PeHeaderRoundTrip
 pub mod PermissiveReads
 pub mod RichEntries

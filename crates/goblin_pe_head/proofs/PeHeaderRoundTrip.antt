@@ -1,5 +1,5 @@
 -- A header that was read is written as its bytes stand, with the missing directories after them, and is read again.
-use Rattle.std.proofs.Common.{◌≡◌, ℕ, ◌+◌, ◌-◌, ◌≤◌, ◌&&◌, Bool, true, false, cond, nat_le, List, [], ◌∷◌, ◌++◌, take, drop, length, Option, Some, None, refl, sym, ap, ◌∙◌, subst, arith, ◌*◌, nat_eq, nat_lt, append_assoc, inl, inr, ◌==◌, IsSomeAnd, option_map, slice_range, option_and_then, append-nil, length-drop}
+use Rattle.std.proofs.Common.{◌≡◌, ℕ, ◌+◌, ◌-◌, ◌<◌, ◌≤◌, ◌&&◌, Bool, true, false, cond, nat_le, List, [], ◌∷◌, ◌++◌, take, drop, length, Option, Some, None, refl, sym, ap, ◌∙◌, subst, arith, ◌*◌, nat_lt, append_assoc, inl, inr, ◌==◌, IsSomeAnd, option_map, slice_range, option_and_then, append-nil, length-drop}
 use Rattle.std.proofs.lemmas.Bool.{and_parts, eqb-true, leb-true, le-leb}
 use Rattle.std.proofs.lemmas.Option.{cond_some}
 use Rattle.goblin_base.specs.declared.endian.Endian.TheVariants.{Little}
@@ -11,37 +11,36 @@ use Rattle.goblin_base.proofs.RecordRoundTrip.{front_more, number_bytes-number, 
 use Rattle.goblin_base.proofs.Numbers.{number_at-some, slice_at-some}
 use Rattle.goblin_base.proofs.Steps.{mapped, same_value, step}
 use Rattle.goblin_base.proofs.Fronts.{HaveFront, front-drop, front_then, number-front, record-front, slice-front}
-use Rattle.readings.specs.Reads.{in_its_place, pair_of}
-use Rattle.goblin_pe_sect.specs.DirectoryReadings.{directories_at}
+use Rattle.readings.specs.Reads.{pair_of}
 use Rattle.goblin_pe_sect.proofs.EntriesFront.{directories-front}
 use Rattle.goblin_pe_head.specs.declared.header.coff.CoffHeader.{CoffHeader}
 use Rattle.goblin_pe_head.specs.declared.header.dos.DosHeader.{DosHeader}
 use Rattle.goblin_pe_head.specs.declared.optional_header.OptionalHeader.{OptionalHeader}
-use Rattle.goblin_pe_head.specs.declared.optional_header.FixedFields.{FixedFields}
 use Rattle.goblin_pe_head.specs.CoffHeader.{coff_fields, coff_header}
 use Rattle.goblin_pe_head.specs.DosHeader.{dos_fields, dos_record}
 use Rattle.goblin_pe_head.specs.DosStub.{default_stub}
 use Rattle.goblin_pe_head.specs.HeaderLaws.{DosWritesBack, HeaderWritesBack, end_after, filling, filling_after, optional_size, HeaderReadsBack, header_end, OptionalWritesBack}
-use Rattle.goblin_pe_head.specs.HeaderReadings.{SignedParts, coff_parts, dos_header, dos_signature, fields_32, fields_64, fixed_fields, header_of, optional_at, optional_header, parts_at, pe_header, pe_signature, signed_record, stub_in, that_is}
-use Rattle.goblin_pe_head.specs.OptionalHeader.{standard_32_record, standard_64_record, windows_32_record, windows_64_record}
-use Rattle.goblin_pe_head.specs.PeHeader.{PeHeader, header_bytes, header_parts, optional_part}
+use Rattle.goblin_pe_head.specs.HeaderReadings.{SignedParts, coff_parts, dos_header, dos_signature, header_of, optional_at, optional_header, parts_at, pe_header, pe_signature, signed_record, standard_by, stub_in, that_is, windows_by}
+use Rattle.goblin_pe_head.specs.OptionalHeader.{standard_32_record, standard_64_record, standard_from_32, standard_from_64, windows_32_record, windows_64_record, windows_from_32}
+use Rattle.goblin_pe_head.specs.PeHeader.{PeHeader, header_bytes, header_parts, written_part}
 use Rattle.goblin_pe_head.specs.RichReadings.{rich_at, rich_in}
 use Rattle.goblin_pe_head.proofs.Beside.{both, strict_in_its_place}
 use Rattle.goblin_pe_head.proofs.CoffHeaderRoundTrip.{coff_back}
 use Rattle.goblin_pe_head.proofs.DosHeaderRoundTrip.{dos_back}
-use Rattle.goblin_pe_head.proofs.OptionalHeaderRoundTrip.{bytes_after, optional_back, pick}
+use Rattle.goblin_pe_head.proofs.OptionalHeaderRoundTrip.{bytes_after, optional_back}
+use Rattle.goblin_pe_head.proofs.OptionalParts.{IsOptionalOf, of_optional, optional_of}
 
--- the parts of a header that was read in strict mode
-pub record IsHeaderOf (bytes : List ℕ) (h : PeHeader) : Type 0 where
+-- the parts of a header that was read
+pub record IsHeaderOf (strict : Bool) (bytes : List ℕ) (h : PeHeader) : Type 0 where
   pub dos : dos_header.value bytes ≡ Some h.dos_header
-  pub stub : bytes_between bytes 64 h.dos_header.pe_pointer ≡ Some h.dos_stub
+  pub stub : (stub_in strict h.dos_header.pe_pointer).value bytes ≡ Some h.dos_stub
   pub rich : (rich_at h.dos_header.pe_pointer).value bytes ≡ Some h.rich_header
   pub signature : number_at Little 4 bytes h.dos_header.pe_pointer ≡ Some h.signature
   pub coff : record_at 20 (coff_header Little) bytes (h.dos_header.pe_pointer + 4) ≡ Some h.coff_header
   pub optional : (optional_at h.coff_header.size_of_optional_header (h.dos_header.pe_pointer + 24)).value bytes ≡ Some h.optional_header
 
 -- the parts from a signature on
-pub record ArePartsOf (bytes : List ℕ) (p : ℕ) (parts : SignedParts) : Type 0 where
+record AreSigned (bytes : List ℕ) (p : ℕ) (parts : SignedParts) : Type 0 where
   pub signature : number_at Little 4 bytes p ≡ Some parts.signature
   pub coff : record_at 20 (coff_header Little) bytes (p + 4) ≡ Some parts.coff_header
   pub optional : (optional_at parts.coff_header.size_of_optional_header (p + 24)).value bytes ≡ Some parts.optional_header
@@ -49,41 +48,40 @@ pub record ArePartsOf (bytes : List ℕ) (p : ℕ) (parts : SignedParts) : Type 
 abbrev parts_with : ℕ → CoffHeader × Option OptionalHeader → SignedParts
 parts_with signature both = record { signature = signature; coff_header = both.0; optional_header = both.1 }
 
-pub signed_parts : (bytes : List ℕ) (p : ℕ) (parts : SignedParts) → (parts_at p).value bytes ≡ Some parts → ArePartsOf bytes p parts
+signed_parts : (bytes : List ℕ) (p : ℕ) (parts : SignedParts) → (parts_at p).value bytes ≡ Some parts → AreSigned bytes p parts
 unfolding parts_at
 signed_parts bytes p parts e =
     let all = mapped (pair_of (number_at Little 4 bytes p) ((coff_parts p).value bytes)) _ parts e in
     let own = both (number_at Little 4 bytes p) ((coff_parts p).value bytes) all.value all.is in
     let coff = step (record_at 20 (coff_header Little) bytes (p + 4)) _ all.value.1 own.second in
     let optional = mapped ((optional_at coff.value.size_of_optional_header (p + 24)).value bytes) (λ optional. (coff.value, optional)) all.value.1 coff.then in
-    let whole : ArePartsOf bytes p (parts_with all.value.0 (coff.value, optional.value)) = record { signature = own.first; coff = coff.is; optional = optional.is } in
-    subst (ArePartsOf bytes p) (ap (parts_with all.value.0) optional.made ∙ all.made) whole
+    let whole : AreSigned bytes p (parts_with all.value.0 (coff.value, optional.value)) = record { signature = own.first; coff = coff.is; optional = optional.is } in
+    subst (AreSigned bytes p) (ap (parts_with all.value.0) optional.made ∙ all.made) whole
 
-pub parts_of : (bytes : List ℕ) (h : PeHeader) → (pe_header true).value bytes ≡ Some h → IsHeaderOf bytes h
-unfolding pe_header stub_in
-parts_of bytes h e =
+pub parts_of : (strict : Bool) (bytes : List ℕ) (h : PeHeader) → (pe_header strict).value bytes ≡ Some h → IsHeaderOf strict bytes h
+unfolding pe_header
+parts_of strict bytes h e =
     let dos = step (dos_header.value bytes) _ h e in
     let p = dos.value.pe_pointer in
-    let stub = in_its_place true default_stub (bytes_between bytes 64 p) in
+    let stub = (stub_in strict p).value bytes in
     let rich = (rich_at p).value bytes in
     let parts = (parts_at p).value bytes in
     let all = mapped (pair_of stub (pair_of rich parts)) (λ all. header_of dos.value all.0 all.1.0 all.1.1) h dos.then in
     let front = both stub (pair_of rich parts) all.value all.is in
     let back = both rich parts all.value.1 front.second in
     let own = signed_parts bytes p all.value.1.1 back.second in
-    let whole : IsHeaderOf bytes (header_of dos.value all.value.0 all.value.1.0 all.value.1.1) = record {
-      dos = dos.is;
-      stub = sym (strict_in_its_place default_stub (bytes_between bytes 64 p)) ∙ front.first;
-      rich = back.first;
-      signature = own.signature;
-      coff = own.coff;
-      optional = own.optional;
-    } in
-    subst (IsHeaderOf bytes) all.made whole
+    let whole : IsHeaderOf strict bytes (header_of dos.value all.value.0 all.value.1.0 all.value.1.1) =
+    record { dos = dos.is; stub = front.first; rich = back.first; signature = own.signature; coff = own.coff; optional = own.optional } in
+    subst (IsHeaderOf strict bytes) all.made whole
 
-pub of_parts : (bytes : List ℕ) (h : PeHeader) → IsHeaderOf bytes h → (pe_header true).value bytes ≡ Some h
-unfolding pe_header stub_in parts_at
-of_parts bytes h is = rw (is.dos, is.stub, is.rich, is.signature, is.coff, is.optional) refl
+pub of_parts : (strict : Bool) (bytes : List ℕ) (h : PeHeader) → IsHeaderOf strict bytes h → (pe_header strict).value bytes ≡ Some h
+unfolding pe_header parts_at
+of_parts strict bytes h is = rw (is.dos, is.stub, is.rich, is.signature, is.coff, is.optional) refl
+
+-- the stub in strict mode
+pub strict_stub : (bytes : List ℕ) (h : PeHeader) → IsHeaderOf true bytes h → bytes_between bytes 64 h.dos_header.pe_pointer ≡ Some h.dos_stub
+unfolding stub_in
+strict_stub bytes h is = sym (strict_in_its_place default_stub (bytes_between bytes 64 h.dos_header.pe_pointer)) ∙ is.stub
 
 -- what a DOS header that was read is made of
 pub record IsDosOf (bytes : List ℕ) (h : DosHeader) : Type 0 where
@@ -120,7 +118,7 @@ of_dos bytes h is = rw (is.magic, is.own, is.signature) refl
 -- an optional header that is there ends within the file, and is written as it stands
 record IsOptionalPart (bytes : List ℕ) (p : ℕ) (optional : Option OptionalHeader) : Type 0 where
   pub end : end_after p optional ≤ length bytes
-  pub written : IsSomeAnd (optional_part Little optional) (λ xs. take (p + 24) bytes ++ (xs ++ []) ≡ take (end_after p optional) bytes ++ filling_after optional)
+  pub written : IsSomeAnd (written_part Little optional) (λ xs. take (p + 24) bytes ++ (xs ++ []) ≡ take (end_after p optional) bytes ++ filling_after optional)
 
 part : (bytes : List ℕ) (p : ℕ) (none : Bool) (optional : Option OptionalHeader) → IsBytes bytes → p + 24 ≤ length bytes
     → cond none (Some None) (option_map (λ (header : OptionalHeader × ℕ). Some header.0) (optional_header.value (drop (p + 24) bytes))) ≡ Some optional
@@ -167,11 +165,11 @@ pub record IsLaid (bytes : List ℕ) (h : PeHeader) : Type 0 where
   pub signature : encoding Little (uint 4 h.signature ∷ []) ≡ take 4 (drop h.dos_header.pe_pointer bytes)
   pub coff : encoding Little (coff_fields h.coff_header) ≡ take 20 (drop (h.dos_header.pe_pointer + 4) bytes)
 
-pub laid : (bytes : List ℕ) (h : PeHeader) → IsBytes bytes → IsHeaderOf bytes h → IsLaid bytes h
+pub laid : (bytes : List ℕ) (h : PeHeader) → IsBytes bytes → IsHeaderOf true bytes h → IsLaid bytes h
 laid bytes h fits is =
     let p = h.dos_header.pe_pointer in
     let dos = slice_at-some bytes 0 64 (encoding Little (dos_fields h.dos_header)) (dos_back Little bytes 0 h.dos_header fits (dos_of bytes h.dos_header is.dos).own) in
-    let stub = cond_some (nat_le 64 p && nat_le p (length bytes)) (slice_range bytes 64 p) h.dos_stub is.stub in
+    let stub = cond_some (nat_le 64 p && nat_le p (length bytes)) (slice_range bytes 64 p) h.dos_stub (strict_stub bytes h is) in
     let tests = and_parts (nat_le 64 p) (nat_le p (length bytes)) stub.0 in
     let signature = number_at-some Little 4 bytes p h.signature is.signature in
     let coff = slice_at-some bytes (p + 4) 20 (encoding Little (coff_fields h.coff_header)) (coff_back Little bytes (p + 4) h.coff_header fits is.coff) in
@@ -204,11 +202,11 @@ in_front bytes h optional is =
 pub header_back : HeaderWritesBack
 unfolding HeaderWritesBack header_bytes optional_at
 header_back file h fits e =
-    let is = parts_of file h e in
+    let is = parts_of true file h e in
     let lies = laid file h fits is in
     let p = h.dos_header.pe_pointer in
     let last = part file p (h.coff_header.size_of_optional_header == 0) h.optional_header fits lies.end is.optional in
-    let bytes = there (optional_part Little h.optional_header) (λ xs. take (p + 24) file ++ (xs ++ []) ≡ take (end_after p h.optional_header) file ++ filling_after h.optional_header) last.written in
+    let bytes = there (written_part Little h.optional_header) (λ xs. take (p + 24) file ++ (xs ++ []) ≡ take (end_after p h.optional_header) file ++ filling_after h.optional_header) last.written in
     (last.end, ap (option_map (header_parts Little h)) bytes.is ∙ ap (λ (xs : List ℕ). Some xs) (in_front file h bytes.value lies ∙ bytes.holds))
 
 -- ---- a header depends on the bytes up to its end alone, so it is read again
@@ -240,65 +238,42 @@ unfolding rich_at
 rich-front n p a b front low high =
     ap (λ (stretch : List ℕ). cond (nat_lt p 68) (Some None) (rich_in.value stretch)) (stretch-front n p a b front low high)
 
--- fields that are there, also in another list of bytes with the same front
-record AreFields (magic : ℕ) (bytes : List ℕ) (f : FixedFields) : Type 0 where
-  pub least : 96 ≤ f.size
-  pub same : (n : ℕ) (b : List ℕ) → HaveFront n bytes b → f.size ≤ n → (fixed_fields magic).value b ≡ Some f
+-- what is made of a record is also made of it in other bytes with the same front
+mapped-front : {R S : Type 0} (n size p : ℕ) (value : List ℕ → R) (f : R → S) (y : S) (a b : List ℕ) → HaveFront n a b → 0 < size → p + size ≤ n
+    → option_map f (record_at size value a p) ≡ Some y → option_map f (record_at size value b p) ≡ Some y
+mapped-front {S = S} n size p value f y a b front some le e =
+    let own = mapped (record_at size value a p) f y e in
+    rw (record-front n size value p own.value a b front some le own.is) (ap (λ (y : S). Some y) own.made)
 
-fields_32-front : (bytes : List ℕ) (f : FixedFields) → fields_32.value bytes ≡ Some f → AreFields 0x10B bytes f
-unfolding fixed_fields
-fields_32-front bytes f e =
-    let first = record_at 28 (standard_32_record Little) bytes 0 in
-    let second = record_at 68 (windows_32_record Little) bytes 28 in
-    let all = mapped (pair_of first second) _ f e in
-    let own = both first second all.value all.is in
-    let size : 96 ≡ f.size = ap (λ (x : FixedFields). x.size) all.made in
+narrow-front : (n : ℕ) (x : OptionalHeader × ℕ) (a b : List ℕ) → HaveFront n a b → x.1 ≤ n → IsOptionalOf 0x10B a x → IsOptionalOf 0x10B b x
+unfolding standard_by windows_by
+narrow-front n x a b front le is =
+    let end : 96 + 8 * x.0.windows_fields.number_of_rva_and_sizes ≡ x.1 = is.size in
     record {
-      least = omega (arith, size);
-      same = λ n b front le.
-          let one = record-front n 28 (standard_32_record Little) 0 all.value.0 bytes b front (omega arith) (omega (arith, size, le)) own.first in
-          let two = record-front n 68 (windows_32_record Little) 28 all.value.1 bytes b front (omega arith) (omega (arith, size, le)) own.second in
-          rw (one, two) (ap (λ (x : FixedFields). Some x) all.made);
+      front = number-front n Little 2 0 0x10B a b front (omega (arith, end, le)) is.front;
+      standard = mapped-front n 28 0 (standard_32_record Little) standard_from_32 x.0.standard_fields a b front (omega arith) (omega (arith, end, le)) is.standard;
+      windows = mapped-front n 68 28 (windows_32_record Little) windows_from_32 x.0.windows_fields a b front (omega arith) (omega (arith, end, le)) is.windows;
+      directories = directories-front n x.0.windows_fields.number_of_rva_and_sizes 96 x.0.data_directories.data_directories a b front (omega (arith, end, le)) is.directories;
+      size = is.size;
     }
 
-fields_64-front : (bytes : List ℕ) (f : FixedFields) → fields_64.value bytes ≡ Some f → AreFields 0x20B bytes f
-unfolding fixed_fields
-fields_64-front bytes f e =
-    let first = record_at 24 (standard_64_record Little) bytes 0 in
-    let second = record_at 88 (windows_64_record Little) bytes 24 in
-    let all = mapped (pair_of first second) _ f e in
-    let own = both first second all.value all.is in
-    let size : 112 ≡ f.size = ap (λ (x : FixedFields). x.size) all.made in
+wide-front : (n : ℕ) (x : OptionalHeader × ℕ) (a b : List ℕ) → HaveFront n a b → x.1 ≤ n → IsOptionalOf 0x20B a x → IsOptionalOf 0x20B b x
+unfolding standard_by windows_by
+wide-front n x a b front le is =
+    let end : 112 + 8 * x.0.windows_fields.number_of_rva_and_sizes ≡ x.1 = is.size in
     record {
-      least = omega (arith, size);
-      same = λ n b front le.
-          let one = record-front n 24 (standard_64_record Little) 0 all.value.0 bytes b front (omega arith) (omega (arith, size, le)) own.first in
-          let two = record-front n 88 (windows_64_record Little) 24 all.value.1 bytes b front (omega arith) (omega (arith, size, le)) own.second in
-          rw (one, two) (ap (λ (x : FixedFields). Some x) all.made);
+      front = number-front n Little 2 0 0x20B a b front (omega (arith, end, le)) is.front;
+      standard = mapped-front n 24 0 (standard_64_record Little) standard_from_64 x.0.standard_fields a b front (omega arith) (omega (arith, end, le)) is.standard;
+      windows = record-front n 88 (windows_64_record Little) 24 x.0.windows_fields a b front (omega arith) (omega (arith, end, le)) is.windows;
+      directories = directories-front n x.0.windows_fields.number_of_rva_and_sizes 112 x.0.data_directories.data_directories a b front (omega (arith, end, le)) is.directories;
+      size = is.size;
     }
 
-fixed-front : (magic : ℕ) (bytes : List ℕ) (f : FixedFields) → (fixed_fields magic).value bytes ≡ Some f → AreFields magic bytes f
-unfolding fixed_fields
-fixed-front magic bytes f e =
-    elim (pick (nat_eq magic 0x10B) (nat_eq magic 0x20B) (fields_32.value bytes) (fields_64.value bytes) f e) [
-      | inl narrow ↦ subst (λ (m : ℕ). AreFields m bytes f) (sym (eqb-true magic 0x10B narrow.0)) (fields_32-front bytes f narrow.1)
-      | inr wide ↦ subst (λ (m : ℕ). AreFields m bytes f) (sym (eqb-true magic 0x20B wide.0)) (fields_64-front bytes f wide.1)
-    ]
-
-optional_header-front : (n k : ℕ) (h : OptionalHeader) (a b : List ℕ) → HaveFront n a b → k ≤ n → optional_header.value a ≡ Some (h, k) → optional_header.value b ≡ Some (h, k)
-unfolding optional_header
-optional_header-front n k h a b front le e =
-    let first = step (number_at Little 2 a 0) _ (h, k) e in
-    let second = step ((fixed_fields first.value).value a) _ (h, k) first.then in
-    let f = second.value in
-    let count = f.windows_fields.number_of_rva_and_sizes in
-    let third = mapped ((directories_at count f.size).value a) _ (h, k) second.then in
-    let end : f.size + 8 * count ≡ k = ap (λ (x : OptionalHeader × ℕ). x.1) third.made in
-    let fields = fixed-front first.value a f second.is in
-    let one = number-front n Little 2 0 first.value a b front (omega (arith, end, le, fields.least)) first.is in
-    let two = fields.same n b front (omega (arith, end, le)) in
-    let three = directories-front n count f.size third.value a b front (omega (arith, end, le)) third.is in
-    rw (one, two, three) (ap (λ (x : OptionalHeader × ℕ). Some x) third.made)
+optional_header-front : (n : ℕ) (x : OptionalHeader × ℕ) (a b : List ℕ) → HaveFront n a b → x.1 ≤ n → optional_header.value a ≡ Some x → optional_header.value b ≡ Some x
+optional_header-front n x a b front le e = elim (optional_of a x e) [
+  | inl is ↦ of_optional 0x10B b x (narrow-front n x a b front le is)
+  | inr is ↦ of_optional 0x20B b x (wide-front n x a b front le is)
+]
 
 optional-front : (n p : ℕ) (none : Bool) (optional : Option OptionalHeader) (a b : List ℕ) → IsBytes a → HaveFront n a b → end_after p optional ≤ n
     → cond none (Some None) (option_map (λ (header : OptionalHeader × ℕ). Some header.0) (optional_header.value (drop (p + 24) a))) ≡ Some optional
@@ -313,7 +288,7 @@ optional-front n p false optional a b fits front le e =
     let size = (optional_back (drop at a) h k (bytes_after a at fits) found.is).0 in
     let end : end_after p (Some h) ≤ n = subst (λ (o : Option OptionalHeader). end_after p o ≤ n) (sym found.made) le in
     let after = front-drop n at a b front (omega (arith, end)) in
-    let there = optional_header-front (n - at) k h (drop at a) (drop at b) after (omega (arith, size, end)) found.is in
+    let there = optional_header-front (n - at) found.value (drop at a) (drop at b) after (omega (arith, size, end)) found.is in
     rw there (ap (λ (o : Option OptionalHeader). Some o) found.made)
 
 least_end : (p : ℕ) (optional : Option OptionalHeader) → p + 24 ≤ end_after p optional
@@ -322,17 +297,17 @@ least_end p (Some h) = omega arith
 
 -- a header depends on the bytes up to its end alone
 pub header-front : (a b : List ℕ) (h : PeHeader) → IsBytes a → (pe_header true).value a ≡ Some h → HaveFront (header_end h) a b → (pe_header true).value b ≡ Some h
-unfolding optional_at
+unfolding optional_at stub_in
 header-front a b h fits e front =
-    let is = parts_of a h e in
+    let is = parts_of true a h e in
     let lies = laid a h fits is in
     let n = header_end h in
     let p = h.dos_header.pe_pointer in
     let low = lies.stub_end in
     let high : p + 24 ≤ n = least_end p h.optional_header in
-    of_parts b h (record {
+    of_parts true b h (record {
       dos = dos-front n h.dos_header a b front (omega (arith, low, high)) (omega (arith, high)) is.dos;
-      stub = stub-front n p h.dos_stub a b front (omega (arith, high)) is.stub;
+      stub = strict_in_its_place default_stub (bytes_between b 64 p) ∙ stub-front n p h.dos_stub a b front (omega (arith, high)) (strict_stub a h is);
       rich = sym (rich-front n p a b front low (omega (arith, high))) ∙ is.rich;
       signature = number-front n Little 4 p h.signature a b front (omega (arith, high)) is.signature;
       coff = record-front n 20 (coff_header Little) (p + 4) h.coff_header a b front (omega arith) (omega (arith, high)) is.coff;

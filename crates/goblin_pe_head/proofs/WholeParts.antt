@@ -1,75 +1,27 @@
 -- The parts of a header that is read as a whole, each read by itself, are its parts.
-use Rattle.std.proofs.Common.{◌≡◌, ℕ, ◌+◌, ◌≤◌, Bool, true, false, cond, nat_le, List, drop, Option, Some, None, Result, Ok, Err, refl, sym, ap, ◌∙◌, subst, arith, inl, inr, nat_eq, ◌==◌, IfSome, option_map, unwrap_or}
+use Rattle.std.proofs.Common.{◌≡◌, ℕ, ◌+◌, ◌≤◌, Bool, true, false, cond, nat_le, List, drop, Option, Some, None, Result, Ok, Err, refl, sym, ap, ◌∙◌, arith, inl, inr, ◌==◌, IfSome, option_map, unwrap_or}
 use Rattle.std.specs.Prelude.{min}
-use Rattle.std.proofs.lemmas.Bool.{eqb-true, leb-true}
-use Rattle.goblin_base.specs.declared.endian.Endian.TheVariants.{Little}
+use Rattle.std.proofs.lemmas.Bool.{leb-true}
 use Rattle.goblin_base.specs.declared.error.ErrorOf.{ErrorOf}
-use Rattle.goblin_base.specs.Bytes.{number_at}
 use Rattle.goblin_base.specs.Reading.{Reading, Reads}
-use Rattle.goblin_base.specs.Record.{record_at}
-use Rattle.goblin_base.proofs.Steps.{mapped, same_value, step}
-use Rattle.readings.specs.Reads.{pair_of}
+use Rattle.goblin_base.proofs.Steps.{same_value}
 use Rattle.goblin_pe_sect.specs.declared.data_directories.DataDirectories.{DataDirectories}
 use Rattle.goblin_pe_sect.specs.declared.data_directories.DataDirectory.{DataDirectory}
 use Rattle.goblin_pe_sect.specs.DirectoryReadings.{directories_at}
 use Rattle.goblin_pe_head.specs.declared.header.coff.CoffHeader.{CoffHeader}
 use Rattle.goblin_pe_head.specs.declared.header.dos.DosHeader.{DosHeader}
 use Rattle.goblin_pe_head.specs.declared.header.parts.HeaderParts.{HeaderParts}
-use Rattle.goblin_pe_head.specs.declared.optional_header.FixedFields.{FixedFields}
 use Rattle.goblin_pe_head.specs.declared.optional_header.OptionalHeader.{OptionalHeader}
 use Rattle.goblin_pe_head.specs.declared.optional_header.standard_fields.StandardFields.{StandardFields}
 use Rattle.goblin_pe_head.specs.declared.optional_header.windows_fields.WindowsFields64.{WindowsFields64}
-use Rattle.goblin_pe_head.specs.CoffHeader.{coff_header}
-use Rattle.goblin_pe_head.specs.HeaderParts.{AreOfHeader, AreOfWhole, ArePartsOf, coff_part, directories_after, directories_front, optional_part, placed_coff, standard_by, standard_front, fields_size, no_directories, no_windows_fields, windows_by, windows_front}
-use Rattle.goblin_pe_head.specs.HeaderReadings.{dos_header, fields_32, fields_64, fixed_fields, header_of, optional_at, optional_header, parts_at, pe_header, stub_in, with_entries}
-use Rattle.goblin_pe_head.specs.OptionalHeader.{standard_32_record, standard_64_record, standard_from_32, standard_from_64, windows_32_record, windows_64_record, windows_from_32}
+use Rattle.goblin_pe_head.specs.HeaderParts.{AreOfHeader, AreOfWhole, ArePartsOf, coff_part, directories_front, optional_part, placed_coff, standard_front, no_directories, no_windows_fields, windows_front}
+use Rattle.goblin_pe_head.specs.HeaderReadings.{dos_header, optional_at, optional_header, pe_header}
+use Rattle.goblin_pe_head.specs.OptionalHeader.{fields_size}
 use Rattle.goblin_pe_head.specs.PeHeader.{PeHeader}
-use Rattle.goblin_pe_head.specs.RichReadings.{rich_at}
-use Rattle.goblin_pe_head.proofs.Beside.{both}
-use Rattle.goblin_pe_head.proofs.OptionalHeaderRoundTrip.{pick}
-use Rattle.goblin_pe_head.proofs.PeHeaderRoundTrip.{signed_parts}
-
--- ---- the fields
-
--- the fields that a magic asks for, each by itself
-record AreFieldsOf (magic : ℕ) (bytes : List ℕ) (f : FixedFields) : Type 0 where
-  standard : (standard_by magic).value bytes ≡ Some f.standard_fields
-  windows : (windows_by magic).value bytes ≡ Some f.windows_fields
-  size : fields_size magic ≡ f.size
-
-narrow : (bytes : List ℕ) (f : FixedFields) → fields_32.value bytes ≡ Some f → AreFieldsOf 0x10B bytes f
-unfolding standard_by windows_by
-narrow bytes f e =
-    let first = record_at 28 (standard_32_record Little) bytes 0 in
-    let second = record_at 68 (windows_32_record Little) bytes 28 in
-    let all = mapped (pair_of first second) _ f e in
-    let own = both first second all.value all.is in
-    subst (AreFieldsOf 0x10B bytes) all.made (record { standard = ap (option_map standard_from_32) own.first; windows = ap (option_map windows_from_32) own.second; size = refl })
-
-wide : (bytes : List ℕ) (f : FixedFields) → fields_64.value bytes ≡ Some f → AreFieldsOf 0x20B bytes f
-unfolding standard_by windows_by
-wide bytes f e =
-    let first = record_at 24 (standard_64_record Little) bytes 0 in
-    let second = record_at 88 (windows_64_record Little) bytes 24 in
-    let all = mapped (pair_of first second) _ f e in
-    let own = both first second all.value all.is in
-    subst (AreFieldsOf 0x20B bytes) all.made (record { standard = ap (option_map standard_from_64) own.first; windows = own.second; size = refl })
-
-fields : (magic : ℕ) (bytes : List ℕ) (f : FixedFields) → (fixed_fields magic).value bytes ≡ Some f → AreFieldsOf magic bytes f
-unfolding fixed_fields
-fields magic bytes f e =
-    elim (pick (nat_eq magic 0x10B) (nat_eq magic 0x20B) (fields_32.value bytes) (fields_64.value bytes) f e) [
-      | inl is ↦ subst (λ (m : ℕ). AreFieldsOf m bytes f) (sym (eqb-true magic 0x10B is.0)) (narrow bytes f is.1)
-      | inr is ↦ subst (λ (m : ℕ). AreFieldsOf m bytes f) (sym (eqb-true magic 0x20B is.0)) (wide bytes f is.1)
-    ]
+use Rattle.goblin_pe_head.proofs.OptionalParts.{IsOptionalOf, optional_of}
+use Rattle.goblin_pe_head.proofs.PeHeaderRoundTrip.{IsHeaderOf, parts_of}
 
 -- ---- the optional header
-
--- its parts, each by itself
-record AreFrontOf (bytes : List ℕ) (h : OptionalHeader) : Type 0 where
-  standard : standard_front.value bytes ≡ Some h.standard_fields
-  windows : windows_front.value bytes ≡ Some h.windows_fields
-  directories : directories_front.value bytes ≡ Some h.data_directories.data_directories
 
 tested : {A : Type 0} (b : Bool) (o : Option A) (x : A) → cond b o None ≡ Some x → b ≡ true
 tested true o x e = refl
@@ -79,89 +31,49 @@ few : (count p : ℕ) (bytes : List ℕ) (entries : List (Option (ℕ × DataDir
 unfolding directories_at
 few count p bytes entries e = leb-true count 16 (tested (nat_le count 16) _ entries e)
 
-at_front : (bytes : List ℕ) (magic : ℕ) (f : FixedFields) (entries : List (Option (ℕ × DataDirectory))) → number_at Little 2 bytes 0 ≡ Some magic → AreFieldsOf magic bytes f
-    → (directories_at f.windows_fields.number_of_rva_and_sizes f.size).value bytes ≡ Some entries → AreFrontOf bytes (with_entries f entries)
-unfolding standard_front windows_front directories_front
-at_front bytes magic f entries first own third =
-    let count = f.windows_fields.number_of_rva_and_sizes in
-    let most = few count f.size bytes entries third in
-    let least : min count 16 ≡ count = omega (arith, most) in
-    let listed : (directories_after magic f.windows_fields).value bytes ≡ Some entries = rw (own.size, least) third in
-    record {
-      standard = rw first own.standard;
-      windows = rw first own.windows;
-      directories = rw (first, own.windows) listed;
-    }
+-- its parts, each by itself
+record AreFrontOf (bytes : List ℕ) (h : OptionalHeader) : Type 0 where
+  standard : standard_front.value bytes ≡ Some h.standard_fields
+  windows : windows_front.value bytes ≡ Some h.windows_fields
+  directories : directories_front.value bytes ≡ Some h.data_directories.data_directories
 
-front : (bytes : List ℕ) (h : OptionalHeader) (n : ℕ) → optional_header.value bytes ≡ Some (h, n) → AreFrontOf bytes h
-unfolding optional_header
-front bytes h n e =
-    let first = step (number_at Little 2 bytes 0) _ (h, n) e in
-    let second = step ((fixed_fields first.value).value bytes) _ (h, n) first.then in
-    let f = second.value in
-    let third = mapped ((directories_at f.windows_fields.number_of_rva_and_sizes f.size).value bytes) _ (h, n) second.then in
-    let whole = at_front bytes first.value f third.value first.is (fields first.value bytes f second.is) third.is in
-    subst (AreFrontOf bytes) (ap (λ (x : OptionalHeader × ℕ). x.0) third.made) whole
+by_magic : (magic : ℕ) (bytes : List ℕ) (x : OptionalHeader × ℕ) → IsOptionalOf magic bytes x → AreFrontOf bytes x.0
+unfolding standard_front windows_front directories_front directories_at
+by_magic magic bytes x is =
+    let count = x.0.windows_fields.number_of_rva_and_sizes in
+    let most = few count (fields_size magic) bytes x.0.data_directories.data_directories is.directories in
+    let least : min count 16 ≡ count = omega (arith, most) in
+    record { standard = rw is.front is.standard; windows = rw is.front is.windows; directories = rw (is.front, is.windows, least) is.directories }
+
+front : (bytes : List ℕ) (x : OptionalHeader × ℕ) → optional_header.value bytes ≡ Some x → AreFrontOf bytes x.0
+front bytes x e = elim (optional_of bytes x e) [ inl is ↦ by_magic 0x10B bytes x is | inr is ↦ by_magic 0x20B bytes x is ]
 
 -- ---- the parts of a header
 
--- what a header says of its parts
-record IsIn (bytes : List ℕ) (h : PeHeader) : Type 0 where
-  dos : dos_header.value bytes ≡ Some h.dos_header
-  coff : record_at 20 (coff_header Little) bytes (h.dos_header.pe_pointer + 4) ≡ Some h.coff_header
-  optional : (optional_at h.coff_header.size_of_optional_header (h.dos_header.pe_pointer + 24)).value bytes ≡ Some h.optional_header
-
-header_in : (strict : Bool) (bytes : List ℕ) (h : PeHeader) → (pe_header strict).value bytes ≡ Some h → IsIn bytes h
-unfolding pe_header
-header_in strict bytes h e =
-    let dos = step (dos_header.value bytes) _ h e in
-    let p = dos.value.pe_pointer in
-    let stub = (stub_in strict p).value bytes in
-    let rich = (rich_at p).value bytes in
-    let parts = (parts_at p).value bytes in
-    let all = mapped (pair_of stub (pair_of rich parts)) (λ all. header_of dos.value all.0 all.1.0 all.1.1) h dos.then in
-    let outer = both stub (pair_of rich parts) all.value all.is in
-    let inner = both rich parts all.value.1 outer.second in
-    let own = signed_parts bytes p all.value.1.1 inner.second in
-    let whole : IsIn bytes (header_of dos.value all.value.0 all.value.1.0 all.value.1.1) =
-    record { dos = dos.is; coff = own.coff; optional = own.optional } in
-    subst (IsIn bytes) all.made whole
-
-placed : (bytes : List ℕ) (h : PeHeader) → IsIn bytes h → placed_coff.value bytes ≡ Some (h.dos_header.pe_pointer + 24, h.coff_header)
+placed : (strict : Bool) (bytes : List ℕ) (h : PeHeader) → IsHeaderOf strict bytes h → placed_coff.value bytes ≡ Some (h.dos_header.pe_pointer + 24, h.coff_header)
 unfolding placed_coff
-placed bytes h is = rw (is.dos, is.coff) refl
+placed strict bytes h is = rw (is.dos, is.coff) refl
 
 -- where the COFF header of a header that is read as a whole lies
 pub whole_placed : (strict : Bool) (bytes : List ℕ) (h : PeHeader) → (pe_header strict).value bytes ≡ Some h
     → placed_coff.value bytes ≡ Some (h.dos_header.pe_pointer + 24, h.coff_header)
-whole_placed strict bytes h e = placed bytes h (header_in strict bytes h e)
+whole_placed strict bytes h e = placed strict bytes h (parts_of strict bytes h e)
 
--- the parts of an optional header that a header has
-record AreInOptional (bytes : List ℕ) (o : Option OptionalHeader) : Type 0 where
-  standard : (optional_part standard_front).value bytes ≡ Some (option_map (λ h. h.standard_fields) o)
-  windows : (optional_part windows_front).value bytes ≡ Some (option_map (λ h. h.windows_fields) o)
-  directories : (optional_part directories_front).value bytes ≡ Some (option_map (λ h. h.data_directories.data_directories) o)
+-- what is read of a part, if the whole is read unless there is none
+read_part : {A : Type 0} (none : Bool) (whole : Option (OptionalHeader × ℕ)) (own : Option A) (part : OptionalHeader → A) (o : Option OptionalHeader)
+    → ((x : OptionalHeader × ℕ) → whole ≡ Some x → own ≡ Some (part x.0)) → cond none (Some None) (option_map (λ (x : OptionalHeader × ℕ). Some x.0) whole) ≡ Some o
+    → cond none (Some None) (option_map (λ (x : A). Some x) own) ≡ Some (option_map part o)
+read_part true whole own part o each e = ap (λ (o : Option OptionalHeader). Some (option_map part o)) (same_value None o e)
+read_part false None own part o each e = absurd cc
+read_part false (Some x) own part o each e = rw (each x refl) (ap (λ (o : Option OptionalHeader). Some (option_map part o)) (same_value (Some x.0) o e))
 
-with_header : (bytes : List ℕ) (p : ℕ) (coff : CoffHeader) (h : OptionalHeader) → placed_coff.value bytes ≡ Some (p, coff) → (coff.size_of_optional_header == 0) ≡ false
-    → AreFrontOf (drop p bytes) h → AreInOptional bytes (Some h)
-with_header bytes p coff h is some parts = record {
-  standard = rw (is, some, parts.standard) refl;
-  windows = rw (is, some, parts.windows) refl;
-  directories = rw (is, some, parts.directories) refl;
-}
-
-in_rest : (bytes : List ℕ) (p : ℕ) (coff : CoffHeader) (o : Option OptionalHeader) → placed_coff.value bytes ≡ Some (p, coff)
-    → (optional_at coff.size_of_optional_header p).value bytes ≡ Some o → (b : Bool) → (coff.size_of_optional_header == 0) ≡ b → AreInOptional bytes o
+in_header : {A : Type 0} (read : Reading A) (part : OptionalHeader → A) (strict : Bool) (bytes : List ℕ) (h : PeHeader) → IsHeaderOf strict bytes h
+    → ((bytes : List ℕ) (x : OptionalHeader × ℕ) → optional_header.value bytes ≡ Some x → read.value bytes ≡ Some (part x.0))
+    → (optional_part read).value bytes ≡ Some (option_map part h.optional_header)
 unfolding optional_at
-in_rest bytes p coff o is e true none =
-    let at : (b : Bool) → (coff.size_of_optional_header == 0) ≡ b → cond b (Some None) (option_map (λ header. Some header.0) (optional_header.value (drop p bytes))) ≡ Some o = λ b same. subst (λ (b : Bool). cond b (Some None) (option_map (λ header. Some header.0) (optional_header.value (drop p bytes))) ≡ Some o) same e in
-    let same : None ≡ o = same_value None o (at true none) in
-    subst (AreInOptional bytes) same (record { standard = rw (is, none) refl; windows = rw (is, none) refl; directories = rw (is, none) refl })
-in_rest bytes p coff o is e false some =
-    let at : (b : Bool) → (coff.size_of_optional_header == 0) ≡ b → cond b (Some None) (option_map (λ header. Some header.0) (optional_header.value (drop p bytes))) ≡ Some o = λ b same. subst (λ (b : Bool). cond b (Some None) (option_map (λ header. Some header.0) (optional_header.value (drop p bytes))) ≡ Some o) same e in
-    let own = mapped (optional_header.value (drop p bytes)) (λ header. Some header.0) o (at false some) in
-    let parts = front (drop p bytes) own.value.0 own.value.1 own.is in
-    subst (AreInOptional bytes) own.made (with_header bytes p coff own.value.0 is some parts)
+in_header read part strict bytes h is each =
+    let own = drop (h.dos_header.pe_pointer + 24) bytes in
+    rw (placed strict bytes h is) (read_part (h.coff_header.size_of_optional_header == 0) (optional_header.value own) (read.value own) part h.optional_header (each own) is.optional)
 
 -- ---- what is read of them
 
@@ -190,14 +102,13 @@ remade (Some h) s w (Some d) es ew ed =
 
 of_header : (bytes : List ℕ) (parts : HeaderParts) → ArePartsOf bytes parts → (strict : Bool) (h : PeHeader) → (pe_header strict).value bytes ≡ Some h → AreOfHeader h parts
 of_header bytes parts are strict h e =
-    let is = header_in strict bytes h e in
-    let at = placed bytes h is in
-    let own = in_rest bytes (h.dos_header.pe_pointer + 24) h.coff_header h.optional_header at is.optional (h.coff_header.size_of_optional_header == 0) refl in
+    let is = parts_of strict bytes h e in
     let dos = answered (λ h. h) parts.dos_header dos_header bytes h.dos_header are.dos_header is.dos in
-    let coff = answered (λ h. h) parts.coff_header coff_part bytes h.coff_header are.coff_header (ap (option_map (λ placed. placed.1)) at) in
-    let standard = answered (λ f. f) parts.standard_fields (optional_part standard_front) bytes _ are.standard_fields own.standard in
-    let windows = answered (λ f. f) parts.windows_fields (optional_part windows_front) bytes _ are.windows_fields own.windows in
-    let directories = answered (option_map (λ d. d.data_directories)) parts.data_directories (optional_part directories_front) bytes _ are.data_directories own.directories in
+    let coff = answered (λ h. h) parts.coff_header coff_part bytes h.coff_header are.coff_header (ap (option_map (λ placed. placed.1)) (placed strict bytes h is)) in
+    let standard = answered (λ f. f) parts.standard_fields (optional_part standard_front) bytes _ are.standard_fields (in_header standard_front (λ h. h.standard_fields) strict bytes h is (λ own x e. (front own x e).standard)) in
+    let windows = answered (λ f. f) parts.windows_fields (optional_part windows_front) bytes _ are.windows_fields (in_header windows_front (λ h. h.windows_fields) strict bytes h is (λ own x e. (front own x e).windows)) in
+    let directories = answered (option_map (λ d. d.data_directories)) parts.data_directories (optional_part directories_front) bytes _ are.data_directories
+    (in_header directories_front (λ h. h.data_directories.data_directories) strict bytes h is (λ own x e. (front own x e).directories)) in
     record {
       dos = dos.is ∙ ap (λ (h : DosHeader). Ok h) dos.made;
       coff = coff.is ∙ ap (λ (h : CoffHeader). Ok h) coff.made;

@@ -13,7 +13,7 @@ use Rattle.goblin_pe_head.specs.declared.header.dos.DosHeader.{DosHeader}
 use Rattle.goblin_pe_head.specs.declared.optional_header.OptionalHeader.{OptionalHeader}
 use Rattle.goblin_pe_head.specs.DosHeader.{dos_fields}
 use Rattle.goblin_pe_head.specs.HeaderReadings.{dos_header, optional_header, pe_header, rich_header}
-use Rattle.goblin_pe_head.specs.OptionalHeader.{optional_bytes, standard_32_fields}
+use Rattle.goblin_pe_head.specs.OptionalHeader.{fields_size, optional_bytes, standard_32_fields}
 use Rattle.goblin_pe_head.specs.OptionalHeader.{standard_32_record, standard_64_fields}
 use Rattle.goblin_pe_head.specs.OptionalHeader.{standard_64_record, standard_to_32, standard_to_64}
 use Rattle.goblin_pe_head.specs.OptionalHeader.{windows_32_fields, windows_32_record}
@@ -27,10 +27,6 @@ unfoldable pub DosWritesBack : Type 0
 DosWritesBack =
     (file : List ℕ) (h : DosHeader) → IsBytes file → dos_header.value file ≡ Some h
     → slice_at file 0 64 ≡ Some (encoding Little (dos_fields h))
-
--- the size in bytes of the fields before the data directories, which the magic gives
-abbrev pub fields_size : ℕ → ℕ
-fields_size magic = if magic == 0x10B then 96 else 112
 
 -- the size in bytes of an optional header in its file: its fields in the width that the magic
 -- gives, and as many data directories as they count

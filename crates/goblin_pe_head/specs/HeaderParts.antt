@@ -1,13 +1,12 @@
 -- The parts of a file's header, each by itself, and the section headers that are there.
-use Rattle.std.specs.Prelude.{◌≡◌, ℕ, ◌+◌, ◌-◌, ◌*◌, ◌/◌, ◌==◌, if◌then◌else◌, List, [], Bool, true}
-use Rattle.std.specs.Prelude.{Option, None, Some, Result, Ok, Err, IfSome, min, option_map, replicate}
+use Rattle.std.specs.Prelude.{◌≡◌, ℕ, ◌+◌, ◌-◌, ◌*◌, ◌/◌, ◌==◌, List, [], Bool}
+use Rattle.std.specs.Prelude.{Option, None, Result, Ok, Err, IfSome, min, option_map, replicate}
 use Rattle.std.specs.Prelude.{unwrap_or}
 use Rattle.goblin_base.specs.declared.error.ErrorOf.{ErrorOf}
 use Rattle.goblin_base.specs.declared.endian.Endian.TheVariants.{Little}
 use Rattle.goblin_base.specs.Reading.{Reading, Reads}
-use Rattle.goblin_base.proofs.Picks.{by_cases-not_memory}
-use Rattle.readings.specs.Reads.{◌>>=◌, file_length, given, in_rest, mapped, needs_by, number_at}
-use Rattle.readings.specs.Reads.{pick, record_at, slice_at}
+use Rattle.readings.specs.Reads.{◌>>=◌, file_length, given, mapped, number_at, pick, record_at}
+use Rattle.readings.specs.Reads.{slice_at}
 use Rattle.goblin_pe_sect.specs.declared.data_directories.DataDirectories.{DataDirectories}
 use Rattle.goblin_pe_sect.specs.declared.data_directories.DataDirectory.{DataDirectory}
 use Rattle.goblin_pe_sect.specs.DirectoryReadings.{directories_at}
@@ -19,10 +18,9 @@ use Rattle.goblin_pe_head.specs.declared.optional_header.standard_fields.Standar
 use Rattle.goblin_pe_head.specs.declared.optional_header.windows_fields.WindowsFields64.{WindowsFields64}
 use Rattle.goblin_pe_head.specs.CoffHeader.{coff_header}
 use Rattle.goblin_pe_head.specs.CoffReadings.{with_room}
-use Rattle.goblin_pe_head.specs.HeaderReadings.{dos_header, pe_header}
-use Rattle.goblin_pe_head.specs.OptionalHeader.{IsBadMagic, standard_32_record, standard_64_record}
-use Rattle.goblin_pe_head.specs.OptionalHeader.{standard_from_32, standard_from_64, windows_from_32}
-use Rattle.goblin_pe_head.specs.OptionalHeader.{windows_32_record, windows_64_record}
+use Rattle.goblin_pe_head.specs.HeaderReadings.{dos_header, optional_with, pe_header, standard_by}
+use Rattle.goblin_pe_head.specs.HeaderReadings.{windows_by}
+use Rattle.goblin_pe_head.specs.OptionalHeader.{fields_size}
 use Rattle.goblin_pe_head.specs.PeHeader.{PeHeader}
 
 -- Source: PE Format, "File Headers".
@@ -42,35 +40,11 @@ coff_part = mapped (λ placed. placed.1) placed_coff
 
 -- ---- the optional header
 
--- what `read` finds at the front of the optional header, which exists if its size is not 0
+-- what `read` finds at the front of the optional header
 abbrev pub optional_part : {A : Type 0} → Reading A → Reading (Option A)
 optional_part read =
     placed_coff
-    >>= λ placed. pick (placed.1.size_of_optional_header == 0) (given None)
-    (mapped (λ x. Some x) (in_rest placed.0 read))
-
--- the read that the magic selects, for 32 bits or for 64; another magic is refused
-abbrev pub by_magic : {A : Type 0} → Reading A → Reading A → ℕ → Reading A
-by_magic narrow wide magic =
-    pick (magic == 0x10B) narrow
-    (pick (magic == 0x20B) wide
-    (needs_by None (IsBadMagic magic) (by_cases-not_memory (IsBadMagic magic) (λ m h. h))))
-
--- the standard fields in the width that the magic gives
-unfoldable pub standard_by : ℕ → Reading StandardFields
-standard_by magic =
-    by_magic (mapped standard_from_32 (record_at 28 (standard_32_record Little) 0))
-    (mapped standard_from_64 (record_at 24 (standard_64_record Little) 0)) magic
-
--- the Windows fields, which follow the standard fields
-unfoldable pub windows_by : ℕ → Reading WindowsFields64
-windows_by magic =
-    by_magic (mapped windows_from_32 (record_at 68 (windows_32_record Little) 28))
-    (record_at 88 (windows_64_record Little) 24) magic
-
--- the size in bytes of the standard and the Windows fields together
-abbrev pub fields_size : ℕ → ℕ
-fields_size magic = if magic == 0x10B then 96 else 112
+    >>= λ placed. optional_with (λ x. x) read placed.1.size_of_optional_header placed.0
 
 -- the data directories, which follow the Windows fields: as many as the last field says, but at
 -- most sixteen

@@ -17,10 +17,12 @@ use Rattle.goblin_pe_head.specs.declared.header.coff.CoffHeader.{CoffHeader}
 use Rattle.goblin_pe_head.specs.declared.header.dos.DosHeader.{DosHeader}
 use Rattle.goblin_pe_head.specs.declared.optional_header.FixedFields.{FixedFields}
 use Rattle.goblin_pe_head.specs.declared.optional_header.OptionalHeader.{OptionalHeader}
+use Rattle.goblin_pe_head.specs.declared.optional_header.standard_fields.StandardFields.{StandardFields}
+use Rattle.goblin_pe_head.specs.declared.optional_header.windows_fields.WindowsFields64.{WindowsFields64}
 use Rattle.goblin_pe_head.specs.CoffHeader.{coff_header}
 use Rattle.goblin_pe_head.specs.DosHeader.{dos_record}
 use Rattle.goblin_pe_head.specs.DosStub.{IsStubFault, default_stub}
-use Rattle.goblin_pe_head.specs.OptionalHeader.{IsBadMagic, standard_32_record, standard_64_record}
+use Rattle.goblin_pe_head.specs.OptionalHeader.{IsBadMagic, fields_size, standard_32_record, standard_64_record}
 use Rattle.goblin_pe_head.specs.OptionalHeader.{standard_from_32, standard_from_64, windows_from_32}
 use Rattle.goblin_pe_head.specs.OptionalHeader.{windows_32_record, windows_64_record}
 use Rattle.goblin_pe_head.specs.PeHeader.{PeHeader, zero_dos_header}
@@ -82,38 +84,36 @@ stub_in strict p = or_else strict default_stub (stub_at p)
 
 -- ---- the optional header
 
--- the fields before the directories of an optional header for 32 bits, which is PE32: the standard
--- fields, and the Windows fields after them
-abbrev pub fields_32 : Reading FixedFields
-fields_32 =
-    mapped
-    (λ both.
-    record {
-      standard_fields = standard_from_32 both.0;
-      windows_fields = windows_from_32 both.1;
-      size = 96;
-    })
-    (record_at 28 (standard_32_record Little) 0 beside record_at 68 (windows_32_record Little) 28)
-
--- the fields before the directories of an optional header for 64 bits, which is PE32+
-abbrev pub fields_64 : Reading FixedFields
-fields_64 =
-    mapped
-    (λ both.
-    record {
-      standard_fields = standard_from_64 both.0;
-      windows_fields = both.1;
-      size = 112;
-    })
-    (record_at 24 (standard_64_record Little) 0 beside record_at 88 (windows_64_record Little) 24)
-
--- the fields in the width that the magic gives: 0x10B for PE32, 0x20B for PE32+; another magic is
--- refused
-unfoldable pub fixed_fields : ℕ → Reading FixedFields
-fixed_fields magic =
-    pick (magic == 0x10B) fields_32
-    (pick (magic == 0x20B) fields_64
+-- the read that the magic selects: 0x10B for 32 bits (PE32), 0x20B for 64 bits (PE32+); another
+-- magic is refused
+abbrev pub by_magic : {A : Type 0} → Reading A → Reading A → ℕ → Reading A
+by_magic narrow wide magic =
+    pick (magic == 0x10B) narrow
+    (pick (magic == 0x20B) wide
     (needs_by None (IsBadMagic magic) (by_cases-not_memory (IsBadMagic magic) (λ m h. h))))
+
+-- the standard fields in the width that the magic gives
+unfoldable pub standard_by : ℕ → Reading StandardFields
+standard_by magic =
+    by_magic (mapped standard_from_32 (record_at 28 (standard_32_record Little) 0))
+    (mapped standard_from_64 (record_at 24 (standard_64_record Little) 0)) magic
+
+-- the Windows fields, which follow the standard fields
+unfoldable pub windows_by : ℕ → Reading WindowsFields64
+windows_by magic =
+    by_magic (mapped windows_from_32 (record_at 68 (windows_32_record Little) 28))
+    (record_at 88 (windows_64_record Little) 24) magic
+
+-- the fields before the data directories
+abbrev pub fields_with : ℕ → StandardFields × WindowsFields64 → FixedFields
+fields_with magic both = record {
+  standard_fields = both.0;
+  windows_fields = both.1;
+  size = fields_size magic;
+}
+
+unfoldable pub fixed_fields : ℕ → Reading FixedFields
+fixed_fields magic = mapped (fields_with magic) (standard_by magic beside windows_by magic)
 
 -- how many data directories follow these fields
 abbrev pub count_after : FixedFields → ℕ
@@ -147,10 +147,15 @@ optional_header =
     number_at Little 2 0 >>= λ magic. fixed_fields magic >>= λ fields.
     mapped (λ entries. (with_entries fields entries, size_of fields)) (entries_after fields)
 
--- the optional header at p, which exists if its size is not 0; the size says nothing else
+-- what `read` finds at the front of the optional header at p, which exists if its size is not 0;
+-- the size says nothing else
+abbrev pub optional_with : {A B : Type 0} → (A → B) → Reading A → ℕ → ℕ → Reading (Option B)
+optional_with part read size p =
+    pick (size == 0) (given None) (mapped (λ x. Some (part x)) (in_rest p read))
+
+-- the optional header at p
 unfoldable pub optional_at : ℕ → ℕ → Reading (Option OptionalHeader)
-optional_at size p =
-    pick (size == 0) (given None) (mapped (λ header. Some header.0) (in_rest p optional_header))
+optional_at size p = optional_with (λ header. header.0) optional_header size p
 
 -- ---- the whole header
 

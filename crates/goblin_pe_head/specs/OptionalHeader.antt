@@ -289,6 +289,10 @@ container_of magic =
     then Some container.Little
     else if magic == 0x20B then Some container.Big else None
 
+-- the size in bytes of the fields before the data directories, which the magic gives
+abbrev pub fields_size : ℕ → ℕ
+fields_size magic = if magic == 0x10B then 96 else 112
+
 -- The written form of an optional header for 32 bits, if the five wide fields fit: standard fields,
 -- Windows fields and sixteen data directories.
 abbrev pub bytes_32 : Endian → OptionalHeader → Option (List ℕ)

@@ -10,9 +10,10 @@ use Rattle.goblin_base.specs.Record.{record_at}
 use Rattle.readings.specs.Reads.{pair_of}
 use Rattle.goblin_pe_sect.specs.DirectoryReadings.{directories_at}
 use Rattle.goblin_pe_sect.proofs.EntriesWithin.{directories-within}
-use Rattle.goblin_pe_head.specs.HeaderReadings.{fields_32, fields_64, fixed_fields, optional_header}
-use Rattle.goblin_pe_head.specs.OptionalHeader.{standard_32_record, standard_64_record}
-use Rattle.goblin_pe_head.specs.OptionalHeader.{windows_32_record, windows_64_record}
+use Rattle.goblin_pe_head.specs.HeaderReadings.{fields_with, fixed_fields, optional_header}
+use Rattle.goblin_pe_head.specs.HeaderReadings.{standard_by, windows_by}
+use Rattle.goblin_pe_head.specs.OptionalHeader.{fields_size, windows_32_record, windows_64_record}
+use Rattle.goblin_pe_head.specs.OptionalHeader.{windows_from_32}
 
 bind-within : {A B : Type 0} (o : Option A) (f : A → Option B) (P : A → Type 0) (Q : B → Type 0)
     → IfSome o P → ((x : A) → P x → IfSome (f x) Q) → IfSome (o >>= f) Q
@@ -45,31 +46,32 @@ record-within {R} size value bytes p =
     whole_record true false own h = tt
     whole_record false end own h = tt
 
-fields_32-within : (bytes : List ℕ) → IfSome (fields_32.value bytes) (λ f. f.size ≤ length bytes)
-fields_32-within bytes =
-    both-within (record_at 28 (standard_32_record Little) bytes 0)
-    (record_at 68 (windows_32_record Little) bytes 28) _ (28 + 68 ≤ length bytes)
-    (λ f. f.size ≤ length bytes) (record-within 68 (windows_32_record Little) bytes 28) (λ _ h. h)
+-- the fields of either width end within the bytes
+either-within : {A : Type 0} (n : ℕ) (b c : Bool) (x y : Option A) → IfSome x (λ _. 96 ≤ n)
+    → IfSome y (λ _. 112 ≤ n) → IfSome {T = A} (cond b x (cond c y None)) (λ _. cond b 96 112 ≤ n)
+either-within n true c x y narrow wide = narrow
+either-within n false true x y narrow wide = wide
+either-within n false false x y narrow wide = tt
 
-fields_64-within : (bytes : List ℕ) → IfSome (fields_64.value bytes) (λ f. f.size ≤ length bytes)
-fields_64-within bytes =
-    both-within (record_at 24 (standard_64_record Little) bytes 0)
-    (record_at 88 (windows_64_record Little) bytes 24) _ (24 + 88 ≤ length bytes)
-    (λ f. f.size ≤ length bytes) (record-within 88 (windows_64_record Little) bytes 24) (λ _ h. h)
-
-either-within : {A : Type 0} (P : A → Type 0) (b c : Bool) (x y : Option A) → IfSome x P
-    → IfSome y P → IfSome {T = A} (cond b x (cond c y None)) P
-either-within P true c x y p q = p
-either-within P false true x y p q = q
-either-within P false false x y p q = tt
+windows-within : (magic : ℕ) (bytes : List ℕ)
+    → IfSome ((windows_by magic).value bytes) (λ _. fields_size magic ≤ length bytes)
+unfolding windows_by
+windows-within magic bytes =
+    let narrow = record_at 68 (windows_32_record Little) bytes 28 in
+    let wide = record_at 88 (windows_64_record Little) bytes 24 in
+    either-within (length bytes) (nat_eq magic 0x10B) (nat_eq magic 0x20B)
+    (option_map windows_from_32 narrow) wide
+    (made-within narrow windows_from_32 (96 ≤ length bytes) (λ _. 96 ≤ length bytes)
+    (record-within 68 (windows_32_record Little) bytes 28) (λ _ h. h))
+    (record-within 88 (windows_64_record Little) bytes 24)
 
 fixed-within : (magic : ℕ) (bytes : List ℕ)
     → IfSome ((fixed_fields magic).value bytes) (λ f. f.size ≤ length bytes)
 unfolding fixed_fields
 fixed-within magic bytes =
-    either-within (λ f. f.size ≤ length bytes) (nat_eq magic 0x10B) (nat_eq magic 0x20B)
-    (fields_32.value bytes) (fields_64.value bytes) (fields_32-within bytes)
-    (fields_64-within bytes)
+    both-within ((standard_by magic).value bytes) ((windows_by magic).value bytes)
+    (fields_with magic) (fields_size magic ≤ length bytes) (λ f. f.size ≤ length bytes)
+    (windows-within magic bytes) (λ _ h. h)
 
 anything : {A : Type 0} (o : Option A) → IfSome o (λ _. Unit {0})
 anything None = tt

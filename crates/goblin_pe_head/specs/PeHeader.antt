@@ -81,9 +81,9 @@ default_header = record {
 }
 
 -- the written form of the optional header: no bytes if there is none
-abbrev pub optional_part : Endian → Option OptionalHeader → Option (List ℕ)
-optional_part endian None = Some []
-optional_part endian (Some h) = optional_bytes endian h
+abbrev pub written_part : Endian → Option OptionalHeader → Option (List ℕ)
+written_part endian None = Some []
+written_part endian (Some h) = optional_bytes endian h
 
 -- the parts of a header one after the other, with the signature always little-endian, and with
 -- these bytes as the written optional header
@@ -99,7 +99,7 @@ header_parts endian h optional = concat (
 
 -- the written form of a header
 unfoldable pub header_bytes : Endian → PeHeader → Option (List ℕ)
-header_bytes endian h = option_map (header_parts endian h) (optional_part endian h.optional_header)
+header_bytes endian h = option_map (header_parts endian h) (written_part endian h.optional_header)
 
 -- which cause is true of a header that has no written form: that of its optional header
 abbrev pub IsUnwrittenPart : Option OptionalHeader → ErrorOf → Type 0

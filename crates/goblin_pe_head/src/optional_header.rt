@@ -13,7 +13,8 @@ ghost use Rattle.goblin_pe_head.specs.declared.optional_header.OptionalHeader.{O
 ghost use Rattle.goblin_pe_head.specs.HeaderLaws.{FieldsReadBack, OptionalWritesBack};
 ghost use Rattle.goblin_pe_head.specs.HeaderReadings as reading;
 ghost use Rattle.goblin_pe_head.specs.OptionalHeader.{IsBadMagic, IsTooWide, IsUnwritten, bytes_32};
-ghost use Rattle.goblin_pe_head.specs.OptionalHeader.{bytes_64, container_of, optional_bytes};
+ghost use Rattle.goblin_pe_head.specs.OptionalHeader.{bytes_64, container_of, fields_size};
+ghost use Rattle.goblin_pe_head.specs.OptionalHeader.{optional_bytes};
 ghost use Rattle.goblin_pe_head.specs.OptionalHeader.{standard_32_fields, standard_32_record};
 ghost use Rattle.goblin_pe_head.specs.OptionalHeader.{standard_64_fields, standard_64_record};
 ghost use Rattle.goblin_pe_head.specs.OptionalHeader.{standard_to_32, standard_to_64};
@@ -95,54 +96,73 @@ impl WrittenHeader {
     }
 }
 
-// The fields of an optional header for 32 bits.
+// The standard fields in the width that the magic gives.
 #[inline(always)]
-fn fields_32(bytes: &[u8]) -> Result<FixedFields>
-    ensures value { Reads (λ f. f) result reading.fields_32 bytes.now }
-    ensures size { IfOk result (λ f. f.size ≡ 96) }
+#[tactic(auto, unfolding(crate::specs::HeaderReadings::standard_by))]
+pub(crate) fn standard_by(bytes: &[u8], magic: u16) -> Result<StandardFields>
+    ensures { Reads (λ f. f) result (reading.standard_by magic) bytes.now }
 {
-    let standard = pread_slice(bytes, 0, SIZEOF_STANDARD_FIELDS_32)?;
-    let windows = pread_slice(bytes, SIZEOF_STANDARD_FIELDS_32, SIZEOF_WINDOWS_FIELDS_32)?;
-    Ok(FixedFields {
-        standard_fields: StandardFields::from(StandardFields32::in_record(
-            standard,
-            Endian::Little,
-        )),
-        windows_fields: WindowsFields::from(WindowsFields32::in_record(windows, Endian::Little)),
-        size: SIZEOF_STANDARD_FIELDS_32 + SIZEOF_WINDOWS_FIELDS_32,
-    })
+    match magic {
+        MAGIC_32 => {
+            let record = pread_slice(bytes, 0, SIZEOF_STANDARD_FIELDS_32)?;
+            let fields = StandardFields32::in_record(record, Endian::Little);
+            Ok(StandardFields::from(fields))
+        }
+        MAGIC_64 => {
+            let record = pread_slice(bytes, 0, SIZEOF_STANDARD_FIELDS_64)?;
+            let fields = StandardFields64::in_record(record, Endian::Little);
+            Ok(StandardFields::from(fields))
+        }
+        _ => Err(Error::BadMagic(u64::from(magic))),
+    }
 }
 
-// The fields of an optional header for 64 bits.
+// The Windows fields in the width that the magic gives.
 #[inline(always)]
-fn fields_64(bytes: &[u8]) -> Result<FixedFields>
-    ensures value { Reads (λ f. f) result reading.fields_64 bytes.now }
-    ensures size { IfOk result (λ f. f.size ≡ 112) }
+#[tactic(auto, unfolding(crate::specs::HeaderReadings::windows_by))]
+pub(crate) fn windows_by(bytes: &[u8], magic: u16) -> Result<WindowsFields>
+    ensures { Reads (λ f. f) result (reading.windows_by magic) bytes.now }
 {
-    let standard = pread_slice(bytes, 0, SIZEOF_STANDARD_FIELDS_64)?;
-    let windows = pread_slice(bytes, SIZEOF_STANDARD_FIELDS_64, SIZEOF_WINDOWS_FIELDS_64)?;
-    Ok(FixedFields {
-        standard_fields: StandardFields::from(StandardFields64::in_record(
-            standard,
-            Endian::Little,
-        )),
-        windows_fields: WindowsFields64::in_record(windows, Endian::Little),
-        size: SIZEOF_STANDARD_FIELDS_64 + SIZEOF_WINDOWS_FIELDS_64,
-    })
+    match magic {
+        MAGIC_32 => {
+            let record = pread_slice(bytes, SIZEOF_STANDARD_FIELDS_32, SIZEOF_WINDOWS_FIELDS_32)?;
+            let fields = WindowsFields32::in_record(record, Endian::Little);
+            Ok(WindowsFields::from(fields))
+        }
+        MAGIC_64 => {
+            let record = pread_slice(bytes, SIZEOF_STANDARD_FIELDS_64, SIZEOF_WINDOWS_FIELDS_64)?;
+            Ok(WindowsFields64::in_record(record, Endian::Little))
+        }
+        _ => Err(Error::BadMagic(u64::from(magic))),
+    }
 }
 
-// The fields in the width that the magic gives.
+// The size in bytes of the fields before the data directories.
+#[inline(always)]
+pub(crate) fn fields_size(magic: u16) -> usize
+    ensures { result ≡ fields_size magic }
+{
+    if magic == MAGIC_32 {
+        SIZEOF_STANDARD_FIELDS_32 + SIZEOF_WINDOWS_FIELDS_32
+    } else {
+        SIZEOF_STANDARD_FIELDS_64 + SIZEOF_WINDOWS_FIELDS_64
+    }
+}
+
+// The fields before the data directories, in the width that the magic gives.
 #[inline(always)]
 #[tactic(auto, unfolding(crate::specs::HeaderReadings::fixed_fields))]
 pub(crate) fn fixed_fields(magic: u16, bytes: &[u8]) -> Result<FixedFields>
     ensures value { Reads (λ f. f) result (reading.fixed_fields magic) bytes.now }
     ensures size { IfOk result (λ f. f.size ≤ 112) }
 {
-    match magic {
-        MAGIC_32 => fields_32(bytes),
-        MAGIC_64 => fields_64(bytes),
-        _ => Err(Error::BadMagic(u64::from(magic))),
-    }
+    let standard_fields = standard_by(bytes, magic)?;
+    let windows_fields = windows_by(bytes, magic)?;
+    Ok(FixedFields {
+        standard_fields,
+        windows_fields,
+        size: fields_size(magic),
+    })
 }
 
 // Reads the fields of the optional header at the front of `bytes`, and tests that the data

@@ -3,18 +3,17 @@
 ghost use Rattle.std.specs.Prelude.{◌≡◌, ◌≤◌, ◌-◌, ◌/◌, IfOk, length, min, option_map, unwrap_or};
 ghost use Rattle.goblin_base.specs.Reading.{Reads};
 ghost use Rattle.goblin_pe_sect.specs.SectionTable.{recorded_sections};
+ghost use Rattle.goblin_pe_head.specs.HeaderReadings.{dos_header as file_dos_header, optional_with};
 ghost use Rattle.goblin_pe_head.specs.HeaderParts as reading;
 ghost use Rattle.goblin_pe_head.specs.HeaderParts.{AreOfWhole, ArePartsOf, known_optional};
-ghost use Rattle.goblin_pe_head.specs.HeaderParts.{no_directories, no_windows_fields, part_given, sections_there, table_after};
+ghost use Rattle.goblin_pe_head.specs.HeaderParts.{no_directories, no_windows_fields, part_given, sections_there};
 ghost use Rattle.goblin_pe_head.specs.HeaderParts.{unnamed_sections};
 
 use crate::header::{CoffHeader, DosHeader, SIZEOF_PE_MAGIC};
 use crate::optional_header::{
-    MAGIC_32, MAGIC_64, OptionalHeader, SIZEOF_STANDARD_FIELDS_32, SIZEOF_STANDARD_FIELDS_64,
-    SIZEOF_WINDOWS_FIELDS_32, SIZEOF_WINDOWS_FIELDS_64, StandardFields, StandardFields32,
-    StandardFields64, WindowsFields, WindowsFields32, WindowsFields64,
+    OptionalHeader, StandardFields, WindowsFields, fields_size, standard_by, windows_by,
 };
-use goblin_base::{Endian, Error, Record, Result, ResultOf, pread_slice, pread_u16};
+use goblin_base::{Endian, Error, Result, ResultOf, pread_slice, pread_u16};
 use goblin_pe_sect::DataDirectories;
 use goblin_pe_sect::data_directories::NUM_DATA_DIRECTORIES;
 use goblin_pe_sect::section_table::{SIZEOF_SECTION_TABLE, SectionRecords};
@@ -50,132 +49,83 @@ pub struct HeaderParts<'a> {
     pub section_records: Result<SectionRecords<'a>>,
 }
 
+// The same error once more, for a part that depends on the refused one.
+fn again(error: &Error) -> Error
+    ensures { result ≡ error.now }
+{
+    match error {
+        Error::Malformed(cause) => Error::Malformed(*cause),
+        Error::BadMagic(magic) => Error::BadMagic(*magic),
+        Error::BufferTooShort(count, what) => Error::BufferTooShort(*count, what),
+        Error::Read(fault) => Error::Read(*fault),
+        Error::Memory(error) => Error::Memory(*error),
+    }
+}
+
 // The file offset just past the COFF header, and the COFF header.
 #[tactic(auto, unfolding(crate::specs::HeaderParts::placed_coff))]
-fn placed_coff(bytes: &[u8]) -> Result<(usize, CoffHeader)>
+fn placed_coff(bytes: &[u8], dos_header: &Result<DosHeader>) -> Result<(usize, CoffHeader)>
+    requires { Reads (λ h. h) dos_header.now file_dos_header bytes.now }
     ensures value { Reads (λ p. p) result reading.placed_coff bytes.now }
     ensures inside { IfOk result (λ p. p.0 ≤ length bytes.now) }
 {
-    let dos_header = DosHeader::parse(bytes)?;
-    let mut offset = dos_header.pe_pointer as usize + SIZEOF_PE_MAGIC;
-    let coff_header = CoffHeader::parse(bytes, &mut offset)?;
-    Ok((offset, coff_header))
-}
-
-// The standard fields in the width that the magic gives.
-#[tactic(auto, unfolding(crate::specs::HeaderParts::standard_by))]
-fn standard_by(bytes: &[u8], magic: u16) -> Result<StandardFields>
-    ensures { Reads (λ f. f) result (reading.standard_by magic) bytes.now }
-{
-    match magic {
-        MAGIC_32 => {
-            let record = pread_slice(bytes, 0, SIZEOF_STANDARD_FIELDS_32)?;
-            let fields = StandardFields32::in_record(record, Endian::Little);
-            Ok(StandardFields::from(fields))
+    match dos_header {
+        Ok(dos_header) => {
+            let mut offset = dos_header.pe_pointer as usize + SIZEOF_PE_MAGIC;
+            let coff_header = CoffHeader::parse(bytes, &mut offset)?;
+            Ok((offset, coff_header))
         }
-        MAGIC_64 => {
-            let record = pread_slice(bytes, 0, SIZEOF_STANDARD_FIELDS_64)?;
-            let fields = StandardFields64::in_record(record, Endian::Little);
-            Ok(StandardFields::from(fields))
-        }
-        _ => Err(Error::BadMagic(u64::from(magic))),
+        Err(error) => Err(again(error)),
     }
 }
 
-// The Windows fields in the width that the magic gives.
-#[tactic(auto, unfolding(crate::specs::HeaderParts::windows_by))]
-fn windows_by(bytes: &[u8], magic: u16) -> Result<WindowsFields>
-    ensures { Reads (λ f. f) result (reading.windows_by magic) bytes.now }
-{
-    match magic {
-        MAGIC_32 => {
-            let record = pread_slice(bytes, SIZEOF_STANDARD_FIELDS_32, SIZEOF_WINDOWS_FIELDS_32)?;
-            let fields = WindowsFields32::in_record(record, Endian::Little);
-            Ok(WindowsFields::from(fields))
-        }
-        MAGIC_64 => {
-            let record = pread_slice(bytes, SIZEOF_STANDARD_FIELDS_64, SIZEOF_WINDOWS_FIELDS_64)?;
-            Ok(WindowsFields64::in_record(record, Endian::Little))
-        }
-        _ => Err(Error::BadMagic(u64::from(magic))),
-    }
-}
-
-// The standard fields at the front of an optional header.
+// The standard fields of the optional header of this size at `offset`.
 #[tactic(auto, unfolding(crate::specs::HeaderParts::standard_front))]
-fn standard_front(bytes: &[u8]) -> Result<StandardFields>
-    ensures { Reads (λ f. f) result reading.standard_front bytes.now }
+fn standard_fields(bytes: &[u8], offset: usize, size: u16) -> Result<Option<StandardFields>>
+    requires { offset ≤ length bytes.now }
+    ensures { Reads (λ f. f) result (optional_with (λ x. x) reading.standard_front size offset)
+        bytes.now }
 {
-    let magic = pread_u16(bytes, 0, Endian::Little)?;
-    standard_by(bytes, magic)
+    if size == 0 {
+        return Ok(None);
+    }
+    let rest = &bytes[offset..];
+    let magic = pread_u16(rest, 0, Endian::Little)?;
+    let fields = standard_by(rest, magic)?;
+    Ok(Some(fields))
 }
 
-// The Windows fields of an optional header.
+// The Windows fields of the optional header of this size at `offset`.
 #[tactic(auto, unfolding(crate::specs::HeaderParts::windows_front))]
-fn windows_front(bytes: &[u8]) -> Result<WindowsFields>
-    ensures { Reads (λ f. f) result reading.windows_front bytes.now }
+fn windows_fields(bytes: &[u8], offset: usize, size: u16) -> Result<Option<WindowsFields>>
+    requires { offset ≤ length bytes.now }
+    ensures { Reads (λ f. f) result (optional_with (λ x. x) reading.windows_front size offset)
+        bytes.now }
 {
-    let magic = pread_u16(bytes, 0, Endian::Little)?;
-    windows_by(bytes, magic)
-}
-
-// The size of the standard and the Windows fields together, in bytes.
-fn fields_size(magic: u16) -> usize
-    ensures { result ≡ reading.fields_size magic }
-{
-    if magic == MAGIC_32 {
-        SIZEOF_STANDARD_FIELDS_32 + SIZEOF_WINDOWS_FIELDS_32
-    } else {
-        SIZEOF_STANDARD_FIELDS_64 + SIZEOF_WINDOWS_FIELDS_64
+    if size == 0 {
+        return Ok(None);
     }
+    let rest = &bytes[offset..];
+    let magic = pread_u16(rest, 0, Endian::Little)?;
+    let fields = windows_by(rest, magic)?;
+    Ok(Some(fields))
 }
 
-// The first sixteen data directories of an optional header.
+// The first sixteen data directories of the optional header of this size at `offset`.
 #[tactic(auto, unfolding(crate::specs::HeaderParts::directories_front))]
-fn directories_front(bytes: &[u8]) -> Result<DataDirectories>
-    ensures { Reads (λ d. d.data_directories) result reading.directories_front bytes.now }
-{
-    let magic = pread_u16(bytes, 0, Endian::Little)?;
-    let fields = windows_by(bytes, magic)?;
-    let count = (fields.number_of_rva_and_sizes as usize).min(NUM_DATA_DIRECTORIES);
-    let mut offset = fields_size(magic);
-    DataDirectories::parse(bytes, count, &mut offset)
-}
-
-// The standard fields of a file's optional header.
-fn standard_fields(bytes: &[u8]) -> Result<Option<StandardFields>>
-    ensures { Reads (λ f. f) result (reading.optional_part reading.standard_front) bytes.now }
-{
-    let (offset, coff_header) = placed_coff(bytes)?;
-    if coff_header.size_of_optional_header == 0 {
-        return Ok(None);
-    }
-    let fields = standard_front(&bytes[offset..])?;
-    Ok(Some(fields))
-}
-
-// The Windows fields of a file's optional header.
-fn windows_fields(bytes: &[u8]) -> Result<Option<WindowsFields>>
-    ensures { Reads (λ f. f) result (reading.optional_part reading.windows_front) bytes.now }
-{
-    let (offset, coff_header) = placed_coff(bytes)?;
-    if coff_header.size_of_optional_header == 0 {
-        return Ok(None);
-    }
-    let fields = windows_front(&bytes[offset..])?;
-    Ok(Some(fields))
-}
-
-// The first sixteen data directories of a file.
-fn data_directories(bytes: &[u8]) -> Result<Option<DataDirectories>>
+fn data_directories(bytes: &[u8], offset: usize, size: u16) -> Result<Option<DataDirectories>>
+    requires { offset ≤ length bytes.now }
     ensures { Reads (option_map (λ d. d.data_directories)) result
-        (reading.optional_part reading.directories_front) bytes.now }
+        (optional_with (λ x. x) reading.directories_front size offset) bytes.now }
 {
-    let (offset, coff_header) = placed_coff(bytes)?;
-    if coff_header.size_of_optional_header == 0 {
+    if size == 0 {
         return Ok(None);
     }
-    let directories = directories_front(&bytes[offset..])?;
+    let rest = &bytes[offset..];
+    let magic = pread_u16(rest, 0, Endian::Little)?;
+    let fields = windows_by(rest, magic)?;
+    let count = (fields.number_of_rva_and_sizes as usize).min(NUM_DATA_DIRECTORIES);
+    let directories = DataDirectories::parse(rest, count, &mut fields_size(magic))?;
     Ok(Some(directories))
 }
 
@@ -227,51 +177,46 @@ fn whole_records(bytes: &[u8], offset: usize, count: u16) -> u16
     }
 }
 
-// The section headers that the COFF header counts, as many as the file has.
-#[tactic(auto, unfolding(crate::specs::HeaderParts::sections_part))]
-fn section_records(bytes: &[u8]) -> Result<SectionRecords<'_>>
-    ensures { Reads recorded_sections result reading.sections_part bytes.now }
+// The `count` section headers at `offset`, or as many as the file has.
+fn section_records(bytes: &[u8], offset: usize, count: u16) -> Result<SectionRecords<'_>>
+    ensures { Reads recorded_sections result (reading.whole_sections count offset) bytes.now }
 {
-    let (offset, coff_header) = placed_coff(bytes)?;
-    let table = offset + coff_header.size_of_optional_header as usize;
-    let count = whole_records(bytes, table, coff_header.number_of_sections);
-    section_records_at(bytes, table, count)
-}
-
-// The COFF header of a file.
-fn coff_header(bytes: &[u8]) -> Result<CoffHeader>
-    ensures { Reads (λ h. h) result reading.coff_part bytes.now }
-{
-    let (_, coff_header) = placed_coff(bytes)?;
-    Ok(coff_header)
-}
-
-// The file offset of the section table.
-fn section_table(bytes: &[u8]) -> Option<usize>
-    ensures { result ≡ option_map table_after (reading.placed_coff.value bytes.now) }
-{
-    match placed_coff(bytes) {
-        Ok((offset, coff_header)) => Some(offset + coff_header.size_of_optional_header as usize),
-        Err(_) => None,
-    }
+    let count = whole_records(bytes, offset, count);
+    section_records_at(bytes, offset, count)
 }
 
 impl<'a> HeaderParts<'a> {
     /// Reads each part of a file's header by itself. If the header is read as a whole, these are
     /// its parts.
-    #[tactic(auto, using(crate::proofs::WholeParts::whole_parts))]
+    #[tactic(auto, unfolding(crate::specs::HeaderParts::sections_part), using(crate::proofs::WholeParts::whole_parts))]
     pub fn read(bytes: &'a [u8]) -> HeaderParts<'a>
         ensures parts { ArePartsOf bytes.now result }
         ensures whole { AreOfWhole bytes.now result }
     {
-        HeaderParts {
-            dos_header: DosHeader::parse(bytes),
-            coff_header: coff_header(bytes),
-            standard_fields: standard_fields(bytes),
-            windows_fields: windows_fields(bytes),
-            data_directories: data_directories(bytes),
-            section_table: section_table(bytes),
-            section_records: section_records(bytes),
+        let dos_header = DosHeader::parse(bytes);
+        match placed_coff(bytes, &dos_header) {
+            Ok((offset, coff_header)) => {
+                let size = coff_header.size_of_optional_header;
+                let table = offset + size as usize;
+                HeaderParts {
+                    dos_header,
+                    coff_header: Ok(coff_header),
+                    standard_fields: standard_fields(bytes, offset, size),
+                    windows_fields: windows_fields(bytes, offset, size),
+                    data_directories: data_directories(bytes, offset, size),
+                    section_table: Some(table),
+                    section_records: section_records(bytes, table, coff_header.number_of_sections),
+                }
+            }
+            Err(error) => HeaderParts {
+                dos_header,
+                coff_header: Err(again(&error)),
+                standard_fields: Err(again(&error)),
+                windows_fields: Err(again(&error)),
+                data_directories: Err(again(&error)),
+                section_table: None,
+                section_records: Err(error),
+            },
         }
     }
     /// The optional header, made of the parts that could be read. It is `None` if the standard

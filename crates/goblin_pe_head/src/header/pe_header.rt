@@ -16,7 +16,7 @@ ghost use Rattle.goblin_pe_head.specs.HeaderLaws.{HeaderWritesBack, IsConsistent
 ghost use Rattle.goblin_pe_head.specs.HeaderReadings as reading;
 ghost use Rattle.goblin_pe_head.specs.OptionalHeader.{written_bytes};
 ghost use Rattle.goblin_pe_head.specs.PeHeader.{IsUnwrittenPart, default_header, header_bytes};
-ghost use Rattle.goblin_pe_head.specs.PeHeader.{header_parts, header_value, optional_part};
+ghost use Rattle.goblin_pe_head.specs.PeHeader.{header_parts, header_value, written_part};
 ghost use Rattle.goblin_pe_head.specs.RichHeader.{PaddingFits, rich_value};
 
 use crate::header::{
@@ -322,7 +322,7 @@ impl<'a> Header<'a> {
 
 // The written form of the optional header, if there is one.
 fn optional_bytes(header: &Option<OptionalHeader>, endian: Endian) -> Result<WrittenHeader>
-    ensures made { Answers written_bytes result (optional_part endian header.now)
+    ensures made { Answers written_bytes result (written_part endian header.now)
         (IsUnwrittenPart header.now) }
     ensures again { OnOk result (IfSome header.now FieldsReadBack) }
 {
