@@ -27,7 +27,7 @@ NAMES = {"CauseNumber": "Cause", "ReadRefusal": "ReadFault", "DataDirectoryType"
 CONSTANTS = ("goblin_pe_head/src/header/machine", "goblin_pe_head/src/characteristic", "goblin_pe_head/src/optional_header/magic",
              "goblin_pe_head/src/subsystem", "goblin_pe_head/src/dll_characteristic", "goblin_pe_sect/src/section_table/constants",
              "goblin_pe_symbol/src/symbol/constants", "goblin_pe_sect/src/relocation/constants")
-# The sizes of records and the offsets in them that are handed on, each proved to have its value where it is declared.
+# The sizes of records and the offsets in them that are handed on, and the most sections that take no index.
 SIZES = ("SIZEOF_COFF_HEADER", "SIZEOF_STANDARD_FIELDS_32", "SIZEOF_STANDARD_FIELDS_64", "SIZEOF_WINDOWS_FIELDS_32",
          "SIZEOF_WINDOWS_FIELDS_64", "OFFSET_WINDOWS_FIELDS_32_CHECKSUM", "OFFSET_WINDOWS_FIELDS_64_CHECKSUM", "SIZEOF_PE_MAGIC",
          "PE_POINTER_OFFSET", "DOS_STUB_OFFSET", "SIZEOF_DATA_DIRECTORY", "NUM_DATA_DIRECTORIES", "SIZEOF_SECTION_TABLE",
@@ -199,12 +199,10 @@ def sizes_of(crates: List[str]) -> Declared:
     """The sizes of records and the like, in the order of their names above."""
     items: Dict[str, Item] = {}
     for path in [it for crate in crates for it in sorted((CRATES / crate).glob("src/**/*.rt"))]:
-        source = path.read_text("utf-8")
-        for doc, _, text in declarations(source):
+        for doc, _, text in declarations(path.read_text("utf-8")):
             found = re.fullmatch(r"pub const (\w+): (\w+) = (\w+);", text)
             if found and found[1] in SIZES:
-                proved = re.search(r"prove!\([^;]*\b%s == (\w+)" % found[1], source)
-                if found[1] in items or not proved or int(proved[1], 0) != int(found[3], 0):
+                if found[1] in items:
                     raise Refused("%s has %s" % (path, text))
                 items[found[1]] = Item(found[1], type_of(found[2]), doc, found[3])
     if sorted(items) != sorted(SIZES):

@@ -54,11 +54,6 @@ marked_nil m =
     sym (fill_by_all (λ p. get_or m p false || false) m (length m) false refl
     (λ k lt. sym (or-false (get_or m k false))))
 
--- an empty file has no marks
-pub empty-marked : (n : ℕ) (xs : List Range) → n ≡ 0 → replicate n false ≡ marked (replicate n false) xs
-unfolding marked
-empty-marked n xs is = rw is refl
-
 -- what is marked in two steps
 pub marked_append : (m : List Bool) (xs ys : List Range) → marked (marked m xs) ys ≡ marked m (xs ++ ys)
 marked_append m xs ys =

@@ -1,6 +1,5 @@
 -- The pieces of the address space with their owners, as made from the windows of sections.
-use Rattle.std.specs.Prelude.{ℕ, ◌+◌, ◌≡◌, ◌≤◌, List, Vec, map, vec_capacity, vec_len}
-use Rattle.std.specs.Global.{Global}
+use Rattle.std.specs.Prelude.{ℕ, ◌≡◌, List, map}
 use Rattle.goblin_pe_sect.specs.declared.options.ParseOptions.{ParseOptions}
 use Rattle.goblin_pe_sect.specs.declared.windows.bounds.Piece.{Piece}
 use Rattle.goblin_pe_sect.specs.SectionTable.{Section}
@@ -13,7 +12,3 @@ pub record IsDivision (opts : ParseOptions) (sections : List Section) (alignment
   pub cut : IsCut sections alignment (begins_of pieces)
   pub near : AreNear sections alignment
   pub owned : owners_of pieces ≡ map (first_owner opts sections alignment) (begins_of pieces)
-
--- there is room for this many more pieces
-abbrev pub HasPieceRoom : Vec Piece Global → ℕ → Type 0
-HasPieceRoom pieces more = vec_len pieces + more ≤ vec_capacity pieces

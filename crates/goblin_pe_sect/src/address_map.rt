@@ -29,13 +29,12 @@ pub use records::{MappedRecords, front_section};
 use run::Run;
 use walk::find_in_records;
 
-/// The largest number of sections that are walked over for each address. It is the limit of the
-/// Windows loader. For more sections an index is made, which takes memory.
+/// The largest number of sections that are walked over for each address. For more sections an index
+/// is made, which takes memory. The specification says that the Windows loader limits the number of
+/// sections to 96; newer versions of Windows load more.
 ///
 /// Source: PE Format, "COFF File Header (Object and Image)".
 pub const MOST_WITHOUT_INDEX: usize = 96;
-
-const _: () = prove!(MOST_WITHOUT_INDEX == 96);
 
 // What an address map uses to find the window that holds an address.
 #[derive(Drop)]
@@ -156,9 +155,9 @@ impl<'s> AddressMap<'s> {
     /// them. With the front, address 0 has no offset, because address 0 in a table means that there
     /// is nothing.
     ///
-    /// With at most 96 sections, the limit of the Windows loader, the map takes no memory and walks
-    /// over their windows for each address. With more sections it lists them and makes an index,
-    /// except if `opts` says that addresses are offsets or `file_alignment` is not a power of two.
+    /// With at most 96 sections the map takes no memory, and walks over their windows for each
+    /// address. With more sections it lists them and makes an index, except if `opts` says that
+    /// addresses are offsets or `file_alignment` is not a power of two.
     ///
     /// # Errors
     /// Only [`Error::Memory`](goblin_base::Error::Memory).

@@ -4,9 +4,9 @@
 //! gives the pieces in order. Otherwise the cuts are sorted first, and then each piece gets its
 //! owner.
 
-ghost use Rattle.std.specs.Prelude.{◌≡◌, ◌+◌, ◌*◌, ◌<◌, ◌≤◌, ◌∷◌, ℕ, [], ◌++◌, length, IsTrue};
-ghost use Rattle.std.specs.Prelude.{IfOk, None, Some, vec_capacity};
-ghost use Rattle.goblin_pe_sect.specs.WindowDivision.{HasPieceRoom, IsDivision};
+ghost use Rattle.std.specs.Prelude.{◌≡◌, ◌<◌, ◌≤◌, ◌∷◌, [], ◌++◌, IsTrue};
+ghost use Rattle.std.specs.Prelude.{IfOk, None, OnOk, Some};
+ghost use Rattle.goblin_pe_sect.specs.WindowDivision.{IsDivision};
 ghost use Rattle.goblin_pe_sect.specs.WindowIndex.{begins_of, owners_of};
 
 use super::bounds::Piece;
@@ -17,35 +17,32 @@ use crate::section_table::SectionTable;
 use std::alloc::{AllocError, Global};
 
 // Adds a piece.
-fn push_piece(pieces: &mut Vec<Piece>, begin: usize, owner: Option<Owner>)
-    requires { HasPieceRoom pieces.old 1 }
-    ensures begins { begins_of pieces.new.items ≡ begins_of pieces.old.items ++ begin ∷ [] }
-    ensures owners { owners_of pieces.new.items ≡ owners_of pieces.old.items ++ owner ∷ [] }
-    ensures room { (n : ℕ) → HasPieceRoom pieces.old (n + 1) → HasPieceRoom pieces.new n }
-    ensures same { vec_capacity pieces.new ≡ vec_capacity pieces.old }
+fn push_piece(pieces: &mut Vec<Piece>, begin: usize, owner: Option<Owner>) -> Result<(), AllocError>
+    ensures begins { OnOk result
+        (begins_of pieces.new.items ≡ begins_of pieces.old.items ++ begin ∷ []) }
+    ensures owners { OnOk result
+        (owners_of pieces.new.items ≡ owners_of pieces.old.items ++ owner ∷ []) }
 {
-    pieces.push_reserved(Piece::new(begin, owner));
+    pieces.push(Piece::new(begin, owner))?;
+    Ok(())
 }
 
 // Adds the piece of a window. If the window begins after `end`, the end of the window before, also
 // adds the piece between the two windows, which has no owner.
-fn push_window(pieces: &mut Vec<Piece>, end: usize, window: Window)
-    requires { HasPieceRoom pieces.old 2 }
-    ensures apart_begins { end < window.begin → begins_of pieces.new.items
-        ≡ (begins_of pieces.old.items ++ end ∷ []) ++ window.begin ∷ [] }
-    ensures apart_owners { end < window.begin → owners_of pieces.new.items
-        ≡ (owners_of pieces.old.items ++ None ∷ []) ++ Some window.owner ∷ [] }
-    ensures begins { window.begin ≤ end → begins_of pieces.new.items
-        ≡ begins_of pieces.old.items ++ window.begin ∷ [] }
-    ensures owners { window.begin ≤ end → owners_of pieces.new.items
-        ≡ owners_of pieces.old.items ++ Some window.owner ∷ [] }
-    ensures room { (n : ℕ) → HasPieceRoom pieces.old (n + 2) → HasPieceRoom pieces.new n }
-    ensures same { vec_capacity pieces.new ≡ vec_capacity pieces.old }
+fn push_window(pieces: &mut Vec<Piece>, end: usize, window: Window) -> Result<(), AllocError>
+    ensures apart_begins { OnOk result (end < window.begin → begins_of pieces.new.items
+        ≡ (begins_of pieces.old.items ++ end ∷ []) ++ window.begin ∷ []) }
+    ensures apart_owners { OnOk result (end < window.begin → owners_of pieces.new.items
+        ≡ (owners_of pieces.old.items ++ None ∷ []) ++ Some window.owner ∷ []) }
+    ensures begins { OnOk result (window.begin ≤ end → begins_of pieces.new.items
+        ≡ begins_of pieces.old.items ++ window.begin ∷ []) }
+    ensures owners { OnOk result (window.begin ≤ end → owners_of pieces.new.items
+        ≡ owners_of pieces.old.items ++ Some window.owner ∷ []) }
 {
     if end < window.begin {
-        push_piece(pieces, end, None);
+        push_piece(pieces, end, None)?;
     }
-    push_piece(pieces, window.begin, Some(window.owner));
+    push_piece(pieces, window.begin, Some(window.owner))
 }
 
 // Adds the pieces of the sections' windows in one walk over the sections. Returns false, and leaves
@@ -56,27 +53,25 @@ fn push_in_order(
     sections: &[SectionTable],
     file_alignment: u32,
     opts: &ParseOptions,
-) -> bool
+) -> Result<bool, AllocError>
     requires aligned { 0 < file_alignment }
     requires empty { pieces.old.items ≡ [] }
-    requires room { HasPieceRoom pieces.old (2 * length sections.now + 1) }
-    ensures made { IsTrue result
-        → IsDivision opts.now sections.now file_alignment pieces.new.items }
-    ensures same { vec_capacity pieces.new ≡ vec_capacity pieces.old }
+    ensures { IfOk result (λ got_through. IsTrue got_through
+        → IsDivision opts.now sections.now file_alignment pieces.new.items) }
 {
     let mut end = 0;
     'sections: for (index, section) in sections.iter().enumerate() {
         let window = window_at(index, section, file_alignment, opts);
         if window.begin < window.end {
             if window.begin < end {
-                return false;
+                return Ok(false);
             }
-            push_window(pieces, end, window);
+            push_window(pieces, end, window)?;
             end = window.end;
         }
     }
-    push_piece(pieces, end, None);
-    true
+    push_piece(pieces, end, None)?;
+    Ok(true)
 }
 
 // The pieces of windows in any order, which may overlap. They replace the pieces that are given,
@@ -89,8 +84,7 @@ fn division_of_any(
     file_alignment: u32,
     opts: &ParseOptions,
 ) -> Result<Vec<Piece>, AllocError>
-    requires aligned { 0 < file_alignment }
-    requires room { 2 * length sections.now + 1 ≤ vec_capacity pieces }
+    requires { 0 < file_alignment }
     ensures { IfOk result (λ v. IsDivision opts.now sections.now file_alignment v.items) }
 {
     let begins = cuts_of(alloc, sections, file_alignment)?;
@@ -110,7 +104,7 @@ pub(super) fn division_of(
     ensures { IfOk result (λ v. IsDivision opts.now sections.now file_alignment v.items) }
 {
     let mut pieces = Vec::with_capacity(alloc, 2 * sections.len() + 1)?;
-    if push_in_order(&mut pieces, sections, file_alignment, opts) {
+    if push_in_order(&mut pieces, sections, file_alignment, opts)? {
         return Ok(pieces);
     }
     division_of_any(alloc, pieces, sections, file_alignment, opts)

@@ -4,9 +4,8 @@
 //! of its pieces, and passes them on to its halves. So the number of steps grows like n log n.
 
 ghost use Rattle.std.specs.Prelude.{◌≡◌, ◌+◌, ◌^◌, ◌<◌, ◌≤◌, ◌++◌, IfOk, OnOk, map, filter};
-ghost use Rattle.std.specs.Prelude.{length, position, vec_capacity, vec_len};
+ghost use Rattle.std.specs.Prelude.{position};
 ghost use Rattle.std.specs.List.Sorted.{IsStrictlyIncreasing};
-ghost use Rattle.goblin_pe_sect.specs.WindowDivision.{HasPieceRoom};
 ghost use Rattle.goblin_pe_sect.specs.WindowIndex.{begins_of, first_owner, owners_of};
 ghost use Rattle.goblin_pe_sect.specs.WindowStretches.{window_covers, window_meets};
 ghost use Rattle.goblin_pe_sect.specs.WindowStretches.{owner_among, piece_among, section_window_at};
@@ -156,16 +155,18 @@ fn piece_at(begin: usize, windows: &[Window]) -> Piece
 }
 
 // Adds the piece that begins at each address, with one walk over the windows for each piece.
-fn push_each_piece(begins: &[usize], windows: &[Window], pieces: &mut Vec<Piece>)
-    requires { HasPieceRoom pieces.old (length begins.now) }
-    ensures made { pieces.new.items
-        ≡ pieces.old.items ++ map (piece_among windows.now) begins.now }
-    ensures counted { vec_len pieces.new ≡ vec_len pieces.old + length begins.now }
-    ensures same { vec_capacity pieces.new ≡ vec_capacity pieces.old }
+fn push_each_piece(
+    begins: &[usize],
+    windows: &[Window],
+    pieces: &mut Vec<Piece>,
+) -> Result<(), AllocError>
+    ensures { OnOk result
+        (pieces.new.items ≡ pieces.old.items ++ map (piece_among windows.now) begins.now) }
 {
     'pieces: for begin in begins {
-        pieces.push_reserved(piece_at(*begin, windows));
+        pieces.push(piece_at(*begin, windows))?;
     }
+    Ok(())
 }
 
 // Adds the piece that begins at each address. Splits the list of pieces into halves, each with the
@@ -176,24 +177,20 @@ fn push_pieces(
     windows: &[Window],
     pieces: &mut Vec<Piece>,
 ) -> Result<(), AllocError>
-    requires rising { IsRising begins.now }
-    requires room { HasPieceRoom pieces.old (length begins.now) }
-    ensures made { OnOk result
+    requires { IsRising begins.now }
+    ensures { OnOk result
         (pieces.new.items ≡ pieces.old.items ++ map (piece_among windows.now) begins.now) }
-    ensures counted { OnOk result (vec_len pieces.new ≡ vec_len pieces.old + length begins.now) }
-    ensures same { OnOk result (vec_capacity pieces.new ≡ vec_capacity pieces.old) }
 {
     if begins.is_empty() {
         return Ok(());
     }
     if windows.len() <= FEW {
-        push_each_piece(begins, windows, pieces);
-        return Ok(());
+        return push_each_piece(begins, windows, pieces);
     }
     let count = begins.len();
     let first = begins[0];
     if count == 1 {
-        pieces.push_reserved(piece_at(first, windows));
+        pieces.push(piece_at(first, windows))?;
         return Ok(());
     }
     let near = nearby(alloc, first, begins[count - 1], windows)?;
@@ -215,7 +212,6 @@ pub(super) fn put_pieces(
 ) -> Result<(), AllocError>
     requires aligned { 0 < file_alignment }
     requires rising { IsStrictlyIncreasing begins.now }
-    requires room { length begins.now ≤ vec_capacity pieces.old }
     ensures begins { OnOk result (begins_of pieces.new.items ≡ begins.now) }
     ensures owners { OnOk result
         (owners_of pieces.new.items

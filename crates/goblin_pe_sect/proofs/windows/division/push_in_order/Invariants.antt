@@ -1,12 +1,6 @@
-use Rattle.std.proofs.Common.{◌≡◌, ◌+◌, ◌-◌, ◌*◌, length, vec_capacity}
-use Rattle.goblin_pe_sect.specs.WindowDivision.{HasPieceRoom}
 use Rattle.goblin_pe_sect.specs.WindowIndex.{begins_of, owners_of}
 use Rattle.goblin_pe_sect.proofs.InOrder.{AreInOrder}
 use Rattle.goblin_pe_sect.proofs.windows.division.push_in_order.Given as goal
 
 abbrev pub invariant-sections : goal.invariant-sections
-invariant-sections l = record {
-  order : AreInOrder l.fn.opts l.fn.file_alignment l.fn.sections (begins_of l.pieces.items) (owners_of l.pieces.items) l.end l.index;
-  room : HasPieceRoom l.pieces (2 * (length l.fn.sections - l.index) + 1);
-  same : vec_capacity l.pieces ≡ vec_capacity l.fn.pieces;
-}
+invariant-sections l = AreInOrder l.fn.opts l.fn.file_alignment l.fn.sections (begins_of l.pieces.items) (owners_of l.pieces.items) l.end l.index

@@ -1,0 +1,35 @@
+//! Room in a list whose length is not known when it is begun.
+
+ghost use Rattle.std.specs.Prelude.{◌≡◌, ◌<◌, IfErr, OnOk, vec_capacity, vec_len};
+ghost use Rattle.goblin_base.specs.Answers.{IsMemory};
+
+use crate::error::ResultOf;
+
+// For at least how many more items room is made in a list that has some, or of which none are
+// expected.
+const LEAST_MORE: usize = 32;
+
+/// Makes room for one more item, if the list has none.
+///
+/// An empty list gets room for as many items as are expected. A list that has items, or of which
+/// none are expected, gets room for half as many more as it has, but at least for 32 more.
+///
+/// # Errors
+/// Only [`Error::Memory`](crate::Error::Memory).
+#[inline]
+pub fn make_room<'e, T: Drop>(items: &mut Vec<T>, expected: usize) -> ResultOf<'e, ()>
+    ensures kept { items.new.items ≡ items.old.items }
+    ensures refused { IfErr result IsMemory }
+    ensures spare { OnOk result (vec_len items.new < vec_capacity items.new) }
+{
+    let count = items.len();
+    if count == items.capacity() {
+        let more = if count == 0 && expected > 0 {
+            expected
+        } else {
+            LEAST_MORE.max(count / 2)
+        };
+        items.reserve_exact(more)?;
+    }
+    Ok(())
+}
