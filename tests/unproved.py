@@ -1,5 +1,5 @@
-"""Runs each crate's tests and the samples' listings before any proof, under the toolchain's checker of memory:
-python3 -m tests.unproved. The last line says how many passed and failed."""
+"""Runs each crate's tests and the samples' listings before any proof, under the toolchain's checker of memory, and the tests
+that need nothing built: python3 -m tests.unproved. The last line says how many passed and failed."""
 import concurrent.futures
 import os
 import pathlib
@@ -9,6 +9,7 @@ import subprocess
 import sys
 import tempfile
 
+from tests.__main__ import tested
 from tests.programs import CRATES, IMAGES, TOP, modes
 
 
@@ -48,7 +49,9 @@ def listings():
 
 def main():
     with_tests = sorted({CRATES / it.relative_to(CRATES).parts[0] for it in CRATES.glob("*/src/**/*.rt") if "#[test]" in it.read_text("utf-8")})
-    passed, failed = 0, 0 if with_tests else 1
+    said, passed, failed, _ = tested("tests.test_constants")
+    print(said, flush=True)
+    failed += not with_tests
     with concurrent.futures.ThreadPoolExecutor(len(os.sched_getaffinity(0))) as pool:
         for it in concurrent.futures.as_completed([pool.submit(listings), *[pool.submit(tests_of, crate) for crate in with_tests]]):
             name, went_well, went_wrong, said = it.result()
