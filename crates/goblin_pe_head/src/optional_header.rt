@@ -102,19 +102,17 @@ impl WrittenHeader {
 pub(crate) fn standard_by(bytes: &[u8], magic: u16) -> Result<StandardFields>
     ensures { Reads (λ f. f) result (reading.standard_by magic) bytes.now }
 {
-    match magic {
-        MAGIC_32 => {
-            let record = pread_slice(bytes, 0, SIZEOF_STANDARD_FIELDS_32)?;
-            let fields = StandardFields32::in_record(record, Endian::Little);
-            Ok(StandardFields::from(fields))
-        }
-        MAGIC_64 => {
-            let record = pread_slice(bytes, 0, SIZEOF_STANDARD_FIELDS_64)?;
-            let fields = StandardFields64::in_record(record, Endian::Little);
-            Ok(StandardFields::from(fields))
-        }
-        _ => Err(Error::BadMagic(u64::from(magic))),
+    if magic == MAGIC_32 {
+        let record = pread_slice(bytes, 0, SIZEOF_STANDARD_FIELDS_32)?;
+        let fields = StandardFields32::in_record(record, Endian::Little);
+        return Ok(StandardFields::from(fields));
     }
+    if magic != MAGIC_64 {
+        return Err(Error::BadMagic(u64::from(magic)));
+    }
+    let record = pread_slice(bytes, 0, SIZEOF_STANDARD_FIELDS_64)?;
+    let fields = StandardFields64::in_record(record, Endian::Little);
+    Ok(StandardFields::from(fields))
 }
 
 // The Windows fields in the width that the magic gives.
@@ -123,18 +121,16 @@ pub(crate) fn standard_by(bytes: &[u8], magic: u16) -> Result<StandardFields>
 pub(crate) fn windows_by(bytes: &[u8], magic: u16) -> Result<WindowsFields>
     ensures { Reads (λ f. f) result (reading.windows_by magic) bytes.now }
 {
-    match magic {
-        MAGIC_32 => {
-            let record = pread_slice(bytes, SIZEOF_STANDARD_FIELDS_32, SIZEOF_WINDOWS_FIELDS_32)?;
-            let fields = WindowsFields32::in_record(record, Endian::Little);
-            Ok(WindowsFields::from(fields))
-        }
-        MAGIC_64 => {
-            let record = pread_slice(bytes, SIZEOF_STANDARD_FIELDS_64, SIZEOF_WINDOWS_FIELDS_64)?;
-            Ok(WindowsFields64::in_record(record, Endian::Little))
-        }
-        _ => Err(Error::BadMagic(u64::from(magic))),
+    if magic == MAGIC_32 {
+        let record = pread_slice(bytes, SIZEOF_STANDARD_FIELDS_32, SIZEOF_WINDOWS_FIELDS_32)?;
+        let fields = WindowsFields32::in_record(record, Endian::Little);
+        return Ok(WindowsFields::from(fields));
     }
+    if magic != MAGIC_64 {
+        return Err(Error::BadMagic(u64::from(magic)));
+    }
+    let record = pread_slice(bytes, SIZEOF_STANDARD_FIELDS_64, SIZEOF_WINDOWS_FIELDS_64)?;
+    Ok(WindowsFields64::in_record(record, Endian::Little))
 }
 
 // The size in bytes of the fields before the data directories.
