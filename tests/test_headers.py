@@ -435,6 +435,9 @@ class Parts(unittest.TestCase):
         self.assertEqual([s.name for s in package().Layout(NAMED_ELSEWHERE, how).sections], [b"/640"])
         self.assertEqual(package().Parts(file, how).refusal, None)
         self.assertEqual(refusal(package().Layout, SAMPLE[:TABLE_END - 1], how), ("READ", "TOO_BIG", 0, 0))
+        with self.assertRaises(package().Refused) as caught:
+            package().Layout(file, how).damage
+        self.assertEqual((told(caught.exception), caught.exception.part.name), (("MALFORMED", "NAME_DECIMAL", 0, 0), "NOTHING"))
 
 
 class Written(unittest.TestCase):

@@ -473,6 +473,25 @@ static bool tells_what_is_there(void)
            !found.bytes.length && found.zeros == 0x5000;
 }
 
+/* Whether what a cut file lacks of a section's data is missing, and no zeros, also past the virtual size. */
+static bool lacks_what_is_cut(void)
+{
+    static uint8_t file[0x350];
+    struct goblin_pe_section section;
+    struct goblin_pe_image image = { { file, sizeof file }, &section, 1, 0x200, 0x200, GOBLIN_PE_DEFAULT_OPTIONS };
+    struct goblin_pe_section_data found;
+    size_t index = 7;
+    memset(&section, 0, sizeof section);
+    section.virtual_address = 0x1000;
+    section.virtual_size = 0x100;
+    section.size_of_raw_data = section.pointer_to_raw_data = 0x200;
+    return is_fault(goblin_pe_memory_at(&image, 0x1180, 16, &found), GOBLIN_PE_STATUS_READ,
+                    GOBLIN_PE_READ_FAULT_BAD_OFFSET) &&
+           is_ok(goblin_pe_available_at(&image, 0x1000, 0x200, &found)) && found.bytes.bytes == file + 0x200 &&
+           found.bytes.length == 0x150 && !found.zeros &&
+           goblin_pe_region_of(&image, 0x1180, &index) == GOBLIN_PE_REGION_STORED && !index;
+}
+
 /* Whether the symbols of an object are read of which one name is not UTF-8, and the texts of its string
    table, whole and cut. */
 static bool reads_odd_names(void)
@@ -528,7 +547,7 @@ static bool walks_and_adds(void)
 int main(int argc, char **argv)
 {
     if (!sets_names() || !is_told() || !maps_by_records_of_zeros() || !looks_up() || !maps_as_loaded() || !walks_and_adds() ||
-        !tells_what_is_there() || !reads_odd_names() ||
+        !tells_what_is_there() || !lacks_what_is_cut() || !reads_odd_names() ||
         goblin_pe_kind_of(NULL, 0) != GOBLIN_PE_KIND_UNKNOWN)
         return 4;
     for (int i = 1; i < argc; i++) {

@@ -243,7 +243,7 @@ static inline bool goblin_pe_read_parts(
    sections are read as the options say. A file without damage, of which no library is left out, is one that both
    modes read, and read alike. Of imports for which the options do not ask nothing is told. Refused are a header or
    sections that goblin_pe_open refuses by these options, and memory, which is taken only for an index of more than 96
-   sections, and given back. */
+   sections, and given back. The part of such a fault is 0. */
 static inline struct goblin_pe_fault goblin_pe_read_damage(
     const uint8_t *bytes, size_t length, const struct goblin_pe_options *options, struct goblin_pe_damage *damage)
 {

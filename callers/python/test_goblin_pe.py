@@ -24,7 +24,7 @@ import unittest.mock
 
 import goblin_pe
 from goblin_pe import (AuxBeginAndEndFunction, AuxFunctionDefinition, AuxSectionDefinition, AuxWeakExternal, Cause, DataDirectory,
-                       DirectoryType, ExportAddress, Kind, Layout, ObjectFile, Options, Parts, Pe, RawPointerRule, ReadFault, Refused, Relocation,
+                       DirectoryType, ExportAddress, Kind, Layout, ObjectFile, Options, Parts, Pe, RawPointerRule, ReadFault, Refused, Region, Relocation,
                        State, Status, Te, kind)
 from goblin_pe.records import Text
 from goblin_pe.rows import Rows
@@ -1153,6 +1153,14 @@ class Files(unittest.TestCase):
                 pe = Pe(sample(name))
                 for rva in range(0, 0x6000, 0x10):
                     self.assertEqual(pe.region_of(rva)[1] is None, pe.memory_at(rva, 1) is None, (name, rva))
+
+    def test_what_a_cut_file_lacks_is_not_zeros(self):
+        """The last section has 0x10 bytes in memory, and 0x200 in a file block. The cut file has 0x150 of these."""
+        data = sample("imports_by_name_x64.dll")
+        whole, cut = (Layout(it) for it in (data, data[:0xB50]))
+        self.assertEqual((whole.memory_at(0x4180, 16), cut.memory_at(0x4180, 16)), ((data[0xB80:0xB90], 0), None))
+        self.assertEqual([cut.available_at(rva, 0x200) for rva in (0x4000, 0x4180)], [(data[0xA00:0xB50], 0), (b"", 0)])
+        self.assertEqual([it.region_of(0x4180)[0] for it in (whole, cut)], [Region.STORED] * 2)
 
     def test_data_without_a_copy(self):
         data = sample("imports_by_name_x64.dll")

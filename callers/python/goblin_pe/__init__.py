@@ -380,7 +380,8 @@ class _File:
         return self._rows("sections")
 
     def section_by_name(self, name: _t.Union[bytes, str]) -> _t.Optional[Section]:
-        """The first section of this name; None where there is none, and where the options cut this name."""
+        """The first section of this name, or None if there is none. If the options limit names, a name
+        with more bytes than the limit is found only in the eight bytes of a section header."""
         wanted = _in_bytes(name)
         is_long = 0 < self._longest_name < len(wanted)  # (whole only where it stands in a record, not after a slash there)
         return next((s for s in self._made.get("sections") or self._each("sections")

@@ -18,8 +18,9 @@ class Refused(ValueError):
     """A call was refused. The error's text is that of the refusal; `status` is a Status, `cause` by the status
     a Cause, a Counted or a ReadFault, else 0, and `first` and `second` are the numbers of the cause. `part` is the
     RefusedPart of an image that is read as a whole or as a layout: the first that cannot be read, in the order of the
-    header, the sections, the imports, the exports and the base relocations; else RefusedPart.NOTHING. A number that
-    has no name here is an int. Refusals of the same status, cause, `first` and `second` are equal, whichever part they refuse."""
+    header, the sections, the imports, the exports and the base relocations. It is RefusedPart.NOTHING if memory was
+    refused, and for every other call, such as `damage`. A number that has no name here is an int. Refusals of the
+    same status, cause, `first` and `second` are equal, whichever part they refuse."""
 
     __module__ = "goblin_pe"
     _CAUSES: Dict[int, Any] = {Status.MALFORMED: Cause, Status.BUFFER_TOO_SHORT: Counted, Status.READ: ReadFault}

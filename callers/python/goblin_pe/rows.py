@@ -163,7 +163,7 @@ class Library(NamedTuple):
 
 class Export(NamedTuple):
     """An export: its name, its own ordinal, the index of its name pointer, its address and the file offset of that. A name
-    that can't be read is None, and so is the offset of an address that no section maps. The forwarder is None, or the pair
+    that can't be read is None, and so is the offset of an address that has none. The forwarder is None, or the pair
     (library, name or ordinal). The name_rva is the address of the name, where bytes_at reads one that is not UTF-8."""
 
     name: Optional[bytes]

@@ -124,8 +124,9 @@ impl Error {
         self.named(ErrorKind::Read)
     }
 
-    /// The part of an image that is refused, where it is read as a whole or as a layout: the first that cannot be
-    /// read, in the order of the header, the sections, the imports, the exports and the base relocations.
+    /// The part of an image that is refused, if the image was read as a whole or as a layout: the first that cannot be
+    /// read, in the order of the header, the sections, the imports, the exports and the base relocations. `None` if
+    /// memory was refused, and for every other call, such as [`damage`](crate::Layout::damage).
     ///
     /// ```no_run
     /// # let bytes = [];

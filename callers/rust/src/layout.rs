@@ -297,7 +297,8 @@ impl<'a> Layout<'a> {
         }
     }
 
-    /// The first section of this name. `None` if there is none, or if the options cut this name.
+    /// The first section of this name, or `None` if there is none. If the options limit names, a name
+    /// with more bytes than the limit is found only in the eight bytes of a section header.
     ///
     /// ```no_run
     /// # let bytes = [];

@@ -120,7 +120,8 @@ impl<'a> Object<'a> {
         Sections::at(self.bytes, SIZEOF_COFF_HEADER + size, &self.sections)
     }
 
-    /// The first section of this name; `None` where there is none, and where the options cut this name.
+    /// The first section of this name, or `None` if there is none. If the options limit names, a name
+    /// with more bytes than the limit is found only in the eight bytes of a section header.
     ///
     /// ```no_run
     /// # let bytes = [];

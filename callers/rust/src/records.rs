@@ -112,17 +112,17 @@ pub struct Options {
     /// layout looks at it: an open, the damage and a footprint test each name.
     pub raw_section_names: bool,
     /// How many bytes a name of an import, a library, an export or a section may have before it is
-    /// cut; 0 is no limit. Of a longer one the front is given, up to where the first character ends
-    /// that reaches past so many: so a name that is longer than this is cut. What follows is not
-    /// tested: it may be no UTF-8. The text of a forwarder is such a name, too: of a longer one the
-    /// library is what stands before its first dot, or all without a dot, and the name what
-    /// follows, which may be empty or begin with `#`; it is cut where library, dot and name are
-    /// longer than this. Only calls that read a table from its places, forwarders of an image, and
-    /// the sections of a layout or an object look at it; those that list a whole file, its damage
-    /// or a footprint read each name to its end, so they may refuse or leave out what a walk gives.
-    /// A section's name that stands in the eight bytes of its record is whole. Calls for symbols
-    /// take no options: their limit stands in the record of their table, where Rust and Python put
-    /// this one.
+    /// cut; 0 is no limit. Of a longer one the front is given, up to the end of the first character
+    /// that reaches past so many bytes. So a name that comes with at most so many is whole, and one
+    /// with more may be cut. What follows is not tested: it may be no UTF-8. The text of a
+    /// forwarder is such a name, too: of a longer one the library is what stands before its first
+    /// dot, or all without a dot, and the name what follows, which may be empty or begin with `#`;
+    /// it may be cut where library, dot and name are longer than this. Only calls that read a table
+    /// from its places, forwarders of an image, and the sections of a layout or an object look at
+    /// it; those that list a whole file, its damage or a footprint read each name to its end, so
+    /// they may refuse or leave out what a walk gives. A section's name that stands in the eight
+    /// bytes of its record is whole. Calls for symbols take no options: their limit stands in the
+    /// record of their table, where Rust and Python put this one.
     pub longest_name: u32,
 }
 
@@ -138,8 +138,9 @@ pub struct Fault {
     pub first: u64,
     /// The number that the cause calls `second`; else 0.
     pub second: u64,
-    /// The part of an image that is refused, by the numbers of `RefusedPart`, where the call reads
-    /// a whole image or a layout; else 0.
+    /// The part of an image that is refused, by the numbers of `RefusedPart`, if a call opens the
+    /// image or reads its layout, and in the `refusal` of its parts. Else 0: for refused memory,
+    /// and in what any other call returns, such as the read of the damage.
     pub part: u32,
     /// Zero. It stands where padding would be, so that each byte of the record is defined.
     pub reserved: u32,
@@ -406,10 +407,10 @@ pub struct SymbolTable {
     /// How many bytes these texts have.
     pub strings_length: usize,
     /// How many bytes a name or a text of the string table may have before it is cut; 0 is no
-    /// limit. Of a longer one the front is given, up to where the first character ends that reaches
-    /// past so many: so one that is longer than this is cut. What follows is not tested. A name
-    /// that stands in the eight bytes of a symbol's record is whole. A call that says where the
-    /// tables lie puts 0 here; its caller may put another number.
+    /// limit. Of a longer one the front is given, up to the end of the first character that reaches
+    /// past so many bytes. So one that comes with more may be cut. What follows is not tested. A
+    /// name that stands in the eight bytes of a symbol's record is whole. A call that says where
+    /// the tables lie puts 0 here; its caller may put another number.
     pub longest_name: u32,
     /// Zero. It stands where padding would be, so that each byte of the record is defined.
     pub reserved: u32,
@@ -561,8 +562,10 @@ pub struct Export<'a> {
     pub rva: usize,
     /// Whether the name can be read.
     pub has_name: bool,
-    /// Whether `rva` has a file offset: a section maps it and the file alignment is a power of two,
-    /// or the options say that addresses are offsets.
+    /// Whether `rva` has a file offset. It has one if the file alignment is a power of two and a
+    /// section maps the address, or the front of the file if the options map as the Windows loader
+    /// does; or if the options say that addresses are offsets. With the loader's map, address 0 has
+    /// none.
     pub has_offset: bool,
     /// What it forwards to, by the numbers of `Forwards`.
     pub forwards: u8,

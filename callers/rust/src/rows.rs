@@ -244,8 +244,8 @@ pub struct Section<'a> {
 }
 
 impl<'a> Section<'a> {
-    // Whether it has this name, where names have a limit, if that is not 0: of a longer one only a front is known, but one
-    // that stands in its record (where a slash leads to another) is whole.
+    // Whether it has this name, where names have a limit, if that is not 0: a longer one may be a front, but one that stands
+    // in its record (where a slash leads to another) is whole.
     pub(crate) fn is_named(&self, name: &[u8], longest: u32) -> bool {
         let is_long = longest != 0 && name.len() > longest as usize;
         let is_cut = is_long && (name[0] == b'/' || !self.raw_name.starts_with(name));
@@ -647,7 +647,8 @@ pub struct Export<'a> {
     pub hint: usize,
     /// The address of its name, where [`Layout::bytes_at`](crate::Layout::bytes_at) reads one that is not UTF-8.
     pub name_rva: u32,
-    /// The file offset of `rva`, as [`Layout::find_offset`](crate::Layout::find_offset) gives it.
+    /// The file offset of `rva`, as [`Layout::find_offset`](crate::Layout::find_offset) gives it, except that with
+    /// [`RawPointerRule::AsLoaded`](crate::RawPointerRule::AsLoaded) address 0 has none.
     pub offset: Option<usize>,
     /// The address, relative to the image's base; of a forwarder that of its text.
     pub rva: usize,

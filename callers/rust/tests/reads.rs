@@ -1780,6 +1780,21 @@ fn sections_are_written_where_there_is_room() {
     assert!(is_no_place(layout.patched(&header, &[])));
 }
 
+// The last section has 0x10 bytes in memory, and 0x200 in a file block. The cut file has 0x150 of these.
+#[test]
+fn what_a_cut_file_lacks_is_not_zeros() {
+    let bytes = sample("imports_by_name_x64.dll");
+    let whole = Layout::parse(&bytes).unwrap();
+    let cut = Layout::parse(&bytes[..0xB50]).unwrap();
+    let lacking = cut.memory_at(0x4180, 16).unwrap_err();
+    assert_eq!(lacking.read_fault(), Some(ReadFault::BadOffset));
+    assert_eq!(cut.available_at(0x4180, 16), Ok((&[][..], 0)));
+    let there = cut.available_at(0x4000, 0x200);
+    assert_eq!(there, Ok((&bytes[0xA00..0xB50], 0)));
+    assert_eq!(whole.region_of(0x4180).0, Region::Stored);
+    assert_eq!(cut.region_of(0x4180).0, Region::Stored);
+}
+
 // A section that grows to 0x300 bytes in memory, of which the file has 0x200.
 #[test]
 fn the_memory_of_a_section_holds_what_follows_its_data() {

@@ -63,8 +63,10 @@ pub struct PeExport<'a> {
     pub rva: usize,
     /// Whether the name can be read.
     pub has_name: bool,
-    /// Whether `rva` has a file offset: a section maps it and the file alignment is a power of two,
-    /// or the options say that addresses are offsets.
+    /// Whether `rva` has a file offset. It has one if the file alignment is a power of two and a
+    /// section maps the address, or the front of the file if the options map as the Windows loader
+    /// does; or if the options say that addresses are offsets. With the loader's map, address 0 has
+    /// none.
     pub has_offset: bool,
     /// What it forwards to, by the numbers of [`Forwards`].
     pub forwards: u8,

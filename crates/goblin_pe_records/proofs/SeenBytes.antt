@@ -80,7 +80,7 @@ module _ (image : PeImage) (rva p : ℕ) (even : is_power_of_two image.file_alig
   stored-one : (s : Section) → Holds s → is_unstored s ≡ false → p < length file → stored_of opts alignment (length file) s (rva - s.virtual_address) 1 ≡ 1
   stored-one s h there inside =
       let window = window_is s in
-      let most : stored_in_memory opts alignment (length file) s ≡ max (min (window_size alignment s) (length file - raw_begin opts s)) (min (memory_size s) (stored_size opts s)) = rw there refl in
+      let most : stored_in_memory opts alignment (length file) s ≡ max (min (window_size alignment s) (length file - raw_begin opts s)) (min (max (memory_size s) (window_size alignment s)) (stored_size opts s)) = rw there refl in
       omega (arith, window, most, h.within.0, h.within.1, h.at, inside)
 
   roomy : (s : Section) → Holds s → nat_le 1 (memory_end alignment s - rva) ≡ true

@@ -33,14 +33,16 @@ memory_end alignment s = s.virtual_address + max (memory_size s) (window_size al
 abbrev pub is_in_memory : ℕ → ℕ → Section → Bool
 is_in_memory alignment rva s = nat_le s.virtual_address rva && nat_lt rva (memory_end alignment s)
 
--- How many bytes of a section's memory are the file's, whose end is given: those of its data, and of
--- the file blocks in its window as far as the file has them; none where it has no place in the file.
+-- How many bytes of a section's memory are the file's, whose end is given: all of its data, also what
+-- a cut file lacks; and of the file blocks in its window what the file has. There are none if the
+-- section has no place in the file.
 abbrev pub stored_in_memory : ParseOptions → ℕ → ℕ → Section → ℕ
 stored_in_memory opts alignment end s =
+    let window = window_size alignment s in
     if is_unstored s
     then 0
-    else max (min (window_size alignment s) (end - raw_begin opts s))
-    (min (memory_size s) (stored_size opts s))
+    else max (min window (end - raw_begin opts s))
+    (min (max (memory_size s) window) (stored_size opts s))
 
 -- ---- what holds an address
 

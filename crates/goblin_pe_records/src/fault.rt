@@ -261,8 +261,9 @@ pub struct PeFault {
     pub first: u64,
     /// The number that the cause calls `second`; else 0.
     pub second: u64,
-    /// The part of an image that is refused, by the numbers of `RefusedPart`, where the call reads a
-    /// whole image or a layout; else 0.
+    /// The part of an image that is refused, by the numbers of `RefusedPart`, if a call opens the
+    /// image or reads its layout, and in the `refusal` of its parts. Else 0: for refused memory, and
+    /// in what any other call returns, such as the read of the damage.
     pub part: u32,
     /// Zero. It stands where padding would be, so that each byte of the record is defined.
     pub reserved: u32,

@@ -72,9 +72,11 @@ fn stored_in_memory(
         return 0;
     }
     let left = end.saturating_sub(raw_begin(section, opts) as usize);
-    let size = memory_size(section) as usize;
-    let data = size.min(stored_size_of(section, opts));
-    window_size(section, file_alignment).min(left).max(data)
+    let window = window_size(section, file_alignment);
+    let size = window.max(memory_size(section) as usize);
+    window
+        .min(left)
+        .max(size.min(stored_size_of(section, opts)))
 }
 
 // Whether the file's front is mapped, and its window holds the address.

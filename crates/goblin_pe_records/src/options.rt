@@ -63,17 +63,18 @@ pub struct PeOptions {
     /// Else a name that begins with a slash is looked up there, in either mode. Only a read of a
     /// layout looks at it: an open, the damage and a footprint test each name.
     pub raw_section_names: bool,
-    /// How many bytes a name of an import, a library, an export or a section may have before it is cut;
-    /// 0 is no limit. Of a longer one the front is given, up to where the first character ends that
-    /// reaches past so many: so a name that is longer than this is cut. What follows is not tested: it
-    /// may be no UTF-8. The text of a forwarder is such a name, too: of a longer one the library is
-    /// what stands before its first dot, or all without a dot, and the name what follows, which may be
-    /// empty or begin with `#`; it is cut where library, dot and name are longer than this. Only
-    /// calls that read a table from its places, forwarders of an image, and the sections of a layout
-    /// or an object look at it; those that list a whole file, its damage or a footprint read each
-    /// name to its end, so they may refuse or leave out what a walk gives. A section's name that
-    /// stands in the eight bytes of its record is whole. Calls for symbols take no options: their
-    /// limit stands in the record of their table, where Rust and Python put this one.
+    /// How many bytes a name of an import, a library, an export or a section may have before it is
+    /// cut; 0 is no limit. Of a longer one the front is given, up to the end of the first character
+    /// that reaches past so many bytes. So a name that comes with at most so many is whole, and one
+    /// with more may be cut. What follows is not tested: it may be no UTF-8. The text of a
+    /// forwarder is such a name, too: of a longer one the library is what stands before its first
+    /// dot, or all without a dot, and the name what follows, which may be empty or begin with `#`;
+    /// it may be cut where library, dot and name are longer than this. Only calls that read a table
+    /// from its places, forwarders of an image, and the sections of a layout or an object look at
+    /// it; those that list a whole file, its damage or a footprint read each name to its end, so
+    /// they may refuse or leave out what a walk gives. A section's name that stands in the eight
+    /// bytes of its record is whole. Calls for symbols take no options: their limit stands in the
+    /// record of their table, where Rust and Python put this one.
     pub longest_name: u32,
 }
 

@@ -40,8 +40,8 @@ pub struct PeSymbolTable {
     /// How many bytes these texts have.
     pub strings_length: usize,
     /// How many bytes a name or a text of the string table may have before it is cut; 0 is no limit.
-    /// Of a longer one the front is given, up to where the first character ends that reaches past so
-    /// many: so one that is longer than this is cut. What follows is not tested. A name that stands
+    /// Of a longer one the front is given, up to the end of the first character that reaches past so
+    /// many bytes. So one that comes with more may be cut. What follows is not tested. A name that stands
     /// in the eight bytes of a symbol's record is whole. A call that says where the tables lie puts 0
     /// here; its caller may put another number.
     pub longest_name: u32,
