@@ -1,25 +1,36 @@
 // Stands before the C library's malloc and realloc in a program that the tests run: the growth whose number is in
-// REFUSED is refused, and the file descriptor whose number is in TOLD gets a line that says so.
+// REFUSED is refused, and the file descriptor whose number is in TOLD gets a line that says so. In the end the file
+// descriptor whose number is in COUNTED gets the number of growths, and of the bytes that they asked for.
 void *__libc_malloc(unsigned long size);
 void *__libc_realloc(void *block, unsigned long size);
 char *getenv(const char *name);
 int atoi(const char *text);
 long write(int file, const void *bytes, unsigned long length);
+int dprintf(int file, const char *format, ...);
 
 static int growths;
+static unsigned long asked;
 
-static int is_refused(void) {
+static int is_refused(unsigned long size) {
     const char *refused = getenv("REFUSED");
-    if (!refused || ++growths != atoi(refused))
+    growths++;
+    asked += size;
+    if (!refused || growths != atoi(refused))
         return 0;
     write(atoi(getenv("TOLD")), "refused\n", 8);
     return 1;
 }
 
 void *malloc(unsigned long size) {
-    return is_refused() ? 0 : __libc_malloc(size);
+    return is_refused(size) ? 0 : __libc_malloc(size);
 }
 
 void *realloc(void *block, unsigned long size) {
-    return is_refused() ? 0 : __libc_realloc(block, size);
+    return is_refused(size) ? 0 : __libc_realloc(block, size);
+}
+
+__attribute__((destructor)) static void tell(void) {
+    const char *counted = getenv("COUNTED");
+    if (counted)
+        dprintf(atoi(counted), "%d %lu\n", growths, asked);
 }

@@ -10,8 +10,9 @@ MODES = ("strict", "permissive")
 EACH = ("default", *MODES)
 DEFAULT = ("default",)
 
-# Calls that take memory, and their answers. A law has two answers: where one is refused memory, the other stands in its
-# place, and so it is for each of them.
+# Calls that take memory, and their answers. A reader that returns Memory, whatever the allocator says, meets its contract: it
+# fails here, since the answer has to come where no growth is refused. A law has two answers: where one is refused memory, the
+# other stands in its place, and so it is for each of them.
 TAKE_MEMORY = [
     (EACH, "section", "5"),
     (DEFAULT, "clone", "5"),

@@ -7,7 +7,7 @@ import re
 import struct
 import tempfile
 
-from tests import images
+from tests import hostile, images
 from tests.programs import (CRATES, IMAGES, OBJECTS, PE_LIST, SAMPLES, TERSE, TOP, Case, beside, build_pe_list, milliseconds, modes,
                             preloaded, run, with_memory)
 
@@ -16,6 +16,22 @@ USAGE = b"usage: pe_list [--permissive]\n"
 REFUSED = (1, b"", b"refused\n")
 NO_MEMORY = (1, b"", b"out of memory\n")
 SMALL = SAMPLES / "align16_x86.dll"
+# How many growths of memory a listing has, and how many bytes they ask for, in strict and in permissive mode: measured when
+# contracts still said for which files a call takes memory.
+MOST_ASKED = {
+    "align16_x64.dll": ((18, 3207), (19, 3463)),
+    "align16_x86.dll": ((18, 3191), (19, 3447)),
+    "firmware_x64.efi": ((16, 5327), (17, 5583)),
+    "forwarders_x64.dll": ((17, 6523), (18, 6779)),
+    "forwarders_x86.dll": ((17, 6523), (18, 6779)),
+    "imports_by_name_x64.dll": ((22, 7197), (23, 7453)),
+    "imports_by_name_x86.dll": ((22, 7197), (23, 7453)),
+    "imports_by_ordinal_x64.dll": ((23, 7210), (24, 7466)),
+    "imports_by_ordinal_x86.dll": ((23, 7210), (24, 7466)),
+    "program_x64.exe": ((16, 5327), (17, 5583)),
+    "program_x86.exe": ((16, 5327), (17, 5583)),
+    "others": ((10478, 5894475), (11564, 6122377)),
+}
 STORED = CRATES / "pe_list/stdin"  # a small file whose every byte is known, and beside it what is listed of it
 
 # The parts of that listing, and what a change of the file, bytes by their offsets, makes of them in strict and in permissive
@@ -131,7 +147,8 @@ class Listings(Case):
 
 class Memory(Case):
     def assert_each_growth(self, words, wanted, stdin):
-        """Where a growth is refused nothing is listed."""
+        """Where a growth is refused nothing is listed. Where none is, all is listed: a `run` that says that memory is refused,
+        whatever the allocator says, meets its contract, and fails here."""
         self.assertEqual(set(self.each_growth([PE_LIST, *words], wanted, stdin)), {b""})
 
     def test_each_growth_is_refused(self):
@@ -142,6 +159,30 @@ class Memory(Case):
             for words, wanted in modes(sample):
                 with self.subTest(sample=sample.name, words=words):
                     self.assert_each_growth(words, wanted, sample)
+
+    def asked(self, words, file):
+        """How many growths of memory a run has, and how many bytes they ask for."""
+        with tempfile.TemporaryFile() as counted:
+            preload = {"LD_PRELOAD": str(preloaded("refuse_growth")), "COUNTED": str(counted.fileno())}
+            run([PE_LIST, *words], file, env={**os.environ, **preload}, pass_fds=[counted.fileno()])
+            counted.seek(0)
+            return tuple(map(int, counted.read().split()))
+
+    def test_no_file_asks_for_more_memory(self):
+        """Nor asks more often, than when contracts still said for which files a call takes memory: each sample, and some 400
+        files together that are damaged or made to mislead."""
+        for sample in IMAGES:
+            for words, most in zip(BOTH_MODES, MOST_ASKED[sample.name]):
+                with self.subTest(sample=sample.name, words=words):
+                    self.assert_at_most(self.asked(words, sample), most)
+        files = [self.written(f"{i}.dll", bytes(it)) for i, it in enumerate(hostile.files(27))]
+        self.assertGreater(len(files), 400)
+        for words, most in zip(BOTH_MODES, MOST_ASKED["others"]):
+            with self.subTest(words=words):
+                self.assert_at_most(tuple(map(sum, zip(*(self.asked(words, it) for it in files)))), most)
+
+    def assert_at_most(self, asked, most):
+        self.assertTrue(asked[0] <= most[0] and asked[1] <= most[1], f"{asked}, and {most} before")
 
     def test_a_large_image(self):
         """It is listed, and refused where memory is short, be it to read the image or to list it."""

@@ -292,7 +292,7 @@ static inline bool goblin_pe_is_end(const struct goblin_pe_import_cursor *cursor
    `places`, which goblin_pe_read_layout and goblin_pe_open say, so no call reads the header again; other numbers
    there or in the cursor lead to other tables, and harm nothing; flags are false or true. Refused is also a file
    that is too short for the records of its sections. Memory is taken only for an index of more than 96 sections,
-   which Windows does not load, and given back: each call makes it anew, of 65,535 sections in some 25 milliseconds,
+   more than the specification allows, and given back: each call makes it anew, of 65,535 sections in some 25 milliseconds,
    so give room for thousands then. */
 static inline struct goblin_pe_fault goblin_pe_next_imports(
     const uint8_t *bytes, size_t length, const struct goblin_pe_options *options, const struct goblin_pe_places *places,

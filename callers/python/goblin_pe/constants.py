@@ -646,8 +646,9 @@ SIZEOF_EXPORT_DIRECTORY_TABLE = 40
 SIZEOF_EXPORT_ADDRESS_TABLE_ENTRY = 4
 # The size of the header of a base relocation block, in bytes.
 RELOCATION_BLOCK_SIZE = 8
-# The largest number of sections that are walked over for each address. It is the limit of the
-# Windows loader. For more sections an index is made, which takes memory.
+# The largest number of sections that are walked over for each address. For more sections an index
+# is made, which takes memory. The specification says that the Windows loader limits the number of
+# sections to 96; newer versions of Windows load more.
 #
 # Source: PE Format, "COFF File Header (Object and Image)".
 MOST_WITHOUT_INDEX = 96

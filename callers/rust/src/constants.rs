@@ -646,8 +646,9 @@ pub const SIZEOF_EXPORT_DIRECTORY_TABLE: usize = 40;
 pub const SIZEOF_EXPORT_ADDRESS_TABLE_ENTRY: usize = 4;
 /// The size of the header of a base relocation block, in bytes.
 pub const RELOCATION_BLOCK_SIZE: usize = 8;
-/// The largest number of sections that are walked over for each address. It is the limit of the
-/// Windows loader. For more sections an index is made, which takes memory.
+/// The largest number of sections that are walked over for each address. For more sections an index
+/// is made, which takes memory. The specification says that the Windows loader limits the number of
+/// sections to 96; newer versions of Windows load more.
 ///
 /// Source: PE Format, "COFF File Header (Object and Image)".
 pub const MOST_WITHOUT_INDEX: usize = 96;

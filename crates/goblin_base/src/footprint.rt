@@ -91,8 +91,7 @@ impl Marks {
         count
     }
 
-    /// What `made` returns for each range of marked positions, in order, in a list with room for no
-    /// more.
+    /// What `made` returns for each range of marked positions, in order.
     ///
     /// # Errors
     /// [`Error::Memory`](crate::Error::Memory) only.

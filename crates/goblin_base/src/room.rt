@@ -1,9 +1,8 @@
 //! Room in a list whose length is not known when it is begun.
 
-ghost use Rattle.std.specs.Prelude.{◌≡◌, ◌<◌, IfErr, OnOk, vec_capacity, vec_len};
-ghost use Rattle.goblin_base.specs.Answers.{IsMemory};
+ghost use Rattle.std.specs.Prelude.{◌≡◌, ◌<◌, OnOk, vec_capacity, vec_len};
 
-use crate::error::ResultOf;
+use std::alloc::AllocError;
 
 // For at least how many more items room is made in a list that has some, or of which none are
 // expected.
@@ -15,11 +14,10 @@ const LEAST_MORE: usize = 32;
 /// none are expected, gets room for half as many more as it has, but at least for 32 more.
 ///
 /// # Errors
-/// Only [`Error::Memory`](crate::Error::Memory).
+/// If memory is refused.
 #[inline]
-pub fn make_room<'e, T: Drop>(items: &mut Vec<T>, expected: usize) -> ResultOf<'e, ()>
+pub fn make_room<T: Drop>(items: &mut Vec<T>, expected: usize) -> Result<(), AllocError>
     ensures kept { items.new.items ≡ items.old.items }
-    ensures refused { IfErr result IsMemory }
     ensures spare { OnOk result (vec_len items.new < vec_capacity items.new) }
 {
     let count = items.len();

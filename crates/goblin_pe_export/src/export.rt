@@ -5,10 +5,10 @@
 //! export. That entry is the index of the export's address in the address table. An address inside
 //! the directory is that of a forwarder's text.
 
-ghost use Rattle.std.specs.Prelude.{◌<◌, ◌≡◌, ◌+◌, ◌/◌, ◌++◌, ◌∷◌, [], IfErr};
-ghost use Rattle.std.specs.Prelude.{IfSome, IsOk, MatchOption, None, OnOk};
+ghost use Rattle.std.specs.Prelude.{◌≡◌, ◌/◌};
+ghost use Rattle.std.specs.Prelude.{IfSome, IsOk, MatchOption, None};
 ghost use Rattle.std.specs.Prelude.{Option, Some, length, option_and_then, option_map};
-ghost use Rattle.goblin_base.specs.Answers.{GivesOrMemory, IsMemory};
+ghost use Rattle.goblin_base.specs.Answers.{GivesOrMemory};
 ghost use Rattle.goblin_base.specs.Reading.{ReadsOrMemory};
 ghost use Rattle.goblin_pe_sect.specs.Options.{default_options};
 ghost use Rattle.goblin_pe_sect.specs.Addresses.{map_by, map_of};
@@ -21,6 +21,7 @@ ghost use Rattle.goblin_pe_export.specs.Forwarders.{forwarder_value, forwarder_w
 ghost use Rattle.readings.specs.Reads.{text_within};
 ghost use Rattle.goblin_pe_sect.specs.Addresses.{Addressing};
 
+use goblin_base::room::make_room;
 use goblin_base::{Result, pread_plain_str, pread_str_within};
 use goblin_pe_sect::address_map::{AddressMap, Finder};
 use goblin_pe_sect::{DataDirectory, ParseOptions, SectionTable};
@@ -275,20 +276,6 @@ fn expected_count(tables: &ExportData) -> usize {
     FEW.max(count)
 }
 
-// Adds an export. If it doesn't fit, makes room: for as many as are expected if there are none yet,
-// else for half as many more, plus one.
-fn add_row<'a>(rows: &mut Vec<Export<'a>>, export: Export<'a>, expected: usize) -> Result<()>
-    ensures added { OnOk result (rows.new.items ≡ rows.old.items ++ export.entry ∷ []) }
-    ensures refused { IfErr result IsMemory }
-{
-    let count = rows.len();
-    if count == rows.capacity() {
-        rows.reserve_exact(if count == 0 { expected } else { count / 2 + 1 })?;
-    }
-    rows.push(export)?;
-    Ok(())
-}
-
 impl<'a> Export<'a> {
     // The export of a name pointer and an entry of the address table. `None` if the entry is a
     // forwarder that cannot be read.
@@ -454,7 +441,8 @@ impl<'a> Export<'a> {
         'rows: for index in 0..export_data.pointers() {
             let export = Export::of_pointer(bytes, export_data, index, &mut finder);
             if let Some((_, export)) = export {
-                add_row(&mut rows, export, expected)?;
+                make_room(&mut rows, expected)?;
+                rows.push_reserved(export);
             }
         }
         Ok(rows)

@@ -225,7 +225,7 @@ impl<'a> TablesInFile<'a> {
     }
 }
 
-// The `count` entries of a table, with room for no more.
+// The `count` entries of a table.
 fn entries_of<'e, V: Drop, F: Fn(usize) -> Option<V>>(
     alloc: Global,
     count: usize,
@@ -242,7 +242,7 @@ fn entries_of<'e, V: Drop, F: Fn(usize) -> Option<V>>(
         let Some(found) = entry(index) else {
             return Ok(entries);
         };
-        entries.push(found)?;
+        entries.push_reserved(found);
     }
     Ok(entries)
 }

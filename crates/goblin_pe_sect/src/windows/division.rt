@@ -14,6 +14,7 @@ use super::cuts::cuts_of;
 use super::owners::{Owner, Window, put_pieces, window_at};
 use crate::options::ParseOptions;
 use crate::section_table::SectionTable;
+use goblin_base::room::make_room;
 use std::alloc::{AllocError, Global};
 
 // Adds a piece.
@@ -23,7 +24,8 @@ fn push_piece(pieces: &mut Vec<Piece>, begin: usize, owner: Option<Owner>) -> Re
     ensures owners { OnOk result
         (owners_of pieces.new.items ≡ owners_of pieces.old.items ++ owner ∷ []) }
 {
-    pieces.push(Piece::new(begin, owner))?;
+    make_room(pieces, 0)?;
+    pieces.push_reserved(Piece::new(begin, owner));
     Ok(())
 }
 

@@ -6,7 +6,7 @@ use Rattle.goblin_pe_export.specs.ExportRecords.{ExportRow}
 use Rattle.goblin_pe_export.specs.Exports.{export_row}
 use Rattle.goblin_pe_export.proofs.ExportRows.{row_more, row_none, rows_listed}
 use Rattle.goblin_pe_export.proofs.export.Export.parse_by.Goals as goal
-use Rattle.goblin_pe_export.proofs.export.Export.parse_by.Goals.{in-Some+in_ok-add_row, in_default}
+use Rattle.goblin_pe_export.proofs.export.Export.parse_by.Goals.{in-Some+in_ok-make_room, in_default}
 
 pub rows-init : goal.rows-init
 rows-init c =
@@ -20,9 +20,9 @@ rows-preserved c =
     let here = ap (λ m. row m c.rows.index) c.rows.invariant.1 in
     let same = c.of_pointer-export.ensures.same ∙ c.rows.invariant.1 in
     elim c.match-export.branch [
-      | in-Some+in_ok-add_row w ↦
+      | in-Some+in_ok-make_room w ↦
           rw w.rows-is
-          (w.in_ok-add_row.ensures.added ∙ row_more each c.rows.index _ c.rows.invariant.0 _ (sym w.in-Some.ensures.row ∙ here), same)
+          ((rw w.in_ok-make_room.ensures.kept at w.push_reserved.ensures.items) ∙ row_more each c.rows.index _ c.rows.invariant.0 _ (sym w.in-Some.ensures.row ∙ here), same)
       | in_default w ↦ rw w.rows-is (row_none each c.rows.index _ c.rows.invariant.0 (sym w.in_default.ensures.row ∙ here), same)
     ]
 

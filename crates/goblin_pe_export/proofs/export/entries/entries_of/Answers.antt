@@ -11,12 +11,16 @@ taken-more entries i found h =
     ∙ ap (λ x. take i entries ++ x ∷ []) (get_or_from_slice_get entries i found found h)
 
 pub entries-preserved : goal.entries-preserved
-entries-preserved g c = λ entries long says.
-    c.in_ok-push.ensures.items
-    ∙ ap (λ xs. xs ++ c.in-Some.found ∷ []) (c.entries.invariant entries long says)
-    ∙ sym (taken-more entries c.entries.index c.in-Some.found (sym (says _ _ c.in-Some.ensures)))
+entries-preserved g c = (
+  λ entries long says.
+      c.push_reserved.ensures.items
+      ∙ ap (λ xs. xs ++ c.in-Some.found ∷ []) (c.entries.invariant.0 entries long says)
+      ∙ sym (taken-more entries c.entries.index c.in-Some.found (sym (says _ _ c.in-Some.ensures))),
+  omega (arith, c.push_reserved.ensures.len, c.entries.invariant.1),
+  c.push_reserved.ensures.capacity ∙ c.entries.invariant.2,
+)
 
 pub returns : goal.returns
 returns g c = λ entries long says.
-    sym (c.entries.invariant entries long says
+    sym (c.entries.invariant.0 entries long says
     ∙ take_all c.entries.index entries (omega (arith, long, c.entries-test.false)))
