@@ -43,7 +43,7 @@ pub(super) fn read_sections(
             opts,
         )?;
         adjust_section(&mut section, displacement);
-        sections.push(section)?;
+        sections.push_reserved(section);
     }
     *offset = end;
     Ok(sections)

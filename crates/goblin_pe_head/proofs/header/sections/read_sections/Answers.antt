@@ -16,6 +16,8 @@ records-init c =
     record {
       end = omega arith;
       read = all_at-zero value ∙ ap (λ (xs : List Section). Some xs) (sym c.in_ok-sections.ensures.items);
+      len = c.in_ok-sections.ensures.len;
+      capacity = c.in_ok-sections.ensures.exact;
     }
 
 pub records-preserved : goal.records-preserved
@@ -31,7 +33,9 @@ records-preserved c =
     let more = all_at-more (λ i. (moved_section move strict table (c.args.offset.now + 40 * i)).value bytes) c.records.counter c.records.sections.items c.adjust_section.new.section before.read here in
     record {
       end = omega (arith, before.end, c.in_ok-section.ensures.ok);
-      read = more ∙ ap (λ (xs : List Section). Some xs) (sym c.in_ok-push.ensures.items);
+      read = more ∙ ap (λ (xs : List Section). Some xs) (sym c.push_reserved.ensures.items);
+      len = omega (arith, c.push_reserved.ensures.len, before.len);
+      capacity = c.push_reserved.ensures.capacity ∙ before.capacity;
     }
 
 pub returns-in_err-section-clause-value : goal.returns-in_err-section-clause-value
