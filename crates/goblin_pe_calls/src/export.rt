@@ -19,9 +19,10 @@ ghost use Rattle.goblin_pe_calls.specs.Exports.{said_without_forwarder, unread_s
 use crate::export_directory::{
     PeExportAddress, PeExportDirectory, address_records, directory_record, no_export_directory,
 };
+use goblin_base::room::make_room;
 use goblin_pe::export::{Exports, Reexport, WalkedExport};
 use goblin_pe::{Layout, Part, Result};
-use goblin_pe_records::room::make_room;
+use goblin_pe_records::room::MOST_FIRST;
 use goblin_pe_sect::address_map::Finder;
 use std::alloc::Global;
 
@@ -205,7 +206,7 @@ fn records_of<'a, 'm>(
     ensures { GivesOrMemory export_views result
         (map export_said (exports_left exports.entry)) }
 {
-    let expected = exports.pointer_count();
+    let expected = exports.pointer_count().min(MOST_FIRST);
     let mut records = Vec::new(alloc);
     'exports: while let Some(export) = exports.next() {
         push_export(&mut records, bytes, &export, expected)?;

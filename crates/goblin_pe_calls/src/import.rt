@@ -18,9 +18,10 @@ ghost use Rattle.goblin_pe.specs.Whole.{import_list, numbered_data_part, part_ma
 ghost use Rattle.goblin_pe_calls.specs.Imports.{GivesHere, Pushes, import_said};
 ghost use Rattle.goblin_pe_calls.specs.Imports.{import_view, import_views, imports_said};
 
+use goblin_base::room::make_room;
 use goblin_pe::import::{Bitfield, Imports, SyntheticImportLookupTableEntry, WalkedImport};
 use goblin_pe::{FileImports, Layout, Part, Result, ResultOf};
-use goblin_pe_records::room::make_room;
+use goblin_pe_records::room::MOST_FIRST;
 use goblin_pe_sect::address_map::Finder;
 use goblin_pe_sect::data_directories::DataDirectoryType;
 use std::alloc::Global;
@@ -178,7 +179,7 @@ fn records_of<'a, 'm, 'e, T: Bitfield<'a>>(
         (IsImportsCause T.format imports.entry) }
     ensures left { OnOk result (map_of finder.new ≡ imports_map imports.entry) }
 {
-    let expected = tables as usize / T::size_of();
+    let expected = (tables as usize / T::size_of()).min(MOST_FIRST);
     let mut records = Vec::new(alloc);
     'libraries: while let Some(import) = imports.next() {
         push_import(&mut records, bytes, &import?, expected)?;

@@ -1,6 +1,6 @@
 //! The records of base relocation blocks.
 
-ghost use Rattle.std.specs.Prelude.{◌≡◌, ◌<◌, ◌+◌, ◌++◌, ◌∷◌, [], IfErr, IfOk, OnOk};
+ghost use Rattle.std.specs.Prelude.{◌≡◌, ◌+◌, ◌++◌, ◌∷◌, [], IfErr, IfOk, OnOk};
 ghost use Rattle.std.specs.Prelude.{map};
 ghost use Rattle.goblin_base.specs.Answers.{IsMemory};
 ghost use Rattle.goblin_pe_sect.specs.BaseRelocations.{block_items, block_value, relocation_bytes};
@@ -9,8 +9,8 @@ ghost use Rattle.goblin_pe_records.specs.Items.{rest_of, values_of};
 
 use crate::fault::{PeFault, fault_of, no_fault};
 use crate::file::PeTable;
-use crate::room::make_room;
 use goblin_base::Result;
+use goblin_base::room::make_room;
 use goblin_pe_sect::relocation::{RelocationBlock, RelocationData};
 use std::alloc::Global;
 
