@@ -382,7 +382,8 @@ struct goblin_pe_options {
     /* Whether the sections of a layout have their raw names alone, as the loader of images takes
        them: no name is tested, none refuses the file, and none is looked up in the string table.
        Else a name that begins with a slash is looked up there, in either mode. Only a read of a
-       layout looks at it: an open, the damage and a footprint test each name. */
+       layout, and the refusal among the parts of a header, look at it: an open, the damage and a
+       footprint test each name. */
     bool raw_section_names;
     /* How many bytes a name of an import, a library, an export or a section may have before it is
        cut; 0 is no limit. Of a longer one the front is given, up to the end of the first character
@@ -519,8 +520,9 @@ struct goblin_pe_places {
     struct goblin_pe_data_directory directories[16];
     /* The file alignment of the sections' raw data, in bytes; 0 where there is no optional header. */
     uint32_t file_alignment;
-    /* How many bytes the headers have, as the optional header says: so much of the file's front the
-       Windows loader maps at the image's base. 0 where there is no optional header. */
+    /* How many bytes the headers have, as the optional header says. The Windows loader maps so much
+       of the file's front, in whole file blocks, at the image's base. 0 where there is no optional
+       header. */
     uint32_t size_of_headers;
     /* How many records the section table has. */
     uint16_t number_of_sections;
@@ -615,8 +617,8 @@ struct goblin_pe_coff_header {
     /* The machine that the file is for, a `COFF_MACHINE_*`, at 0. No reader looks at it, because
        the magic of the optional header gives the width of an image. */
     uint16_t machine;
-    /* How many section headers follow the optional header, at 2. The Windows loader accepts at most
-       96. */
+    /* How many section headers follow the optional header, at 2. The specification says that the
+       Windows loader accepts at most 96; newer versions of Windows accept more. */
     uint16_t number_of_sections;
     /* When the file was made, in seconds since the start of 1970, at 4. Some makers store something
        else there, such as a hash. */

@@ -131,7 +131,8 @@ class Options(Record):
     raw_section_names: Whether the sections of a layout have their raw names alone, as the loader of
         images takes them: no name is tested, none refuses the file, and none is looked up in the
         string table. Else a name that begins with a slash is looked up there, in either mode. Only
-        a read of a layout looks at it: an open, the damage and a footprint test each name.
+        a read of a layout, and the refusal among the parts of a header, look at it: an open, the
+        damage and a footprint test each name.
     longest_name: How many bytes a name of an import, a library, an export or a section may have
         before it is cut; 0 is no limit. Of a longer one the front is given, up to the end of the
         first character that reaches past so many bytes. So a name that comes with at most so many
@@ -299,9 +300,9 @@ class Places(Record):
     directories: The data directories by their indexes; zeros where there is none.
     file_alignment: The file alignment of the sections' raw data, in bytes; 0 where there is no
         optional header.
-    size_of_headers: How many bytes the headers have, as the optional header says: so much of the
-        file's front the Windows loader maps at the image's base. 0 where there is no optional
-        header.
+    size_of_headers: How many bytes the headers have, as the optional header says. The Windows
+        loader maps so much of the file's front, in whole file blocks, at the image's base. 0 where
+        there is no optional header.
     number_of_sections: How many records the section table has.
     magic: The magic of the optional header: by 0x10B the entries of import tables have four bytes,
         else eight; 0 where there is no optional header.
@@ -416,8 +417,8 @@ class CoffHeader(NamedTuple):
 
     machine: The machine that the file is for, a `COFF_MACHINE_*`, at 0. No reader looks at it,
         because the magic of the optional header gives the width of an image.
-    number_of_sections: How many section headers follow the optional header, at 2. The Windows
-        loader accepts at most 96.
+    number_of_sections: How many section headers follow the optional header, at 2. The specification
+        says that the Windows loader accepts at most 96; newer versions of Windows accept more.
     time_date_stamp: When the file was made, in seconds since the start of 1970, at 4. Some makers
         store something else there, such as a hash.
     pointer_to_symbol_table: The file offset of the symbol table, at 8; 0 if there is none, as in

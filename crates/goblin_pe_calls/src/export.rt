@@ -37,10 +37,6 @@ pub(crate) enum Forwards {
     Ordinal = 2,
 }
 
-const _: () = prove!(
-    Forwards::None as u32 == 0 && Forwards::Name as u32 == 1 && Forwards::Ordinal as u32 == 2
-);
-
 /// An export.
 #[repr(C)]
 #[derive(Copy, Clone)]

@@ -25,8 +25,6 @@ const CAUSES: usize = 33;
 // There is room for so many bytes of a text; of a longer one the last three are dots.
 const TEXT_ROOM: usize = 160;
 
-const _: () = prove!(TEXT_ROOM == 160);
-
 // The item of a table at this index.
 fn item_at<T: Copy>(table: &[T], index: u32) -> Option<T>
     ensures { result ≡ slice_get table.now index }
@@ -51,15 +49,6 @@ enum Status {
     /// Memory was asked for and refused.
     Memory = 5,
 }
-
-const _: () = prove!(
-    Status::Ok as u32 == 0
-        && Status::Malformed as u32 == 1
-        && Status::BadMagic as u32 == 2
-        && Status::BufferTooShort as u32 == 3
-        && Status::Read as u32 == 4
-        && Status::Memory as u32 == 5
-);
 
 // The statuses in the order of their numbers.
 const STATUSES: [Status; 6] = [
@@ -93,13 +82,6 @@ enum Counted {
     AddressTableEntries = 3,
 }
 
-const _: () = prove!(
-    Counted::Other as u32 == 0
-        && Counted::Sections as u32 == 1
-        && Counted::NamePointers as u32 == 2
-        && Counted::AddressTableEntries as u32 == 3
-);
-
 // What a file can be too short for, in the order of its numbers.
 const COUNTED: [Counted; 4] = [
     Counted::Other,
@@ -118,12 +100,6 @@ enum ReadRefusal {
     /// The bytes are not UTF-8.
     BadInput = 3,
 }
-
-const _: () = prove!(
-    ReadRefusal::BadOffset as u32 == 1
-        && ReadRefusal::TooBig as u32 == 2
-        && ReadRefusal::BadInput as u32 == 3
-);
 
 // The refusals of a read in the order of their numbers.
 const READ_REFUSALS: [ReadRefusal; 3] = [
@@ -210,43 +186,6 @@ enum CauseNumber {
     /// A library of imports made by hand has `first` entries, but `second` slots.
     SlotCount = 34,
 }
-
-const _: () = prove!(
-    CauseNumber::Message as u32 == 1
-        && CauseNumber::NoDosSignature as u32 == 2
-        && CauseNumber::DosMagic as u32 == 3
-        && CauseNumber::NoPePointer as u32 == 4
-        && CauseNumber::NoPeSignature as u32 == 5
-        && CauseNumber::PeMagic as u32 == 6
-        && CauseNumber::StubBeforeStart as u32 == 7
-        && CauseNumber::StubPastEnd as u32 == 8
-        && CauseNumber::NoDans as u32 == 9
-        && CauseNumber::RichBounds as u32 == 10
-        && CauseNumber::StrippedSize as u32 == 11
-        && CauseNumber::CoffLength as u32 == 12
-        && CauseNumber::DirectoryIndex as u32 == 13
-        && CauseNumber::DirectoryCount as u32 == 14
-        && CauseNumber::NameText as u32 == 15
-        && CauseNumber::NameBase64 as u32 == 16
-        && CauseNumber::NameDecimal as u32 == 17
-        && CauseNumber::NameOffset as u32 == 18
-        && CauseNumber::SymbolName as u32 == 19
-        && CauseNumber::StringTable as u32 == 20
-        && CauseNumber::FieldTooWide as u32 == 21
-        && CauseNumber::Unmapped as u32 == 22
-        && CauseNumber::NameRead as u32 == 23
-        && CauseNumber::HintEntry as u32 == 24
-        && CauseNumber::LookupEnd as u32 == 25
-        && CauseNumber::ImportRecordEnd as u32 == 26
-        && CauseNumber::ExportTable as u32 == 27
-        && CauseNumber::Forwarder as u32 == 28
-        && CauseNumber::ForwarderOrdinal as u32 == 29
-        && CauseNumber::RelocRange as u32 == 30
-        && CauseNumber::BlockSize as u32 == 31
-        && CauseNumber::BlockRange as u32 == 32
-        && CauseNumber::Overflow as u32 == 33
-        && CauseNumber::SlotCount as u32 == 34
-);
 
 /// Why a call gave no value, in numbers; the status 0 is that it gave one.
 #[repr(C)]

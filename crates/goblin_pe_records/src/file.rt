@@ -22,10 +22,6 @@ pub enum State {
     Refused = 2,
 }
 
-const _: () = prove!(
-    State::Absent as u32 == 0 && State::Read as u32 == 1 && State::Refused as u32 == 2
-);
-
 /// A table of the file.
 #[repr(C)]
 #[derive(Copy, Clone)]

@@ -236,13 +236,6 @@ pub enum Region {
     Zeros = 3,
 }
 
-const _: () = prove!(
-    Region::Nowhere as u32 == 0
-        && Region::Headers as u32 == 1
-        && Region::Stored as u32 == 2
-        && Region::Zeros as u32 == 3
-);
-
 /// Reads the `size` bytes that a loader sees at the address `rva`: those that the file has of them,
 /// and how many zeros follow them. Where the address has an offset inside the file, the first is the
 /// file's byte there, but in a section of uninitialized data without a place in the file.

@@ -33,13 +33,6 @@ pub enum PeRawPointerRule {
     AsLoaded = 3,
 }
 
-const _: () = prove!(
-    PeRawPointerRule::AsStored as u8 == 0
-        && PeRawPointerRule::RoundedTo512 as u8 == 1
-        && PeRawPointerRule::ByFileAlignment as u8 == 2
-        && PeRawPointerRule::AsLoaded as u8 == 3
-);
-
 /// What a call does and leaves out.
 #[repr(C)]
 #[derive(Copy, Clone)]
@@ -61,7 +54,8 @@ pub struct PeOptions {
     /// Whether the sections of a layout have their raw names alone, as the loader of images takes
     /// them: no name is tested, none refuses the file, and none is looked up in the string table.
     /// Else a name that begins with a slash is looked up there, in either mode. Only a read of a
-    /// layout looks at it: an open, the damage and a footprint test each name.
+    /// layout, and the refusal among the parts of a header, look at it: an open, the damage and a
+    /// footprint test each name.
     pub raw_section_names: bool,
     /// How many bytes a name of an import, a library, an export or a section may have before it is
     /// cut; 0 is no limit. Of a longer one the front is given, up to the end of the first character

@@ -16,8 +16,9 @@ pub struct PePlaces {
     pub directories: [DataDirectory; 16],
     /// The file alignment of the sections' raw data, in bytes; 0 where there is no optional header.
     pub file_alignment: u32,
-    /// How many bytes the headers have, as the optional header says: so much of the file's front the
-    /// Windows loader maps at the image's base. 0 where there is no optional header.
+    /// How many bytes the headers have, as the optional header says. The Windows loader maps so much
+    /// of the file's front, in whole file blocks, at the image's base. 0 where there is no optional
+    /// header.
     pub size_of_headers: u32,
     /// How many records the section table has.
     pub number_of_sections: u16,

@@ -33,15 +33,6 @@ pub enum RefusedPart {
     Relocations = 5,
 }
 
-const _: () = prove!(
-    RefusedPart::Nothing as u32 == 0
-        && RefusedPart::Header as u32 == 1
-        && RefusedPart::Sections as u32 == 2
-        && RefusedPart::Imports as u32 == 3
-        && RefusedPart::Exports as u32 == 4
-        && RefusedPart::Relocations as u32 == 5
-);
-
 // The first of the tables that is refused.
 fn refused_table(layout: &Layout) -> RefusedPart
     ensures { let m = layout_map layout.now in

@@ -43,8 +43,8 @@ pub struct CoffHeader {
     /// The machine that the file is for, a `COFF_MACHINE_*`, at 0. No reader looks at it, because
     /// the magic of the optional header gives the width of an image.
     pub machine: u16,
-    /// How many section headers follow the optional header, at 2. The Windows loader accepts at
-    /// most 96.
+    /// How many section headers follow the optional header, at 2. The specification says that the
+    /// Windows loader accepts at most 96; newer versions of Windows accept more.
     pub number_of_sections: u16,
     /// When the file was made, in seconds since the start of 1970, at 4. Some makers store
     /// something else there, such as a hash.
