@@ -208,30 +208,6 @@ fn file_records_of<'a, 'm, 'e>(
     }
 }
 
-// The records of a file's imports.
-fn listed_records<'a, 'm>(
-    alloc: Global,
-    layout: &'m Layout<'a>,
-    finder: &mut Finder<'m>,
-) -> Result<Part<Vec<PeImport<'a>>>>
-    requires { map_of finder.old ≡ layout_map layout.now }
-    ensures value { ReadsOrMemory (part_map import_views) result
-        (mapped (part_map (map import_said)) (layout_table import_list layout.now))
-        (layout_bytes layout.now) }
-    ensures left { OnOk result (map_of finder.new ≡ layout_map layout.now) }
-{
-    match layout.imports()? {
-        Part::Absent => Ok(Part::Absent),
-        Part::Read(imports) => {
-            let index = DataDirectoryType::ImportAddressTable as usize;
-            let tables = layout.places().directories[index].size;
-            let records = file_records_of(alloc, layout.bytes(), imports, finder, tables)?;
-            Ok(Part::Read(records))
-        }
-        Part::Refused => Ok(Part::Refused),
-    }
-}
-
 /// The records of a file's imports, in the order of the libraries and of their entries. The finder
 /// is left where they end.
 #[tactic(auto, unfolding(goblin_pe::specs::Whole::import_list), using(goblin_pe::proofs::Collected::twice_read))]
@@ -247,5 +223,14 @@ pub fn import_records<'a, 'm>(
         (layout_bytes layout.now) }
     ensures left { OnOk result (map_of finder.new ≡ layout_map layout.now) }
 {
-    listed_records(alloc, layout, finder)
+    match layout.imports()? {
+        Part::Absent => Ok(Part::Absent),
+        Part::Read(imports) => {
+            let index = DataDirectoryType::ImportAddressTable as usize;
+            let tables = layout.places().directories[index].size;
+            let records = file_records_of(alloc, layout.bytes(), imports, finder, tables)?;
+            Ok(Part::Read(records))
+        }
+        Part::Refused => Ok(Part::Refused),
+    }
 }
