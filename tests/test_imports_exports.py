@@ -138,11 +138,11 @@ LEFT_OUT = [
     ("a hint that is not whole", sample(CUT_HINT), (0, 1, 0)),
     ("a hint without a name, which is kept", sample((0x240, b"\xFE\x10")), (0, 0, 0)),
     ("a hint that no section maps", sample((0x240, b"\0\x90")), (0, 0, 1)),
-    ("a hint that no section maps, of a library without an address table", sample((0x240, b"\0\x90"), (0x210, b"\0\x90")), (1, 0, 0)),
+    ("a hint that no section maps, of a library whose address table cannot be read", sample((0x240, b"\0\x90"), (0x210, b"\0\x90")), (1, 0, 0)),
     ("the entries of two libraries, and a third library", sample(CUT_HINT, *THREE_RECORDS), (1, 2, 0)),
     ("a directory at file offset 0", FRONT, (1, 1, 0)),
     ("an ordinal in a directory at file offset 0", images.with_parts(FRONT, (0x260, struct.pack("<I", 1 << 31 | 7))), (1, 1, 0)),
-    ("a directory at file offset 0, of a library without an address table", UNMAPPED_IN_FRONT, (1, 0, 0)),
+    ("a directory at file offset 0, of a library whose address table cannot be read", UNMAPPED_IN_FRONT, (1, 0, 0)),
     ("three hints in a directory at file offset 0, of which no section maps the first", THREE_IN_FRONT, (1, 2, 1)),
     ("a directory without a record at file offset 0", images.with_parts(FRONT, (0x0C, bytes(4))), (0, 0, 0)),
     ("an address that no section maps", sample((0xC0, struct.pack("<I", 0x9000))), (0, 0, 0)),
@@ -494,6 +494,12 @@ class Damage(Read):
             for how in modes():
                 with self.subTest(name, how=how):
                     self.assertEqual(self.damage(data, how)[5:], (*wanted, 0))
+
+    def test_a_walk_in_strict_mode_marks_each_library_that_is_left_out(self):
+        for name, data, wanted in LEFT_OUT[:-1]:
+            with self.subTest(name):
+                libraries = package().Layout(bytes(data)).walk_libraries()
+                self.assertEqual(sum(library.is_left_out for library in libraries), wanted[0])
 
     def test_a_directory_at_file_offset_0_is_listed_in_strict_mode_alone(self):
         strict, permissive = (package().Pe(FRONT, how) for how in modes())

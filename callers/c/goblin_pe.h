@@ -304,9 +304,9 @@ static inline struct goblin_pe_fault goblin_pe_next_imports(
 }
 
 /* Goes on with the walk over the libraries of an image from `cursor`, zeros at the beginning, as
-   goblin_pe_next_imports does over imports: gives one for each record of the import directory, up to the first that
-   has no name or no address table, also where permissive mode leaves the library out of the imports, but for a
-   directory that is an empty list there. Each has a cursor of its own, at which goblin_pe_next_imports gives its
+   goblin_pe_next_imports does over imports: gives one for each record of the import directory, up to the first whose
+   name or address table is at address 0, also where permissive mode leaves the library out of the imports. In
+   permissive mode a directory at file offset 0 gives none. Each has a cursor of its own, at which goblin_pe_next_imports gives its
    imports, unless it is left out, and then those of later ones; from such a cursor this walk goes on with that
    library. Each is a step, so with room the count 0 without a refusal is the end. In strict mode the walk ends with
    a refusal where the directory reaches the end of the file; what else it refuses of a library

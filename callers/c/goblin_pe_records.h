@@ -598,8 +598,9 @@ struct goblin_pe_library {
     struct goblin_pe_fault name_fault;
     /* Its record. */
     struct goblin_pe_import_directory_entry import_directory_entry;
-    /* Whether permissive mode leaves it out of the imports, and strict mode refuses it after its
-       imports: it has no address table. */
+    /* Whether permissive mode leaves it out of the imports: its address table cannot be read, or
+       the directory lies at file offset 0. Strict mode yields its imports, and then refuses it if
+       its address table cannot be read. */
     bool is_left_out;
     /* Whether an import comes first of its lookup table. Else that keeps none, or strict mode
        refuses what comes first. */
@@ -1205,11 +1206,12 @@ struct goblin_pe_damage {
     struct goblin_pe_fault exports;
     /* The base relocations: their directory, not its blocks. */
     struct goblin_pe_fault relocations;
-    /* How many libraries permissive mode leaves out of the imports: those without an address table;
-       of a directory at file offset 0 all. */
+    /* How many libraries permissive mode leaves out of the imports: those whose address table
+       cannot be read, and all libraries of a directory at file offset 0. */
     size_t left_out_libraries;
-    /* How many entries it leaves out of libraries that have an address table: those whose hint is
-       not whole; of a directory at file offset 0 all but those that lead nowhere. */
+    /* How many entries it leaves out of libraries whose address table can be read: those whose hint
+       is not whole. In a directory at file offset 0 these are all entries except those that lead
+       nowhere. */
     size_t left_out_entries;
     /* How many entries of these libraries give no import, in either mode: they lead nowhere, since
        the address of their hint and name has no file offset. */

@@ -721,7 +721,7 @@ class Files(unittest.TestCase):
         self.assertEqual(imports, [(b"a.dll", None, 7, 0), (b"c.dll", None, 7, 2)])
 
     def test_records_that_are_left_out_count(self):
-        """The second of three has no address table."""
+        """The address table of the second of three cannot be read."""
         start = sample("forwarders_x64.dll")
         data = bytearray(with_libraries(start, [b"a.dll", b"b.dll", b"c.dll"], [2, 1, 1]))
         struct.pack_into("<I", data, len(start) + 20 + 16, len(data))

@@ -389,8 +389,9 @@ class Library(Record):
     cursor: Where its imports begin.
     name_fault: Why its name can't be read, in either mode; the status is 0 where it can.
     import_directory_entry: Its record.
-    is_left_out: Whether permissive mode leaves it out of the imports, and strict mode refuses it
-        after its imports: it has no address table.
+    is_left_out: Whether permissive mode leaves it out of the imports: its address table cannot be
+        read, or the directory lies at file offset 0. Strict mode yields its imports, and then
+        refuses it if its address table cannot be read.
     has_imports: Whether an import comes first of its lookup table. Else that keeps none, or strict
         mode refuses what comes first.
     reserved: Zero. It stands where padding would be, so that each byte of the record is defined.
@@ -1116,10 +1117,11 @@ class Damage(Record):
     imports: The imports, if they are asked for.
     exports: The exports.
     relocations: The base relocations: their directory, not its blocks.
-    left_out_libraries: How many libraries permissive mode leaves out of the imports: those without
-        an address table; of a directory at file offset 0 all.
-    left_out_entries: How many entries it leaves out of libraries that have an address table: those
-        whose hint is not whole; of a directory at file offset 0 all but those that lead nowhere.
+    left_out_libraries: How many libraries permissive mode leaves out of the imports: those whose
+        address table cannot be read, and all libraries of a directory at file offset 0.
+    left_out_entries: How many entries it leaves out of libraries whose address table can be read:
+        those whose hint is not whole. In a directory at file offset 0 these are all entries except
+        those that lead nowhere.
     unmapped_entries: How many entries of these libraries give no import, in either mode: they lead
         nowhere, since the address of their hint and name has no file offset.
     left_out_exports: How many name pointers of the export directory give no export, in either mode:

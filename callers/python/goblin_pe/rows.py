@@ -144,10 +144,11 @@ class Library(NamedTuple):
     """A library: its name, the file offset of its record in the import directory, three numbers of that, and its index there.
     The numbers are the time stamp, which is 0 where its imports are not bound, the index of the first import that it forwards,
     where they are bound in the old way, and the address of its name, where bytes_at reads one that is not UTF-8. A name that
-    can't be read is None in either mode, and the refusal says why; else that is None. Permissive mode leaves out of the imports
-    a library that has no address table, and strict mode refuses it after its imports. It has imports where one comes first of
-    its lookup table; else that keeps none, or strict mode refuses what comes first. The cursor is where walk_imports begins
-    with them. One library may have several records."""
+    can't be read is None in either mode, and the refusal says why; else that is None. A library is_left_out if permissive mode
+    leaves it out of the imports: its address table can't be read, or the directory lies at file offset 0. Strict mode yields its
+    imports, and then refuses it if its address table can't be read. It has imports where one comes first of its lookup table;
+    else that keeps none, or strict mode refuses what comes first. The cursor is where walk_imports begins with them. One library
+    may have several records."""
 
     name: Optional[bytes]
     record_offset: int

@@ -134,11 +134,11 @@ pub struct Damage {
     pub exports: Option<Error>,
     /// Of the base relocations: of their directory, not of its blocks.
     pub relocations: Option<Error>,
-    /// How many libraries permissive mode leaves out of the imports: those without an address table; of a
-    /// directory at file offset 0 all.
+    /// How many libraries permissive mode leaves out of the imports: those whose address table can't be read,
+    /// and all libraries of a directory at file offset 0.
     pub left_out_libraries: usize,
-    /// How many entries it leaves out of libraries that have an address table: those whose hint is not whole;
-    /// of a directory at file offset 0 all but those that lead nowhere.
+    /// How many entries it leaves out of libraries whose address table can be read: those whose hint is not whole.
+    /// In a directory at file offset 0 these are all entries except those that lead nowhere.
     pub left_out_entries: usize,
     /// How many entries of these libraries give no import, in either mode: they lead nowhere, since the
     /// address of their hint and name has no file offset.
@@ -579,8 +579,8 @@ pub struct Library<'a> {
     pub time_date_stamp: u32,
     /// The index of the first import that it forwards, where its imports are bound in the old way.
     pub forwarder_chain: u32,
-    /// Whether permissive mode leaves it out of the imports, and strict mode refuses it after its imports: it has no
-    /// address table.
+    /// Whether permissive mode leaves it out of the imports: its address table can't be read, or the directory lies at file
+    /// offset 0. Strict mode yields its imports, and then refuses it if its address table can't be read.
     pub is_left_out: bool,
     /// Whether an import comes first of its lookup table, also where it is left out. Else that keeps none, or strict mode
     /// refuses what comes first.

@@ -330,7 +330,7 @@ where
     all.len()
 }
 
-// The sample with four libraries that share a table, the last of them without an address table of its own: of imports by
+// The sample with four libraries that share a table, the last of them with an address table that cannot be read: of imports by
 // ordinal between entries that lead nowhere.
 fn library_of_shared_imports() -> Vec<u8> {
     let mut bytes = sample("imports_by_name_x64.dll");

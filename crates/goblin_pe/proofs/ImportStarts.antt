@@ -146,6 +146,8 @@ narrow_within s t r old new given =
       walk = λ m magic bytes walk.
           (walk.0, over-again bytes m s t walk.1 given.over, given.named walk.2);
       fault = steps.1;
+      over = given.over;
+      spent = given.spent;
       looked = given.looked;
       ended = given.ended;
     }
@@ -159,6 +161,8 @@ wide_within s t r old new given =
       walk = λ m magic bytes walk.
           (walk.0, over-again bytes m s t walk.1 given.over, given.named walk.2);
       fault = steps.1;
+      over = given.over;
+      spent = given.spent;
       looked = given.looked;
       ended = given.ended;
     }

@@ -21,7 +21,6 @@ pub mod Layouts
 pub mod ListedImports
 pub mod Parts
 pub mod PermissiveReads
-pub mod RefusedParts
 pub mod SectionNames
 pub mod SoundFiles
 pub mod TableRuns

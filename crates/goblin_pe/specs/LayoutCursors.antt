@@ -17,8 +17,8 @@ use Rattle.goblin_pe_import.specs.Imports.{NumberedImport}
 use Rattle.goblin_pe_import.specs.ImportWalks.{AreImportsOver, HasName, IsCursorCause, cursor_left}
 use Rattle.goblin_pe_import.specs.ImportWalks.{cursor_of, imports_bytes, imports_map, no_imports}
 use Rattle.goblin_pe_import.specs.ImportWalks.{walked_value}
-use Rattle.goblin_pe_import.specs.StepsAhead.{EndsWithin, GivesWithin, HaveRunOut, LooksAt}
-use Rattle.goblin_pe_import.specs.StepsAhead.{cursor_ahead, imports_ahead}
+use Rattle.goblin_pe_import.specs.StepsAhead.{EndsWithin, GivesWithin, HasNotGrown, HaveRunOut}
+use Rattle.goblin_pe_import.specs.StepsAhead.{LooksAt, cursor_ahead, imports_ahead}
 use Rattle.goblin_pe_import.specs.declared.import.imports.ImportCursor.{ImportCursor}
 use Rattle.goblin_pe_import.specs.declared.import.imports.WalkedImport.{WalkedImport}
 use Rattle.goblin_pe.specs.declared.whole.Part.{Part}
@@ -94,7 +94,8 @@ file_ahead (Wide imports) = imports_ahead entries_64 imports
 abbrev pub file_cursor_ahead : MapOfAddresses → ℕ → List ℕ → ImportCursor → ℕ
 file_cursor_ahead m magic bytes c = cursor_ahead m (entry_format magic) bytes c
 
--- A call of `next_within`, with a budget of steps before and after the call.
+-- A call of `next_within`, with a budget of steps before and after the call. It keeps the bytes and
+-- the map, and what is known of the walk.
 pub record GivesFileWithin (s : FileImports) (old : Option ℕ)
     (result : Option (Result WalkedImport ErrorOf)) (t : FileImports) (new : Option ℕ) : Type 0
   where
@@ -102,6 +103,8 @@ pub record GivesFileWithin (s : FileImports) (old : Option ℕ)
     pub walk : (m : MapOfAddresses) (magic : ℕ) (bytes : List ℕ) → IsImportWalk m magic bytes s
         → IsImportWalk m magic bytes t
     pub fault : IfSome result (λ r. IfErr r (λ e. ¬ IsMemory e))
+    pub over : (file_bytes t ≡ file_bytes s) × (file_map t ≡ file_map s)
+    pub spent : HasNotGrown old new
     pub looked : LooksAt (length (file_bytes s)) result old new (file_ahead s) (file_ahead t)
     pub ended : EndsWithin result (file_cursor t)
         (HaveRunOut (length (file_bytes s)) old new (file_ahead s) (file_ahead t))

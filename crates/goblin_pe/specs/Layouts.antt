@@ -10,7 +10,7 @@ use Rattle.goblin_pe_sect.specs.Addresses.{MapOfAddresses, map_in, map_of}
 use Rattle.goblin_pe_export.specs.declared.export.exports.Exports.{Exports}
 use Rattle.goblin_pe_export.specs.ExportReadings.{export_addresses}
 use Rattle.goblin_pe_export.specs.ExportRecords.{ExportTables, NumberedExport}
-use Rattle.goblin_pe_export.specs.ExportWalks.{AreExportsOver, exports_left, numbered_from}
+use Rattle.goblin_pe_export.specs.ExportWalks.{AreExportsOver, exports_left, exports_position}
 use Rattle.goblin_pe_export.specs.ExportWalks.{walked_tables}
 use Rattle.goblin_pe_import.specs.ImportLookup.{entries_32, entries_64}
 use Rattle.goblin_pe_import.specs.Imports.{NumberedImport}
@@ -103,9 +103,6 @@ unfoldable pub address_part : ParseOptions → Addressing → TablePlaces
 address_part opts addressing places =
     part_at (is_strict opts.parse_mode) (export_addresses addressing) (directory_at places 0)
 
--- A walk over these bytes, with this map of addresses. All exports are still to come, with their
--- numbers.
+-- A walk over these bytes, with this map of addresses, before the first name pointer.
 abbrev pub IsExportWalk : MapOfAddresses → List ℕ → Exports → Type 0
-IsExportWalk m bytes walk =
-    AreExportsOver bytes m walk
-    × (exports_left walk ≡ numbered_from m.addressing bytes (walked_tables walk) 0)
+IsExportWalk m bytes walk = AreExportsOver bytes m walk × (exports_position walk ≡ 0)

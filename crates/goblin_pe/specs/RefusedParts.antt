@@ -1,5 +1,5 @@
 -- Which part of a file is refused: the first that cannot be read, in the order of a whole file.
-use Rattle.std.specs.Prelude.{◌≡◌, ℕ, if◌then◌else◌, List, Option, None, Some, IsSome}
+use Rattle.std.specs.Prelude.{ℕ, if◌then◌else◌, List, Option, None, Some}
 use Rattle.std.specs.Option.{is_some}
 use Rattle.goblin_pe_sect.specs.declared.options.ParseOptions.{ParseOptions}
 use Rattle.goblin_pe_sect.specs.declared.options.View.{View}
@@ -11,7 +11,7 @@ use Rattle.goblin_pe_head.specs.PeHeader.{PeHeader}
 use Rattle.goblin_pe.specs.declared.whole.refused.RefusedPart.{RefusedPart}
 use Rattle.goblin_pe.specs.declared.whole.refused.RefusedPart.TheVariants as refused
 use Rattle.goblin_pe.specs.Whole.{TablePlaces, export_part, import_list, mapped_in, addressing_by}
-use Rattle.goblin_pe.specs.Whole.{places_in, relocation_part, sections_after, whole_in}
+use Rattle.goblin_pe.specs.Whole.{places_in, relocation_part, sections_after}
 
 -- the number of a part
 abbrev pub refused_number : RefusedPart → ℕ
@@ -53,13 +53,3 @@ refused_by view opts bytes (Some h) = refused_after view opts bytes h
 unfoldable pub refused_part : View → ParseOptions → List ℕ → RefusedPart
 refused_part view opts bytes =
     refused_by view opts bytes ((pe_header (is_strict opts.parse_mode)).value bytes)
-
--- A file without a refused part is read.
-abbrev pub IsReadWithout : View → ParseOptions → List ℕ → Type 0
-IsReadWithout view opts bytes =
-    refused_part view opts bytes ≡ refused.Nothing → IsSome ((whole_in view opts).value bytes)
-
--- A file that is read has no refused part.
-abbrev pub IsWithoutRead : View → ParseOptions → List ℕ → Type 0
-IsWithoutRead view opts bytes =
-    IsSome ((whole_in view opts).value bytes) → refused_part view opts bytes ≡ refused.Nothing

@@ -8,7 +8,9 @@ ghost use Rattle.goblin_pe_sect.specs.Options.{is_strict};
 ghost use Rattle.goblin_pe_head.specs.HeaderReadings.{pe_header};
 ghost use Rattle.goblin_pe_head.specs.CoffHeader.{IsTooManySections};
 ghost use Rattle.goblin_pe_sect.specs.Addresses.{map_by, offset_of};
-ghost use Rattle.goblin_pe.specs.Whole.{listed_imports_part, places_in, whole_file};
+ghost use Rattle.goblin_pe.specs.Callers.{file_table};
+ghost use Rattle.goblin_pe.specs.Whole.{import_data_part, listed_imports_part, places_in};
+ghost use Rattle.goblin_pe.specs.Whole.{whole_file};
 
 use crate::export::{Export, ExportData};
 use crate::import::{Import, ImportData};
@@ -115,6 +117,8 @@ impl<'a> Whole<'a> {
     #[tactic(auto, unfolding(crate::specs::Whole::whole_in, crate::specs::Whole::whole_with))]
     pub fn read(alloc: Global, bytes: &'a [u8], opts: &ParseOptions) -> Result<Whole<'a>>
         ensures value { ReadsOrMemory (λ x. x) result (whole_file opts.now) bytes.now }
+        ensures libraries { IfOk result (λ w.
+            (file_table import_data_part opts.now).value bytes.now ≡ Some w.import_data) }
         ensures listed { IfOk result (λ w.
             let places = places_in w.header.optional_header in
             listed_imports_part opts.now places w.import_data ≡ Some w.imports) }

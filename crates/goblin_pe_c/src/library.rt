@@ -14,9 +14,9 @@ use std::alloc::Global;
 
 /// Fills `records` with the libraries of a file whose records come at a cursor, as many as there is
 /// room for, says in `count` how many, and leaves in `cursor` where the next call goes on: one for
-/// each record of the import directory, up to the first that has no name or no address table. No
-/// more than `steps` come, 0 for no limit: each is a step, as it tells of its tables only whether
-/// something is there. With room for any, a `count` of 0 is the end. Cursors are those of
+/// each record of the import directory, up to the first whose name or address table is at address
+/// 0. No more than `steps` come, 0 for no limit: each is a step, as it tells of its tables only
+/// whether something is there. With room for any, a `count` of 0 is the end. Cursors are those of
 /// [`goblin_pe_raw_next_imports`](crate::walk::goblin_pe_raw_next_imports), which gives the imports
 /// of a library at the cursor of its record; at a cursor in a library the later ones come. A file
 /// without an import directory, or imports that are not asked for, have none.

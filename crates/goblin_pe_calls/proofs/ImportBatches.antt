@@ -10,7 +10,7 @@ use Rattle.goblin_pe.specs.ImportWalks.{entries_from, imports_next, no_imports, 
 use Rattle.goblin_pe.specs.LayoutCursors.{GivesFileWithin, IsImportWalk, IsImportWalkAt, file_ahead}
 use Rattle.goblin_pe.specs.LayoutCursors.{file_bytes, file_cursor, file_cursor_ahead, file_cursor_left}
 use Rattle.goblin_pe.specs.LeftOut.{amount_of}
-use Rattle.goblin_pe.specs.StepsAhead.{AreBounded, AreCounted, HaveRunOut}
+use Rattle.goblin_pe.specs.StepsAhead.{AreCounted, AtSteps, HaveRunOut}
 use Rattle.goblin_pe.proofs.ImportStarts.{walk-ahead, walk-left}
 use Rattle.goblin_pe.specs.Layouts.{IsFileImportsCause, file_imports_left}
 use Rattle.goblin_pe.specs.Whole.{TablePlaces}
@@ -141,11 +141,13 @@ counted-then (Some a) (Some b) (Some d) before ahead after h next = omega (arith
 
 -- what was counted is within the steps
 counted-keeps : (n steps before ahead after : ℕ) (now more : Option ℕ) → AreCounted (limit_of steps) now before ahead
-    → AreBounded n now more ahead after → KeepsSteps n steps before after
+    → AtSteps n now more ahead after → KeepsSteps n steps before after
 counted-keeps n zero before ahead after now more h next some = absurd (some refl)
 counted-keeps n (suc steps) before ahead after None more h next some = absurd h
-counted-keeps n (suc steps) before ahead after (Some b) None h next some = absurd next
-counted-keeps n (suc steps) before ahead after (Some b) (Some d) h next some = omega (arith, h, next)
+counted-keeps n (suc steps) before ahead after (Some b) None h (inl next) some = absurd next
+counted-keeps n (suc steps) before ahead after (Some b) None h (inr out) some = absurd out
+counted-keeps n (suc steps) before ahead after (Some b) (Some d) h (inl next) some = omega (arith, h, next)
+counted-keeps n (suc steps) before ahead after (Some b) (Some d) h (inr out) some = omega (arith, h, out.2)
 
 counted-kept : (n steps before ahead : ℕ) (now : Option ℕ) → AreCounted (limit_of steps) now before ahead
     → KeepsSteps n steps before ahead
@@ -237,7 +239,7 @@ module _ {m : MapOfAddresses} {places : TablePlaces} {bytes : List ℕ} {steps :
     keeps : KeepsSteps (length bytes) steps (position_ahead m places bytes from) (position_ahead m places bytes q)
     keeps =
         rw goes.ahead (counted-keeps (length bytes) steps (position_ahead m places bytes from) (file_ahead now) (file_ahead next) limit limit1 h.counted
-        (subst (λ (b : List ℕ). AreBounded (length b) limit limit1 (file_ahead now) (file_ahead next)) over given.looked))
+        (subst (λ (b : List ℕ). AtSteps (length b) limit limit1 (file_ahead now) (file_ahead next)) over given.looked))
 
     stays : length old ≡ 0 → q ≡ from
     stays none = absurd (let same = h.at.held.same in omega (arith, same, within, none))

@@ -30,11 +30,12 @@ pub struct PeDamage {
     pub exports: PeFault,
     /// The base relocations: their directory, not its blocks.
     pub relocations: PeFault,
-    /// How many libraries permissive mode leaves out of the imports: those without an address
-    /// table; of a directory at file offset 0 all.
+    /// How many libraries permissive mode leaves out of the imports: those whose address table
+    /// cannot be read, and all libraries of a directory at file offset 0.
     pub left_out_libraries: usize,
-    /// How many entries it leaves out of libraries that have an address table: those whose hint is
-    /// not whole; of a directory at file offset 0 all but those that lead nowhere.
+    /// How many entries it leaves out of libraries whose address table can be read: those whose
+    /// hint is not whole. In a directory at file offset 0 these are all entries except those that
+    /// lead nowhere.
     pub left_out_entries: usize,
     /// How many entries of these libraries give no import, in either mode: they lead nowhere, since
     /// the address of their hint and name has no file offset.

@@ -35,8 +35,9 @@ pub struct PeLibrary<'a> {
     pub name_fault: PeFault,
     /// Its record.
     pub import_directory_entry: ImportDirectoryEntry,
-    /// Whether permissive mode leaves it out of the imports, and strict mode refuses it after its
-    /// imports: it has no address table.
+    /// Whether permissive mode leaves it out of the imports: its address table cannot be read, or
+    /// the directory lies at file offset 0. Strict mode yields its imports, and then refuses it if
+    /// its address table cannot be read.
     pub is_left_out: bool,
     /// Whether an import comes first of its lookup table. Else that keeps none, or strict mode
     /// refuses what comes first.

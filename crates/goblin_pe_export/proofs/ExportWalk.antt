@@ -99,7 +99,7 @@ given-all end s t None given all =
     let first = entry_count 4 name_pointers.value_of s.tables.name_pointers.now in
     let same = ap (λ (tables : ExportTables). length tables.export_name_pointer_table) given.0.1 in
     let past = from_end _ _ (walked_tables t) (exports_position t) (omega (arith, given.2, first, same, all)) in
-    ((sym given.1 ∙ past, past), given.0, tt)
+    ((sym given.1 ∙ past, past), given.0, omega (arith, given.2, first, all))
 
 -- ---- a directory that was read
 

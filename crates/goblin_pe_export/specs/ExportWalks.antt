@@ -1,5 +1,5 @@
 -- The walk over the exports of an image: what is still to come.
-use Rattle.std.specs.Prelude.{◌≡◌, ℕ, ◌+◌, ◌-◌, ◌/◌, ◌<◌, ◌≤◌, IfSome, List, MatchOption, Option}
+use Rattle.std.specs.Prelude.{◌≡◌, ℕ, ◌+◌, ◌-◌, ◌/◌, ◌<◌, ◌≤◌, List, MatchOption, Option}
 use Rattle.std.specs.Prelude.{Some, filter_map, length, max, min}
 use Rattle.std.specs.Iterator.{YieldsFirstBy}
 use Rattle.std.specs.List.{range_with_len}
@@ -63,16 +63,18 @@ abbrev pub KeepsOver : Exports → Exports → Type 0
 KeepsOver s t =
     AreExportsOver (exports_bytes s) (exports_map s) t × (walked_tables t ≡ walked_tables s)
 
--- A call of `next` gives the next export. It keeps the bytes, the map and the tables, and moves the
--- walk just past the name pointer of that export.
-abbrev pub GivesExport : Exports → Option WalkedExport → Exports → Type 0
-GivesExport s result t =
-    YieldsFirstBy walked_export exports_left s result t × KeepsOver s t
-    × IfSome result (λ x. exports_position t ≡ x.hint + 1)
-
 -- how many whole name pointers the file has
 abbrev pub pointer_count : Exports → ℕ
 pointer_count walk = length walk.tables.name_pointers.now / 4
+
+-- A call of `next` gives the next export. It keeps the bytes, the map and the tables, and moves the
+-- walk just past the name pointer of that export. If no export comes, it moves the walk past the
+-- last name pointer; a walk that was past it stays where it was.
+abbrev pub GivesExport : Exports → Option WalkedExport → Exports → Type 0
+GivesExport s result t =
+    YieldsFirstBy walked_export exports_left s result t × KeepsOver s t
+    × MatchOption result (exports_position t ≡ max (exports_position s) (pointer_count s))
+    (λ x. exports_position t ≡ x.hint + 1)
 
 -- A call of `next_before` gives the next export, if its name pointer has an index below `end`. Else
 -- the walk has the same exports yet to yield, and is at `end`, or at the end of the name pointers

@@ -24,7 +24,7 @@ use Rattle.goblin_pe_import.specs.ImportWalks.{Origin, origin}
 use Rattle.goblin_pe_import.specs.ImportWalks.{GivesLibrary, IsEntriesCause, IsNextCause}
 use Rattle.goblin_pe_import.specs.ImportWalks.{IsLaterCause, IsNamedCause, IsRecordCause, IsRecordsCause}
 use Rattle.goblin_pe_import.specs.ImportWalks.{KeptValue, addresses_of, bound_next}
-use Rattle.goblin_pe_import.specs.ImportWalks.{entries_from, imports_next, is_left_out, one_if, slots_bound}
+use Rattle.goblin_pe_import.specs.ImportWalks.{entries_from, imports_next, is_skipped, one_if, slots_bound}
 use Rattle.goblin_pe_import.specs.ImportWalks.{walk_bound}
 use Rattle.goblin_pe_import.specs.ImportWalks.{imports_from_record, imports_of_entries, record_index}
 use Rattle.goblin_pe_import.specs.ImportWalks.{later_items, library_items, library_name, untested_table}
@@ -211,7 +211,7 @@ module _ (strict : Bool) (format : Format EntryValue) (addressing : Addressing)
       (IsEntriesCause strict format addressing bytes at)
       (λ _. IsLaterCause strict format addressing bytes untested (Some next)) e
 
-  pub walk-left_out : is_left_out strict format addressing bytes r ≡ true
+  pub walk-left_out : is_skipped strict format addressing bytes r ≡ true
       → (from : Origin) (rva o : ℕ)
       → (parts_left from rva o None None ≡ whole)
       × ((e : ErrorOf) → IsPartsCause o None None e → (strict ≡ true) × IsWholeCause e)
@@ -238,7 +238,7 @@ module _ (strict : Bool) (format : Format EntryValue) (addressing : Addressing)
   at = lookup_offset addressing r
 
   module _ (dll : List ℕ) (named : name.value bytes ≡ Some dll)
-      (kept : is_left_out strict format addressing bytes r ≡ false) where
+      (kept : is_skipped strict format addressing bytes r ≡ false) where
     -- a library that is walked over
     pub walk-entered : parts_left (origin index dll) r.import_address_table_rva (unwrap_or at 0) at
         (Some (address_table_rva r)) ≡ whole

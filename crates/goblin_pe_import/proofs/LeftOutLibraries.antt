@@ -1,5 +1,5 @@
--- Which libraries permissive mode leaves out: those without an address table, and those of a directory
--- at the front of the file.
+-- Which libraries permissive mode leaves out: those whose address table cannot be read, and those of a
+-- directory at the front of the file.
 use Rattle.std.proofs.Common.{◌≡◌, ◌≤◌, ◌==◌, ◌||◌, ℕ, Bool, true, false, Option, None, Some, List, []}
 use Rattle.std.proofs.Common.{refl, subst, sym, arith, IsSome, is_none, option_map, not, ◌&&◌, cond, is_some}
 use Rattle.std.specs.Int.{from_bool}

@@ -10,11 +10,11 @@ use Rattle.goblin_pe_import.specs.ImportEntries.{EntryValue, entry_slots}
 use Rattle.goblin_pe_import.specs.LookupReadings.{entry_number}
 use Rattle.goblin_pe_import.proofs.LookupWalk.{in_slot}
 use Rattle.goblin_pe_import.specs.LeftOut.{amount_of, sum_below, sum_of_slots}
-use Rattle.goblin_pe_import.specs.StepsAhead.{AreBounded, AreCounted, HasSteps, HaveRunOut, IsOut}
+use Rattle.goblin_pe_import.specs.StepsAhead.{AreCounted, AtSteps, HasNotGrown, HasSteps, HaveRunOut, IsOut}
 use Rattle.goblin_pe_import.specs.StepsAhead.{later_ahead, record_steps, slots_ahead}
 use Rattle.goblin_pe_import.specs.StepsAhead.{spent, tested_ahead, untested_ahead, walk_ahead}
 use Rattle.goblin_pe_import.specs.ImportRecords.{address_table_rva, import_slots, is_last_record, lookup_offset}
-use Rattle.goblin_pe_import.specs.ImportWalks.{is_left_out, no_imports}
+use Rattle.goblin_pe_import.specs.ImportWalks.{is_skipped, no_imports}
 use Rattle.goblin_pe_import.specs.declared.import.directory_entry.ImportDirectoryEntry.{ImportDirectoryEntry}
 use Rattle.goblin_pe_import.specs.declared.import.imports.Walk.{Walk}
 use Rattle.goblin_pe_sect.specs.Addresses.{map_of, reads_strictly}
@@ -159,7 +159,7 @@ module _ (strict : Bool) (format : Format EntryValue) (addressing : Addressing)
     (bytes : List ℕ) (r : ImportDirectoryEntry) (tested : ℕ)
     (is : tested ≡ tested_ahead strict format addressing bytes (address_table_rva r)) where
   -- its library is left out
-  pub steps-left_out : is_left_out strict format addressing bytes r ≡ true
+  pub steps-left_out : is_skipped strict format addressing bytes r ≡ true
       → tested + 1 + slots_ahead format bytes None
       + untested_ahead strict format addressing bytes None
       ≡ record_steps strict format addressing bytes r
@@ -167,7 +167,7 @@ module _ (strict : Bool) (format : Format EntryValue) (addressing : Addressing)
   steps-left_out out = rw out (omega (arith, is, untested-none strict format addressing bytes))
 
   -- it is walked over
-  pub steps-entered : is_left_out strict format addressing bytes r ≡ false
+  pub steps-entered : is_skipped strict format addressing bytes r ≡ false
       → tested + 1 + slots_ahead format bytes (lookup_offset addressing r)
       + untested_ahead strict format addressing bytes (Some (address_table_rva r))
       ≡ record_steps strict format addressing bytes r
@@ -194,13 +194,14 @@ module _ (format : Format EntryValue) (s : Walk) where
   later next = later_ahead strict format places s.bytes.now s.at.untested next
 
   -- there is no next record
-  pub later-few : (p : ℕ) (end : Option ImportDirectoryEntry)
+  pub later-few : (p : ℕ) (end : Option ImportDirectoryEntry) (tested : ℕ)
       → reads import_slots s.bytes.now p ≡ end → ends_table is_last_record end ≡ true
-      → later (Some p) ≤ length s.bytes.now
-  later-few p end r z =
+      → tested ≡ untested_ahead strict format places s.bytes.now s.at.untested
+      → (tested ≡ later (Some p)) × (tested ≤ length s.bytes.now)
+  later-few p end tested r z is =
       let few = untested-few strict format places s.bytes.now s.at.untested in
       let none = sum-here import_slots (record_steps strict format places s.bytes.now) s.bytes.now p (lit≤ tt) end r z in
-      omega (arith, few, none)
+      (omega (arith, is, none), omega (arith, is, few))
 
   -- the walk goes on at t, in the library of the record at p
   pub library-counted : (p : ℕ) (v : ImportDirectoryEntry) (t : Walk) (tested entered : ℕ)
@@ -234,6 +235,23 @@ pub counted-start : (steps : Option ℕ) (n : ℕ) → AreCounted steps steps n 
 counted-start None n = refl
 counted-start (Some a) n = refl
 
+-- it has not grown
+pub grown_none : (steps : Option ℕ) → HasNotGrown steps steps
+grown_none None = refl
+grown_none (Some a) = omega arith
+
+pub grown_then : (old now new : Option ℕ) → HasNotGrown old now → HasNotGrown now new
+    → HasNotGrown old new
+grown_then None now new h more = subst (λ (s : Option ℕ). HasNotGrown s new) h more
+grown_then (Some a) None new h more = absurd h
+grown_then (Some a) (Some b) None h more = absurd more
+grown_then (Some a) (Some b) (Some d) h more = omega (arith, h, more)
+
+pub grown_spent : (old now : Option ℕ) (n : ℕ) → HasNotGrown old now → HasNotGrown old (spent now n)
+grown_spent None now n h = rw h refl
+grown_spent (Some a) None n h = absurd h
+grown_spent (Some a) (Some b) n h = omega (arith, h)
+
 -- one step more
 pub counted-one : (old now : Option ℕ) (before ahead after : ℕ) → HasSteps now → ahead ≡ suc after
     → AreCounted old now before ahead → AreCounted old (spent now 1) before after
@@ -264,10 +282,6 @@ counted-then None now new before x y rest h more = subst (λ (s : Option ℕ). A
 counted-then (Some a) None new before x y rest h more = absurd h
 counted-then (Some a) (Some b) None before x y rest h more = absurd more
 counted-then (Some a) (Some b) (Some d) before x y rest h more = omega (arith, h, more)
-
--- What is counted up to now, or has run out.
-abbrev pub AtSteps : ℕ → Option ℕ → Option ℕ → ℕ → ℕ → Type 0
-AtSteps n old now before ahead = AreCounted old now before ahead ⊎ HaveRunOut n old now before ahead
 
 module _ (n : ℕ) (old : Option ℕ) (before : ℕ) where
   -- some slots were passed over
@@ -305,32 +319,6 @@ module _ (n : ℕ) (old : Option ℕ) (before : ℕ) where
         | inl less ↦ inr (omega (arith, less), omega (arith, less, h, is), omega (arith, less, has, few, h, is))
         | inr most ↦ inl (omega (arith, most, h, is))
       ]
-
-  -- the walk ends, or the limit
-  pub steps-ended : (now : Option ℕ) (ahead : ℕ) → AtSteps n old now before ahead → HasSteps now
-      → ahead ≤ n → AreBounded n old now before 0
-  steps-ended now ahead h has few = by old now (still n old now before ahead has h)
-    where
-      by : (old now : Option ℕ) → AreCounted old now before ahead → AreBounded n old now before 0
-      by None now h = h
-      by (Some a) None h = absurd h
-      by (Some a) (Some b) h = omega (arith, h, few)
-
-  pub steps-bounded : (now : Option ℕ) (ahead : ℕ) → AtSteps n old now before ahead
-      → AreBounded n old now before ahead
-  steps-bounded now ahead (inl h) = by old now h
-    where
-      by : (old now : Option ℕ) → AreCounted old now before ahead → AreBounded n old now before ahead
-      by None now h = h
-      by (Some a) None h = absurd h
-      by (Some a) (Some b) h = omega (arith, h)
-  steps-bounded now ahead (inr h) = by old now h
-    where
-      by : (old now : Option ℕ) → HaveRunOut n old now before ahead
-          → AreBounded n old now before ahead
-      by None now h = absurd h
-      by (Some a) None h = absurd h
-      by (Some a) (Some b) h = omega (arith, h.0, h.2)
 
   pub steps-out : (now : Option ℕ) (ahead : ℕ) → AtSteps n old now before ahead → IsOut now
       → HaveRunOut n old now before ahead

@@ -133,10 +133,10 @@ named_items strict format addressing bytes index r (Some dll) =
     (unwrap_or table 0) table
     ++ refusal_of (addresses.value bytes)
 
--- whether permissive mode leaves out a library, because its address table cannot be read
-abbrev pub is_left_out : Bool → Format EntryValue → Addressing → List ℕ
+-- whether a walk skips a library, as it does in permissive mode if its address table cannot be read
+abbrev pub is_skipped : Bool → Format EntryValue → Addressing → List ℕ
     → ImportDirectoryEntry → Bool
-is_left_out strict format addressing bytes r =
+is_skipped strict format addressing bytes r =
     not strict && is_none ((addresses_of format addressing r).value bytes)
 
 -- What comes of the library of the descriptor with an index: its name is needed, then its imports
@@ -145,7 +145,7 @@ is_left_out strict format addressing bytes r =
 unfoldable pub library_items : Bool → Format EntryValue → Addressing → List ℕ → ℕ
     → ImportDirectoryEntry → List (Option NumberedImport)
 library_items strict format addressing bytes index r =
-    if is_left_out strict format addressing bytes r then []
+    if is_skipped strict format addressing bytes r then []
     else named_items strict format addressing bytes index r
     ((library_name strict addressing r).value bytes)
 

@@ -1,6 +1,7 @@
 -- The walk over the libraries of an import directory: what is still to come.
 use Rattle.std.specs.Prelude.{◌≡◌, ℕ, Bool, true, false, if◌then◌else◌, List, [], ◌∷◌, Option}
-use Rattle.std.specs.Prelude.{Some, None, unwrap_or, Result, Err, IfErr, IfOk, IfSome, ◌+◌}
+use Rattle.std.specs.Prelude.{Some, None, unwrap_or, Result, Err, IfErr, IfOk, IfSome, MatchOption}
+use Rattle.std.specs.Prelude.{◌+◌, ◌==◌}
 use Rattle.std.specs.Option.{ok_or}
 use Rattle.std.specs.Result.{result_map_both}
 use Rattle.goblin_base.specs.declared.error.ErrorOf.{ErrorOf}
@@ -16,7 +17,7 @@ use Rattle.goblin_pe_import.specs.ImportEntries.{EntryValue, entries_32, entries
 use Rattle.goblin_pe_import.specs.ImportReadings.{import_record_at}
 use Rattle.goblin_pe_import.specs.ImportRecords.{import_slots, lookup_offset}
 use Rattle.goblin_pe_import.specs.ImportWalks.{entries_from, no_imports, record_index, records_left}
-use Rattle.goblin_pe_import.specs.LeftOut.{leads_to_none}
+use Rattle.goblin_pe_import.specs.LeftOut.{is_library_left_out}
 use Rattle.goblin_pe_import.specs.declared.import.directory_entry.ImportDirectoryEntry.{ImportDirectoryEntry}
 use Rattle.goblin_pe_import.specs.declared.import.imports.ImportCursor.{ImportCursor}
 use Rattle.goblin_pe_import.specs.declared.import.library_walk.Libraries.{Libraries}
@@ -53,8 +54,8 @@ abbrev pub at_record : ℕ → ℕ → ImportCursor
 at_record first p = record no_imports { first_record = first; next_record = Some p }
 
 -- A library: the index and the offset of its import descriptor, and the descriptor itself; its
--- name; whether its address table cannot be read; whether it has imports; and the cursor before
--- these.
+-- name; whether permissive mode leaves it out of the imports; whether it has imports; and the
+-- cursor before these.
 pub record LibraryValue : Type 0 where
   pub index : ℕ
   pub offset : ℕ
@@ -72,7 +73,7 @@ library_at strict format addressing bytes first p r = record {
   offset = p;
   entry = r;
   name = name_or_cause addressing bytes r.name_rva;
-  is_left_out = leads_to_none format addressing bytes r;
+  is_left_out = is_library_left_out (first == 0) format addressing bytes r;
   has_imports = has_imports strict format addressing bytes r;
   cursor = at_record first p;
 }
@@ -175,6 +176,12 @@ AreLibrariesAt m format bytes c it =
 abbrev pub after_library : LibraryValue → ImportCursor
 after_library library = at_record library.cursor.first_record (library.offset + 20)
 
+-- If the call gave no library, the walk is at the end.
+abbrev pub AreAtEnd : Option (Result WalkedLibrary ErrorOf) → Libraries → Type 0
+AreAtEnd result it =
+    let c = libraries_cursor it in
+    MatchOption result (c ≡ no_imports) (λ r. IfErr r (λ e. c ≡ no_imports))
+
 -- A call of `next` gives the next library, and the walk is then after it. Or it has ended the walk.
 -- Or it is refused in strict mode, because the directory reaches the end of the file. It keeps the
 -- bytes and the map.
@@ -184,3 +191,4 @@ GivesNextLibrary s result t =
     × IfSome result (λ r. IfErr r (λ e. ¬ IsMemory e))
     × AreLibrariesOver (libraries_map s) (libraries_format s) (libraries_bytes s) t
     × IfSome result (λ r. IfOk r (λ x. libraries_cursor t ≡ after_library (library_value x)))
+    × AreAtEnd result t

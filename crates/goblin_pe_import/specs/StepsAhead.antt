@@ -9,7 +9,7 @@ use Rattle.goblin_pe_sect.specs.Addresses.{MapOfAddresses, map_of, reads_strictl
 use Rattle.goblin_pe_sect.specs.Addresses.{Addressing}
 use Rattle.goblin_pe_import.specs.ImportEntries.{EntryValue, entry_slots}
 use Rattle.goblin_pe_import.specs.ImportRecords.{address_table_rva, import_slots, lookup_offset}
-use Rattle.goblin_pe_import.specs.ImportWalks.{is_left_out, no_imports, walked_value}
+use Rattle.goblin_pe_import.specs.ImportWalks.{is_skipped, no_imports, walked_value}
 use Rattle.goblin_pe_import.specs.ImportWalks.{HasName, IsImportsCause, IsWalkFault}
 use Rattle.goblin_pe_import.specs.ImportWalks.{AreImportsOver, cursor_of, imports_bytes}
 use Rattle.goblin_pe_import.specs.ImportWalks.{imports_left, imports_map}
@@ -46,7 +46,7 @@ unfoldable pub record_steps : Bool → Format EntryValue → Addressing → List
     → ImportDirectoryEntry → ℕ
 record_steps strict format addressing bytes r =
     1 + tested_ahead strict format addressing bytes (address_table_rva r)
-    + (if is_left_out strict format addressing bytes r then 0
+    + (if is_skipped strict format addressing bytes r then 0
     else slots_ahead format bytes (lookup_offset addressing r)
     + untested_ahead strict format addressing bytes (Some (address_table_rva r)))
 
@@ -89,6 +89,12 @@ abbrev pub IsOut : Option ℕ → Type 0
 IsOut None = ⊥
 IsOut (Some left) = left ≡ 0
 
+-- The budget has not grown. A call without a limit leaves none.
+abbrev pub HasNotGrown : Option ℕ → Option ℕ → Type 0
+HasNotGrown None new = new ≡ None
+HasNotGrown (Some a) None = ⊥
+HasNotGrown (Some a) (Some b) = b ≤ a
+
 -- The budget has fallen by as many steps as are no longer ahead.
 abbrev pub AreCounted : Option ℕ → Option ℕ → ℕ → ℕ → Type 0
 AreCounted None new before after = new ≡ None
@@ -103,11 +109,9 @@ HaveRunOut n (Some a) None before after = ⊥
 HaveRunOut n (Some a) (Some b) before after =
     (b ≡ 0) × (after + a ≤ before) × (before ≤ after + a + n)
 
--- The call has taken at most n steps more than the budget has fallen by.
-abbrev pub AreBounded : ℕ → Option ℕ → Option ℕ → ℕ → ℕ → Type 0
-AreBounded n None new before after = new ≡ None
-AreBounded n (Some a) None before after = ⊥
-AreBounded n (Some a) (Some b) before after = before + b ≤ after + a + n
+-- The budget has fallen by as many steps as are no longer ahead, or it is spent.
+abbrev pub AtSteps : ℕ → Option ℕ → Option ℕ → ℕ → ℕ → Type 0
+AtSteps n old new before after = AreCounted old new before after ⊎ HaveRunOut n old new before after
 
 -- ---- a call with a budget of steps
 
@@ -127,7 +131,7 @@ UnlessErr (Some (Err e)) Holds = ⊤
 -- What a call has looked at, unless it is refused.
 abbrev pub LooksAt : {X : Type 0} → ℕ → Option (Result X ErrorOf) → Option ℕ → Option ℕ → ℕ → ℕ
     → Type 0
-LooksAt n None old new before after = AreBounded n old new before after
+LooksAt n None old new before after = AtSteps n old new before after
 LooksAt n (Some (Ok x)) old new before after = AreCounted old new before after
 LooksAt n (Some (Err e)) old new before after = ⊤
 
@@ -145,6 +149,7 @@ pub record GivesImportWithin {T : Type 0} (format : Format EntryValue) (s : Impo
   pub named : HasName s → HasName t
   pub fault : IfSome result (λ r. IfErr r (IsWalkFault s.walk))
   pub over : AreImportsOver (imports_bytes s) (imports_map s) t
+  pub spent : HasNotGrown old new
   pub looked : LooksAt (length (imports_bytes s)) result old new (imports_ahead format s)
       (imports_ahead format t)
   pub ended : EndsWithin result (cursor_of t)

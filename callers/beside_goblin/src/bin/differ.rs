@@ -43,8 +43,8 @@ enum Known {
     Stub,
     /// goblin 0.2.1 takes other windows of sections, so that other addresses have a file offset.
     Window,
-    /// goblin ends an import directory at a record of zeros, 0.10.7 and this library at one that lacks its name or
-    /// its address table.
+    /// goblin ends an import directory at a record of zeros, 0.10.7 and this library at one whose name or address
+    /// table is at address 0.
     LastRecord,
     /// goblin 0.2.1 refuses a section whose name leads past the string table, 0.10.7 and this library give it no
     /// other name.
@@ -303,8 +303,8 @@ fn has_other_windows(file: &[u8]) -> Option<bool> {
     Some(false)
 }
 
-/// Whether the import directory at an offset has a record that lacks a name or an address table, but is no record of
-/// zeros, where it ends.
+/// Whether the import directory at an offset ends at a record whose name or address table is at address 0, and which is
+/// no record of zeros.
 fn ends_before_zeros(file: &[u8], mut at: usize) -> bool {
     while let Some(record) = file.get(at..at + 20) {
         let is_zero = |it: usize| record[it..it + 4] == [0; 4];

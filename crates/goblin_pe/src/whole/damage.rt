@@ -76,7 +76,7 @@ fn file_refusal_of<'a, 'm, 'e>(imports: FileImports<'a, 'm, 'e>) -> Option<Error
 }
 
 // Why the imports are refused, if they are.
-pub(super) fn import_damage(layout: &Layout) -> Option<Error>
+fn import_damage(layout: &Layout) -> Option<Error>
     ensures { IsDamage (layout_table import_list layout.now) (layout_bytes layout.now) result }
 {
     match layout.imports() {

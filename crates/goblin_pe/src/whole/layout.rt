@@ -196,6 +196,8 @@ impl<'a> Layout<'a> {
         ensures over { let alignment = (places_in header.now.optional_header).file_alignment in
             let loaded = record opts.now { raw_pointer_rule = rule_by_alignment alignment } in
             IfOk result (IsLayoutOf Loader loaded bytes.now header.now) }
+        ensures grown { IfErr result
+            (λ e. IsMemory e → TakesIndex (header_value header.now)) }
     {
         let alignment = file_alignment(&header.optional_header);
         let rule = RawPointerRule::by_file_alignment(alignment);
@@ -440,8 +442,10 @@ impl<'a> Layout<'a> {
     /// In strict mode as [`Exports::addresses_of`](crate::export::Exports::addresses_of).
     #[tactic(auto, unfolding(crate::specs::Layouts::address_part))]
     pub fn export_addresses<'m>(&'m self) -> Result<Part<Exports<'a, 'm>>>
-        ensures { Reads (part_map walked_tables) result
+        ensures value { Reads (part_map walked_tables) result
             (layout_table address_part self.now) (layout_bytes self.now) }
+        ensures walk { IfOk result
+            (IfRead (IsExportWalk (layout_map self.now) (layout_bytes self.now))) }
     {
         let Some(directory) = self.places.directory(EXPORT_TABLE) else {
             return Ok(Part::Absent);

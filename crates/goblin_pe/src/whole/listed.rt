@@ -121,6 +121,9 @@ impl Places {
             ReadsOrMemory import_read_view result
             (mapped (both_lists places.magic) (numbered_data_part m.opts m.addressing places))
             bytes.now }
+        ensures libraries { let m = map_of address_map.now in
+            let part = import_data_part m.opts m.addressing (table_places self.now) in
+            IfOk result (λ read. part.value bytes.now ≡ Some read.0) }
         ensures listed { let m = map_of address_map.now in
             IfOk result (λ read.
             listed_imports_part m.opts (table_places self.now) read.0 ≡ Some (items_part read.1)) }
@@ -164,6 +167,9 @@ impl Places {
         ensures made { let m = map_of address_map.now in
             let places = table_places self.now in
             ReadsOrMemory listed_view result (listed_tables m.opts m.addressing places) bytes.now }
+        ensures libraries { let m = map_of address_map.now in
+            let part = import_data_part m.opts m.addressing (table_places self.now) in
+            IfOk result (λ t. part.value bytes.now ≡ Some t.imports.0) }
         ensures listed { let m = map_of address_map.now in
             IfOk result (λ t. listed_imports_part m.opts (table_places self.now) t.imports.0
             ≡ Some (items_part t.imports.1)) }

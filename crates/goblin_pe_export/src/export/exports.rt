@@ -126,6 +126,7 @@ impl<'a, 'm> Exports<'a, 'm> {
     ) -> Result<Exports<'a, 'm>>
         ensures value { let m = map_of address_map.now in
             Reads walked_tables result (export_addresses m.addressing directory) bytes.now }
+        ensures at { IfOk result (λ walk. exports_position walk ≡ 0) }
         ensures over { IfOk result (AreExportsOver bytes.now (map_of address_map.now)) }
         ensures repeats { let m = map_of address_map.now in
             RepeatsAddresses m.addressing directory bytes.now }

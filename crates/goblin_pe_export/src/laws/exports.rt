@@ -7,6 +7,7 @@ ghost use Rattle.goblin_pe_export.specs.Exports.{export_read_view};
 
 use crate::export::{Export, ExportData};
 use goblin_base::Result;
+use goblin_pe_sect::address_map::AddressMap;
 use goblin_pe_sect::data_directories::DataDirectory;
 use goblin_pe_sect::options::ParseOptions;
 use goblin_pe_sect::section_table::SectionTable;
@@ -31,15 +32,9 @@ pub fn read_exports<'a>(
     ensures { let m = map_by opts.now sections.now file_alignment in
         ReadsOrMemory export_read_view result (export_read m.addressing directory) bytes.now }
 {
-    let tables = ExportData::parse_with_opts(
-        alloc,
-        bytes,
-        directory,
-        sections,
-        file_alignment,
-        opts,
-    )?;
-    let exports = Export::parse_with_opts(alloc, bytes, &tables, sections, file_alignment, opts)?;
+    let address_map = AddressMap::prepare(alloc, sections, file_alignment, opts)?;
+    let tables = ExportData::parse_by(alloc, bytes, directory, &address_map)?;
+    let exports = Export::parse_by(alloc, bytes, &tables, &address_map)?;
     Ok((tables, exports))
 }
 

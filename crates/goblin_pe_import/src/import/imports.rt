@@ -21,7 +21,7 @@ ghost use Rattle.goblin_pe_import.specs.ImportWalks.{GivesImport, GivesLibrary, 
 ghost use Rattle.goblin_pe_import.specs.ImportWalks.{HasName, IsCursorCause, IsNamed, IsWalkAt};
 ghost use Rattle.goblin_pe_import.specs.ImportWalks.{IsImportsCause, cursor_left, cursor_of};
 ghost use Rattle.goblin_pe_import.specs.ImportWalks.{IsLaterCause, IsNamedCause};
-ghost use Rattle.goblin_pe_import.specs.ImportWalks.{IsRecordsCause, IsWalkCause, is_left_out};
+ghost use Rattle.goblin_pe_import.specs.ImportWalks.{IsRecordsCause, IsWalkCause, is_skipped};
 ghost use Rattle.goblin_pe_import.specs.ImportWalks.{bound_next, imports_bound, imports_map};
 ghost use Rattle.goblin_pe_import.specs.ImportWalks.{imports_bytes, imports_from_record};
 ghost use Rattle.goblin_pe_import.specs.ImportWalks.{imports_left, kept_import, no_imports};
@@ -33,7 +33,8 @@ ghost use Rattle.goblin_pe_import.specs.ImportWalks.{untested_table, walk_bound,
 ghost use Rattle.goblin_pe_import.specs.ImportWalks.{walked_value};
 ghost use Rattle.goblin_pe_import.specs.ImportRecords.{address_table_rva};
 ghost use Rattle.goblin_pe_import.specs.StepsAhead.{EndsWithin, GivesImportWithin, GivesWithin};
-ghost use Rattle.goblin_pe_import.specs.StepsAhead.{HaveRunOut, LooksAt, imports_ahead, later_ahead};
+ghost use Rattle.goblin_pe_import.specs.StepsAhead.{HasNotGrown, HaveRunOut, LooksAt};
+ghost use Rattle.goblin_pe_import.specs.StepsAhead.{imports_ahead, later_ahead};
 ghost use Rattle.goblin_pe_import.specs.StepsAhead.{record_steps, slots_ahead, tested_ahead};
 ghost use Rattle.goblin_pe_import.specs.StepsAhead.{untested_ahead, walk_ahead};
 
@@ -127,7 +128,8 @@ impl ImportCursor {
         }
     }
 
-    /// The cursor before the first import of `directory`.
+    /// The cursor before the first import of `directory`. In permissive mode it is the cursor at
+    /// the end if the directory's address has no file offset, or leads to file offset 0.
     ///
     /// # Errors
     /// In strict mode [`Error::Malformed`] with [`Cause::Unmapped`] if the directory's address has
@@ -198,15 +200,16 @@ fn test_untested<'a, 'e, T: Bitfield<'a>>(
     }
 }
 
-// Whether permissive mode leaves out the library of an import descriptor because its address table
-// can't be read, and how many slots of that table are looked at. In strict mode: false, and none.
-fn is_left_out<'a, T: Bitfield<'a>>(
+// Whether the walk skips the library of an import descriptor, as it does in permissive mode if its
+// address table can't be read, and how many slots of that table are looked at. In strict mode:
+// false, and none.
+fn is_skipped<'a, T: Bitfield<'a>>(
     bytes: &'a [u8],
     entry: &ImportDirectoryEntry,
     address_map: &AddressMap,
 ) -> (bool, usize)
     ensures out { let m = map_of address_map.now in
-        result.0 ≡ is_left_out (reads_strictly m) T.format m.addressing bytes.now entry.now }
+        result.0 ≡ is_skipped (reads_strictly m) T.format m.addressing bytes.now entry.now }
     ensures counted { let m = map_of address_map.now in
         result.1 ≡ tested_ahead (reads_strictly m) T.format m.addressing bytes.now
         (address_table_rva entry.now) }
@@ -338,7 +341,7 @@ impl<'a, 'm> Walk<'a, 'm> {
             self.old.bytes.now (address_table_rva entry.now)) }
         ensures few { IfOk result (λ n. n ≤ length self.old.bytes.now + 1) }
     {
-        let (is_out, tested) = is_left_out::<T>(self.bytes, entry, self.finder.address_map());
+        let (is_out, tested) = is_skipped::<T>(self.bytes, entry, self.finder.address_map());
         if is_out {
             self.at.next_record = Some(next);
             self.at.place = None;
@@ -362,9 +365,10 @@ impl<'a, 'm> Walk<'a, 'm> {
     }
 
     // Moves the walk to the next library, once it has yielded the entries of this one. Returns how
-    // many steps this takes, or `None` at the end.
+    // many steps this takes. If there is no other library, it returns `None`, and sets `last` to
+    // the number of steps.
     #[inline(always)]
-    fn next_library<'e, T: Bitfield<'a>>(&mut self) -> Option<ResultOf<'e, usize>>
+    fn next_library<'e, T: Bitfield<'a>>(&mut self, last: &mut usize) -> Option<ResultOf<'e, usize>>
         ensures gives { let m = map_of self.old.finder in
             let bytes = self.old.bytes.now in
             let c = self.old.at in
@@ -390,7 +394,7 @@ impl<'a, 'm> Walk<'a, 'm> {
             let c = self.old.at in
             let before =
             later_ahead (reads_strictly m) T.format m.addressing bytes c.untested c.next_record in
-            MatchOption result (before ≤ length bytes) (λ r. IfOk r (λ n.
+            MatchOption result ((last.new ≡ before) × (last.new ≤ length bytes)) (λ r. IfOk r (λ n.
             (n + walk_ahead T.format self.new ≡ before) × (n ≤ length bytes + 1))) }
     {
         let tested = match test_untested::<T>(self.bytes, self.at.untested, &mut self.finder) {
@@ -398,11 +402,13 @@ impl<'a, 'm> Walk<'a, 'm> {
             Err(error) => return Some(Err(error)),
         };
         let Some(offset) = self.at.next_record else {
+            *last = tested;
             return None;
         };
         let size = SIZEOF_IMPORT_DIRECTORY_ENTRY;
         let Some(record) = next_record(self.bytes, offset) else {
             if may_end(self.bytes, offset, size, self.finder.reads_strictly()) {
+                *last = tested;
                 return None;
             }
             return Some(Err(Error::Malformed(Cause::ImportRecordEnd(offset))));
@@ -463,6 +469,7 @@ impl<'a, 'm> Walk<'a, 'm> {
     // `None` means that the walk is at its end, if its cursor is, or else that the budget has run
     // out.
     #[inline(always)]
+    #[tactic(auto, using(crate::proofs::StepsAhead::grown_then, crate::proofs::StepsAhead::grown_spent))]
     fn next_within<'e, T: Bitfield<'a>>(
         &mut self,
         steps: &mut Option<usize>,
@@ -473,6 +480,7 @@ impl<'a, 'm> Walk<'a, 'm> {
         ensures bytes { self.new.bytes.now ≡ self.old.bytes.now }
         ensures finder { self.new.finder ≡ self.old.finder }
         ensures fewer { IfSome result (λ r. walk_bound self.new < walk_bound self.old) }
+        ensures spent { HasNotGrown steps.old steps.new }
         ensures looked { LooksAt (length self.old.bytes.now) result steps.old steps.new
             (walk_ahead T.format self.old) (walk_ahead T.format self.new) }
         ensures ended { EndsWithin result self.new.at
@@ -508,13 +516,15 @@ impl<'a, 'm> Walk<'a, 'm> {
             if are_out(steps) {
                 return None;
             }
-            match self.next_library::<T>() {
+            let mut last = 0;
+            match self.next_library::<T>(&mut last) {
                 Some(Ok(count)) => spend(steps, count),
                 Some(Err(error)) => {
                     self.end();
                     return Some(Err(error));
                 }
                 None => {
+                    spend(steps, last);
                     self.end();
                     return None;
                 }

@@ -5,8 +5,8 @@ ghost use Rattle.std.specs.Prelude.{Ok, Some, length, suc, true};
 ghost use Rattle.goblin_pe_sect.specs.Addresses.{map_of, reads_strictly};
 ghost use Rattle.goblin_pe_import.specs.ImportWalks.{IsEntriesCause, entries_from, kept_value};
 ghost use Rattle.goblin_pe_import.specs.ImportWalks.{place_after, slots_bound};
-ghost use Rattle.goblin_pe_import.specs.StepsAhead.{AreCounted, GivesWithin, HasSteps, IsOut};
-ghost use Rattle.goblin_pe_import.specs.StepsAhead.{UnlessErr, slots_ahead};
+ghost use Rattle.goblin_pe_import.specs.StepsAhead.{AreCounted, GivesWithin, HasNotGrown};
+ghost use Rattle.goblin_pe_import.specs.StepsAhead.{HasSteps, IsOut, UnlessErr, slots_ahead};
 ghost use Rattle.readings.specs.Walks.{GivesNext};
 
 use crate::import::bitfield::Bitfield;
@@ -56,6 +56,7 @@ pub(super) fn next_kept<'a, 'e, T: Bitfield<'a>>(
 // The same within a budget of steps, each of which looks at one slot. `place` moves on. `None`
 // means the end if no place is left, or else that the budget has run out.
 #[inline(always)]
+#[tactic(auto, using(crate::proofs::StepsAhead::grown_none, crate::proofs::StepsAhead::grown_spent))]
 pub(super) fn next_kept_within<'a, 'e, T: Bitfield<'a>>(
     bytes: &'a [u8],
     offset: usize,
@@ -72,6 +73,7 @@ pub(super) fn next_kept_within<'a, 'e, T: Bitfield<'a>>(
         let before = slots_ahead format bytes.now place.old in
         let after = slots_ahead format bytes.now place.new in
         UnlessErr result (AreCounted steps.old steps.new before after) }
+    ensures spent { HasNotGrown steps.old steps.new }
     ensures given { IfSome result (λ r. IfOk r (λ _. HasSteps steps.old)) }
     ensures ended { result ≡ None → (place.new ≡ None) ⊎ IsOut steps.new }
     ensures onward { slots_bound bytes.now place.new ≤ slots_bound bytes.now place.old }

@@ -12,7 +12,7 @@ ghost use Rattle.goblin_pe_sect.specs.Addresses.{reads_strictly};
 ghost use Rattle.goblin_pe_import.specs.ImportEntries.{EntryValue};
 ghost use Rattle.goblin_pe_import.specs.ImportWalks.{cursor_left, imports_from_record};
 ghost use Rattle.goblin_pe_import.specs.LeftOut.{leads_to_none};
-ghost use Rattle.goblin_pe_import.specs.Libraries.{AreLibrariesAt, AreLibrariesOver};
+ghost use Rattle.goblin_pe_import.specs.Libraries.{AreAtEnd, AreLibrariesAt, AreLibrariesOver};
 ghost use Rattle.goblin_pe_import.specs.Libraries.{GivesNextLibrary, IsLibrariesCause, at_record};
 ghost use Rattle.goblin_pe_import.specs.Libraries.{after_library};
 ghost use Rattle.goblin_pe_import.specs.Libraries.{cursor_libraries, entries_by, has_imports};
@@ -49,10 +49,9 @@ pub struct WalkedLibrary<'a> {
     /// [`Error::Malformed`] with [`Cause::Unmapped`] if the address of the name has no file offset,
     /// and with [`Cause::NameRead`] if there is no text.
     pub name: Result<&'a str>,
-    /// Whether the address table of the library cannot be read. Permissive mode then leaves the
-    /// library out of the imports, and strict mode refuses it after its imports. The field is not
-    /// set for a directory at file offset 0 as such, although permissive mode leaves out all of its
-    /// libraries.
+    /// Whether permissive mode leaves the library out of the imports: its address table cannot be
+    /// read, or the directory lies at file offset 0. Strict mode yields the imports of the library,
+    /// and then refuses it if its address table cannot be read.
     pub is_left_out: bool,
     /// Whether the first thing that the lookup table yields is an import. If not, the table keeps
     /// none, or strict mode refuses its first entry or its end.
@@ -120,14 +119,14 @@ fn flags_of<'a, T: Bitfield<'a>>(
     entry: &ImportDirectoryEntry,
     finder: &mut Finder<'_>,
 ) -> (bool, bool)
-    ensures left_out { let m = map_of finder.old in
+    ensures none { let m = map_of finder.old in
         result.0 ≡ leads_to_none T.format m.addressing bytes.now entry.now }
     ensures imports { let m = map_of finder.old in
         result.1 ≡ has_imports (reads_strictly m) T.format m.addressing bytes.now entry.now }
     ensures same { finder.new ≡ finder.old }
 {
-    let is_left_out = leads_to_none::<T>(bytes, entry, finder.address_map());
-    (is_left_out, has_imports::<T>(bytes, entry, finder))
+    let is_none = leads_to_none::<T>(bytes, entry, finder.address_map());
+    (is_none, has_imports::<T>(bytes, entry, finder))
 }
 
 /// A walk over the libraries that an image imports from, in the order of their import descriptors.
@@ -171,7 +170,7 @@ impl<'a, 'm> Libraries<'a, 'm> {
     /// Where the walk is: before the import descriptor that comes next. A walk over imports from
     /// this cursor on begins with the imports of that library. One exception: until this walk has
     /// yielded something, its cursor is the one that it was made from, which may lie in an earlier
-    /// library.
+    /// library. At the end, and after an error, it is [`ImportCursor::end`].
     pub fn cursor(&self) -> ImportCursor
         ensures is { result ≡ libraries_cursor self.now }
         ensures left { libraries_left self.now
@@ -190,7 +189,7 @@ impl<'a, 'm> Libraries<'a, 'm> {
         ensures same { self.new ≡ self.old }
     {
         let first = self.at.first_record;
-        let (is_left_out, has_imports) = if self.is_narrow {
+        let (is_none, has_imports) = if self.is_narrow {
             flags_of::<u32>(self.bytes, &entry, &mut self.finder)
         } else {
             flags_of::<u64>(self.bytes, &entry, &mut self.finder)
@@ -200,7 +199,7 @@ impl<'a, 'm> Libraries<'a, 'm> {
             index: record_index(first, offset),
             offset,
             name: name_or_cause(self.bytes, entry.name_rva, &mut self.finder),
-            is_left_out,
+            is_left_out: is_none || first == 0,
             has_imports,
             cursor: ImportCursor::at_record(first, offset),
         }
@@ -213,9 +212,11 @@ impl<'a, 'm> Libraries<'a, 'm> {
             (libraries_bytes self.old) self.new }
         ensures after { IfSome result
             (λ r. IfOk r (λ x. libraries_cursor self.new ≡ after_library (library_value x))) }
+        ensures ended { AreAtEnd result self.new }
         ensures fewer { IfSome result (λ r. libraries_bound self.new < libraries_bound self.old) }
     {
         let Some(offset) = self.at.next_record else {
+            self.at = ImportCursor::end();
             return None;
         };
         let Some(record) = next_record(self.bytes, offset) else {

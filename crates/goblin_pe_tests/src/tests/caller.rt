@@ -111,6 +111,19 @@ fn is_ordinal(alloc: Global, ordinal: u16) -> Result<bool, AllocError> {
     Ok(has_ordinal(&ordinals, ordinal))
 }
 
+/// The ordinals 4 and 7, put into a table and taken out again.
+fn ordinals_again(alloc: Global) -> Result<Vec<u16>, AllocError> {
+    let ordinals = ExportOrdinalTable::from(vec![in alloc; 4, 7]?);
+    Ok(ordinals.into_vec())
+}
+
+#[test]
+fn a_table_becomes_a_vec_again(rt: HostRuntime) {
+    assert!(rt;
+        matches!(&ordinals_again(rt.alloc()), Ok(ordinals) if ordinals.as_slice() == [4, 7])
+    );
+}
+
 #[test]
 fn names_and_ordinals_are_read_as_of_a_vec(rt: HostRuntime) {
     assert!(rt; matches!(second_pointer(rt.alloc()), Ok(Some(0x1080))));

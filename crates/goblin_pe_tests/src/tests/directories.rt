@@ -1,4 +1,4 @@
-//! The bytes of a data directory, by its index.
+//! The bytes of a data directory, by its index and in both views.
 
 use fixture::sample::{put, sample};
 use goblin_pe::header::Header;
@@ -40,4 +40,29 @@ fn a_directory_is_read_by_its_index(rt: HostRuntime) {
     // The fourth directory begins 24 bytes after the first.
     put(&mut file, 0xD1, b"\x90");
     assert!(rt; has_directories(rt.alloc(), &file));
+}
+
+/// Whether the exceptions are the magic of the optional header, which no section maps.
+fn has_magic(layout: &Layout) -> bool {
+    matches!(&layout.directory(3), Ok(Part::Read(bytes)) if *bytes == b"\x0B\x01")
+}
+
+/// Whether they are as a loader maps them alone.
+fn is_loaded_alone(alloc: Global, file: &[u8], header: &Header) -> bool {
+    let opts = ParseOptions::default();
+    matches!(&Layout::as_loaded(alloc, file, header, &opts), Ok(layout) if has_magic(layout))
+        && matches!(&Layout::of(alloc, file, header, &opts), Ok(layout) if !has_magic(layout))
+}
+
+fn has_magic_if_loaded(alloc: Global, file: &[u8]) -> bool {
+    matches!(&Header::parse(file), Ok(header) if is_loaded_alone(alloc, file, header))
+}
+
+#[test]
+fn a_loader_maps_the_headers_too(rt: HostRuntime) {
+    let mut file = sample();
+    // The size of the headers, and the fourth directory.
+    put(&mut file, 0x94, b"\x00\x02");
+    put(&mut file, 0xD0, b"\x58\0\0\0\x02");
+    assert!(rt; has_magic_if_loaded(rt.alloc(), &file));
 }

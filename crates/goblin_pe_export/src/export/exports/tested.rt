@@ -2,21 +2,12 @@
 
 ghost use Rattle.std.specs.Prelude.{◌≡◌, Bool, count_by, find, option_map};
 ghost use Rattle.std.specs.Fn.{FnReturnsAt};
-ghost use Rattle.readings.specs.Tests.{IsTest, has_any};
+ghost use Rattle.readings.specs.Tests.{IsTest};
 ghost use Rattle.goblin_pe_export.specs.ExportWalks.{NumberedExport, exports_left, walked_export};
 
 use super::{Exports, WalkedExport};
 
 impl<'a, 'm> Exports<'a, 'm> {
-    /// Whether one of the exports that are still to come passes a test.
-    pub fn any_export<F: Fn(&WalkedExport<'a>) -> bool>(self, test: F) -> bool
-        requires { F.IsAlwaysCallable test }
-        ensures { (p : NumberedExport → Bool) → IsTest walked_export (FnReturnsAt F.Fn test) p
-            → result ≡ has_any p (exports_left self.entry) }
-    {
-        self.find_export(test).is_some()
-    }
-
     /// How many of the exports that are still to come pass a test.
     pub fn count_exports<F: Fn(&WalkedExport<'a>) -> bool>(self, test: F) -> usize
         requires { F.IsAlwaysCallable test }

@@ -6,12 +6,12 @@ use Rattle.goblin_pe_import.specs.StepsAhead.{AreCounted, slots_ahead}
 use Rattle.goblin_pe_import.proofs.LookupWalk.{refused-strictly, rest-end, rest-kept}
 use Rattle.goblin_pe_import.proofs.LookupWalk.{rest-missing, rest-refused, rest-skip, rest-start}
 use Rattle.goblin_pe_import.proofs.Modes.{ends, lacks_end}
-use Rattle.goblin_pe_import.proofs.StepsAhead.{counted-given, counted-one, counted-start, stop-here}
-use Rattle.goblin_pe_import.proofs.StepsAhead.{stop-next}
+use Rattle.goblin_pe_import.proofs.StepsAhead.{counted-given, counted-one, counted-start, grown_none}
+use Rattle.goblin_pe_import.proofs.StepsAhead.{grown_spent, stop-here, stop-next}
 use Rattle.goblin_pe_import.proofs.import.kept.next_kept_within.Goals as goal
 
 pub slots-init : goal.slots-init
-slots-init g c = (rest-start _ _ _ _ _ _ _ c.in-Some.is, refl, rw c.in-Some.is (counted-start c.args.steps.now _), rw c.in-Some.is (omega arith))
+slots-init g c = (rest-start _ _ _ _ _ _ _ c.in-Some.is, refl, rw c.in-Some.is (counted-start c.args.steps.now _), rw c.in-Some.is (omega arith), grown_none c.args.steps.now)
 
 pub returns-then-may_end-clause-steps : goal.returns-then-may_end-clause-steps
 returns-then-may_end-clause-steps g c =
@@ -72,6 +72,7 @@ slots-preserved g c =
       c.in-Ok-None.ensures.same ∙ c.slots.invariant.1,
       counted-one c.args.steps.now c.slots.steps _ _ _ (c.are_out.ensures.no c.if-are_out.false) next c.slots.invariant.2,
       omega (arith, next, less),
+      grown_spent c.args.steps.now c.slots.steps 1 c.slots.invariant.4,
     )
 
 pub returns-in_default-next_entry-clause-strictly : goal.returns-in_default-next_entry-clause-strictly

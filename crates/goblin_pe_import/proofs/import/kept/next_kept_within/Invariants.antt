@@ -1,6 +1,6 @@
 use Rattle.std.proofs.Common.{◌≡◌, ◌≤◌, length, ◌-◌, Some}
 use Rattle.goblin_pe_sect.specs.Addresses.{map_of, reads_strictly}
-use Rattle.goblin_pe_import.specs.StepsAhead.{AreCounted, slots_ahead}
+use Rattle.goblin_pe_import.specs.StepsAhead.{AreCounted, HasNotGrown, slots_ahead}
 use Rattle.goblin_pe_import.proofs.LookupWalk.{AtRest}
 use Rattle.goblin_pe_import.proofs.import.kept.next_kept_within.Given as goal
 
@@ -14,6 +14,7 @@ invariant-slots g l =
     × (l.finder ≡ l.initial.finder)
     × AreCounted l.initial.steps l.steps before ahead
     × (ahead ≤ before)
+    × HasNotGrown l.initial.steps l.steps
 
 abbrev pub decreases-slots : goal.decreases-slots
 decreases-slots g l = length l.fn.bytes - l.at

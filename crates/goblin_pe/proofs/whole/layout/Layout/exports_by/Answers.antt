@@ -25,5 +25,5 @@ returns-clause-walk c =
     let m = map_of c.args.finder in
     let made : BecomesPart (reads_strictly m) c.by.result c.part_of.result =
     subst (λ (o : ParseOptions). BecomesPart (is_strict o.parse_mode) c.by.result c.part_of.result) c.opts.ensures c.part_of.ensures in
-    let kept = becomes_kept (IsExportWalk m (layout_bytes c.args.self.now)) (reads_strictly m) c.by.result c.part_of.result (kept_both _ _ c.by.result c.by.ensures.over c.by.ensures.left) made in
+    let kept = becomes_kept (IsExportWalk m (layout_bytes c.args.self.now)) (reads_strictly m) c.by.result c.part_of.result (kept_both _ _ c.by.result c.by.ensures.over c.by.ensures.at) made in
     subst (λ (m : MapOfAddresses). IfOk c.part_of.result (IfRead (IsExportWalk m (layout_bytes c.args.self.now)))) c.requires kept

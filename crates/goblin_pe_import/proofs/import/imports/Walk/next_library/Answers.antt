@@ -29,7 +29,7 @@ returns-then-may_end-clause-gives g c =
 
 pub returns-then-may_end-clause-counted : goal.returns-then-may_end-clause-counted
 returns-then-may_end-clause-counted g c =
-    rw c.in-Some.is (later-few g.T.Bitfield.format c.args.self.now c.in-Some.offset _ refl c.in_default-next_record.ensures)
+    rw c.in-Some.is (later-few g.T.Bitfield.format c.args.self.now c.in-Some.offset _ c.in-Ok.tested refl c.in_default-next_record.ensures c.in-Ok.ensures.counted)
 
 pub returns-in_default-next_record-clause-gives : goal.returns-in_default-next_record-clause-gives
 returns-in_default-next_record-clause-gives g c =

@@ -8,11 +8,11 @@ use Rattle.goblin_pe_import.proofs.ImportSteps.{GivesBy, at-passed, ended-cause,
 use Rattle.goblin_pe_import.proofs.ImportSteps.{next-library, next-none, next-refused, steps-after}
 use Rattle.goblin_pe_import.proofs.ImportSteps.{walk_answer-ok, walk_on}
 use Rattle.goblin_pe_import.proofs.LookupWalk.{none-left}
-use Rattle.goblin_pe_import.proofs.StepsAhead.{counted-start, of_ok, place-ended, steps-kept, steps-library}
+use Rattle.goblin_pe_import.proofs.StepsAhead.{counted-start, ended-ahead, grown_none, grown_spent, grown_then, of_ok, place-ended, steps-kept, steps-library}
 use Rattle.goblin_pe_import.proofs.import.imports.Walk.next_within.Goals as goal
 
 pub libraries-init : goal.libraries-init
-libraries-init g c = (imports-start _ _, inl (counted-start _ _))
+libraries-init g c = (imports-start _ _, inl (counted-start _ _), grown_none _)
 
 pub returns-in-Some-Err-clause-steps : goal.returns-in-Some-Err-clause-steps
 returns-in-Some-Err-clause-steps g c =
@@ -55,6 +55,7 @@ libraries-preserved g c =
           (steps-library (length c.args.self.now.bytes.now) c.args.steps.now (walk_ahead f c.args.self.now) c.next_kept_within.new.steps
           (slots_ahead f s.bytes.now place + rest) c.in-Some-Ok-next_library.count (walk_ahead f t) steps has
           (omega (arith, counted.0, ahead)) (omega (arith, counted.1, long))),
+      rw c.spend.ensures (grown_spent _ _ _ (grown_then _ _ _ c.libraries.invariant.2 kept.spent)),
     )
 
 pub returns-in-Some-Err-next_library-clause-steps : goal.returns-in-Some-Err-next_library-clause-steps
@@ -91,3 +92,25 @@ returns-in-None-next_library-clause-steps g c =
     let ended = c.end-in-None-next_library.ensures.at in
     let both = next-none f c.args.self.now (walk_on s place) passed empty gives t ended in
     (both.0 ∙ sym both.1, λ e fault. absurd (ended-cause f t ended e fault))
+
+pub returns-in-None-next_library-clause-looked : goal.returns-in-None-next_library-clause-looked
+returns-in-None-next_library-clause-looked g c =
+    let f = g.T.Bitfield.format in
+    let s = c.libraries.self in
+    let h = c.libraries.invariant.0 in
+    let m = map_of s.finder in
+    let kept = c.in-None.ensures in
+    let place = c.next_kept_within.new.place in
+    let has = c.are_out.ensures.no c.if-are_out.false in
+    let none = place-ended place c.next_kept_within.new.steps (kept.ended refl) has in
+    let rest = later_ahead (reads_strictly m) f m.addressing s.bytes.now s.at.untested s.at.next_record in
+    let counted = rw kept.same at c.in-None-next_library.ensures.counted in
+    let ahead : slots_ahead f s.bytes.now place ≡ 0 = rw none refl in
+    let long = ap length h.bytes in
+    let steps =
+    steps-kept (length c.args.self.now.bytes.now) c.args.steps.now (walk_ahead f c.args.self.now) c.libraries.steps c.next_kept_within.new.steps
+    (slots_ahead f s.bytes.now s.at.place) (slots_ahead f s.bytes.now place) rest c.libraries.invariant.1 kept.counted kept.less in
+    rw (c.spend-in-None-next_library.ensures, ended-ahead f c.end-in-None-next_library.new.self c.end-in-None-next_library.ensures.at)
+    (steps-library (length c.args.self.now.bytes.now) c.args.steps.now (walk_ahead f c.args.self.now) c.next_kept_within.new.steps
+    (slots_ahead f s.bytes.now place + rest) c.next_library.new.last 0 steps has
+    (omega (arith, counted.0, ahead)) (omega (arith, counted.1, long)))

@@ -1,8 +1,7 @@
 use Rattle.std.proofs.Common.{length}
 use Rattle.goblin_pe_import.specs.ImportWalks.{records_left}
-use Rattle.goblin_pe_import.specs.StepsAhead.{walk_ahead}
+use Rattle.goblin_pe_import.specs.StepsAhead.{AtSteps, HasNotGrown, walk_ahead}
 use Rattle.goblin_pe_import.proofs.ImportSteps.{AtImports}
-use Rattle.goblin_pe_import.proofs.StepsAhead.{AtSteps}
 use Rattle.goblin_pe_import.proofs.import.imports.Walk.next_within.Given as goal
 
 abbrev pub invariant-libraries : goal.invariant-libraries
@@ -10,6 +9,7 @@ invariant-libraries g l =
     AtImports g.T.Bitfield.format l.initial.self l.self
     × AtSteps (length l.initial.self.bytes.now) l.initial.steps l.steps
     (walk_ahead g.T.Bitfield.format l.initial.self) (walk_ahead g.T.Bitfield.format l.self)
+    × HasNotGrown l.initial.steps l.steps
 
 abbrev pub decreases-libraries : goal.decreases-libraries
 decreases-libraries g l = records_left l.self.bytes.now l.self.at.next_record

@@ -9,22 +9,22 @@ use Rattle.goblin_pe_import.proofs.import.library_walk.Libraries.next_library.Go
 
 pub returns-in_default-clause-gives : goal.returns-in_default-clause-gives
 returns-in_default-clause-gives c =
-    let none = none-left c.args.self.now c.in_default.is in
-    (none, none)
+    let t = record c.args.self.now { at = c.end-self.result } in
+    (none-left c.args.self.now c.in_default.is, ended-left t c.end-self.ensures)
 
 pub returns-then-may_end-clause-gives : goal.returns-then-may_end-clause-gives
 returns-then-may_end-clause-gives c =
     let s = c.args.self.now in
-    let t = record s { at = c.end-self.result } in
+    let t = record s { at = c.end-self-in_default-next_record.result } in
     let may = ends _ _ (import_record Little) _ (rw c.reads_strictly.ensures at c.may_end.ensures) c.if-may_end.true in
-    (end-left s t c.in-Some.offset c.in-Some.is _ refl c.in_default-next_record.ensures may, ended-left t c.end-self.ensures)
+    (end-left s t c.in-Some.offset c.in-Some.is _ refl c.in_default-next_record.ensures may, ended-left t c.end-self-in_default-next_record.ensures)
 
 pub returns-in_default-next_record-clause-gives : goal.returns-in_default-next_record-clause-gives
 returns-in_default-next_record-clause-gives c =
     let s = c.args.self.now in
-    let t = record s { at = c.end-self.result } in
+    let t = record s { at = c.end-self-in_default-next_record.result } in
     let lacks = lacks_end _ _ (import_record Little) _ (rw c.reads_strictly.ensures at c.may_end.ensures) c.if-may_end.false in
-    missing-left s t c.in-Some.offset c.in-Some.is c.end-self.ensures (Malformed (ImportRecordEnd c.in-Some.offset)) lacks.1 lacks.0 refl
+    missing-left s t c.in-Some.offset c.in-Some.is c.end-self-in_default-next_record.ensures (Malformed (ImportRecordEnd c.in-Some.offset)) lacks.1 lacks.0 refl
 
 pub returns-clause-gives : goal.returns-clause-gives
 returns-clause-gives c =

@@ -1,5 +1,5 @@
 use Rattle.goblin_pe_import.proofs.StepsAhead.{slots-few}
-use Rattle.goblin_pe_import.proofs.import.imports.is_left_out.Goals as goal
+use Rattle.goblin_pe_import.proofs.import.imports.is_skipped.Goals as goal
 
 pub returns-clause-few : goal.returns-clause-few
 returns-clause-few g c =
