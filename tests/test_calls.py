@@ -1,9 +1,10 @@
-"""The library's calls in the test program pe_replay: headers written back, footprints, addresses among many sections, walks
-over imports and exports, damage, and each call that takes memory with each of its growths refused."""
+"""The library's calls in the test program pe_replay: headers written back, footprints, files that agree on them, addresses
+among many sections, walks over imports and exports, damage, and each call that takes memory with each of its growths
+refused."""
 import struct
 
 from tests import images
-from tests.programs import BY_NAME, IMAGES, PE_REPLAY, Case, beside, build_pe_replay, with_memory
+from tests.programs import BY_NAME, IMAGES, PE_REPLAY, Case, beside, build_pe_replay, run, with_memory
 
 # The forms of a call: without options, or by those of a mode.
 MODES = ("strict", "permissive")
@@ -65,6 +66,31 @@ TAKE_NONE = [
     (DEFAULT, "no_imports", "0"),
     (EACH, "exports_of_no_bytes", "0"),
 ]
+
+# The sample file's length. Where its section table begins, and where its bytes can be read as a Terse Executable's header.
+SAMPLE_LEN = 0x300
+SECTIONS, TERSE = 0x138, 0x52
+# The footprint of each read of the sample file: the positions on which it depends, as ranges.
+OF_EXPORTS = [(0x280, 0x286), (0x2A0, 0x2DC), (0x2E0, 0x2E6), (0x2F0, 0x2F2)]
+OF_IMPORTS = [(0x200, 0x228), (0x240, 0x24C), (0x260, 0x26C), (0x280, 0x286), (0x290, 0x295)]
+FOOTPRINTS = {
+    "lookup": [(0x240, 0x24C), (0x290, 0x295)],
+    "imports": OF_IMPORTS,
+    "exports": OF_EXPORTS,
+    "header": [(0, 0x138)],
+    "whole": [(0, 0x160), *OF_IMPORTS, *OF_EXPORTS],
+    "header without DOS header": [(0, 0x18)],
+    "symbols": [(0x1FF, 0x211)],
+    "strings": [(0x211, 0x221)],
+    "relocations": [(0x280, 0x285)],
+    "value": [(0x200, 0x300)],
+}
+# A call lists some of them. What it lists depends on the same positions.
+FOOTPRINTS.update({f"footprint of {read}": sorted(set(FOOTPRINTS[read])) for read in ("imports", "exports", "header", "whole")})
+FOOTPRINTS_AT = {
+    SECTIONS: {**FOOTPRINTS, "sections": [(0x138, 0x160)]},
+    TERSE: {**FOOTPRINTS, "sections": [(0x52, 0x7A)], "terse": [(0x52, 0xCA)]},
+}
 
 
 def setUpModule():
@@ -147,6 +173,40 @@ class Answers(Case):
             for rule, wanted in (("stored", sum(found) + 0x10 * len(found)), ("rounded", sum(found))):
                 with self.subTest(way=way, rule=rule):
                     self.assert_shows(made, b"%#x\n" % wanted, way, "5000", rule)
+
+
+class Agreement(Case):
+    """Two files that agree on the footprint of a read have the same value by it: the sample file, and one like it."""
+
+    def answers(self, offset, changes):
+        """What each read gives of the sample file and of one in which the bytes at some places are other ones, and then of the
+        same two in the other order: four answers for each of the changes."""
+        masks = (bytes(0xFF * (place in places) for place in range(SAMPLE_LEN)) for places in changes)
+        status, out, said = run([PE_REPLAY, "twins", str(offset)], b"".join(masks))
+        self.assertEqual((status, said), (0, b""))
+        read = {}
+        for line in out.splitlines():
+            word, _, answer = line.partition(b": ")
+            read.setdefault(word.decode(), []).append(answer)
+        return {word: list(zip(*[iter(rows)] * 4)) for word, rows in read.items()}
+
+    def test_reads_depend_on_their_footprints_alone(self):
+        """Every byte outside is changed, one at a time and all at once. Within each range some byte makes a difference."""
+        for offset, footprints in FOOTPRINTS_AT.items():
+            within = {word: {place for it in ranges for place in range(*it)} for word, ranges in footprints.items()}
+            changes = [{place} for place in range(SAMPLE_LEN)] + [set(range(SAMPLE_LEN)) - it for it in within.values()]
+            read = self.answers(offset, [set(), *changes])
+            for word, ranges in footprints.items():
+                (own, *same), *answers = read[word]
+                with self.subTest(read=word, offset=offset):
+                    self.assertEqual((same, own[:3]), ([own] * 3, b"Ok("))
+                    if word.startswith("footprint"):
+                        self.assertEqual(own.decode(), f"Ok({ranges})")
+                    for places, (first, changed, again, last) in zip(changes, answers):
+                        self.assertEqual((first, again, last), (own, changed, own))
+                        self.assertTrue(changed == own or places & within[word], sorted(places)[:3])
+                    for begin, end in ranges:
+                        self.assertNotEqual([changed for _, changed, *_ in answers[begin:end]], [own] * (end - begin))
 
 
 class Walks(Case):

@@ -4,6 +4,7 @@
 //! ```text
 //! pe_replay header|footprint|imports|exports|damage < FILE
 //! pe_replay walk|index COUNT stored|rounded < FILE
+//! pe_replay twins OFFSET < CHANGES
 //! pe_replay CALL default|strict|permissive
 //! ```
 #![tactic(auto)]
@@ -16,6 +17,7 @@ mod header;
 mod laws;
 mod look_ups;
 mod sample;
+mod twins;
 mod walks;
 
 use fixture::sample::{SAMPLE_LEN, in_mode, sample_section};
@@ -92,6 +94,7 @@ fn show_file(rt: &HostRuntime, word: &str, count: &str, rule: &str) -> io::Resul
         "index" => look_ups::show_index(rt, &file, count.parse().unwrap_or(0), &opts),
         "imports" | "exports" => walks::show(rt, &file, word),
         "damage" => walks::show_damage(rt, &file),
+        "twins" => twins::show(rt, &file, count.parse().unwrap_or(0)),
         _ => Err(ErrorKind::InvalidInput.into()),
     }
 }
