@@ -120,7 +120,7 @@ fn ordinals_again(alloc: Global) -> Result<Vec<u16>, AllocError> {
 #[test]
 fn a_table_becomes_a_vec_again(rt: HostRuntime) {
     assert!(rt;
-        matches!(&ordinals_again(rt.alloc()), Ok(ordinals) if ordinals.as_slice() == [4, 7])
+        matches!(&ordinals_again(rt.alloc()), Ok(table) if table.as_slice() == [4u16, 7].as_slice())
     );
 }
 

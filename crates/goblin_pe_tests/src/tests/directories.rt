@@ -44,7 +44,7 @@ fn a_directory_is_read_by_its_index(rt: HostRuntime) {
 
 /// Whether the exceptions are the magic of the optional header, which no section maps.
 fn has_magic(layout: &Layout) -> bool {
-    matches!(&layout.directory(3), Ok(Part::Read(bytes)) if *bytes == b"\x0B\x01")
+    matches!(&layout.directory(3), Ok(Part::Read(bytes)) if *bytes == b"\x0B\x01".as_slice())
 }
 
 /// Whether they are as a loader maps them alone.
