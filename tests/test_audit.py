@@ -61,6 +61,11 @@ class Audits(Case):
         self.assert_audited(file, "imports from a.dll: yes", "forwarders: 1", "entered in code: no",
                             r"writable code: x\x0aknown by its key: no\x1b[2J\x5c", "header: 312 bytes")
 
+    def test_a_name_that_is_not_utf_8(self):
+        file = sample((0x138, b"\xff\x80t\0"), (0x15F, b"\xA0"))
+        self.assert_audited(file, "imports from a.dll: yes", "forwarders: 1", "entered in code: no",
+                            r"writable code: \xff\x80t", "header: 312 bytes")
+
     def test_refusals_are_told(self):
         for name, file, cause in (
                 ("no bytes", b"", b"the file is too short for the DOS signature"),
@@ -69,7 +74,7 @@ class Audits(Case):
                 self.assertEqual(run([PE_AUDIT, "a.dll"], file), (1, b"", b"refused: " + cause + b"\n"))
 
     def test_wrong_uses(self):
-        for words in ([], ["a.dll", "b.dll"]):
+        for words in ([], ["a.dll", "b.dll"], [b"\xff.dll"]):
             with self.subTest(words=words):
                 self.assertEqual(run([PE_AUDIT, *words]), (2, b"", b"usage: pe_audit LIBRARY\n"))
 

@@ -265,7 +265,7 @@ module _ (opts : ParseOptions) (addressing : Addressing) (places : TablePlaces) 
   abbrev pub permissive_tables : NumberedTables → NumberedTables
   permissive_tables t = record t { imports = part_map (unless_front place) t.imports }
 
-  repeats-table_parts : RepeatsAs permissive_tables (table_parts strictly addressing places)
+  pub repeats-table_parts : RepeatsAs permissive_tables (table_parts strictly addressing places)
       (table_parts permissively addressing places)
   unfolding table_parts numbered_data_part export_part relocation_part
   repeats-table_parts =
@@ -288,7 +288,7 @@ module _ (opts : ParseOptions) (addressing : Addressing) (places : TablePlaces) 
         imports = (part_map (unless_front place) l.imports.0, part_map (unless_front place) l.imports.1);
       }
 
-  pub lists_again : (t : NumberedTables)
+  lists_again : (t : NumberedTables)
       → lists_of places.magic (permissive_tables t) ≡ permissive_lists (lists_of places.magic t)
   lists_again t =
       let made = unless_made (flat_map (numbered_imports (entry_format places.magic).width)) refl place t.imports in

@@ -2,12 +2,12 @@
 -- permissive mode reads the same.
 use Rattle.std.proofs.Common.{◌≡◌, ℕ, List, Bool, true, false, Option, Some, None, IsSome, refl, sym, ap, subst, ◌∙◌, IfOk, IsSomeAnd, Result, Ok, Err, option_map}
 use Rattle.goblin_base.specs.declared.error.ErrorOf.{ErrorOf}
-use Rattle.goblin_base.specs.declared.permissive.ParseMode.TheVariants.{Strict}
+use Rattle.goblin_base.specs.declared.permissive.ParseMode.TheVariants.{Permissive, Strict}
 use Rattle.goblin_base.specs.Reading.{Reading}
 use Rattle.goblin_base.proofs.Steps.{mapped, step}
 use Rattle.readings.specs.Reads.{◌beside◌, in_its_place, pair_of}
 use Rattle.goblin_pe_sect.specs.declared.options.ParseOptions.{ParseOptions}
-use Rattle.goblin_pe_sect.specs.declared.options.View.TheVariants.{Sections}
+use Rattle.goblin_pe_sect.specs.declared.options.View.{View}
 use Rattle.goblin_pe_sect.specs.Mapping.{file_offset}
 use Rattle.goblin_pe_sect.specs.Options.{is_strict}
 use Rattle.goblin_pe_sect.specs.SectionTable.{Section}
@@ -15,15 +15,16 @@ use Rattle.goblin_pe_sect.specs.Addresses.{Addressing}
 use Rattle.goblin_pe_head.specs.declared.header.dos.DosHeader.{DosHeader}
 use Rattle.goblin_pe_head.specs.HeaderReadings.{dos_header, header_after, pe_header, stub_at, stub_in}
 use Rattle.goblin_pe_head.specs.PeHeader.{PeHeader}
+use Rattle.goblin_pe_head.proofs.PermissiveReads.{repeats-header}
 use Rattle.goblin_pe_import.specs.declared.import.left_out.LeftOut.{LeftOut}
 use Rattle.goblin_pe.specs.declared.whole.damage.Damage.{Damage}
 use Rattle.goblin_pe.specs.Damages.{AreDamaged, IsDamage, IsDamaged, IsReadByBoth, IsSound, TellsDamage, left_out_of}
-use Rattle.goblin_pe.specs.Modes.{in_mode, in_permissive_mode}
-use Rattle.goblin_pe.specs.Whole.{ListedParts, NumberedTables, TablePlaces, export_part, import_list}
+use Rattle.goblin_pe.specs.Modes.{in_mode}
+use Rattle.goblin_pe.specs.Whole.{NumberedTables, TablePlaces, export_part, import_list}
 use Rattle.goblin_pe.specs.Whole.{layout, lists_of, mapped_in, numbered_data_part, addressing_by, places_in}
-use Rattle.goblin_pe.specs.Whole.{relocation_part, sections_after, table_parts, tables_with, whole_file}
+use Rattle.goblin_pe.specs.Whole.{relocation_part, sections_after, table_parts, tables_with}
 use Rattle.goblin_pe.specs.Whole.{whole_in, whole_of, whole_with}
-use Rattle.goblin_pe.proofs.PermissiveReads.{lists_again, repeats-whole_file, sections_repeat, tables_same}
+use Rattle.goblin_pe.proofs.PermissiveReads.{repeats-table_parts, sections_repeat, tables_same}
 
 there : {A : Type 0} (reading : Reading A) (bytes : List ℕ) (damage : Option ErrorOf) → damage ≡ None → IsDamage reading bytes damage → IsSome (reading.value bytes)
 there reading bytes None is h = h
@@ -76,7 +77,13 @@ both-there (Some x) (Some y) first second = refl
 pub all-there : {A B C : Type 0} (a : Reading A) (b : Reading B) (c : Reading C) (bytes : List ℕ) → IsSome (a.value bytes) → IsSome (b.value bytes) → IsSome (c.value bytes) → IsSome ((a beside b beside c).value bytes)
 all-there a b c bytes first second third = both-there (pair_of (a.value bytes) (b.value bytes)) (c.value bytes) (both-there (a.value bytes) (b.value bytes) first second) third
 
-module _ (opts : ParseOptions) (bytes : List ℕ) where
+-- a mode reads this of a file
+pub record IsRead (view : View) (opts : ParseOptions) (bytes : List ℕ) (h : PeHeader) (s : List Section) (t : NumberedTables) : Type 0 where
+  pub header : (pe_header (is_strict opts.parse_mode)).value bytes ≡ Some h
+  pub sections : (sections_after (is_strict opts.parse_mode) h).value bytes ≡ Some s
+  pub tables : (tables_with view opts h s).value bytes ≡ Some t
+
+module _ (view : View) (opts : ParseOptions) (bytes : List ℕ) where
   tables-there : (addressing : Addressing) (places : TablePlaces) (imports exports relocations : Option ErrorOf) (left_out : LeftOut) → imports ≡ None → exports ≡ None → relocations ≡ None → AreDamaged opts addressing places bytes imports exports relocations left_out → IsSome ((table_parts (in_mode Strict opts) addressing places).value bytes)
   unfolding table_parts import_list
   tables-there addressing places imports exports relocations left_out no_imports no_exports no_relocations damage =
@@ -86,22 +93,34 @@ module _ (opts : ParseOptions) (bytes : List ℕ) where
       (there (export_part (in_mode Strict opts) addressing places) bytes exports no_exports damage.exports)
       (there (relocation_part (in_mode Strict opts) addressing places) bytes relocations no_relocations damage.relocations))
 
-  -- strict mode reads a file of these tables, and permissive mode the same
-  alike : (h : PeHeader) (s : List Section) (tables : Option NumberedTables) → (tables_with Sections (in_mode Strict opts) h s).value bytes ≡ tables → IsSome tables → (left_out_of opts (addressing_by opts (mapped_in Sections h s) (places_in h.optional_header)) (places_in h.optional_header) bytes).libraries ≡ 0 → (whole_file (in_mode Strict opts)).value bytes ≡ (whole_with Sections (in_mode Strict opts) h s).value bytes → IsReadByBoth Sections opts bytes
-  unfolding whole_with in_permissive_mode file_offset
-  alike h s None is some none whole = absurd cc
-  alike h s (Some t) is some none whole =
-      let places = places_in h.optional_header in
-      let listed = λ (t : NumberedTables). whole_of h s (lists_of places.magic t) in
-      let addressing = addressing_by opts (mapped_in Sections h s) places in
-      let made : (whole_file (in_mode Strict opts)).value bytes ≡ Some (listed t) = whole ∙ ap (λ (o : Option NumberedTables). option_map (whole_of h s) (option_map (lists_of places.magic) o)) is in
-      let same = tables_same opts addressing places bytes none t is in
-      rw made ((repeats-whole_file opts).kept bytes (listed t) made
-      ∙ ap (λ (l : ListedParts). Some (whole_of h s l)) (sym (lists_again opts addressing places t))
-      ∙ ap (λ (t : NumberedTables). Some (listed t)) same)
+  -- what both modes read of a file
+  record Alike (h : PeHeader) (s : List Section) : Type 0 where
+    tables : NumberedTables
+    strictly : IsRead view (in_mode Strict opts) bytes h s tables
+    permissively : IsRead view (in_mode Permissive opts) bytes h s tables
 
-  sound_read : (l : PeHeader × List Section) (d : Damage) → (layout opts).value bytes ≡ Some l → IsDamaged Sections opts l.0 l.1 bytes d → IsSound d → IsReadByBoth Sections opts bytes
-  unfolding layout whole_in file_offset
+  -- strict mode reads a file of these tables, and permissive mode the same
+  alike : (h : PeHeader) (s : List Section) (tables : Option NumberedTables) → (tables_with view (in_mode Strict opts) h s).value bytes ≡ tables → IsSome tables → (left_out_of opts (addressing_by opts (mapped_in view h s) (places_in h.optional_header)) (places_in h.optional_header) bytes).libraries ≡ 0 → (pe_header true).value bytes ≡ Some h → (sections_after true h).value bytes ≡ Some s → Alike h s
+  unfolding file_offset
+  alike h s None is some none header sections = absurd cc
+  alike h s (Some t) is some none header sections =
+      let places = places_in h.optional_header in
+      let addressing = addressing_by opts (mapped_in view h s) places in
+      record {
+        tables = t;
+        strictly = record { header = header; sections = sections; tables = is };
+        permissively =
+            record {
+              header = repeats-header.kept bytes h header;
+              sections = (sections_repeat opts h).kept bytes s sections;
+              tables =
+                  (repeats-table_parts opts addressing places).kept bytes t is
+                  ∙ ap (λ (t : NumberedTables). Some t) (tables_same opts addressing places bytes none t is);
+            };
+      }
+
+  sound_read : (l : PeHeader × List Section) (d : Damage) → (layout opts).value bytes ≡ Some l → IsDamaged view opts l.0 l.1 bytes d → IsSound d → Alike l.0 l.1
+  unfolding layout file_offset
   sound_read l d found damaged sound =
       let strict = is_strict opts.parse_mode in
       let first = step ((pe_header strict).value bytes) (λ h. option_map (λ s. (h, s)) ((sections_after strict h).value bytes)) l found in
@@ -111,16 +130,24 @@ module _ (opts : ParseOptions) (bytes : List ℕ) where
       let header = header-strict bytes strict l.0 (subst (λ (x : PeHeader). (pe_header strict).value bytes ≡ Some x) h first.is) (there (stub_at l.0.dos_header.pe_pointer) bytes d.dos_stub sound.dos_stub damaged.dos_stub) in
       let own : (sections_after strict l.0).value bytes ≡ Some l.1 = subst (λ (x : PeHeader). (sections_after strict x).value bytes ≡ Some l.1) h (subst (λ (y : List Section). (sections_after strict first.value).value bytes ≡ Some y) s second.is) in
       let sections = same-sections bytes opts strict l.0 l.1 own _ refl (there (sections_after true l.0) bytes d.section_names sound.section_names damaged.section_names) in
-      let parts = tables-there (addressing_by opts (mapped_in Sections l.0 l.1) (places_in l.0.optional_header)) (places_in l.0.optional_header) d.imports d.exports d.relocations d.left_out sound.imports sound.exports sound.relocations damaged.tables in
-      let whole : (whole_file (in_mode Strict opts)).value bytes ≡ (whole_with Sections (in_mode Strict opts) l.0 l.1).value bytes = rw (header, sections) refl in
+      let parts = tables-there (addressing_by opts (mapped_in view l.0 l.1) (places_in l.0.optional_header)) (places_in l.0.optional_header) d.imports d.exports d.relocations d.left_out sound.imports sound.exports sound.relocations damaged.tables in
       let left_out = ap (λ (x : LeftOut). x.libraries) damaged.tables.left_out in
-      alike l.0 l.1 _ refl parts (sym left_out ∙ sound.libraries) whole
+      alike l.0 l.1 _ refl parts (sym left_out ∙ sound.libraries) header sections
 
-  told : (o : Option (PeHeader × List Section)) (d : Damage) → (layout opts).value bytes ≡ o → IsSomeAnd o (λ l. IsDamaged Sections opts l.0 l.1 bytes d) → IsSound d → IsReadByBoth Sections opts bytes
-  told None d is damaged sound = absurd damaged
-  told (Some l) d is damaged sound = sound_read l d is damaged sound
+  -- what a call tells of a file in which nothing is damaged, for a reader of header, sections and tables
+  module _ {A : Type 0} (read : ParseOptions → Reading A) (make : PeHeader → List Section → NumberedTables → A) (made : (o : ParseOptions) (h : PeHeader) (s : List Section) (t : NumberedTables) → IsRead view o bytes h s t → (read o).value bytes ≡ Some (make h s t)) where
+    told : (o : Option (PeHeader × List Section)) (d : Damage) → (layout opts).value bytes ≡ o → IsSomeAnd o (λ l. IsDamaged view opts l.0 l.1 bytes d) → IsSound d → IsReadByBoth read opts bytes
+    told None d is damaged sound = absurd damaged
+    told (Some l) d is damaged sound =
+        let both = sound_read l d is damaged sound in
+        rw (made (in_mode Strict opts) l.0 l.1 both.tables both.strictly) (made (in_mode Permissive opts) l.0 l.1 both.tables both.permissively)
 
-  -- what a call tells of a file in which nothing is damaged
-  pub sound_told : (result : Result Damage ErrorOf) → TellsDamage Sections opts bytes result → IfOk result (λ d. IsSound d → IsReadByBoth Sections opts bytes)
-  sound_told (Ok d) tells = told ((layout opts).value bytes) d refl tells
-  sound_told (Err e) tells = tt
+    pub sound_told : (result : Result Damage ErrorOf) → TellsDamage view opts bytes result → IfOk result (λ d. IsSound d → IsReadByBoth read opts bytes)
+    sound_told (Ok d) tells = told ((layout opts).value bytes) d refl tells
+    sound_told (Err e) tells = tt
+
+  -- what it tells for a whole file
+  pub sound_whole : (result : Result Damage ErrorOf) → TellsDamage view opts bytes result → IfOk result (λ d. IsSound d → IsReadByBoth (whole_in view) opts bytes)
+  unfolding whole_in whole_with
+  sound_whole result tells =
+      sound_told (whole_in view) (λ h s t. whole_of h s (lists_of (places_in h.optional_header).magic t)) (λ o h s t read. rw (read.header, read.sections, read.tables) refl) result tells

@@ -23,7 +23,6 @@ use Rattle.goblin_pe.specs.declared.whole.damage.Damage.{Damage}
 use Rattle.goblin_pe.specs.Modes.{in_mode}
 use Rattle.goblin_pe.specs.Whole.{TablePlaces, directory_at, entry_format, export_part, import_list, layout}
 use Rattle.goblin_pe.specs.Whole.{mapped_in, addressing_by, places_in, relocation_part, sections_after}
-use Rattle.goblin_pe.specs.Whole.{whole_in}
 
 -- There is a value and no damage, or there is no value and the cause is true.
 abbrev pub IsDamageOf : {A : Type 0} → Option A → (ErrorOf → Type 0) → Option ErrorOf → Type 0
@@ -102,8 +101,9 @@ pub record IsSound (d : Damage) : Type 0 where
   pub relocations : d.relocations ≡ None
   pub libraries : d.left_out.libraries ≡ 0
 
--- Both modes read the file, and read the same.
-abbrev pub IsReadByBoth : View → ParseOptions → List ℕ → Type 0
-IsReadByBoth view opts bytes =
-    IsSomeAnd ((whole_in view (in_mode Strict opts)).value bytes) (λ w.
-    (whole_in view (in_mode Permissive opts)).value bytes ≡ Some w)
+-- This reader reads the file in both modes, and reads the same.
+abbrev pub IsReadByBoth : {A : Type 0} → (ParseOptions → Reading A) → ParseOptions → List ℕ
+    → Type 0
+IsReadByBoth read opts bytes =
+    IsSomeAnd ((read (in_mode Strict opts)).value bytes) (λ x.
+    (read (in_mode Permissive opts)).value bytes ≡ Some x)

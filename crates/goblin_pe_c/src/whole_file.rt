@@ -1,9 +1,10 @@
 //! The calls that read a whole file.
 
-ghost use Rattle.std.specs.Prelude.{◌≡◌, ◌==◌, IfErr, IsSomeAnd, length};
+ghost use Rattle.std.specs.Prelude.{◌≡◌, ◌==◌, IfErr, IfOk, IsSomeAnd, length};
 ghost use Rattle.goblin_base.specs.Answers.{IsMemory};
 ghost use Rattle.goblin_pe_sect.specs.Options.{is_strict};
 ghost use Rattle.goblin_pe_head.specs.HeaderReadings.{pe_header};
+ghost use Rattle.goblin_pe.specs.Damages.{IsReadByBoth};
 ghost use Rattle.goblin_pe.specs.RefusedParts.{refused_number, refused_part};
 ghost use Rattle.goblin_pe.specs.Whole.{layout as file_layout};
 ghost use Rattle.goblin_pe_records.specs.Calls.{ReadsInto, ReadsWithout, Reported, ReportedOf};
@@ -12,10 +13,10 @@ ghost use Rattle.goblin_pe_calls.specs.FileLayouts.{layout_names};
 ghost use Rattle.goblin_pe_calls.specs.FileLayouts.{layout_part};
 ghost use Rattle.goblin_pe_calls.specs.Parts.{PartsRecords, SaysParts};
 ghost use Rattle.goblin_pe.specs.TakenMemory.{TakesIndex};
-ghost use Rattle.goblin_pe_calls.specs.Damages.{RecordsDamage};
+ghost use Rattle.goblin_pe_calls.specs.Damages.{RecordsDamage, SaysSound};
 ghost use Rattle.goblin_pe_calls.specs.Footprints.{Lists};
 ghost use Rattle.goblin_pe_records.specs.Kinds.{kind_number, kind_of};
-ghost use Rattle.goblin_pe_calls.specs.Opened.{Opened, Opens, opened_in};
+ghost use Rattle.goblin_pe_calls.specs.Opened.{Opened, Opens, opened_file, opened_in};
 ghost use Rattle.goblin_pe_records.specs.Options.{header_options, options_in, view_of};
 
 use goblin_pe::RefusedPart;
@@ -151,8 +152,12 @@ pub extern "C" fn goblin_pe_raw_read_damage(
     ensures { let opts = options_in options.now bytes.now in
         Reported result
         (λ r. ReadsInto (file_layout opts) bytes.now
-        (λ l. RecordsDamage (view_of options.now) opts l.0 l.1 bytes.now damage.new) (damage.new ≡ damage.old) r
-        × IfErr r (λ e. IsMemory e → IsSomeAnd ((pe_header (is_strict opts.parse_mode)).value bytes.now) TakesIndex)) }
+        (λ l. RecordsDamage (view_of options.now) opts l.0 l.1 bytes.now damage.new)
+        (damage.new ≡ damage.old) r
+        × IfErr r (λ e. IsMemory e
+        → IsSomeAnd ((pe_header (is_strict opts.parse_mode)).value bytes.now) TakesIndex)
+        × IfOk r (λ done. SaysSound damage.new
+        → IsReadByBoth (opened_file (view_of options.now)) opts bytes.now)) }
 {
     let opts = options_in(bytes, options);
     status_of(damage::tell(alloc, bytes, view_of(options), &opts, damage))

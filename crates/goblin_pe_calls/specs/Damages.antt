@@ -35,3 +35,12 @@ abbrev pub RecordsDamage : View → ParseOptions → PeHeader → List Section �
     → Type 0
 RecordsDamage view opts h sections bytes told =
     (d : Damage) × IsDamaged view opts h sections bytes d × (told ≡ damage_record d)
+
+-- a record says that nothing is damaged, and that no library is left out
+pub record SaysSound (told : PeDamage) : Type 0 where
+  pub dos_stub : told.dos_stub.status ≡ 0
+  pub section_names : told.section_names.status ≡ 0
+  pub imports : told.imports.status ≡ 0
+  pub exports : told.exports.status ≡ 0
+  pub relocations : told.relocations.status ≡ 0
+  pub libraries : told.left_out_libraries ≡ 0

@@ -1,13 +1,16 @@
 //! What strict mode would refuse of a file.
 
-ghost use Rattle.std.specs.Prelude.{◌≡◌, IfErr, IsSomeAnd};
+ghost use Rattle.std.specs.Prelude.{◌≡◌, IfErr, IfOk, IsSomeAnd, None};
 ghost use Rattle.goblin_base.specs.Answers.{IsMemory};
 ghost use Rattle.goblin_pe_sect.specs.Options.{is_strict};
 ghost use Rattle.goblin_pe_head.specs.HeaderReadings.{pe_header};
+ghost use Rattle.goblin_pe.specs.Damages.{IsReadByBoth, IsSound};
 ghost use Rattle.goblin_pe.specs.Whole.{layout};
 ghost use Rattle.goblin_pe_records.specs.Calls.{ReadsInto};
 ghost use Rattle.goblin_pe.specs.TakenMemory.{TakesIndex};
-ghost use Rattle.goblin_pe_calls.specs.Damages.{RecordsDamage, damage_record, part_fault};
+ghost use Rattle.goblin_pe_calls.specs.Damages.{RecordsDamage, SaysSound, damage_record};
+ghost use Rattle.goblin_pe_calls.specs.Damages.{part_fault};
+ghost use Rattle.goblin_pe_calls.specs.Opened.{opened_file};
 
 use goblin_pe::options::{ParseOptions, View};
 use goblin_pe::{Damage, Error, Result, Whole};
@@ -48,7 +51,8 @@ pub struct PeDamage {
 
 // The numbers of a part's damage.
 fn part_fault(damage: &Option<Error>) -> PeFault
-    ensures { result ≡ part_fault damage.now }
+    ensures value { result ≡ part_fault damage.now }
+    ensures none { result.status ≡ 0 → damage.now ≡ None }
 {
     match damage {
         Some(error) => fault_of(error),
@@ -58,7 +62,8 @@ fn part_fault(damage: &Option<Error>) -> PeFault
 
 // The record of a file's damage.
 fn damage_record(damage: &Damage) -> PeDamage
-    ensures { result ≡ damage_record damage.now }
+    ensures value { result ≡ damage_record damage.now }
+    ensures sound { SaysSound result → IsSound damage.now }
 {
     PeDamage {
         dos_stub: part_fault(&damage.dos_stub),
@@ -88,6 +93,8 @@ pub fn tell(
     ensures told { ReadsInto (layout opts.now) bytes.now
         (λ l. RecordsDamage view opts.now l.0 l.1 bytes.now damage.new)
         (damage.new ≡ damage.old) result }
+    ensures sound { IfOk result
+        (λ done. SaysSound damage.new → IsReadByBoth (opened_file view) opts.now bytes.now) }
     ensures grown { IfErr result
         (λ e.
         IsMemory e → IsSomeAnd ((pe_header (is_strict opts.now.parse_mode)).value bytes.now)

@@ -269,6 +269,7 @@ fn cause_numbers(cause: &Cause) -> PeFault
     ensures value { result ≡ fault_of (Malformed cause.now) }
     ensures text { IsNumbered (Malformed cause.now)
         → refusal_text result ≡ Some (error_text (Malformed cause.now)) }
+    ensures refused { ¬ (result.status ≡ 0) }
 {
     match cause {
         Cause::Message(_) => malformed(CauseNumber::Message as u32, 0, 0),
@@ -364,6 +365,7 @@ fn cause_numbers(cause: &Cause) -> PeFault
 pub fn fault_of(error: &Error) -> PeFault
     ensures value { result ≡ fault_of error.now }
     ensures text { IsNumbered error.now → refusal_text result ≡ Some (error_text error.now) }
+    ensures refused { ¬ (result.status ≡ 0) }
 {
     match error {
         Error::Malformed(cause) => cause_numbers(cause),

@@ -16,11 +16,11 @@
 //! | `known by its key: yes` or `no` | whether the key of a verdict on the file fits the file |
 //!
 //! There is one line `writable code` for each such section. N is its name, in which bytes are
-//! escaped as `pe_list` escapes them. A name that is not UTF-8 is printed as an empty one.
+//! escaped as `pe_list` escapes them.
 //!
 //! If the file is refused, the cause is printed on standard error. The status is 0 after an audit.
 //! It is 1 if the file is refused, if memory is, or if input or output fails. It is 2 after a wrong
-//! use. An argument that is not UTF-8 ends the program with status 1 and without a line.
+//! use.
 #![tactic(auto)]
 
 use goblin_pe::header::Header;
@@ -34,7 +34,7 @@ use goblin_pe_caller::report::report;
 use goblin_pe_caller::stamp::stamp;
 use goblin_pe_caller::verdict::Verdict;
 use goblin_pe_caller::write_execute::writable_code;
-use pe_listing::push_name;
+use pe_listing::{push_name_bytes, shown_name};
 use std::alloc::Global;
 use std::io::{ErrorKind, Read};
 use std::process::ExitCode;
@@ -54,7 +54,7 @@ fn main(rt: HostRuntime) -> ExitCode {
         Ok(Outcome::WrongUse) => complain(&rt, "usage: pe_audit LIBRARY", 2),
         Err(error) => match error.kind() {
             ErrorKind::OutOfMemory => complain(&rt, "out of memory", 1),
-            // (The cause was printed already; an argument that is not UTF-8 has none.)
+            // (The cause was printed already.)
             ErrorKind::InvalidData => ExitCode::from(1),
             _ => complain(&rt, "input or output failed", 1),
         },
@@ -67,7 +67,10 @@ fn complain(rt: &impl Eprint, line: &str, status: u8) -> ExitCode {
 }
 
 fn audit(rt: &HostRuntime) -> io::Result<Outcome> {
-    let mut words = env::args(rt)?;
+    let mut words = match env::args(rt) {
+        Err(error) if error.kind() == ErrorKind::InvalidData => return Ok(Outcome::WrongUse),
+        words => words?,
+    };
     let _program = words.next();
     let (Some(library), None) = (words.next(), words.next()) else {
         return Ok(Outcome::WrongUse);
@@ -122,7 +125,7 @@ fn word(yes: bool) -> &'static str {
 // hold a line of its own, or a command to a terminal.
 fn section_line(alloc: Global, section: &SectionTable) -> io::Result<String> {
     let mut line = String::new(alloc);
-    push_name(&mut line, "writable code: ", section.name().unwrap_or(""))?;
+    push_name_bytes(&mut line, "writable code: ", shown_name(section))?;
     Ok(line)
 }
 

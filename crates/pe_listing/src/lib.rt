@@ -33,4 +33,5 @@ mod lines;
 pub mod listing;
 mod text;
 
-pub use text::push_name;
+pub use lines::shown_name;
+pub use text::push_name_bytes;

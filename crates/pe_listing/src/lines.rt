@@ -87,9 +87,10 @@ impl Listed for SectionTable {
     }
 }
 
-// The name of a section that is printed.
+/// The name of a section that is printed: the one from the string table, or else the eight bytes of
+/// the section header up to a NUL.
 #[tactic(auto, unfolding(crate::specs::Lines::shown_name))]
-fn shown_name(section: &SectionTable) -> &[u8]
+pub fn shown_name(section: &SectionTable) -> &[u8]
     ensures { result.now ≡ shown_name section.now }
 {
     match &section.real_name {

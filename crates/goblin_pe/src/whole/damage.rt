@@ -13,7 +13,7 @@ ghost use Rattle.goblin_pe.specs.Damages.{TellsDamage};
 ghost use Rattle.goblin_pe.specs.Layouts.{IsFileImportsCause, file_imports_left, layout_map};
 ghost use Rattle.goblin_pe.specs.Layouts.{layout_bytes, layout_places};
 ghost use Rattle.goblin_pe.specs.TakenMemory.{TakesIndex};
-ghost use Rattle.goblin_pe.specs.Whole.{import_list, sections_after};
+ghost use Rattle.goblin_pe.specs.Whole.{import_list, sections_after, whole_in};
 
 use crate::import::{Bitfield, Imports, LeftOut};
 use crate::whole::layout::section_records_of;
@@ -149,23 +149,25 @@ impl Whole<'_> {
     /// [`Error::Memory`] if memory is refused, and only if the file has more than 96 sections.
     pub fn damage(alloc: Global, bytes: &[u8], opts: &ParseOptions) -> Result<Damage>
         ensures tells { TellsDamage Sections opts.now bytes.now result }
-        ensures sound { IfOk result (λ d. IsSound d → IsReadByBoth Sections opts.now bytes.now) }
+        ensures sound { IfOk result
+            (λ d. IsSound d → IsReadByBoth (whole_in Sections) opts.now bytes.now) }
         ensures grown { IfErr result
             (λ e.
             IsMemory e → IsSomeAnd ((pe_header (is_strict opts.now.parse_mode)).value bytes.now)
             TakesIndex) }
     {
-        file_damage(alloc, bytes, View::Sections, opts)
+        Self::damage_in(alloc, bytes, View::Sections, opts)
     }
 
     /// Reports the damage of a file, as [`Whole::damage`] does, with addresses mapped as `view`
-    /// says. Only for [`View::Sections`] is it proved that both modes read a file without damage
-    /// alike.
+    /// says.
     ///
     /// # Errors
     /// As [`Whole::damage`].
     pub fn damage_in(alloc: Global, bytes: &[u8], view: View, opts: &ParseOptions) -> Result<Damage>
         ensures tells { TellsDamage view opts.now bytes.now result }
+        ensures sound { IfOk result
+            (λ d. IsSound d → IsReadByBoth (whole_in view) opts.now bytes.now) }
         ensures grown { IfErr result
             (λ e.
             IsMemory e → IsSomeAnd ((pe_header (is_strict opts.now.parse_mode)).value bytes.now)
