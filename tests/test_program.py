@@ -16,8 +16,7 @@ USAGE = b"usage: pe_list [--permissive]\n"
 REFUSED = (1, b"", b"refused\n")
 NO_MEMORY = (1, b"", b"out of memory\n")
 SMALL = SAMPLES / "align16_x86.dll"
-# How many growths of memory a listing has, and how many bytes they ask for, in strict and in permissive mode: measured when
-# contracts still said for which files a call takes memory.
+# How many growths of memory a listing may have, and for how many bytes they may ask, in strict and in permissive mode.
 MOST_ASKED = {
     "align16_x64.dll": ((18, 3207), (19, 3463)),
     "align16_x86.dll": ((18, 3191), (19, 3447)),
@@ -169,8 +168,7 @@ class Memory(Case):
             return tuple(map(int, counted.read().split()))
 
     def test_no_file_asks_for_more_memory(self):
-        """Nor asks more often, than when contracts still said for which files a call takes memory: each sample, and some 400
-        files together that are damaged or made to mislead."""
+        """Nor asks more often than MOST_ASKED says: each sample, and some 400 damaged or misleading files together."""
         for sample in IMAGES:
             for words, most in zip(BOTH_MODES, MOST_ASKED[sample.name]):
                 with self.subTest(sample=sample.name, words=words):
@@ -182,7 +180,7 @@ class Memory(Case):
                 self.assert_at_most(tuple(map(sum, zip(*(self.asked(words, it) for it in files)))), most)
 
     def assert_at_most(self, asked, most):
-        self.assertTrue(asked[0] <= most[0] and asked[1] <= most[1], f"{asked}, and {most} before")
+        self.assertTrue(asked[0] <= most[0] and asked[1] <= most[1], f"{asked}, and at most {most} are allowed")
 
     def test_a_large_image(self):
         """It is listed, and refused where memory is short, be it to read the image or to list it."""
