@@ -67,7 +67,7 @@ said-back : (bytes : List ℕ) (w : WholeFile) → (pe_header true).value bytes 
 unfolding header_bytes header_parts
 said-back bytes w e =
     let h = w.header in
-    let is = parts_of bytes h e in
+    let is = parts_of true bytes h e in
     let signature : 0x4550 ≡ h.signature = same_value 0x4550 h.signature (sym (dos_of bytes h.dos_header is.dos).signature ∙ is.signature) in
     rw (signature, part-back (file_of w) h.optional_header refl refl refl) refl
 
