@@ -1,5 +1,5 @@
 -- The walk over the libraries of an import directory: what is still to come.
-use Rattle.std.specs.Prelude.{◌≡◌, ℕ, Bool, true, false, if◌then◌else◌, List, [], ◌∷◌, Option}
+use Rattle.std.specs.Prelude.{◌≡◌, ℕ, Bool, true, false, ◌&&◌, not, if◌then◌else◌, List, [], ◌∷◌, Option}
 use Rattle.std.specs.Prelude.{Some, None, unwrap_or, Result, Err, IfErr, IfOk, IfSome, MatchOption}
 use Rattle.std.specs.Prelude.{◌+◌, ◌==◌}
 use Rattle.std.specs.Option.{ok_or}
@@ -15,7 +15,7 @@ use Rattle.readings.specs.Walks.{GivesNext, table_walk}
 use Rattle.goblin_pe_sect.specs.Addresses.{Addressing, MapOfAddresses, map_of, reads_strictly}
 use Rattle.goblin_pe_import.specs.ImportEntries.{EntryValue, entries_32, entries_64}
 use Rattle.goblin_pe_import.specs.ImportReadings.{import_record_at}
-use Rattle.goblin_pe_import.specs.ImportRecords.{import_slots, lookup_offset}
+use Rattle.goblin_pe_import.specs.ImportRecords.{address_table_rva, import_slots, lookup_offset}
 use Rattle.goblin_pe_import.specs.ImportWalks.{entries_from, no_imports, record_index, records_left}
 use Rattle.goblin_pe_import.specs.LeftOut.{is_library_left_out}
 use Rattle.goblin_pe_import.specs.declared.import.directory_entry.ImportDirectoryEntry.{ImportDirectoryEntry}
@@ -89,6 +89,20 @@ library_value x = record {
   has_imports = x.has_imports;
   cursor = x.cursor;
 }
+
+-- The cursor in a library, from which its imports come, and nothing else. Permissive mode gives none
+-- of a library without an address table.
+abbrev pub inside_library : Bool → Addressing → LibraryValue → ImportCursor
+inside_library strict addressing x =
+    if x.is_left_out && not strict then no_imports
+    else record no_imports {
+      library = x.index;
+      name_rva = x.entry.name_rva;
+      rva = x.entry.import_address_table_rva;
+      table_offset = unwrap_or (lookup_offset addressing x.entry) 0;
+      place = lookup_offset addressing x.entry;
+      untested = Some (address_table_rva x.entry);
+    }
 
 -- ---- all libraries
 

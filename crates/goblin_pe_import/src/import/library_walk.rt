@@ -16,6 +16,7 @@ ghost use Rattle.goblin_pe_import.specs.Libraries.{AreAtEnd, AreLibrariesAt, Are
 ghost use Rattle.goblin_pe_import.specs.Libraries.{GivesNextLibrary, IsLibrariesCause, at_record};
 ghost use Rattle.goblin_pe_import.specs.Libraries.{after_library};
 ghost use Rattle.goblin_pe_import.specs.Libraries.{cursor_libraries, entries_by, has_imports};
+ghost use Rattle.goblin_pe_import.specs.Libraries.{inside_library};
 ghost use Rattle.goblin_pe_import.specs.Libraries.{libraries_bound, libraries_bytes};
 ghost use Rattle.goblin_pe_import.specs.Libraries.{libraries_cursor, libraries_format};
 ghost use Rattle.goblin_pe_import.specs.Libraries.{libraries_left, libraries_map, library_at};
@@ -26,7 +27,7 @@ use crate::import::directory_entry::{ImportDirectoryEntry, SIZEOF_IMPORT_DIRECTO
 use crate::import::imports::{ImportCursor, record_index};
 use crate::import::kept::next_kept;
 use crate::import::left_out::leads_to_none;
-use crate::import::library::lookup_offset;
+use crate::import::library::{address_table_rva, lookup_offset};
 use crate::import::slots::{may_end, next_record};
 use goblin_base::{Cause, Error, Result, pread_str_within};
 use goblin_pe_sect::address_map::Finder;
@@ -107,6 +108,34 @@ impl ImportCursor {
         ImportCursor {
             first_record: first,
             next_record: Some(offset),
+            ..ImportCursor::end()
+        }
+    }
+}
+
+impl WalkedLibrary<'_> {
+    /// The cursor in this library. A walk over imports from there yields the imports of this
+    /// library, and ends. In permissive mode it yields none if the library is left out.
+    ///
+    /// The walk does not need the name. If it can't be read, the imports have an empty one, also in
+    /// strict mode.
+    pub fn inside(&self, finder: &mut Finder<'_>) -> ImportCursor
+        ensures is { let m = map_of finder.old in
+            result ≡ inside_library (reads_strictly m) m.addressing (library_value self.now) }
+        ensures same { finder.new ≡ finder.old }
+    {
+        if self.is_left_out && !finder.reads_strictly() {
+            return ImportCursor::end();
+        }
+        let entry = &self.import_directory_entry;
+        let place = lookup_offset(entry, finder);
+        ImportCursor {
+            library: self.index,
+            name_rva: entry.name_rva,
+            rva: entry.import_address_table_rva,
+            table_offset: place.unwrap_or(0),
+            place,
+            untested: Some(address_table_rva(entry)),
             ..ImportCursor::end()
         }
     }

@@ -8,12 +8,12 @@ use Rattle.goblin_pe_calls.proofs.export_directory.fill_addresses.Goals as goal
 pub returns-then-address_count-position : goal.returns-then-address_count-position
 returns-then-address_count-position c =
     let table = (walked_tables c.args.exports.now).export_address_table in
-    let count = c.address_count.ensures in
+    let count = c.address_count.ensures.value in
     onward-none (map address_said table) c.args.position.now c.args.records.now (omega (arith, length-map table address_said, count, c.if-address_count-position.true))
 
 pub returns : goal.returns
 returns c =
     let table = (walked_tables c.args.exports.now).export_address_table in
-    let count = c.address_count.ensures in
+    let count = c.address_count.ensures.value in
     let fits = c.address_count.type_inv in
     c.fill_onward.ensures (map address_said table) (omega (arith, length-map table address_said, count, fits)) (search rules)

@@ -1,0 +1,79 @@
+-- The entries of the export address table of a file, from an index on.
+use Rattle.std.proofs.Common.{◌≡◌, ◌∙◌, ◌+◌, ◌⊎◌, ℕ, List, [], Option, Some, None, ap, arith, inl, inr, length, map, slice_get, subst, sym, true, IsSomeAnd, option_map}
+use Rattle.std.specs.List.{enumerate_from}
+use Rattle.std.proofs.lemmas.List.{length-map}
+use Rattle.std.proofs.lemmas.List.FromFn.{get_or-enumerate_from, length-enumerate_from}
+use Rattle.std.proofs.lemmas.Option.{slice_get-get_or, slice_get-map, slice_get_cases, slice_get_past}
+use Rattle.goblin_pe_sect.specs.Addresses.{Addressing}
+use Rattle.goblin_pe_export.specs.declared.export.tables.ExportAddressTableEntry.{ExportAddressTableEntry}
+use Rattle.goblin_pe_c_tables.specs.declared.export_directory.PeExportAddress.{PeExportAddress}
+use Rattle.goblin_pe_export.specs.declared.export.exports.Exports.{Exports}
+use Rattle.goblin_pe.specs.Addresses.{MapOfAddresses}
+use Rattle.goblin_pe.specs.ExportRecords.{ExportTables}
+use Rattle.goblin_pe.specs.ExportWalks.{walked_tables}
+use Rattle.goblin_pe.specs.Layouts.{address_part}
+use Rattle.goblin_pe.specs.Whole.{TablePlaces, part_map}
+use Rattle.goblin_pe.specs.declared.whole.Part.{Part}
+use Rattle.goblin_pe.specs.declared.whole.Part.TheVariants.{Absent, Refused}
+use Rattle.goblin_pe.specs.declared.whole.Part.TheVariants as part
+use Rattle.goblin_pe_c_headers.specs.Onward.{GivesOnward, no_batch}
+use Rattle.goblin_pe_c_headers.specs.declared.batch.PeBatch.{PeBatch}
+use Rattle.goblin_pe_c_headers.proofs.GivenOnward.{onward-none}
+use Rattle.goblin_pe_c_tables.specs.Batches.{AddressBatch, GivesAddresses, addresses_in}
+use Rattle.goblin_pe_c_tables.specs.ExportDirectories.{address_said, addresses_said}
+
+-- ---- items with their indexes
+
+numbered : {A : Type 0} (xs : List A) (i : ℕ) → slice_get (enumerate_from 0 xs) i ≡ option_map (λ x. (i, x)) (slice_get xs i)
+numbered {A} xs i = elim (slice_get_cases xs i).1 [
+  | inl there ↦
+      let x = there.0 in
+      slice_get-get_or (enumerate_from 0 xs) i (i, x) (let within = there.1 in omega (arith, within, length-enumerate_from 0 xs))
+      ∙ ap (λ (y : ℕ × A). Some y) (get_or-enumerate_from 0 xs i (i, x) there.1 ∙ ap (λ (y : A). (i, y)) there.3)
+      ∙ ap (option_map (λ (y : A). (i, y))) (sym there.2)
+  | inr past ↦
+      slice_get_past (enumerate_from 0 xs) i (let after = past.0 in omega (arith, after, length-enumerate_from 0 xs))
+      ∙ ap (option_map (λ (y : A). (i, y))) (sym past.1)
+]
+
+module _ (addressing : Addressing) (tables : ExportTables) where
+  abbrev one : ℕ × ExportAddressTableEntry → PeExportAddress
+  one x = address_said addressing (tables.export_directory_table.ordinal_base + x.0) x.1
+
+  -- the record at an index
+  pub address-some : (i : ℕ) (entry : ExportAddressTableEntry) → Some entry ≡ slice_get tables.export_address_table i
+      → Some (address_said addressing (tables.export_directory_table.ordinal_base + i) entry) ≡ slice_get (addresses_said addressing tables) i
+  address-some i entry is =
+      ap (λ (o : Option ExportAddressTableEntry). option_map one (option_map (λ x. (i, x)) o)) is
+      ∙ ap (option_map one) (sym (numbered tables.export_address_table i))
+      ∙ sym (slice_get-map one (enumerate_from 0 tables.export_address_table) i)
+
+  pub address-none : (i : ℕ) → None ≡ slice_get tables.export_address_table i → None ≡ slice_get (addresses_said addressing tables) i
+  address-none i is =
+      ap (λ (o : Option ExportAddressTableEntry). option_map one (option_map (λ x. (i, x)) o)) is
+      ∙ ap (option_map one) (sym (numbered tables.export_address_table i))
+      ∙ sym (slice_get-map one (enumerate_from 0 tables.export_address_table) i)
+
+  pub length-addresses : length (addresses_said addressing tables) ≡ length tables.export_address_table
+  length-addresses =
+      length-map (enumerate_from 0 tables.export_address_table) one ∙ length-enumerate_from 0 tables.export_address_table
+
+-- ---- in a file
+
+module _ (m : MapOfAddresses) (places : TablePlaces) (bytes : List ℕ) (found : Part Exports)
+    (read : (address_part m.opts m.addressing places).value bytes ≡ Some (part_map walked_tables found)) (old : AddressBatch) where
+  given : (p : Part ExportTables) → part_map walked_tables found ≡ p → (batch : PeBatch) (new : AddressBatch) → GivesOnward (addresses_in m.addressing p) old new batch
+      → GivesAddresses m places bytes old new batch
+  given p is batch new gives =
+      subst (λ (v : Option (Part ExportTables)). IsSomeAnd v (λ p. GivesOnward (addresses_in m.addressing p) old new batch))
+      (sym (read ∙ ap (λ (p : Part ExportTables). Some p) is)) gives
+
+  -- where the directory was read
+  pub addresses-given : (walk : Exports) → found ≡ part.Read walk → (batch : PeBatch) (new : AddressBatch)
+      → GivesOnward (addresses_said m.addressing (walked_tables walk)) old new batch → GivesAddresses m places bytes old new batch
+  addresses-given walk is batch new gives = given (part.Read (walked_tables walk)) (ap (part_map walked_tables) is) batch new gives
+
+  -- where there are none
+  pub addresses-none : (found ≡ Absent) ⊎ (found ≡ Refused) → GivesAddresses m places bytes old old no_batch
+  addresses-none (inl none) = given Absent (ap (part_map walked_tables) none) no_batch old (onward-none [] old.position old.records (omega arith))
+  addresses-none (inr none) = given Refused (ap (part_map walked_tables) none) no_batch old (onward-none [] old.position old.records (omega arith))

@@ -1,0 +1,246 @@
+"""The bindings over one image: C, Rust and Python, and what their generator makes."""
+import itertools
+import os
+import re
+import shutil
+import subprocess
+import sys
+import time
+import unittest
+
+from tests import hostile, images
+from tests.bindings import BINDINGS, library
+from tests.programs import BY_NAME, CC, FLAGS, IMAGES, OBJECTS, SAMPLES, TERSE, Case, beside, environment, folder, modes, need, run, succeed
+
+STRICT = ["-pedantic", "-Wcast-qual", "-Wshadow"]
+SANITIZED = ("-std=c11", "-g", "-fsanitize=address,undefined", "-fno-sanitize-recover=all")
+# An object and a Terse Executable, which eight threads read beside an image.
+OTHERS = (SAMPLES / "object_x64.obj", SAMPLES / "firmware_x64.te")
+# The program at the top of the header.
+PROGRAM = re.compile(r"(?s)       (#include \"goblin_pe\.h\".*?)\n\n       \$ cc")
+
+
+def setUpModule():
+    need(CC)
+    library()
+
+
+class C(Case):
+    def built(self, source, *flags):
+        made = self.folder / "program"
+        succeed([CC, *(flags or ["-std=c99"]), *FLAGS, *STRICT, "-I", library(), "-o", made, source, library() / "libgoblin_pe.a"])
+        return made
+
+    def test_the_program_of_the_manual_ends_on_each_file_in_a_tenth_of_a_second(self):
+        text = (BINDINGS / "c/goblin_pe.h").read_text("utf-8")
+        program = re.sub("(?m)^       ", "", PROGRAM.search(text)[1])
+        made = self.built(self.written("imports.c", program.encode()))
+        self.assertEqual(run([made], BY_NAME)[:2], (0, b"KERNEL32.dll 0 GetTickCount\n"))
+        for index, data in enumerate(hostile.files(3)):
+            with self.subTest(index=index):
+                began = time.process_time()
+                before = os.times()
+                status, out, _ = run([made], data)
+                after = os.times()
+                self.assertIn(status, (0, 1))
+                self.assertRegex(out, rb"\A[ -~\n]*\Z")
+                self.assertLess(after.children_user - before.children_user + time.process_time() - began, 0.3)
+
+    def test_examples_build_and_run_on_each_file(self):
+        for name, words in (("imports", ()), ("walk", ("1000",)), ("libraries", ())):
+            made = self.built(BINDINGS / f"c/examples/{name}.c")
+            for index, data in enumerate(hostile.files(1)):
+                with self.subTest(example=name, index=index):
+                    file = self.written("some.dll", data)
+                    status, _, _ = run([made], file) if name == "imports" else run([made, *words, file])
+                    self.assertIn(status, (0, 1, 2))
+
+    def need_flags(self, *flags):
+        """Skips the test if the compiler does not build programs by these flags."""
+        if run([CC, *flags, "-x", "c", "-o", self.folder / "flags", "-"], b"int main(void) { return 0; }\n")[0]:
+            self.skipTest(f"{CC} has no {flags[-1]}")
+
+    def calls(self):
+        """The files on which each call is made: the samples, and an image with a Rich header."""
+        rich = images.with_rich_header(images.library(b"rich.dll", [(b"Apple", 0x3010)]), 0x12345678, [(0x1047809, 3), (0x930001, 7)])
+        return [*IMAGES, *OBJECTS, *TERSE, self.written("rich.dll", rich)]
+
+    def test_each_call_and_each_null_pointer_that_it_allows(self):
+        source = BINDINGS / "c/tests/calls.c"
+        succeed([self.built(source, "-std=c11"), *self.calls()])
+        with self.subTest("sanitizers"):
+            self.need_flags(*SANITIZED)
+            succeed([self.built(source, *SANITIZED), *self.calls()])
+        with self.subTest("valgrind"):
+            need("valgrind")
+            succeed(["valgrind", "-q", "--error-exitcode=9", "--leak-check=full", self.built(source, "-std=c11"), *self.calls()])
+
+    def test_threads_with_stacks_of_16_kib(self):
+        """Also if the file has a thousand sections and imports: no call needs more stack for these."""
+        source, hostile_image = BINDINGS / "c/tests/threads.c", self.written("hostile.dll", images.hostile_image(1 << 16))
+        program = self.built(source, "-std=c11", "-pthread")
+        succeed([program, "16", "1", BY_NAME, *OTHERS])
+        succeed([program, "16", str((1 << 16) // 64 - 16), hostile_image, *OTHERS])
+        with self.subTest("the sanitizer of races"):
+            self.need_flags("-fsanitize=thread")
+            succeed([self.built(source, "-std=c11", "-pthread", "-fsanitize=thread"), "256", "1", BY_NAME, *OTHERS])
+
+    def test_each_refused_growth_of_memory_is_told(self):
+        """The footprint takes memory; a walk does only above 96 sections."""
+        program = self.built(BINDINGS / "c/tests/memory.c", "-std=c11")
+        walks = ("damage", "directory", "imports", "libraries", "exports", "export_addresses", "relocation_blocks")
+        # (an import and an export directory of zeros, and a block of two zeros)
+        tables = ((0, 0x1800, 40), (1, 0x1800, 40), (5, 0x1900, 12))
+        files = {count: self.written(f"{count}.dll", images.with_parts(images.image_headers(0x2000, count, 0x2000, tables), (0x1904, b"\x0c")))
+                 for count in (96, 97)}
+        for (count, file), call in itertools.product(files.items(), ("footprint", *walks, "sections", "symbols")):
+            with self.subTest(call=call, sections=count):
+                refused = int(succeed([program, call, file]))
+                self.assertEqual(refused > 0, call == "footprint" or call in walks and count > 96)
+
+    def test_the_program_of_the_page(self):
+        page = (BINDINGS / "c/README.md").read_text("utf-8")
+        made = self.built(self.written("exports.c", re.search("(?s)```c\n(.*?)```", page)[1].encode()))
+        self.assertEqual(run([made], BY_NAME), (0, b"1 0x1000 answer\n2 0x1020 ticks\n", b""))
+        self.assertEqual(run([made], images.library(b"some.dll", [(b"Ap\x1bple", 0x3010)])), (0, b"1 0x3010 Ap?ple\n", b""))
+        self.assertEqual(run([made], b"MZ"), (1, b"", b"the file is too short for the DOS header\n"))
+
+    def test_compilers_warn_of_nothing(self):
+        source = self.written("header.c", b'#include "goblin_pe.h"\nint main(void);\nint main(void) { return 0; }\n')
+        for compiler, standard in itertools.product(filter(shutil.which, ("gcc", "clang")), ("c99", "c11")):
+            for file in (source, BINDINGS / "c/goblin_pe_calls.c", *(BINDINGS / "c/examples").glob("*.c")):
+                if standard == "c11" or file.name != "goblin_pe_calls.c":
+                    succeed([compiler, f"-std={standard}", *FLAGS, *STRICT, "-I", library(), "-c", "-o", self.folder / "it.o", file])
+        for compiler in filter(shutil.which, ("g++", "clang++")):
+            succeed([compiler, "-std=c++11", *FLAGS, "-x", "c++", "-I", library(), "-c", "-o", self.folder / "it.o", source])
+
+    def test_the_shared_library_exports_the_names_of_the_header(self):
+        need("nm")
+        said = succeed(["nm", "-D", "--defined-only", library() / "libgoblin_pe.so"])
+        declared = re.findall(r"\b(goblin_pe_[a-z0-9_]+)\(", (BINDINGS / "c/goblin_pe.h").read_text("utf-8"))
+        self.assertEqual({it.split()[-1] for it in said.splitlines()}, set(declared))
+
+
+class Rust(Case):
+    def cargo(self, *words):
+        need("cargo")
+        succeed(["cargo", words[0], "--offline", "--quiet", *words[1:]], cwd=BINDINGS / "rust", env=environment(
+            GOBLIN_PE_LIB=str(library()), GOBLIN_PE_SAMPLES=str(SAMPLES), CARGO_TARGET_DIR=str(folder() / "rust")))
+
+    def test_the_crate(self):
+        """Its own tests, and its documents' programs."""
+        self.cargo("test")
+
+    def test_clippy_warns_of_nothing(self):
+        if run(["cargo", "clippy", "--version"])[0]:
+            self.skipTest("no clippy")
+        self.cargo("clippy", "--all-targets", "--", "-D", "warnings")
+
+    def test_examples_end_on_each_hostile_file_in_a_second(self):
+        self.cargo("build", "--examples")
+        for index, data in enumerate(hostile.files(1)):
+            file = self.written("some.dll", data)
+            for name, *words in (("imports", file), ("scan", file, file), ("triage", file), ("object", file),
+                                 ("export", self.folder, "some.dll", "Apple"), ("export", self.folder, "some.dll", "#1")):
+                with self.subTest(example=name, index=index):
+                    began = os.times()
+                    status, out, said = run([folder() / f"rust/debug/examples/{name}", *words])
+                    ended = os.times()
+                    self.assertIn(status, (0, 1), said)
+                    self.assertTrue((out + said).decode().replace("\n", "").isprintable(), out + said)
+                    self.assertLess(ended.children_user - began.children_user + ended.children_system - began.children_system, 1)
+
+
+class Python(Case):
+    def setUp(self):
+        super().setUp()
+        self.env = environment(GOBLIN_PE_SO=str(library() / "libgoblin_pe.so"), GOBLIN_PE_SAMPLES=str(SAMPLES),
+                               PYTHONPATH=str(BINDINGS / "python"), PYTHONDONTWRITEBYTECODE="1")
+
+    def lists(self, *words):
+        return run([sys.executable, "-m", "goblin_pe", *words], env=self.env)
+
+    def test_its_own_tests(self):
+        succeed([sys.executable, "-X", "dev", "-m", "unittest", "-q", "test_goblin_pe"], env=self.env)
+
+    def test_the_programs_of_its_readme(self):
+        """They print what stands below them; on hostile files they end, too."""
+        text = (BINDINGS / "python/README.md").read_text("utf-8")
+        program, wanted = ("".join(re.findall(r"(?s)```%s\n(.*?)```" % it, text)) for it in ("python", "text"))
+        files = [(data, data) for data in hostile.files(1)]
+        for index, data in enumerate([(BY_NAME.read_bytes(), (SAMPLES / "object_x64.obj").read_bytes()), *files]):
+            self.written("some.dll", data[0])
+            self.written("some.obj", data[1])
+            status, out, said = run([sys.executable, "-c", program], env=self.env, cwd=self.folder)
+            with self.subTest(index=index):
+                self.assertEqual((status, said), (0, b""))
+                if not index:
+                    self.assertEqual(out.decode(), wanted)
+
+    def test_examples_end_within_a_second_and_ten_megabytes(self):
+        """On each hostile file, in time of the processor. Each error is a line."""
+        examples, file = BINDINGS / "python/examples", self.folder / "some.dll"
+        large = images.shared_image(3000, 50000), images.own_tables(1609)
+        for index, data in enumerate((*large, *hostile.files(1))):
+            self.written("some.dll", data)
+            for name, *words in (("imports", file), ("triage", self.folder), ("export", self.folder, "some.dll", "answer"),
+                                 ("export", self.folder, "some.dll", "#1")):
+                before = os.times()
+                status, out, said = run([sys.executable, examples / f"{name}.py", *words], env=self.env)
+                after = os.times()
+                with self.subTest(index=index, example=name):
+                    self.assertIn((status, said.count(b"\n")), ((0, 0), (1, 1)) if name == "export" else ((0, 0),))
+                    self.assertRegex(out, rb"\A[ -~\n]*\Z")
+                    self.assertLess(len(out), 10 << 20)
+                    self.assertLess(after.children_user + after.children_system - before.children_user - before.children_system, 1)
+
+    def test_the_samples_are_listed(self):
+        for sample in IMAGES:
+            for words, wanted in modes(sample):
+                with self.subTest(sample=sample.name, words=words):
+                    self.assertEqual(self.lists("--mapping", "as-stored", *words, sample), (0, wanted, b""))
+        for samples, kind in (OBJECTS, "symbols"), (TERSE, "listing"):
+            for sample in samples:
+                with self.subTest(sample=sample.name):
+                    self.assertEqual(self.lists(sample), (0, beside(sample, kind), b""))
+
+    def test_json_is_a_line_for_each_file(self):
+        for index, data in enumerate(hostile.files(1)):
+            status, out, said = self.lists("--json", "--permissive", "--steps", "10000", "--longest-name", "512", self.written("some.dll", data))
+            with self.subTest(index=index):
+                self.assertEqual((status in (0, 1), out.count(b"\n"), said), (True, 1, b""))
+
+
+class Installed(Case):
+    def install(self, prefix, umask="077", **more):
+        command = ["sh", "-c", 'umask "$0" && exec "$@"', umask, BINDINGS / "install", prefix]
+        return run(command, cwd=self.folder, env=environment(GOBLIN_PE_LIB=str(library()), **more))
+
+    def test_programs_are_built_as_pkg_config_says(self):
+        """Over the archive; also in another folder, and over the shared library if there is one. Everybody can read the files."""
+        need("pkg-config")
+        for more, libraries in ({}, "usr/lib"), ({"LIBDIR": "/usr/lib64"}, "usr/lib64"):
+            self.assertEqual(self.install("/usr", DESTDIR=str(self.folder), **more), (0, b"", b""))
+            env = environment(PKG_CONFIG_PATH=f"{self.folder}/{libraries}/pkgconfig")
+            words = succeed(["pkg-config", f"--define-variable=prefix={self.folder}/usr", "--static", "--cflags", "--libs", "goblin_pe"], env=env)
+            example, program = self.folder / "usr/share/doc/goblin-pe/examples/imports.c", self.folder / "imports"
+            for static in ["-static"], *([[]] if list((self.folder / libraries).glob("*.so.*")) else []):
+                succeed([CC, "-std=c99", *FLAGS, *static, "-o", program, example, *words.split()])
+                told = run([program], BY_NAME, env=environment(LD_LIBRARY_PATH=f"{self.folder}/{libraries}"))
+                self.assertEqual(told, (0, b"KERNEL32.dll 0 GetTickCount\n", b""))
+        for it in (self.folder / "usr").rglob("*"):
+            self.assertEqual(it.stat().st_mode & 0o777, 0o755 if it.is_dir() else 0o644, it)
+        for prefix, libdir in (("usr", "/usr/lib"), ("/usr", "lib64")):
+            self.assertEqual(self.install(prefix, LIBDIR=libdir)[0], 2)
+
+
+class Made(unittest.TestCase):
+    def test_what_is_made_is_up_to_date(self):
+        """The generator writes what is there."""
+        program = "import generate, sys; sys.exit(not all((generate.HERE / it).read_text('utf-8') == text" \
+                  " for it, text in generate.files(generate.Interface()).items()))"
+        subprocess.run([sys.executable, "-c", program], cwd=BINDINGS, check=True, env=environment(PYTHONDONTWRITEBYTECODE="1"))
+
+
+if __name__ == "__main__":
+    unittest.main()
