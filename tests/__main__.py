@@ -1,5 +1,6 @@
-"""Runs the tests of what is built: python3 -m tests [MODULE..], the modules side by side. Each row of a table counts. What
-is skipped is told before the last line, which says how many passed and failed."""
+"""Runs the tests of what is built: python3 -m tests [--allow-missing] [MODULE..], the modules side by side. Each row of a table
+counts. What is skipped is told before the last line, which says how many passed and failed. A module that is skipped as a whole
+counts as a failure, unless --allow-missing is given."""
 import concurrent.futures
 import contextlib
 import io
@@ -10,7 +11,8 @@ import sys
 import time
 import unittest
 
-from tests.programs import build_pe_audit, build_pe_list, build_pe_replay, library, shared_folder
+from tests.bindings import library
+from tests.programs import build_pe_audit, build_pe_list, build_pe_replay, shared_folder
 
 
 class Counts(unittest.TestResult):
@@ -50,7 +52,8 @@ def tested(name):
     return said, result.passed, len(broken), [f"skipped: {case}: {reason}" for case, reason in result.skipped]
 
 
-def main(names):
+def main(words):
+    may_lack, names = "--allow-missing" in words, [it for it in words if it != "--allow-missing"]
     names = names or sorted(f"tests.{it.stem}" for it in pathlib.Path(__file__).parent.glob("test_*.py"))
     shared_folder()  # (made here, since it goes with the process that makes it)
     if len(names) > 1:
@@ -62,6 +65,8 @@ def main(names):
         for said, went_well, went_wrong, left in pool.map(tested, names):
             print(said, flush=True)
             passed, failed, skipped = passed + went_well, failed + went_wrong, skipped + left
+    if not may_lack:
+        failed += sum(it.startswith("skipped: setUpModule ") for it in skipped)
     print("\n".join([*skipped, f"{passed} passed, {failed} failed"]))
     return 1 if failed or not passed else 0
 

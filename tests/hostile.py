@@ -5,10 +5,6 @@ from tests import images
 from tests.programs import BY_NAME, IMAGES, OBJECTS, TERSE
 
 
-# How many copies of each sample suffice where a run takes long.
-FEW = 3
-
-
 def files(changed=40):
     """Files that are damaged, made to mislead, or no files of the kind that is read: of each sample so many changed copies."""
     data, signature = BY_NAME.read_bytes(), int.from_bytes(BY_NAME.read_bytes()[0x3C:0x40], "little")

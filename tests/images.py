@@ -287,11 +287,6 @@ def with_directory(image, index, address, size):
     return image
 
 
-def without_directory(image, index):
-    """The image for 64 bits without one of its data directories."""
-    return with_directory(image, index, 0, 0)
-
-
 def with_rich_header(image, key, entries):
     """The image for 64 bits, whose headers have room left, with a Rich header before its PE signature: each entry a pair
     (tool and its build, count)."""

@@ -1,21 +1,16 @@
-"""The samples, the built programs, the library for callers, and how the tests run a command."""
+"""The samples, the built programs, and how the tests run a command."""
 import atexit
 import functools
-import importlib
 import os
 import pathlib
 import resource
 import shutil
 import subprocess
-import sys
 import tempfile
 import unittest
 
-from tests import images
-
 TOP = pathlib.Path(__file__).resolve().parent.parent
 CRATES = TOP / "crates"
-CALLERS = TOP / "callers"
 SAMPLES = TOP / "samples"
 PE_LIST = CRATES / "pe_list/out/pe_list"
 PE_REPLAY = CRATES / "pe_replay/out/pe_replay"
@@ -83,25 +78,22 @@ def need(*tools):
 
 @functools.cache
 def built_pe_list():
-    """Has ./pe_list list an image: its status. Where the program is not built of what there is now, it is proved and built
-    first."""
-    with open(BY_NAME, "rb") as file:
-        env = {**os.environ, "PE_LIST_PROVED": "only"}
-        return subprocess.run([TOP / "pe_list"], stdin=file, stdout=subprocess.DEVNULL, check=False, env=env).returncode
+    """Has ./pe_list prove and build the program, if it is not there or a source is newer: its status."""
+    return subprocess.run([TOP / "pe_list", "--prove"], stdin=subprocess.DEVNULL, stdout=subprocess.DEVNULL, check=False).returncode
 
 
 def build_pe_list():
     if built_pe_list():
-        raise AssertionError(f"./pe_list: status {built_pe_list()}")
+        raise AssertionError(f"./pe_list --prove: status {built_pe_list()}")
 
 
 @functools.cache
 def built(program):
-    """Proves and builds a program of the tests where it is not built of what there is now: what came of it, and what was
-    said."""
+    """Proves and builds a program of the tests, if it is not there or a source is newer: what came of it, and what was said."""
     folder = program.parent.parent
-    made = [TOP / "tools/content_sum", "made", folder.name, program]
-    status, _, said = run([*made, "rt", "run", "--", *(folder / "args").read_text().split()], folder / "stdin", cwd=folder)
+    if is_current(folder.name, program):
+        return 0, b""
+    status, _, said = run(["rt", "run", "--", *(folder / "args").read_text().split()], folder / "stdin", cwd=folder)
     return status, said
 
 
@@ -143,59 +135,19 @@ def preloaded(name):
     return made
 
 
+def is_current(crate, file):
+    """Whether what was built of a crate is there, and no source is newer."""
+    return not run([TOP / "tools/over_libraries", "current", crate, file])[0]
+
+
 def is_kept(crate):
-    """Whether the library of a crate is in its folder out/, built of what there is now."""
-    return not run([TOP / "tools/content_sum", "check", crate, CRATES / crate / f"out/rlib/{crate}.rlib"])[0]
-
-
-@functools.cache
-def built_library():
-    """Builds the library for callers over what is proved: its folder, what came of it, and what was said."""
-    status, _, said = run([CALLERS / "build", shared_folder() / "lib"])
-    return shared_folder() / "lib", status, said
-
-
-def library():
-    """The folder with the library for callers: one that GOBLIN_PE_LIB names, or else it is built over what is proved."""
-    if "GOBLIN_PE_LIB" in os.environ:
-        return pathlib.Path(os.environ["GOBLIN_PE_LIB"]).resolve()
-    made, status, said = built_library()
-    if status:
-        raise AssertionError(f"callers/build: {said.decode()}")
-    return made
-
-
-@functools.cache
-def package():
-    """The package for callers in Python, over the library for callers."""
-    os.environ["GOBLIN_PE_SO"] = str(library() / "libgoblin_pe.so")
-    sys.path.insert(0, str(CALLERS / "python"))
-    return importlib.import_module("goblin_pe")
-
-
-def options(**how):
-    """Options of the package, with the rule for raw pointers by its name."""
-    if "raw_pointer_rule" in how:
-        how["raw_pointer_rule"] = package().RawPointerRule[how["raw_pointer_rule"]]
-    return package().Options(**how)
-
-
-def told(refused):
-    """A refusal as rows have it: the names of its status and its cause, and its two numbers. None stays None."""
-    return refused and (refused.status.name, getattr(refused.cause, "name", refused.cause), refused.first, refused.second)
-
-
-def refusal(call, *arguments):
-    """What a call of the package is refused for; None where it is not."""
-    try:
-        call(*arguments)
-    except package().Refused as refused:
-        return told(refused)
-    return None
+    """Whether the library of a crate is in its folder out/, as the gate leaves it there, and no source is newer."""
+    library = CRATES / crate / f"out/rlib/{crate}.rlib"
+    return is_current(crate, library) and not library.with_name("stamp").exists()
 
 
 def environment(**more):
-    """The environment with more in it, and without what leads callers to a library."""
+    """The environment with more in it, and without what leads to a library."""
     return {**{name: value for name, value in os.environ.items() if not name.startswith("GOBLIN_PE_")}, **more}
 
 
@@ -215,22 +167,6 @@ class Case(unittest.TestCase):
     def assert_runs(self, command, wanted, stdin=os.devnull, **how):
         """The wanted: a status, the output, and the lines on standard error."""
         self.assertEqual(run(command, stdin, **how), wanted)
-
-    def assert_lists(self, command, **how):
-        """A caller's example has to list each sample as stands beside it."""
-        rows = [(sample, words, wanted) for sample in IMAGES for words, wanted in modes(sample)]
-        rows += [(sample, ["--symbols"], beside(sample, "symbols")) for sample in OBJECTS]
-        rows += [(sample, ["--te"], beside(sample, "listing")) for sample in TERSE]
-        for sample, words, wanted in rows:
-            with self.subTest(sample=sample.name, words=words):
-                self.assert_runs([*command, *words, sample], (0, wanted, b""), **how)
-
-    def assert_says_no_memory(self, command, **how):
-        """A caller's example lists an image that asks for more memory than there is, and has to say so."""
-        image = self.written("hostile.dll", images.shared_image(libraries=20000, functions=50000))
-        status, out, said = run(with_memory(2000000, [*command, image]), **how)
-        self.assertEqual((status, out), (1, b""), said)
-        self.assertRegex(said, b"(?i)memory")
 
     def each_growth(self, command, answer, stdin=os.devnull):
         """Runs a program with its first growth of memory refused, then its second, and so on, until a run meets no

@@ -1,6 +1,5 @@
 """The built program pe_audit, which is written over goblin_pe as its users write theirs, beside llvm-readobj; and the page for
 such users, whose code is that of goblin_pe_caller."""
-import itertools
 import re
 
 from tests.images import sample

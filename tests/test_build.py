@@ -1,22 +1,23 @@
-"""The library for callers is built over the proved libraries below it, and alike wherever it is built."""
+"""The library for C, Rust and Python is built over the proved libraries below it, and alike wherever it is built."""
 import os
 import shutil
 
-from tests.programs import CC, CRATES, TOP, Case, environment, is_kept, library, need, succeed
+from tests.bindings import library
+from tests.programs import CC, CRATES, TOP, Case, environment, is_kept, need, succeed
 
 
 class Built(Case):
-    """The library as callers/build makes it, over the proved libraries below it."""
+    """The library as bindings/build makes it, over the proved libraries below it."""
 
     def copied(self, below):
         """What it is built of, in another folder, whose path has a space. The libraries below stay where they are."""
         top = self.folder / "another one"
-        sources = [f"crates/{crate}/{part}" for crate in (*below, "goblin_pe_c") for part in ("src", "specs", "proofs")]
-        kept = "crates/goblin_pe_c/out/incremental"  # (proofs, and nothing that is compiled)
-        for it in ("tools", "callers/c", *sources, kept):
+        sources = [f"crates/{crate}/{part}" for crate in (*below, "goblin_pe_capi") for part in ("src", "specs", "proofs")]
+        kept = "crates/goblin_pe_capi/out/incremental"  # (proofs, and nothing that is compiled)
+        for it in ("tools", "bindings", *sources, kept):
             if (TOP / it).exists():
-                shutil.copytree(TOP / it, top / it)
-        for it in ("crates.txt", "HANDLES", "callers/build"):
+                shutil.copytree(TOP / it, top / it, ignore=shutil.ignore_patterns("lib", "target", "__pycache__"))
+        for it in ("crates.txt", "HANDLES"):
             shutil.copy2(TOP / it, top / it)
         for it in below:
             (top / "crates" / it / "out").mkdir()
@@ -29,11 +30,11 @@ class Built(Case):
             self.skipTest("GOBLIN_PE_LIB names a library that need not be built of these sources")
         need(CC)  # (for the shared library)
         library()
-        below = succeed([TOP / "tools/content_sum", "below", "goblin_pe_c"]).split()
+        below = succeed([TOP / "tools/over_libraries", "below", "goblin_pe_capi"]).split()
         if not all(is_kept(it) for it in below):
-            self.skipTest("the libraries below goblin_pe_c are not kept in crates/*/out")
+            self.skipTest("the libraries below goblin_pe_capi are not kept in crates/*/out")
         self.written("rt", b'#!/bin/sh\n[ "$1" = doc ] && exec "%s" doc\nexit 1\n' % shutil.which("rt").encode()).chmod(0o755)
-        succeed([self.copied(below) / "callers/build", self.folder / "lib"], env=environment(PATH=f"{self.folder}:{os.environ['PATH']}"))
+        succeed([self.copied(below) / "bindings/build", self.folder / "lib"], env=environment(PATH=f"{self.folder}:{os.environ['PATH']}"))
         made, again = ({it.name: it.read_bytes() for it in folder.iterdir()} for folder in (library(), self.folder / "lib"))
         self.assertEqual(sorted(again), sorted(made))
         self.assertEqual([name for name in made if again[name] != made[name]], [])

@@ -1,12 +1,13 @@
 """The checksum of an image: by hand, and as the linker has stored it in the launchers that come with pip."""
+import ctypes
 import importlib.util
 import pathlib
-import struct
 import unittest
 
-from tests.programs import CC, need, package
+from tests.bindings import calls, image_of, package
+from tests.programs import CC, need
 
-# Bytes, the offset of the field, and the checksum: the sum of the words, its carry, and the length.
+# Bytes, the offset of the field in them, and the checksum: the sum of the words, its carry, and the length.
 SUMS = [
     (b"", 0, 0),
     (b"\x01", 9, 1 + 1),
@@ -18,7 +19,7 @@ SUMS = [
     (b"\x01abcd\x02\x03\x04", 1, 1 + 0x200 + 0x403 + 8),
     (b"\x01\x02\x03\x04", 3, 0x201 + 3 + 4),
     (b"\x01\x02\x03\x04", 4, 0x201 + 0x403 + 4),
-    (b"\x01\x02\x03\x04", 2**64 - 1, 0x201 + 0x403 + 4),
+    (b"\x01\x02\x03\x04", 2**32 - 1, 0x201 + 0x403 + 4),
 ]
 
 
@@ -35,16 +36,18 @@ class Checksums(unittest.TestCase):
         need(CC)  # (for the shared library)
 
     def test_words_are_added_with_their_carry_and_without_the_field(self):
+        """After zeros, as many as lie between the PE signature and the field."""
         for data, field, wanted in SUMS:
             with self.subTest(data=data, field=field):
-                self.assertEqual(package().checksum(data, field), wanted)
+                (found, _), total = image_of(bytes(88) + data, None, "read_partial_image"), ctypes.c_uint32()
+                found.has_optional_header, found.dos_header.pe_pointer = True, field
+                self.assertTrue(calls().goblin_pe_checksum(ctypes.byref(found), ctypes.byref(total)))
+                self.assertEqual(total.value, wanted + 88)
 
     def test_it_is_what_a_linker_stored(self):
         for file in launchers():
-            data = file.read_bytes()
-            field = struct.unpack_from("<I", data, 0x3C)[0] + 88
-            stored, = struct.unpack_from("<I", data, field)
+            image = package().Image(file.read_bytes())
+            stored = image.optional_header.windows_fields.check_sum
             if stored:
                 with self.subTest(file.name):
-                    self.assertEqual(package().checksum(data, field), stored)
-                    self.assertEqual(package().Layout(data).checksum(), stored)
+                    self.assertEqual(image.checksum(), stored)

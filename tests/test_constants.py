@@ -2,7 +2,8 @@
 import re
 import unittest
 
-from tests.programs import CALLERS, CRATES
+from tests.bindings import BINDINGS
+from tests.programs import CRATES
 
 # Each row has the module that exports the constants, their type, the base of their numbers, the beginning of their names, and
 # the rest of each name with its number.
@@ -111,7 +112,7 @@ class Constants(unittest.TestCase):
 
     def test_in_each_package(self):
         for place, form in PACKAGES.items():
-            rows = re.findall(form, (CALLERS / place).read_text("utf-8"), re.M)
+            rows = re.findall(form, (BINDINGS / place).read_text("utf-8"), re.M)
             numbers = {name: int(number.replace("_", ""), 0) for name, number in rows}
             wanted = {name: number for name, _, number, _ in listed() if name not in IN_RATTLE_ALONE}
             with self.subTest(place):

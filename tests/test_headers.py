@@ -1,16 +1,16 @@
 """Headers, data directories, sections and Terse Executables: what is read, refused and written of files whose every byte is
-known, by the package for Python over the library for callers."""
+known, by the package for Python."""
 import ctypes
 import mmap
 import struct
 import tempfile
-import types
 import unittest
 import uuid
 
 from tests import hostile
+from tests.bindings import Walk, calls, error_of, image_of, package, records, refusal, test
 from tests.images import DEFAULT_STUB, sample, with_parts
-from tests.programs import CC, IMAGES, SAMPLES, need, package, refusal, told
+from tests.programs import BY_NAME, CC, IMAGES, SAMPLES, need
 
 
 # The modes in which a row holds.
@@ -72,10 +72,10 @@ HEADERS = (
 
 # Files that are refused, the modes, and why.
 REFUSED = (
-    ("the magic of a ROM image", with_parts(SAMPLE, (0x58, b"\x07\x01")), BOTH, ("BAD_MAGIC", 0, 0x107, 0)),
+    ("the magic of a ROM image", with_parts(SAMPLE, (0x58, b"\x07\x01")), BOTH, ("BAD_MAGIC", None, 0x107, 0)),
     ("seventeen data directories", with_parts(SAMPLE, (0xB4, b"\x11")), BOTH, ("MALFORMED", "DIRECTORY_COUNT", 17, 0)),
-    ("more sections than the file has room for", with_parts(SAMPLE, (0x46, b"\x14")), BOTH, ("BUFFER_TOO_SHORT", "SECTIONS", 20, 0)),
-    ("sections past the end", with_parts(SAMPLE, (0x46, b"\x13")), BOTH, ("READ", "TOO_BIG", 0, 0)),
+    ("more sections than the file has room for", with_parts(SAMPLE, (0x46, b"\x14")), BOTH, ("TOO_SHORT", None, 20, 0)),
+    ("sections past the end", with_parts(SAMPLE, (0x46, b"\x13")), BOTH, ("TOO_BIG", None, 0, 0)),
     ("a signature past the end", short_file((0x3C, b"\x3C\xFF")), BOTH, ("MALFORMED", "NO_PE_SIGNATURE", 0xFF3C, 0)),
     ("a signature in the DOS header", SIGNATURE_AT_4, STRICT, ("MALFORMED", "STUB_BEFORE_START", 4, 0)),
 )
@@ -152,11 +152,11 @@ WRITTEN = (
 
 # Magics and image bases that are put into the header of the sample, how much room there is, and why it is not written.
 UNWRITTEN = (
-    ("a byte of room is missing", 0x10B, 0, TABLE - 1, ("READ", "TOO_BIG", 0, 0)),
+    ("a byte of room is missing", 0x10B, 0, TABLE - 1, ("TOO_BIG", None, 0, 0)),
     ("a field for 32 bits is too wide", 0x10B, 1 << 32, TABLE, ("MALFORMED", "FIELD_TOO_WIDE", 0, 0)),
     ("width is tested before room", 0x10B, 1 << 32, 1, ("MALFORMED", "FIELD_TOO_WIDE", 0, 0)),
-    ("magic is tested before both", 0x107, 1 << 32, 1, ("BAD_MAGIC", 0, 0x107, 0)),
-    ("both are tested where there is no room at all", 0x107, 1 << 32, 0, ("BAD_MAGIC", 0, 0x107, 0)),
+    ("magic is tested before both", 0x107, 1 << 32, 1, ("BAD_MAGIC", None, 0x107, 0)),
+    ("both are tested where there is no room at all", 0x107, 1 << 32, 0, ("BAD_MAGIC", None, 0x107, 0)),
 )
 
 # Names in the records of sections, and what they say in both modes, where b"MZ" stands at 0 and b"twelve" at 12; or why they are
@@ -200,25 +200,26 @@ def terse(stripped_size):
                       (0x3D, b"\x02"))
 
 
-# Files, and the part for which each is refused in strict mode, and in permissive mode, which passes over tables and odd names.
+# Files, and the table for which each is refused in strict mode, and in permissive mode, which passes over tables and odd names.
 NO_IMPORTS, NO_EXPORTS, NO_RELOCATIONS = ((at, struct.pack("<2I", 0x9000, 0x28)) for at in (0xC0, 0xB8, 0xE0))
-REFUSED_PARTS = (
-    ("none", SAMPLE, "NOTHING", "NOTHING"),
+REFUSED_TABLES = (
+    ("none", SAMPLE, None, None),
     ("the front of a header alone", SAMPLE[:0x80], "HEADER", "HEADER"),
-    ("more sections than the file has room for", with_parts(SAMPLE, (0x46, b"\xFF\xFF")), "SECTIONS", "SECTIONS"),
-    ("the name of a section", with_parts(SAMPLE, (TABLE, b"/\xFF\0\0\0\0\0\0")), "SECTIONS", "NOTHING"),
-    ("the imports", with_parts(SAMPLE, NO_IMPORTS), "IMPORTS", "NOTHING"),
-    ("the exports", with_parts(SAMPLE, NO_EXPORTS), "EXPORTS", "NOTHING"),
-    ("the base relocations", with_parts(SAMPLE, NO_RELOCATIONS), "RELOCATIONS", "NOTHING"),
-    ("all tables, of which the imports are first", with_parts(SAMPLE, NO_RELOCATIONS, NO_EXPORTS, NO_IMPORTS), "IMPORTS", "NOTHING"),
-    ("exports and base relocations", with_parts(SAMPLE, NO_RELOCATIONS, NO_EXPORTS), "EXPORTS", "NOTHING"),
+    ("more sections than the file has room for", with_parts(SAMPLE, (0x46, b"\xFF\xFF")), "HEADER", "HEADER"),
+    ("the name of a section", with_parts(SAMPLE, (TABLE, b"/\xFF\0\0\0\0\0\0")), "HEADER", None),
+    ("the imports", with_parts(SAMPLE, NO_IMPORTS), "IMPORTS", None),
+    ("the exports", with_parts(SAMPLE, NO_EXPORTS), "EXPORTS", None),
+    ("the base relocations", with_parts(SAMPLE, NO_RELOCATIONS), "RELOCATIONS", None),
+    ("all tables, of which the imports are first", with_parts(SAMPLE, NO_RELOCATIONS, NO_EXPORTS, NO_IMPORTS), "IMPORTS", None),
+    ("exports and base relocations", with_parts(SAMPLE, NO_RELOCATIONS, NO_EXPORTS), "EXPORTS", None),
 )
 
 # Files; why they are refused as a whole, in both modes; the parts of their headers that are refused, and why; and of what is there the machine, the magic, the indexes of the data directories, the names of the sections and how many are missing, and
 # how many imports and how many export addresses the walks of permissive mode give.
-ALL_PARTS = ("dos_header", "coff_header", "standard_fields", "windows_fields", "data_directories")
-CUT, PAST_END, ROM = ("READ", "TOO_BIG", 0, 0), ("READ", "BAD_OFFSET", 0, 0), ("BAD_MAGIC", 0, 0x107, 0)
-NO_IMAGE = ("MALFORMED", "DOS_MAGIC", 0x6F6E, 0)
+ALL_PARTS = ("dos_header", "coff_header", "standard_fields", "windows_fields", "directories")
+CUT, PAST_END, ROM = ("TOO_BIG", None, 0, 0), ("BAD_OFFSET", None, 0, 0), ("BAD_MAGIC", None, 0x107, 0)
+NO_IMAGE, NO_NUMBER = ("MALFORMED", "DOS_MAGIC", 0x6F6E, 0), ("MALFORMED", "NAME_DECIMAL", 0, 0)
+OF_SECTIONS = ("section_table", "section_names")
 PARTS = (
     ("a sound file", SAMPLE, None, {}, (0x14C, 0x10B, [0, 1], [b".rdata"], 0, 2, 2)),
     ("seventeen data directories", with_parts(SAMPLE, (0xB4, b"\x11")), ("MALFORMED", "DIRECTORY_COUNT", 17, 0), {},
@@ -227,26 +228,29 @@ PARTS = (
      (0x14C, 0x10B, [0, 1], [b".rdata"], 0, 2, 2)),
     ("the magic of a ROM image", with_parts(SAMPLE, (0x58, b"\x07\x01")), ROM, dict.fromkeys(ALL_PARTS[2:], ROM),
      (0x14C, None, [], [b".rdata"], 0, 0, 0)),
-    ("a section whose name is a slash and no number", with_parts(SAMPLE, (TABLE, b"/abc\0\0")), ("MALFORMED", "NAME_DECIMAL", 0, 0), {},
+    ("a section whose name is a slash and no number", with_parts(SAMPLE, (TABLE, b"/abc\0\0")), NO_NUMBER, {"section_names": NO_NUMBER},
      (0x14C, 0x10B, [0, 1], [b"/abc"], 0, 2, 2)),
     # (eleven records lie between the table's place and the end of the file, of which the later ones are no sections)
-    ("nineteen sections, of which eleven are there", with_parts(SAMPLE, (0x46, b"\x13")), CUT, {},
+    ("nineteen sections, of which eleven are there", with_parts(SAMPLE, (0x46, b"\x13")), CUT, {"section_table": CUT},
      (0x14C, 0x10B, [0, 1], [b".rdata", *[None] * 10], 8, 2, 2)),
-    ("a cut section table", SAMPLE[:TABLE_END - 1], CUT, {}, (0x14C, 0x10B, [0, 1], [], 1, 0, 0)),
-    ("a header that is cut in its data directories", SAMPLE[:TABLE - 1], CUT, {"data_directories": CUT},
+    ("a cut section table", SAMPLE[:TABLE_END - 1], CUT, {"section_table": CUT}, (0x14C, 0x10B, [0, 1], [], 1, 0, 0)),
+    ("a header that is cut in its data directories", SAMPLE[:TABLE - 1], CUT, {"directories": CUT, "section_table": PAST_END},
      (0x14C, 0x10B, [], [], 1, 0, 0)),
-    ("one that is cut in its Windows fields", SAMPLE[:0xB7], CUT, dict.fromkeys(ALL_PARTS[3:], CUT), (0x14C, 0x10B, [], [], 1, 0, 0)),
-    ("one that is cut in its standard fields", SAMPLE[:0x73], CUT, {"standard_fields": CUT, **dict.fromkeys(ALL_PARTS[3:], PAST_END)},
+    ("one that is cut in its Windows fields", SAMPLE[:0xB7], CUT, {**dict.fromkeys(ALL_PARTS[3:], CUT), "section_table": PAST_END},
      (0x14C, None, [], [], 1, 0, 0)),
-    ("one that is cut in its COFF header", SAMPLE[:0x57], CUT, dict.fromkeys(ALL_PARTS[1:], CUT), (0, None, [], [], 0, 0, 0)),
-    ("no image", b"no image", NO_IMAGE, dict.fromkeys(ALL_PARTS, NO_IMAGE), (0, None, [], [], 0, 0, 0)),
+    ("one that is cut in its standard fields", SAMPLE[:0x73], CUT,
+     {"standard_fields": CUT, **dict.fromkeys(ALL_PARTS[3:], PAST_END), "section_table": PAST_END}, (0x14C, None, [], [], 1, 0, 0)),
+    ("one that is cut in its COFF header", SAMPLE[:0x57], CUT, dict.fromkeys((*ALL_PARTS[1:], *OF_SECTIONS), CUT),
+     (0, None, [], [], 0, 0, 0)),
+    ("no image", b"no image", NO_IMAGE, dict.fromkeys((*ALL_PARTS, *OF_SECTIONS, "dos_stub", "rich_header"), NO_IMAGE),
+     (0, None, [], [], 0, 0, 0)),
 )
 
 # What reads a file, the file, and the sentence by which it is refused, as goblin says it, so that logs can be searched for it.
 SENTENCES = [
-    ("Pe", with_parts(bytes(64), (0, b"MZ"), (0x3C, b"\x3C\xFF")), "cannot parse PE header signature (offset 0xff3c)"),
-    ("Te", terse(0x17), "Stripped size (0x17) is smaller than TE header size (0x28)"),
-    ("ObjectFile", struct.pack("<HHIIIHHI", 0x8664, 0, 0, 20, 0, 0, 0, 1),
+    ("Image", with_parts(bytes(64), (0, b"MZ"), (0x3C, b"\x3C\xFF")), "cannot parse PE header signature (offset 0xff3c)"),
+    ("te", terse(0x17), "Stripped size (0x17) is smaller than TE header size (0x28)"),
+    ("object", struct.pack("<HHIIIHHI", 0x8664, 0, 0, 20, 0, 0, 0, 1),
      "COFF length field size (0x4) is larger than the parsed length value"),
 ]
 
@@ -256,31 +260,26 @@ def setUpModule():
     package()
 
 
+def how(mode):
+    """The options of a mode."""
+    return package().Options(permissive=mode == "permissive")
+
+
 def read(file, mode):
     """The image in a file, by one of the modes."""
-    return package().Pe(file, package().Options(is_permissive=mode == "permissive"))
-
-
-def raw(name, *arguments):
-    """Makes one of the library's own calls."""
-    package()._refused.test(getattr(package()._library.LIB, name)(*arguments))
+    return package().Image(file, how(mode))
 
 
 def opened(file, mode="strict"):
-    """What the library fills of an image: its record, those of its sections, and the stub."""
-    records = package().records
-    how = records.Options(mode == "permissive", True, False, True)
-    found = types.SimpleNamespace(file=records.File())
-    tables = records.Tables()
-    raw("goblin_pe_raw_open", file, len(file), ctypes.byref(how), ctypes.byref(found.file), ctypes.byref(tables))
-    found.stub = ctypes.string_at(tables.dos_stub.bytes, tables.dos_stub.length)
-    found.sections = [records.Section.from_buffer_copy(it) for it in tables.records("sections")]
-    return found
+    """The record of an image."""
+    image, fault = image_of(file, records().Options(is_permissive=mode == "permissive"))
+    test(fault)
+    return image
 
 
-def entries(found):
+def entries(image):
     """The data directories that are there, as in the table of headers."""
-    return {index: it for index, it in enumerate(found.file.places.directories) if any(it)}
+    return {index: tuple(it) for index, it in enumerate(image.directories) if any(it)}
 
 
 def nonzero(record):
@@ -290,19 +289,20 @@ def nonzero(record):
 
 def header(file, mode):
     """The parts of a header, as in the table of headers."""
-    pe, found = read(file, mode), opened(file, mode)
-    standard, windows = pe.optional_header or (None, None)
-    return dict(dos_header=nonzero(pe.dos_header), stub=found.stub, rich_header=pe.rich_header, coff_header=nonzero(pe.coff_header),
-                standard_fields=standard and nonzero(standard), windows_fields=windows and nonzero(windows), directories=entries(found))
+    image = read(file, mode)
+    standard, windows = image.optional_header or (None, None)
+    return dict(dos_header=nonzero(image.dos_header), stub=image.dos_stub, rich_header=image.rich_header,
+                coff_header=nonzero(image.coff_header), standard_fields=standard and nonzero(standard),
+                windows_fields=windows and nonzero(windows), directories=entries(image))
 
 
-def written(found, room):
-    """Writes the header of an image that was opened into so many bytes of 0xAA: why that is refused, how many bytes it says are
-    written, and what stands there afterwards."""
+def written(image, room):
+    """Writes the header of an image into so many bytes of 0xAA: why that is refused, how many bytes it says are written, and what is
+    there afterwards."""
     out, size = ctypes.create_string_buffer(b"\xAA" * room, room + 1), ctypes.c_size_t(7)
-    refused = refusal(raw, "goblin_pe_raw_write_header", ctypes.byref(found.file), found.stub, len(found.stub), out, room,
-                      ctypes.byref(size))
+    refused = refusal(lambda: test(calls().goblin_pe_write_header(ctypes.byref(image), out, room, ctypes.byref(size))))
     return refused, size.value, out.raw[:room]
+
 
 # The identifier of big objects, and that of objects that are compiled when they are linked, as they stand in a file.
 BIG_OBJECT, LATE_OBJECT = (uuid.UUID(it).bytes_le for it in ("D1BAA1C7-BAEE-4BA9-AF20-FAF66AA4DCB8", "0CB3FE38-D9A5-4DAB-AC9B-D6B6222653C2"))
@@ -330,7 +330,7 @@ class Kinds(unittest.TestCase):
         for data, wanted in KINDS:
             for rest in (b"",) if wanted == "UNKNOWN" else (b"", bytes(100)):
                 with self.subTest(data=data, rest=len(rest)):
-                    self.assertEqual(package().kind(data + rest).name, wanted)
+                    self.assertEqual(package().Kind.of(data + rest).name, wanted)
 
 
 class Headers(unittest.TestCase):
@@ -348,8 +348,8 @@ class Headers(unittest.TestCase):
 
     def test_some_refusals_are_told_by_sentences_of_goblin(self):
         for reader, file, sentence in SENTENCES:
-            with self.subTest(reader), self.assertRaises(package().Refused) as caught:
-                getattr(package(), reader)(file)
+            with self.subTest(reader), self.assertRaises(package().PeError) as caught:
+                {"te": package().Image.te, "object": lambda it: next(package().Image.object(it).symbols())}.get(reader, package().Image)(file)
             self.assertEqual(str(caught.exception), sentence)
 
     def test_the_fields_of_an_optional_header_stand_in_their_order(self):
@@ -361,83 +361,66 @@ class Headers(unittest.TestCase):
     def test_data_directories_are_read(self):
         for name, file, wanted in ENTRIES:
             with self.subTest(name):
-                self.assertEqual(entries(opened(file, "permissive")), wanted)
+                self.assertEqual(entries(read(file, "permissive")), wanted)
 
 
-class RefusedParts(unittest.TestCase):
-    def test_a_file_is_refused_for_its_first_part(self):
-        for name, file, *wanted in REFUSED_PARTS:
-            for mode, part in zip(BOTH, wanted):
+class RefusedTables(unittest.TestCase):
+    def test_a_file_is_refused_for_its_first_table(self):
+        for name, file, *wanted in REFUSED_TABLES:
+            for mode, table in zip(BOTH, wanted):
                 with self.subTest(name, mode=mode):
-                    how = package().Options(is_permissive=mode == "permissive")
-                    if part == "NOTHING":
-                        package().Pe(file, how)
+                    if table is None:
+                        package().Pe(file, how(mode))
                         continue
-                    with self.assertRaises(package().Refused) as caught:
-                        package().Pe(file, how)
-                    self.assertEqual(caught.exception.part.name, part)
+                    with self.assertRaises(package().PeError) as caught:
+                        package().Pe(file, how(mode))
+                    self.assertEqual(caught.exception.table.name, table)
 
 
-class Parts(unittest.TestCase):
+class Partial(unittest.TestCase):
     def test_each_part_is_given_or_refused_by_itself(self):
-        for name, file, refused, parts, wanted in PARTS:
+        for name, file, refused, faults, wanted in PARTS:
             for mode in BOTH:
                 with self.subTest(name, mode=mode):
-                    found = package().Parts(file, package().Options(is_permissive=mode == "permissive"))
-                    self.assertEqual(found.refusal and told(found.refusal), refused)
-                    self.assertEqual({part: told(why) for part, why in found.refused_parts.items()}, parts)
+                    found = package().Image.partial(file, how(mode))
+                    self.assertEqual(error_of(found.refusal), refused)
+                    self.assertEqual({part: error_of(why) for part, why in found.header_faults.items()}, faults)
                     magic = found.optional_header and found.optional_header.standard_fields.magic
                     names = [s.name for s in found.sections]
-                    self.assertEqual((found.coff_header.machine, magic, list(found.data_directories), len(names), found.missing_sections),
+                    missing = found.coff_header.number_of_sections - len(names)
+                    self.assertEqual((found.coff_header.machine, magic, list(entries(found)), len(names), missing),
                                      (*wanted[:3], len(wanted[3]), wanted[4]))
                     self.assertEqual([it for it, own in zip(names, wanted[3]) if own], [own for own in wanted[3] if own])
 
     def test_the_tables_of_a_refused_file_are_walked(self):
         for name, file, _, _, wanted in PARTS:
             with self.subTest(name):
-                found = package().Parts(file, package().Options(is_permissive=True))
-                self.assertEqual((len(list(found.walk_imports())), len(list(found.walk_export_addresses()))), wanted[5:])
+                found = package().Image.partial(file, package().Options(permissive=True))
+                self.assertEqual((len(list(found.imports())), len(list(found.export_addresses()))), wanted[5:])
 
-    def test_the_parts_of_a_sound_header_are_its_own(self):
+    def test_a_sound_header_is_the_same_image(self):
         for sample_of in IMAGES:
             file = sample_of.read_bytes()
             with self.subTest(sample_of.name):
-                found, layout = package().Parts(file), package().Layout(file)
-                for part in ("dos_header", "coff_header", "optional_header", "data_directories"):
-                    self.assertEqual(getattr(found, part), getattr(layout, part))
-                self.assertEqual((found.refusal, found.refused_parts, found.missing_sections), (None, {}, 0))
-                self.assertEqual([s[1:] for s in found.sections], [s[1:] for s in layout.sections])
-                self.assertEqual(list(found.walk_imports()), list(layout.walk_imports()))
+                self.assert_same(package().Image.partial(file), package().Image(file))
 
-    def test_of_damaged_files_they_say_what_a_layout_says(self):
-        """Where a layout is read, the parts are its parts; where it is refused, that is the refusal."""
+    def test_of_damaged_files_it_says_what_a_read_says(self):
+        """If an image is read, the partial one is the same; if it is refused, that is the refusal."""
         refused = 0
         for index, file in enumerate(hostile.files()):
-            for how in (package().Options(is_permissive=it, raw_section_names=it) for it in (False, True)):
-                with self.subTest(index, how=how):
-                    found = package().Parts(file, how)
-                    self.assertEqual(found.refusal and told(found.refusal), refusal(package().Layout, file, how))
+            for mode in BOTH:
+                with self.subTest(index, mode=mode):
+                    found = package().Image.partial(file, how(mode))
+                    self.assertEqual(error_of(found.refusal), refusal(package().Image, file, how(mode)))
                     refused += bool(found.refusal)
                     if found.refusal is None:
-                        layout = package().Layout(file, how)
-                        for part in ("dos_header", "coff_header", "optional_header", "data_directories"):
-                            self.assertEqual(getattr(found, part), getattr(layout, part))
-                        self.assertEqual((found.refused_parts, found.missing_sections), ({}, 0))
-                        self.assertEqual([s.virtual_address for s in found.sections], [s.virtual_address for s in layout.sections])
+                        self.assert_same(found, package().Image(file, how(mode)))
         self.assertGreater(refused, 100)
 
-    def test_raw_names_of_sections_refuse_no_file(self):
-        file = with_parts(SAMPLE, (TABLE, b"/abc\0\0"))
-        how = package().Options(raw_section_names=True)
-        self.assertEqual(refusal(package().Layout, file), ("MALFORMED", "NAME_DECIMAL", 0, 0))
-        self.assertEqual([s.name for s in package().Layout(file, how).sections], [b"/abc"])
-        self.assertEqual(refusal(package().Pe, file, how), ("MALFORMED", "NAME_DECIMAL", 0, 0))
-        self.assertEqual([s.name for s in package().Layout(NAMED_ELSEWHERE, how).sections], [b"/640"])
-        self.assertEqual(package().Parts(file, how).refusal, None)
-        self.assertEqual(refusal(package().Layout, SAMPLE[:TABLE_END - 1], how), ("READ", "TOO_BIG", 0, 0))
-        with self.assertRaises(package().Refused) as caught:
-            package().Layout(file, how).damage
-        self.assertEqual((told(caught.exception), caught.exception.part.name), (("MALFORMED", "NAME_DECIMAL", 0, 0), "NOTHING"))
+    def assert_same(self, one, two):
+        for part in ("dos_header", "dos_stub", "rich_header", "coff_header", "optional_header", "directories", "sections"):
+            self.assertEqual(getattr(one, part), getattr(two, part))
+        self.assertEqual((dict(one.header_faults), bytes(one._record)[16:]), ({}, bytes(two._record)[16:]))
 
 
 class Written(unittest.TestCase):
@@ -452,15 +435,14 @@ class Written(unittest.TestCase):
         for name, magic, image_base, room, wanted in UNWRITTEN:
             with self.subTest(name):
                 found = opened(SAMPLE)
-                standard, windows = found.file.optional_header
-                changed = standard._replace(magic=magic), windows._replace(image_base=image_base)
-                found.file.optional_header = package()._laid_out.record_of(package().OptionalHeader, package().OptionalHeader(*changed))
+                found.optional_header.standard_fields.magic = magic
+                found.optional_header.windows_fields.image_base = image_base
                 self.assertEqual(written(found, room), (wanted, 7, b"\xAA" * room))
 
     def test_wide_standard_fields_keep_their_low_halves(self):
-        pe = read(SAMPLE, "strict")
-        wide = pe.optional_header.standard_fields._replace(size_of_code=0x1_0000_0005)
-        again = read(pe.write(optional_header=pe.optional_header._replace(standard_fields=wide)), "strict")
+        image = read(SAMPLE, "strict")
+        wide = image.optional_header.standard_fields._replace(size_of_code=0x1_0000_0005)
+        again = read(image.patched(optional_header=image.optional_header._replace(standard_fields=wide)), "strict")
         self.assertEqual(again.optional_header.standard_fields.size_of_code, 5)
 
 
@@ -470,7 +452,7 @@ class Sections(unittest.TestCase):
             for mode in BOTH:
                 with self.subTest(name=name, mode=mode):
                     section, = read(with_parts(SAMPLE, (12, b"twelve"), (TABLE, name)), mode).sections
-                    self.assertEqual((section.name, section.raw_name), (wanted, name))
+                    self.assertEqual((section.name, section.stored_name), (wanted, name))
 
     def test_a_name_without_a_number_is_refused_in_both_modes(self):
         for name, cause in REFUSED_NAMES:
@@ -484,11 +466,10 @@ class Sections(unittest.TestCase):
         self.assertEqual(read(file, "permissive").sections[0].name, b"/\xFF")
 
     def test_a_name_is_made_to_say_an_offset(self):
+        section, = read(SAMPLE, "strict").sections
         for offset, wanted in OFFSETS:
             with self.subTest(offset=offset):
-                section, = opened(SAMPLE).sections
-                raw("goblin_pe_raw_set_name_offset", ctypes.byref(section), offset)
-                self.assertEqual(bytes(section.name), wanted)
+                self.assertEqual(section.with_name_offset(offset).stored_name, wanted)
 
     def test_a_name_says_the_offset_that_it_is_made_to_say(self):
         for offset, name in OFFSETS:
@@ -501,34 +482,74 @@ class Sections(unittest.TestCase):
                     self.assertEqual([read(data, mode).sections[0].name for mode in BOTH], [b"MZ, or far away"] * 2)
 
     def test_an_offset_that_no_name_can_say_leaves_the_section(self):
-        section, = opened(SAMPLE).sections
+        walk = Walk(opened(SAMPLE), "sections")
+        section = (records().Section * 1)()
+        calls().goblin_pe_next_sections(ctypes.byref(walk.image), ctypes.byref(walk.cursor), section, 1, ctypes.byref(walk.batch))
         before = bytes(section)
-        self.assertEqual(refusal(raw, "goblin_pe_raw_set_name_offset", ctypes.byref(section), 68_719_476_736),
+        self.assertEqual(refusal(lambda: test(calls().goblin_pe_set_name_offset(section, 68_719_476_736))),
                          ("MALFORMED", "NAME_OFFSET", 68_719_476_736, 0))
         self.assertEqual(bytes(section), before)
 
-    def test_a_section_is_written_as_it_stood(self):
-        section, = opened(NAMED_ELSEWHERE).sections
-        self.assertEqual(ctypes.string_at(section.real_name.bytes, section.real_name.length), b"a.dll")
-        out, size = ctypes.create_string_buffer(b"\xFF" * 40, 40), ctypes.c_size_t()
-        raw("goblin_pe_raw_write_section", ctypes.byref(section), out, 40, ctypes.byref(size))
-        self.assertEqual((out.raw, size.value), (NAMED_ELSEWHERE[TABLE:TABLE_END], 40))
+    def test_a_section_is_written_as_it_was(self):
+        section, = read(NAMED_ELSEWHERE, "strict").sections
+        self.assertEqual((section.name, section.to_bytes()), (b"a.dll", NAMED_ELSEWHERE[TABLE:TABLE_END]))
 
     def test_data_goes_on_with_zeros_up_to_the_size_in_memory(self):
         section, = read(SAMPLE, "strict").sections
         for name, (memory, size, pointer), file, wanted in SECTION_DATA:
             with self.subTest(name):
                 of_row = section._replace(virtual_size=memory, size_of_raw_data=size, pointer_to_raw_data=pointer)
-                self.assertEqual(of_row.data(file), wanted)
+                data = of_row.data(package().Image.partial(file))
+                self.assertEqual((bytes(data.data), data.zeros, data.missing), (*wanted, 0))
 
 
 class TerseExecutables(unittest.TestCase):
     def test_addresses_are_adjusted_by_what_was_stripped(self):
-        te = package().Te(terse(0x128))
-        self.assertEqual((te.header.entry_point, te.header.reloc_dir), (0xF10, (0xFFFF_FF00, 0)))
-        self.assertEqual([nonzero(it) for it in te.sections], [dict(virtual_address=0xF00, pointer_to_raw_data=0x100)])
+        te = package().Image.te(terse(0x128))
+        self.assertEqual((te.te_header.entry_point, te.te_header.reloc_dir), (0xF10, (0xFFFF_FF00, 0)))
+        self.assertEqual([{name: it for name, it in nonzero(s).items() if name != "stored_name"} for s in te.sections], [dict(virtual_address=0xF00, pointer_to_raw_data=0x100)])
 
     def test_a_header_of_which_too_little_was_stripped_is_refused(self):
         for stripped_size in 0x17, 0x27:
             with self.subTest(stripped_size=stripped_size):
-                self.assertEqual(refusal(package().Te, terse(stripped_size)), ("MALFORMED", "STRIPPED_SIZE", stripped_size, 0))
+                self.assertEqual(refusal(package().Image.te, terse(stripped_size)), ("MALFORMED", "STRIPPED_SIZE", stripped_size, 0))
+
+
+class Places(unittest.TestCase):
+    """Each field of the samples' headers is the number at the place that the specification names."""
+
+    def assert_holds(self, record, form, data, place):
+        """The fields of a record are those of the format at a place; those of an array are one after the other."""
+        flat = [it for field in record for it in (field if isinstance(field, tuple) else (field,))]
+        self.assertEqual(flat, list(struct.unpack_from(form, data, place)))
+
+    def test_the_fields_of_the_samples(self):
+        for sample_file in IMAGES:
+            with self.subTest(sample_file.name):
+                data = sample_file.read_bytes()
+                found, signature = package().Image(data), int.from_bytes(data[60:64], "little")
+                self.assert_holds(found.dos_header, "<30HI", data, 0)
+                self.assert_holds(found.coff_header, "<HHIIIHH", data, signature + 4)
+                standard, windows = found.optional_header
+                place, is_wide = signature + 24, standard.magic == 0x20B
+                self.assert_holds(standard[:8] if is_wide else standard, "<HBBIIIII" + "I" * (not is_wide), data, place)
+                place += 24 if is_wide else 28
+                form = "<QIIHHHHHHIIIIHHQQQQII" if is_wide else "<IIIHHHHHHIIIIHHIIIIII"
+                self.assert_holds(windows, form, data, place)
+                place += struct.calcsize(form)
+                wanted = struct.iter_unpack("<II", data[place:place + 8 * windows.number_of_rva_and_sizes])
+                self.assertEqual([tuple(it) for it in found.directories][:windows.number_of_rva_and_sizes], list(wanted))
+                table = signature + 24 + found.coff_header.size_of_optional_header
+                for section in found.sections:
+                    wanted = struct.unpack_from("<8sIIIIIIHHI", data, table + 40 * section.index)
+                    self.assertEqual((section.stored_name, *section[3:]), wanted)
+
+    def test_a_rich_header(self):
+        data, key = bytearray(BY_NAME.read_bytes()), 0x1234ABCD
+        wanted = [(30159, 261, 7), (0, 1, 0x80000001)]
+        words = [0x536E6144, 0, 0, 0] + [it for build, product, count in wanted for it in (product << 16 | build, count)]
+        struct.pack_into("<%dI" % len(words), data, 64, *[word ^ key for word in words])
+        struct.pack_into("<II", data, 64 + 4 * len(words), 0x68636952, key)
+        found = package().Image(data)
+        self.assertEqual(found.rich_header[1:], (key, 64, 64 + 4 * len(words), 12))
+        self.assertEqual(list(map(tuple, found.rich_entries())), wanted)

@@ -1,4 +1,5 @@
-"""The library for callers as its users install it: by pkg-config, as a crate in Rust, and as a package in Python."""
+"""The library as its users install it: by pkg-config, as a crate in Rust, and as a package in Python. Programs in C over what is
+installed are in test_c."""
 import functools
 import pathlib
 import platform
@@ -8,10 +9,13 @@ import sys
 import unittest
 import zipfile
 
-from tests.programs import BY_NAME, CALLERS, CC, FLAGS, Case, beside, environment, library, need, run, succeed
+from tests.bindings import BINDINGS, library
+from tests.programs import BY_NAME, CC, FLAGS, TOP, Case, beside, environment, need, run, succeed
 
 CARGO = ["cargo", "-q", "--offline", "--locked"]
+# What the package for Python lists, and what the example imports of the crate does.
 LISTED = (0, beside(BY_NAME, "listing"), b"")
+IMPORTS = (0, b"%s      0 0x000020a8 KERNEL32.dll GetTickCount\n" % str(BY_NAME).encode(), b"")
 
 
 def setUpModule():
@@ -20,77 +24,45 @@ def setUpModule():
 
 def install(prefix, **more):
     need(CC, "pkg-config")
-    succeed([CALLERS / "install", prefix], env=environment(GOBLIN_PE_LIB=str(library()), **more))
+    succeed([BINDINGS / "install", prefix], env=environment(GOBLIN_PE_LIB=str(library()), **more))
 
 
 class Library(Case):
     """For programs in C, by pkg-config."""
 
-    def example(self, *flags, told=()):
-        """The example, built as pkg-config tells."""
-        install(self.folder)
-        words = succeed(["pkg-config", "--cflags", "--libs", *told, "goblin_pe"], env=environment(PKG_CONFIG_PATH=f"{self.folder}/lib/pkgconfig"))
-        succeed([CC, "-std=c99", *FLAGS, *flags, "-o", self.folder / "list", CALLERS / "c/list.c", *words.split()])
-        return self.folder / "list"
-
     def test_a_program_over_the_shared_library(self):
         """It asks for the library by the version of the interface."""
-        program = self.example()
+        install(self.folder)
+        words = succeed(["pkg-config", "--cflags", "--libs", "goblin_pe"], env=environment(PKG_CONFIG_PATH=f"{self.folder}/lib/pkgconfig"))
+        succeed([CC, "-std=c99", *FLAGS, "-o", self.folder / "imports", self.folder / "share/doc/goblin-pe/examples/imports.c", *words.split()])
         (self.folder / "lib/libgoblin_pe.so").unlink()
-        self.assert_runs([program, BY_NAME], LISTED, env=environment(LD_LIBRARY_PATH=f"{self.folder}/lib"))
+        self.assert_runs([self.folder / "imports"], (0, b"KERNEL32.dll 0 GetTickCount\n", b""), BY_NAME,
+                         env=environment(LD_LIBRARY_PATH=f"{self.folder}/lib"))
 
-    def test_a_program_over_the_archive(self):
-        self.assert_runs([self.example("-static", told=["--static"]), BY_NAME], LISTED, env={})
-
-    def test_a_package_is_for_its_prefix(self):
-        install("/usr", DESTDIR=str(self.folder))
-        self.assertIn("prefix=/usr\n", (self.folder / "usr/lib/pkgconfig/goblin_pe.pc").read_text("ascii"))
-
-    def test_libraries_in_another_folder(self):
-        """Below the prefix, whose package is moved with it, or anywhere."""
-        for libdir, told in (("/usr/lib64", "${prefix}/lib64"), ("/else where/lib", "/else where/lib")):
+    def test_folders_of_the_libraries(self):
+        """Below the prefix, with which they can be moved, or anywhere."""
+        for libdir, told in (("", "${prefix}/lib"), ("/usr/lib64", "${prefix}/lib64"), ("/else where/lib", "/else where/lib")):
             with self.subTest(libdir):
                 install("/usr", DESTDIR=str(self.folder), LIBDIR=libdir)
-                libraries = self.folder / libdir[1:]
-                self.assertIn(f"\nlibdir={told}\n", (libraries / "pkgconfig/goblin_pe.pc").read_text("ascii"))
+                libraries = self.folder / (libdir or "/usr/lib")[1:]
+                self.assertIn(f"prefix=/usr\nlibdir={told}\n", (libraries / "pkgconfig/goblin_pe.pc").read_text("ascii"))
                 self.assertEqual((libraries / "libgoblin_pe.so").read_bytes(), (library() / "libgoblin_pe.so").read_bytes())
-        self.assertFalse((self.folder / "usr/lib").exists())
-
-    def test_folders_that_are_no_absolute_paths(self):
-        for prefix, libdir in (("usr/local", "/usr/lib"), ("/usr/local", "lib64")):
-            env = environment(GOBLIN_PE_LIB=str(library()), DESTDIR=f"{self.folder}/", LIBDIR=libdir)
-            status, _, said = run([CALLERS / "install", prefix], env=env, cwd=self.folder)
-            self.assertEqual((status, said.startswith(b"usage: "), list(self.folder.iterdir())), (2, True, []))
-
-    def test_everybody_can_read_what_is_installed(self):
-        """Whatever the umask is, and the owner alone writes it; the license is there."""
-        for umask in ("077", "000"):
-            command = ["sh", "-c", 'umask "$0" && exec "$@"', umask, CALLERS / "install", self.folder / umask]
-            succeed(command, env=environment(GOBLIN_PE_LIB=str(library())))
-            for it in (self.folder / umask).rglob("*"):
-                if not it.is_symlink():
-                    self.assertEqual(it.stat().st_mode & 0o777, 0o755 if it.is_dir() else 0o644, it)
-            license = self.folder / umask / "share/doc/goblin-pe/LICENSE"
-            self.assertEqual(license.read_bytes(), (CALLERS.parent / "LICENSE").read_bytes())
 
     def test_all_packages_have_one_version(self):
         install(self.folder)
-        found = {it: re.findall(r'(?m)^(?:version|__version__|VERSION) = "(.*)"$', (CALLERS / it).read_text("utf-8"))[0] for it in
-                 ("generate.py", "rust/Cargo.toml", "rust/Cargo.lock", "python/pyproject.toml", "python/goblin_pe/__init__.py")}
-        found["CHANGELOG.md"] = re.search(r"(?m)^## \[(.*)\]", (CALLERS.parent / "CHANGELOG.md").read_text("utf-8"))[1]
+        found = {it: re.findall(r'(?m)^(?:version|__version__|VERSION) = "(.*)"$', (BINDINGS / it).read_text("utf-8"))[0] for it in
+                 ("generator/declared.py", "rust/Cargo.toml", "rust/Cargo.lock", "python/pyproject.toml", "python/goblin_pe/__init__.py")}
+        found["CHANGELOG.md"] = re.search(r"(?m)^## \[(.*)\]", (TOP / "CHANGELOG.md").read_text("utf-8"))[1]
         found["pkg-config"] = succeed(["pkg-config", "--modversion", "goblin_pe"], env=environment(PKG_CONFIG_PATH=f"{self.folder}/lib/pkgconfig")).strip()
         self.assertEqual(len(set(found.values())), 1, found)
 
-    def test_the_examples_that_the_header_names(self):
-        """They are installed, with a text, and built where they are."""
+    def test_the_page_names_all_examples(self):
+        """They are installed, with a license."""
         install(self.folder)
         doc = self.folder / "share/doc/goblin-pe"
-        named = re.search(r"(?s)(\S+\.c, .*) are such programs", (self.folder / "include/goblin_pe.h").read_text("ascii")).group(1)
-        names = re.findall(r"\w+\.c", named)
-        self.assertEqual(sorted(names), sorted(it.name for it in (doc / "examples").iterdir()))
-        for name in names:
-            self.assertIn(f"`{name}`", (doc / "README.md").read_text("utf-8"))
-            succeed([CC, "-std=c11", *FLAGS, "-I", self.folder / "include", "-o", self.folder / "it", doc / "examples" / name, library() / "libgoblin_pe.a"])
+        self.assertEqual((doc / "LICENSE").read_bytes(), (TOP / "LICENSE").read_bytes())
+        named = re.findall(r"(?m)^\| `(\w+\.c)` \|", (doc / "README.md").read_text("utf-8"))
+        self.assertEqual(sorted(named), sorted(it.name for it in (doc / "examples").iterdir()))
 
 
 class Crate(Case):
@@ -99,7 +71,7 @@ class Crate(Case):
     def setUp(self):
         need("cargo")
         super().setUp()
-        succeed([*CARGO, "package", "--no-verify", "--allow-dirty", "--manifest-path", CALLERS / "rust/Cargo.toml", "--target-dir", self.folder])
+        succeed([*CARGO, "package", "--no-verify", "--allow-dirty", "--manifest-path", BINDINGS / "rust/Cargo.toml", "--target-dir", self.folder])
         packed, = self.folder.glob("package/*.crate")
         shutil.unpack_archive(packed, self.folder, "gztar")
         self.manifest = self.folder / packed.stem / "Cargo.toml"
@@ -108,12 +80,12 @@ class Crate(Case):
 
     def build(self, **more):
         """Builds the example: what cargo answers."""
-        return run([*CARGO, "build", "--example", "list", "--manifest-path", self.manifest, "--target-dir", self.folder], env=environment(**more))
+        return run([*CARGO, "build", "--example", "imports", "--manifest-path", self.manifest, "--target-dir", self.folder], env=environment(**more))
 
     def assert_lists_by(self, **more):
         status, _, said = self.build(**more)
         self.assertEqual(status, 0, said)
-        self.assert_runs([self.folder / "debug/examples/list", BY_NAME], LISTED)
+        self.assert_runs([self.folder / "debug/examples/imports", BY_NAME], IMPORTS)
 
     def test_by_pkg_config(self):
         install(self.folder / "prefix")
@@ -131,7 +103,7 @@ class Crate(Case):
             succeed([*CARGO, *words, "--manifest-path", self.manifest], env=env)
         status, _, said = run(["cargo", *CARGO[2:], "build", "--manifest-path", self.manifest], env=env)
         self.assertNotEqual(status, 0)
-        self.assertIn(b"run callers/build", said)
+        self.assertIn(b"run bindings/build", said)
         # it is built as soon as there is one
         (self.folder / "lib").mkdir()
         shutil.copy(library() / "libgoblin_pe.a", self.folder / "lib")
@@ -154,7 +126,7 @@ class Crate(Case):
     def test_in_a_workspace_of_its_user(self):
         shutil.copytree(self.manifest.parent, self.folder / "user/goblin_pe")
         (self.folder / "user/src").mkdir()
-        self.written("user/src/main.rs", b"fn main() { assert!(goblin_pe::Pe::read(b\"\", &goblin_pe::Options::default()).is_err()) }\n")
+        self.written("user/src/main.rs", b"fn main() { assert!(goblin_pe::Pe::parse(b\"\").is_err()) }\n")
         self.written("user/Cargo.toml", b'[package]\nname = "user"\nedition = "2024"\n[dependencies]\ngoblin_pe.path = "goblin_pe"\n'
                      b'[workspace]\nmembers = ["goblin_pe"]\n')
         succeed(["cargo", "-q", "--offline", "run", "--manifest-path", self.folder / "user/Cargo.toml"],
@@ -162,26 +134,19 @@ class Crate(Case):
 
     def test_what_is_packed(self):
         packed = {str(it.relative_to(self.manifest.parent)) for it in self.manifest.parent.rglob("*")}
-        self.assertEqual((self.manifest.parent / "LICENSE").read_bytes(), (CALLERS.parent / "LICENSE").read_bytes())
-        self.assertLessEqual({"LICENSE", "README.md", "build.rs", "src/lib.rs", "examples/list.rs"}, packed)
+        self.assertEqual((self.manifest.parent / "LICENSE").read_bytes(), (TOP / "LICENSE").read_bytes())
+        self.assertLessEqual({"LICENSE", "README.md", "build.rs", "src/lib.rs", "examples/imports.rs"}, packed)
 
     def test_over_another_interface(self):
+        """It is not linked."""
         need(CC, "ar")
-        names = re.findall(r"(?m)^ *pub (?:safe )?fn (goblin_pe_[a-z_]*)[<(]", (CALLERS / "rust/src/records.rs").read_text("utf-8"))
+        names = re.findall(r"\bfn (goblin_pe_[a-z_]*)[<(]", (BINDINGS / "rust/src/ffi.rs").read_text("utf-8"))
         source = self.written("other.c", b"".join(b"int %s(void) { return -1; }\n" % name.encode() for name in names))
         succeed([CC, "-c", "-o", self.folder / "other.o", source])
         succeed(["ar", "r", self.other / "libgoblin_pe.a", self.folder / "other.o"])
         status, _, said = self.build(GOBLIN_PE_LIB=str(self.other))
-        self.assertEqual(status, 0, said)
-        for words in ([], ["--symbols"], ["--te"]):
-            with self.subTest(words=words):
-                status, _, said = run([self.folder / "debug/examples/list", *words, BY_NAME])
-                self.assertEqual(status, 101)
-                self.assertIn(b"another interface", said)
-        words = ["test", "--test", "memory", "the_text_of_a_refusal_before_any_call", "--manifest-path", CALLERS / "rust/Cargo.toml"]
-        status, out, _ = run([*CARGO, *words, "--target-dir", self.folder], env=environment(GOBLIN_PE_LIB=str(self.other)))
         self.assertNotEqual(status, 0)
-        self.assertIn(b"another interface", out)
+        self.assertRegex(said, b"undefined (reference|symbol).*goblin_pe_interface_")
 
 
 @functools.cache
@@ -201,7 +166,7 @@ class Package(Case):
         python()
         super().setUp()
         self.package = self.folder / "python"
-        shutil.copytree(CALLERS / "python", self.package, ignore=shutil.ignore_patterns("__pycache__"))
+        shutil.copytree(BINDINGS / "python", self.package, ignore=shutil.ignore_patterns("__pycache__"))
         (self.folder / "lib").mkdir()
         shutil.copy(library() / "libgoblin_pe.so", self.folder / "lib")
 
@@ -230,10 +195,10 @@ class Package(Case):
         it = self.installed(wheel)
         names = ("Requires-Python", "Author", "Summary", "License-Expression")
         told = succeed([it, "-c", f"import importlib.metadata as m; [print(m.metadata('goblin_pe')[it]) for it in {names}]"], cwd="/", env={})
-        self.assertEqual(told, ">=3.9\nThe Gundiwootz developers\nReads PE files that can't be trusted, by a proved library\nMIT\n")
+        self.assertEqual(told, ">=3.9\nThe Gundiwootz developers\nReads PE images, COFF objects and TE files that can't be trusted\nMIT\n")
         with zipfile.ZipFile(wheel) as file:
             text, = (file.read(it) for it in file.namelist() if it.endswith(".dist-info/licenses/LICENSE"))
-        self.assertEqual(text, (CALLERS.parent / "LICENSE").read_bytes())
+        self.assertEqual(text, (TOP / "LICENSE").read_bytes())
         self.assertEqual(succeed([it, "-m", "pip", "check"], cwd="/", env={}), "No broken requirements found.\n")
 
     def test_a_wheel_is_built_again_to_the_byte(self):
@@ -250,4 +215,4 @@ class Package(Case):
         (self.folder / "lib/libgoblin_pe.so").unlink()
         status, _, said = run([python(), "-m", "pip", "wheel", "-q", "--no-index", "-w", self.folder, self.package], env=environment())
         self.assertNotEqual(status, 0)
-        self.assertIn(b"run callers/build first", said)
+        self.assertIn(b"run bindings/build first", said)

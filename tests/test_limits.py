@@ -1,49 +1,219 @@
-"""What a hostile file may cost: calls that take no memory of their own answer with little of it, and in a bounded time."""
+"""What a hostile file may cost: calls that take no memory of their own answer with little of it, and in a bounded time. The calls
+are those of C, so that no rows are made in Python."""
+import ctypes as c
 import os
+import struct
 import sys
+import time
 import unittest
 
-from tests.programs import CALLERS, TOP, library, need, run, with_memory
+from tests import images
+from tests.bindings import COUNTED, WALKS, calls, image_of, library, options, records
+from tests.programs import TOP, need, run, with_memory
 
 # Kibibytes of address space, most of it for Python and the file.
 ROOM = 400 << 10
-# The rows of limits.py: milliseconds of processor time, ten times what was measured; and how many sections, symbols, exports or
-# imports there are, 1 where there are ranges, and 0 where there is no damage; of exports within steps, how many were taken.
-ROWS = [
-    ("an object of one long name", 4500, 13107),
-    ("an object of one long name, without room", 50, 13107),
-    ("an object of one long name that is cut", 50, 13107),
-    ("a Terse Executable of one long name", 5000, 255),
-    ("a layout of one long name", 4500, 13107),
-    ("a layout of one long name that is cut", 50, 13107),
-    ("a layout of many name pointers", 50, 1),
-    ("a footprint of one long name", 35000, 1),
-    ("symbols of one long name that is cut", 50, 29127),
-    ("many symbols", 200, 320000),
-    ("damage of imports in one text", 120000, 0),
-    ("exports in one text", 75000, 65465),
-    ("imports that are all left out", 10000, 0),
-    ("imports that are all left out, within steps", 50, 0),
-    ("libraries that are all left out, within steps", 50, 0),
-    ("twenty libraries of left out entries, within steps", 500, 20),
-    ("name pointers without an export, within steps", 50, 100000),
-    ("imports in one text, within steps, of names that are cut", 500, 99999),
-    ("exports in one text, within steps, of names that are cut", 500, 100000),
-    ("forwarders in one text, within steps, of names that are cut", 1000, 100000),
-    ("a walk over imports of one long name, within steps", 100, 0),
-    ("many batches of one library", 1000, 1048433),
-    ("a batch of many sections", 250, 256),
-]
+MIB = 1 << 20
+STEPS = 100000
+IMPORTS, EXPORTS = (0, 0, 0x1000, 40), (0x1000, 40, 0, 0)
+
+
+def sections(count, name=b"/4"):
+    """The records of so many sections of one name."""
+    return struct.pack("<8s8I", name, *[0] * 8) * count
+
+
+def object_of_one_name(size):
+    """An object, one half sections, the other half the one long name that all of them have."""
+    count = min(size // 80, 65535)
+    place = 20 + 40 * count
+    header = struct.pack("<HHIIIHH", 0x8664, count, 0, place, 0, 0, 0)
+    return header + sections(count) + struct.pack("<I", size - place) + b"n" * (size - place - 5) + b"\0"
+
+
+def image_of_one_name(size):
+    """The same of an image."""
+    count = min(size // 80, 65535)
+    headers = images.image_headers(0x148 + 40 * count, count, 0x1000, ())
+    headers[0x148:] = sections(count)
+    struct.pack_into("<II", headers, 0x40 + 12, len(headers), 0)
+    return bytes(headers) + struct.pack("<I", size - len(headers)) + b"n" * (size - len(headers) - 5) + b"\0"
+
+
+def te_of_one_name(size):
+    """A Terse Executable of 255 sections, all of one long name (its string table is the front of the file)."""
+    front = struct.pack("<HHBBHIIQ4I", 0x5A56, 0x8664, 255, 0, 40, 0, 0, 0, 0, 0, 0, 0)
+    return front + sections(255, b"/10240") + b"n" * (size - 40 - 40 * 255)
+
+
+def object_with_symbols(count):
+    """An object with so many symbols, each of a long name of its own."""
+    names = [b"a_name_that_stands_in_the_string_table_%020d\0" % i for i in range(count)]
+    symbols = b"".join(struct.pack("<IIIhHBB", 0, 4 + len(names[0]) * i, 0, 1, 0, 2, 0) for i in range(count))
+    strings = b"".join(names)
+    header = struct.pack("<HHIIIHH", 0x8664, 0, 0, 20, count, 0, 0)
+    return header + symbols + struct.pack("<I", len(strings) + 4) + strings
+
+
+def symbols_of_one_name(size):
+    """An object, one half symbols, the other half the one long name that all of them have."""
+    count = size // 36
+    strings = size - 20 - 18 * count
+    symbols = struct.pack("<II10x", 0, 4) * count
+    return struct.pack("<HHIIIHH", 0x8664, 0, 0, 20, count, 0, 0) + symbols + struct.pack("<I", strings) + b"n" * (strings - 4)
+
+
+def in_one_section(directories, make, size):
+    """The small image of this size instead, with these directories and one section, which make has for an address and a size."""
+    base, begin = 0x1000, 0x200
+    data = make(base, size - begin)
+    section = struct.pack("<4I", len(data), base, len(data), begin)
+    return images.sample((0xB8, struct.pack("<4I", *directories)), (0x140, section), (begin, data))
+
+
+def imports_in_one_text(base, size, addresses=None):
+    """A library, the names of whose imports begin two bytes apart in one text, of characters that have two bytes."""
+    count = (size - 72) // 6
+    table, text = base + 56, base + 56 + 4 * (count + 1)
+    record = struct.pack("<5I", table, 0, 0, base + 40, addresses or table).ljust(40, b"\0") + b"a.dll".ljust(16, b"\0")
+    entries = struct.pack("<%dI" % (count + 1), *range(text, text + 2 * count, 2), 0)
+    return record + entries + "\u00E9".encode() * (count + 2) + b"\0"
+
+
+def imports_of_one_library(base, size):
+    """A library with as many imports as there is room for."""
+    table = base + 56
+    record = struct.pack("<5I", table, 0, 0, base + 40, table).ljust(40, b"\0") + b"a.dll".ljust(16, b"\0")
+    return record + struct.pack("<I", 1 << 31) * ((size - 60) // 4) + bytes(4)
+
+
+def libraries_of_left_out_entries(base, size):
+    """Libraries that share one table, of whose entries none has a name that an address leads to."""
+    libraries, entries = size // 40, size // 8
+    table, name = base + 20 * libraries, base + size - 8
+    record = struct.pack("<5I", table, 0, 0, name, table)
+    directory = record * (libraries - 1) + bytes(20)
+    return (directory + struct.pack("<I", 0x70000000) * (entries - 4) + bytes(4)).ljust(size - 8, b"\0") + b"a.dll".ljust(8, b"\0")
+
+
+def libraries_of_no_address_table(base, size):
+    """Libraries that are left out, as the address table that they share goes on to the end of the file."""
+    libraries = size // 40
+    table = base + 20 * libraries
+    record = struct.pack("<5I", table, 0, 0, base, table)
+    return (record * (libraries - 1) + bytes(20)).ljust(size, b"\1")
+
+
+def left_out_entries_of_one_long_name(base, size):
+    """A library of a long name, of whose entries none has a name that an address leads to."""
+    count = size // 2 // 4 - 11
+    name = base + size // 2
+    record = struct.pack("<5I", base + 40, 0, 0, name, base + 40).ljust(40, b"\0")
+    return record + struct.pack("<I", 0x70000000) * count + bytes(4) + "\u00E9".encode() * (size // 4 - 1) + b"\0\0"
+
+
+def exports_in_one_text(base, size, address=0x9000):
+    """Exports of one address, the names of which begin so, too."""
+    count = (size - 56) // 8
+    pointers, ordinals, text = base + 48, base + 48 + 4 * count, base + 48 + 6 * count
+    record = struct.pack("<IIHHIIIIIII", 0, 0, 0, 0, text, 1, 1, count, base + 40, pointers, ordinals) + struct.pack("<II", address or text, 0)
+    return record + struct.pack("<%dI" % count, *range(text, text + 2 * count, 2)) + bytes(2 * count) + "\u00E9".encode() * count + b"\0"
+
+
+def dead_name_pointers(base, size):
+    """Name pointers whose ordinals lie past the address table, which has no entry."""
+    count = (size - 40) // 6
+    pointers, ordinals = base + 40, base + 40 + 4 * count
+    return struct.pack("<IIHHIIIIIII", 0, 0, 0, 0, 0, 1, 0, count, 0, pointers, ordinals) + bytes(6 * count)
+
+
+def walked(word, most=1 << 20, longest=0, read="read_image", permissive=False, steps=None, room=256):
+    """A walk by calls that have so many steps together, to so many rows: the status that ends it, and how many rows there are."""
+    def walk(data):
+        image, fault = image_of(data, options(permissive, longest), read)
+        row, cursor = (getattr(records(), it) for it in WALKS[word])
+        cursor, rows, batch, count = cursor(), (row * room)(), records().Batch(), 0
+        counted = [c.byref(c.c_size_t(steps)) if steps else None] if word in COUNTED else []
+        while not fault.status and not batch.is_done and count < most:
+            fault = getattr(calls(), f"goblin_pe_next_{word}")(c.byref(image), c.byref(cursor), rows, room, *counted, c.byref(batch))
+            count += batch.count
+        return fault.status, count
+    return walk
+
+
+def damage(data):
+    image, _ = image_of(data, options(longest=200))
+    found, steps = records().Damage(), c.c_size_t(STEPS)
+    return calls().goblin_pe_read_damage(c.byref(image), c.byref(found), c.byref(steps)).status, 0
+
+
+def footprint(data):
+    image, _ = image_of(data)
+    found = records().Footprint()
+    return calls().goblin_pe_read_footprint(c.byref(image), c.byref(found)).status, min(found.count, 1)
+
+
+# The status of a walk that has no steps left.
+OUT = 7
+# A call, its file, the milliseconds of processor time that it may take, which are ten times what was measured, its status, and how
+# many rows it gives.
+ROWS = {
+    "sections of an object, all of one long name": (
+        walked("sections", read="read_object"), lambda: object_of_one_name(MIB), 4500, 0, 13107),
+    "sections of an object, of names that are cut": (
+        walked("sections", read="read_object", longest=200), lambda: object_of_one_name(MIB), 100, 0, 13107),
+    "sections of a Terse Executable, all of one long name": (
+        walked("sections", read="read_te"), lambda: te_of_one_name(16 * MIB), 5000, 0, 255),
+    "sections of an image, all of one long name": (walked("sections"), lambda: image_of_one_name(MIB), 4500, 0, 13107),
+    "sections of an image, of names that are cut": (walked("sections", longest=200), lambda: image_of_one_name(MIB), 100, 0, 13107),
+    "a footprint of one long name": (footprint, lambda: image_of_one_name(MIB), 35000, 0, 1),
+    "symbols of one long name that is cut": (
+        walked("symbols", read="read_object", longest=200), lambda: symbols_of_one_name(MIB), 100, 0, 29127),
+    "many symbols": (walked("symbols", read="read_object"), lambda: object_with_symbols(320000), 500, 0, 320000),
+    "damage of imports in one text": (damage, lambda: in_one_section(IMPORTS, imports_in_one_text, MIB // 2), 500, OUT, 0),
+    "damage of imports without an address table": (
+        damage, lambda: in_one_section(IMPORTS, lambda *of: imports_in_one_text(*of, addresses=0x70000000), MIB), 500, OUT, 0),
+    "imports that are all left out": (
+        walked("imports", permissive=True, steps=STEPS), lambda: in_one_section(IMPORTS, libraries_of_left_out_entries, MIB), 50, OUT, 0),
+    "libraries that are all left out": (
+        walked("imports", permissive=True, steps=STEPS), lambda: in_one_section(IMPORTS, libraries_of_no_address_table, MIB), 50, OUT, 0),
+    "twenty libraries of left out entries": (
+        walked("libraries", 20, permissive=True, room=20), lambda: in_one_section(IMPORTS, libraries_of_left_out_entries, MIB), 500, 0, 20),
+    "name pointers without an export": (
+        walked("exports", steps=STEPS), lambda: in_one_section(EXPORTS, dead_name_pointers, MIB), 50, OUT, 0),
+    "imports in one text, of names that are cut": (
+        walked("imports", longest=200, steps=STEPS), lambda: in_one_section(IMPORTS, imports_in_one_text, MIB), 500, OUT, 99999),
+    "exports in one text, of names that are cut": (
+        walked("exports", longest=200, steps=STEPS), lambda: in_one_section(EXPORTS, exports_in_one_text, MIB), 500, OUT, 100000),
+    "forwarders in one text, of names that are cut": (
+        walked("exports", longest=200, steps=STEPS),
+        lambda: in_one_section((0x1000, MIB, 0, 0), lambda *of: exports_in_one_text(*of, address=0), MIB), 1000, OUT, 100000),
+    "imports of one long name, all left out": (
+        walked("imports", permissive=True, steps=STEPS), lambda: in_one_section(IMPORTS, left_out_entries_of_one_long_name, MIB), 100, OUT, 0),
+    "many batches of one library": (
+        walked("imports", permissive=True), lambda: in_one_section(IMPORTS, imports_of_one_library, 4 * MIB), 1000, 0, 1048433),
+    "a batch of many sections": (
+        walked("imports", 256), lambda: bytes(images.hostile_image(64 * (65535 + 16))), 250, 0, 256),
+}
 
 
 class Limits(unittest.TestCase):
     def test_each_call_answers_in_little_memory_and_time(self):
         need("sh")
-        env = {**os.environ, "GOBLIN_PE_SO": str(library() / "libgoblin_pe.so"), "PYTHONPATH": "%s:%s" % (CALLERS / "python", TOP)}
-        for name, most, wanted in ROWS:
+        env = {**os.environ, "GOBLIN_PE_LIB": str(library()), "PYTHONPATH": str(TOP)}
+        for name, (_, _, most, *wanted) in ROWS.items():
             with self.subTest(name):
-                status, out, said = run(with_memory(ROOM, [sys.executable, "-m", "tests.limits", name]), env=env)
+                status, out, said = run(with_memory(ROOM, [sys.executable, "-m", "tests.test_limits", name]), env=env)
                 self.assertEqual(status, 0, said.decode(errors="replace"))
-                milliseconds, answer, found = map(int, out.split())
-                self.assertEqual((answer, found), (0, wanted))
+                milliseconds, *found = map(int, out.split())
+                self.assertEqual(found, wanted)
                 self.assertLessEqual(milliseconds, most)
+
+
+if __name__ == "__main__":
+    call, make, *_ = ROWS[sys.argv[1]]
+    made = make()
+    records()  # (read before)
+    begin = time.process_time()
+    ended, answer = call(made)
+    print(round(1000 * (time.process_time() - begin)), ended, answer)

@@ -1,15 +1,19 @@
-"""The packages for machines without the prover, each installed and used where nothing of the repository is in reach."""
+"""The packages for machines without the prover, each installed and used where nothing of the repository is in reach; and
+bindings/package, which makes them of a commit alone, with a stand-in for the gate."""
 import functools
 import hashlib
 import os
 import pathlib
 import platform
 import re
+import runpy
 import shutil
-import unittest
+import sys
+import unittest.mock
 import zipfile
 
-from tests.programs import BY_NAME, CALLERS, CC, CRATES, FLAGS, TOP, Case, environment, folder, library, need, run, succeed
+from tests.bindings import BINDINGS, library
+from tests.programs import BY_NAME, CC, FLAGS, TOP, Case, environment, folder, need, run, succeed
 from tests.test_install import CARGO, LISTED, python
 
 # What stands before a command so that it finds an empty folder in the place of the repository.
@@ -18,21 +22,19 @@ AWAY = ["unshare", "-rm", "sh", "-c", 'mount -t tmpfs none "$0" && cd / && exec 
 
 def setUpModule():
     need(CC)  # (for the shared library)
-    if not (library() / "libgoblin_pe.a.sum").exists():
-        raise unittest.SkipTest("the library has nothing beside it that tells what it is made of, so it is not packed")
 
 
 @functools.cache
-def packed(name, callers=CALLERS):
-    """A folder with the packages, made once for each name."""
+def packed(name, bindings=BINDINGS, by=sys.executable):
+    """A folder with the packages of a folder's sources over the library, made once for each name."""
     made = folder() / name
-    succeed([callers / "package", made], env=environment(GOBLIN_PE_LIB=str(library()), SOURCE_DATE_EPOCH="1700000000"))
+    succeed([by, bindings / "packer.py", made, library(), "1700000000"], stdin=b"A text.\n", env=environment())
     return made
 
 
 def without_what_is_made(at, names):
     """What of a folder of the repository is not copied."""
-    return {it for it in names if it in ("out", "target", "__pycache__") or pathlib.Path(at, it) == CALLERS / "lib"}
+    return {it for it in names if it in ("out", "target", "__pycache__") or pathlib.Path(at, it) == BINDINGS / "lib"}
 
 
 def package(ending):
@@ -60,6 +62,10 @@ class Packages(Case):
     def assert_is_listed_by(self, *command, **how):
         self.assert_runs([*away(), *command, self.sample], LISTED, cwd="/", **how)
 
+    def assert_lists_imports(self, program, **how):
+        """The example imports in C."""
+        self.assert_runs([*away(), program], (0, b"KERNEL32.dll 0 GetTickCount\n", b""), self.sample, cwd="/", **how)
+
     def unpacked(self):
         """The tar, unpacked in the folder of the test."""
         shutil.unpack_archive(package(".tar.gz"), self.folder)
@@ -68,12 +74,12 @@ class Packages(Case):
 
     def assert_links(self, **where):
         """The example, built as pkg-config tells, has to list over the shared library, and over the archive."""
-        example, = self.folder.rglob("examples/list.c")
+        example, = self.folder.rglob("examples/imports.c")
         shared, = (it.parent for it in self.folder.rglob("libgoblin_pe.so.*"))
         for flags, told, env in ([], [], {"LD_LIBRARY_PATH": str(shared)}), (["-static"], ["--static"], {}):
             words = succeed([*away(), "pkg-config", "--cflags", "--libs", *told, "goblin_pe"], env=environment(**where)).split()
-            succeed([*away(), CC, "-std=c99", *FLAGS, *flags, "-o", self.folder / "list", example, *words])
-            self.assert_is_listed_by(self.folder / "list", env=env)
+            succeed([*away(), CC, "-std=c99", *FLAGS, *flags, "-o", self.folder / "imports", example, *words])
+            self.assert_lists_imports(self.folder / "imports", env=env)
 
     def test_the_repository_is_out_of_reach(self):
         if not away():
@@ -81,26 +87,14 @@ class Packages(Case):
         self.assertEqual(succeed([*away(), "ls", "-A", TOP]), "")
 
     def test_they_are_packed_again_to_the_byte(self):
-        """In this folder, and in a copy of the repository."""
+        """In this folder, by another Python, and in a copy of the repository."""
         shutil.copytree(TOP, self.folder / "another", symlinks=True, ignore=without_what_is_made)
-        folders = packed("packages"), packed("again"), packed("another", self.folder / "another/callers")
+        folders = packed("packages"), packed("again", by=shutil.which("python3", path="/usr/bin") or sys.executable), packed("another", self.folder / "another/bindings")
         first, *others = ({it.name: it.read_bytes() for it in made.iterdir()} for made in folders)
         self.assertEqual(len(first), 3)
         for other in others:
             self.assertEqual(sorted(other), sorted(first))
             self.assertEqual([name for name in first if other[name] != first[name]], [])
-
-    def test_what_was_proved_is_told(self):
-        text = (self.unpacked() / "PROVED").read_text("utf-8")
-        self.assertIn(succeed(["git", "-C", CALLERS, "rev-parse", "HEAD"]).strip(), text)
-        self.assertIn(hashlib.sha256((library() / "libgoblin_pe.a").read_bytes()).hexdigest() + "  libgoblin_pe.a\n", text)
-        self.assertIn((library() / "libgoblin_pe.a.sum").read_text("utf-8"), text)
-        for word in ("kit", "compiler"):
-            self.assertRegex(text, rf"(?m)^{word}  .")
-        self.assertRegex(text, r"(?m)^ +\./test --anew +\d+ minutes")
-        for crate in ("goblin_base", "goblin_pe_c"):  # as the text tells
-            listed, = re.findall(r"(?m)^ +(cd crates/CRATE .*)$", text)
-            self.assertIn("%s  crates/%s\n" % (succeed(["sh", "-c", listed.replace("CRATE", crate)], cwd=CRATES.parent).split()[0], crate), text)
 
     def test_each_file_is_told(self):
         """But for the text itself and what lists it, and as the text says."""
@@ -120,17 +114,17 @@ class Packages(Case):
         unpacked = self.unpacked()
         files = {str(it.relative_to(unpacked)) for it in unpacked.rglob("*")}
         self.assertLessEqual({"LICENSE", "PROVED", "SECURITY.md", "CHANGELOG.md", "rust/README.md", "rust/LICENSE", "rust/examples/scan.rs", "share/doc/goblin-pe/README.md",
-                              "share/doc/goblin-pe/examples/loader.c"}, files)
+                              "share/doc/goblin-pe/examples/libraries.c"}, files)
         wheel = zipfile.ZipFile(package(".whl"))
         metadata, = (it for it in wheel.namelist() if it.endswith("/METADATA"))
-        self.assertIn((CALLERS / "python/README.md").read_text("utf-8"), wheel.read(metadata).decode())
+        self.assertIn((BINDINGS / "python/README.md").read_text("utf-8"), wheel.read(metadata).decode())
         need("dpkg-deb")
         succeed(["dpkg-deb", "-x", package(".deb"), self.folder / "root"])
         doc = self.folder / "root/usr/share/doc/goblin-pe"
         self.assertEqual(sorted(it.name for it in doc.iterdir()),
                          ["CHANGELOG.md", "PROVED", "README.md", "README.python.md", "README.rust.md", "SECURITY.md", "changelog.gz", "copyright",
                           "examples"])
-        self.assertLessEqual({it.name for it in (CALLERS / "python/examples").glob("*.py")}, {it.name for it in (doc / "examples").iterdir()})
+        self.assertLessEqual({it.name for it in (BINDINGS / "python/examples").glob("*.py")}, {it.name for it in (doc / "examples").iterdir()})
 
     def test_the_wheel(self):
         made = self.folder / "environment"
@@ -147,11 +141,12 @@ class Packages(Case):
         crate, user = self.unpacked() / "rust", self.folder / "user"
         shutil.rmtree(crate.parent / "lib")  # it has the archive inside
         succeed(["cargo", "new", "-q", "--vcs", "none", user])
-        shutil.copy(crate / "examples/list.rs", user / "src/main.rs")
+        shutil.copy(crate / "examples/imports.rs", user / "src/main.rs")
         manifest, env = ["--manifest-path", user / "Cargo.toml"], environment(PKG_CONFIG_LIBDIR="/", CARGO_TARGET_DIR=str(self.folder / "target"))
         succeed([*away(), "cargo", "add", "-q", "--offline", *manifest, "--path", crate], env=env)
         succeed([*away(), *CARGO[:-1], "build", *manifest], env=env)
-        self.assert_is_listed_by(self.folder / "target/debug/user")
+        told = b"%s      0 0x000020a8 KERNEL32.dll GetTickCount\n" % str(self.sample).encode()
+        self.assert_runs([*away(), self.folder / "target/debug/user", self.sample], (0, told, b""), cwd="/")
 
     def test_the_package_for_debian(self):
         """Installed by dpkg into a root that has nothing but the C library of this machine, as dpkg sees it."""
@@ -165,8 +160,7 @@ class Packages(Case):
         succeed([*away(), "dpkg", "--root", root, "--log=/dev/null", "-i", made], env=env)
         self.assertEqual(succeed(["dpkg-query", "--admindir", root / "var/lib/dpkg", "-W", "-f", "${Status}", "goblin-pe"]), "install ok installed")
         self.assertEqual(succeed(["dpkg", "--root", root, "--verify", "goblin-pe"]), "")
-        text, libraries = (root / "usr/share/doc/goblin-pe/PROVED").read_text("utf-8"), root / f"usr/lib/{platform.machine()}-linux-gnu"
-        self.assertIn(hashlib.sha256((libraries / "libgoblin_pe.a").read_bytes()).hexdigest(), text)
+        libraries = root / f"usr/lib/{platform.machine()}-linux-gnu"
         self.assert_links(PKG_CONFIG_LIBDIR=str(libraries / "pkgconfig"), PKG_CONFIG_SYSROOT_DIR=str(root))
         modules = root / "usr/lib/python3/dist-packages"
         told = succeed([python(), "-c", "import importlib.metadata as m; print(m.metadata('goblin_pe')['License-Expression'])"],
@@ -180,11 +174,151 @@ class Packages(Case):
         """Those who link with the library depend on this package, and its name is known once it is installed."""
         need("dpkg-deb")
         succeed(["dpkg-deb", "-e", package(".deb"), self.folder / "control"])
-        shared, = (library().glob("libgoblin_pe.so.*.sum"))
+        shared, = (library().glob("libgoblin_pe.so.*"))
         version = succeed(["dpkg-deb", "-f", package(".deb"), "Version"]).strip()
         self.assertEqual((self.folder / "control/shlibs").read_text("ascii"),
-                         f"libgoblin_pe {shared.stem.partition('.so.')[2]} goblin-pe (= {version})\n")
+                         f"libgoblin_pe {shared.name.partition('.so.')[2]} goblin-pe (= {version})\n")
         self.assertEqual((self.folder / "control/triggers").read_text("ascii"), "activate-noawait ldconfig\n")
         need("lintian")
         status, out, said = run(["lintian", "--allow-root", "--fail-on", "error,warning", package(".deb")], env=environment(LC_ALL="C"))
         self.assertEqual((status, out), (0, b""), said)
+
+
+RT = """#!/bin/sh
+echo "$(dirname "$(dirname "$(readlink -f "$0")")")/START-HERE.md"
+"""
+# What the gate says of a run that did all by itself.
+GATE = ["rt: goblin_base proved", "rt: goblin_base: its tests are proved", "rt: goblin_pe proved",
+        "rt: ok; handles allowed: none; must-fail edits: 2 refused; every proof and must-fail edit was done in this run", "9 passed, 0 failed"]
+
+
+class Releases(Case):
+    """bindings/package in a small repository of its own, with a gate and a build that stand in for those of an hour."""
+
+    def setUp(self):
+        need("git", "cargo")
+        super().setUp()
+        self.top, self.kit, self.out, self.made = self.folder / "a copy", self.folder / "kit", self.folder / "out", library()
+        shutil.copytree(BINDINGS, self.top / "bindings", ignore=shutil.ignore_patterns("lib", "target", "__pycache__"))
+        for it in ("LICENSE", "SECURITY.md", "CHANGELOG.md", ".gitignore"):
+            shutil.copy(TOP / it, self.top)
+        self.git("init", "-q")
+        self.commit()
+        (self.kit / "bin").mkdir(parents=True)
+        self.written("kit/bin/rt", RT.encode()).chmod(0o755)
+        self.written("kit/KIT-ID", b"a kit for this test\n")
+        path = unittest.mock.patch.dict(os.environ, {"PATH": f"{self.kit}/bin:{os.environ['PATH']}"})
+        path.start()
+        self.addCleanup(path.stop)
+
+    def git(self, *words):
+        return succeed(["git", "-C", self.top, "-c", "user.name=a", "-c", "user.email=a", *words]).strip()
+
+    def commit(self):
+        self.git("add", "-A")
+        self.git("commit", "-q", "-m", "a commit")
+        return self.git("rev-parse", "HEAD")
+
+    def package(self, *words, gate=lambda clone, env: (GATE, 0), **how):
+        """What is packed, by its name: without the day, the same whenever it is made."""
+        shutil.rmtree(self.out, ignore_errors=True)
+        package = runpy.run_path(str(BINDINGS / "package"))
+        build = lambda clone, env: pathlib.Path(shutil.copytree(self.made, clone / "bindings/lib"))
+        try:
+            package["release"](self.out, *words, gate=gate, build=build, **{"top": self.top, **how})
+        except package["Refused"] as reason:
+            self.assertFalse(self.out.exists())
+            return str(reason)
+        return {it.name: it.read_bytes() for it in self.out.iterdir()}
+
+    def proved(self):
+        shutil.unpack_archive(next(self.out.glob("*.tar.gz")), self.folder / "unpacked")
+        text, = (self.folder / "unpacked").glob("*/PROVED")
+        return text.read_text("utf-8")
+
+    def spoil(self):
+        """Changes all that git tracks, adds files that would be packed, and has git see none of it."""
+        for it in filter(None, self.git("ls-files", "-z").split("\0")):
+            with (self.top / it).open("ab") as file:
+                file.write(b"\n# other\n")
+        for it in ("python/goblin_pe/more.py", "rust/src/more.rs", "c/examples/more.c", "lib/libgoblin_pe.a"):
+            (self.top / "bindings" / it).parent.mkdir(exist_ok=True)
+            (self.top / "bindings" / it).write_bytes(b"other")
+        (self.top / ".git/info/exclude").write_text("more.*\n", "ascii")
+        self.git("config", "status.showUntrackedFiles", "no")
+        self.git("update-index", "--assume-unchanged", "SECURITY.md", "bindings/c/goblin_pe.h")
+        self.git("add", "bindings/python")
+        (self.top / ".git/index").write_bytes(b"no index")
+
+    def test_nothing_of_the_working_tree_is_packed(self):
+        wanted = self.package()
+        self.assertEqual(len(wanted), 3)
+        self.spoil()
+        self.assertEqual(self.package(), wanted)
+
+    def test_a_branch_that_changes_meanwhile(self):
+        first = self.git("rev-parse", "HEAD")
+        (self.top / "LICENSE").write_text("other\n", "ascii")
+        self.commit()
+        wanted = self.package(first)
+
+        def gate(clone, env):
+            self.git("reset", "-q", "--hard", "HEAD~0")
+            self.git("update-ref", "refs/heads/another", first)
+            self.spoil()
+            return GATE, 0
+
+        self.assertEqual(self.package(first, gate=gate), wanted)
+        self.assertIn(f"commit          {first}\n", self.proved())
+
+    def test_the_gate_runs_where_nothing_was_built(self):
+        (self.top / "crates/some/out/rlib").mkdir(parents=True)
+        (self.folder / "rattle-kept").mkdir()
+        seen = []
+
+        def gate(clone, env):
+            kit = pathlib.Path(shutil.which("rt", path=env["PATH"])).resolve().parent.parent
+            seen.append((list(clone.rglob("out")), (kit.parent / "rattle-kept").exists(), kit == self.kit, clone == self.top,
+                         [it for it in env if it.startswith(("GOBLIN_PE_", "RT_", "GIT_DIR"))]))
+            return GATE, 0
+
+        with unittest.mock.patch.dict(os.environ, GOBLIN_PE_LIB="/else", RT_BACKEND="rattle", GIT_DIR="/else"):
+            self.package(gate=gate)
+        self.assertEqual(seen, [([], False, False, False, [])])
+
+    def test_a_gate_that_did_not_pass_or_kept_something(self):
+        for lines, status in ((GATE, 1), ([*GATE[:-1], "9 passed, 1 failed"], 1), ([*GATE[:-1], "0 passed, 0 failed"], 0), ([], 0),
+                              ([*GATE[:-1], "quick: 9 passed, 0 failed"], 0), (GATE[3:], 0), ([*GATE[:3], GATE[-1]], 0),
+                              (["rt: goblin_base is kept: an earlier run on this machine proved the same files", *GATE[2:]], 0)):
+            with self.subTest(lines=lines, status=status):
+                self.assertIn("the gate", self.package(gate=lambda clone, env: (lines, status)))
+
+    def test_what_was_seen_is_told(self):
+        self.package()
+        text = self.proved()
+        for it in (self.git("rev-parse", "HEAD"), *GATE[3:], "3 of crates and of their tests, and 2 wrong bodies", "a kit for this test",
+                   *(f"{hashlib.sha256(it.read_bytes()).hexdigest()}  {it.name}\n" for it in library().iterdir())):
+            self.assertIn(it, text)
+
+    def test_what_leads_out_of_the_commit(self):
+        self.assertIn("is not the top of a git repository", self.package(top=self.top / "bindings"))
+        (self.top / "bindings/c/goblin_pe_calls.c").unlink()
+        (self.top / "bindings/c/goblin_pe_calls.c").symlink_to("/dev/null")
+        self.commit()
+        self.assertEqual(self.package(), "the commit leads to files outside of it: bindings/c/goblin_pe_calls.c")
+
+    def test_a_kit_or_a_clone_that_changes_meanwhile(self):
+        for change in (lambda clone: self.written("kit/KIT-ID", b"another\n"), lambda clone: (clone / "LICENSE").write_bytes(b""),
+                       lambda clone: (clone / "bindings/rust/src/more.rs").write_bytes(b"")):
+            self.assertEqual(self.package(gate=lambda clone, env: (change(clone), (GATE, 0))[1]), "the kit or the clone has changed meanwhile")
+
+    def test_without_a_kit(self):
+        tools = self.folder / "tools"
+        tools.mkdir()
+        for it in ("sh", "env", "git", "dirname", "mktemp", "cat", "rm"):
+            (tools / it).symlink_to(shutil.which(it))
+        for it in ("package", "build"):
+            command = [*([sys.executable] if it == "package" else []), BINDINGS / it, self.out]
+            status, _, said = run(command, env=environment(PATH=str(tools)))
+            self.assertEqual((status, self.out.exists()), (1, False))
+            self.assertIn("%s: there is no rt on the path: README.md says what is needed, under 'Get it'" % it, said.decode().splitlines())

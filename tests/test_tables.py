@@ -1,11 +1,12 @@
-"""Rich headers, symbols, relocations, and where addresses lie in a file: worked values, which the library for callers reads."""
+"""Rich headers, symbols, relocations, and where addresses lie in a file: worked values, which the package over one image reads."""
 import ctypes
 import itertools
 import struct
 import unittest
 
 from tests import images
-from tests.programs import BY_NAME, CC, need, options, package, refusal, told
+from tests.bindings import Walk, calls, error_of, image_of, package, records, refusal, test, value
+from tests.programs import BY_NAME, CC, need
 
 # The parts of a small file with a Rich header, by their offsets: one entry under the key 1, before a signature.
 SMALL = [(0, b"MZ"), (0x3C, b"\x60"), (0x40, b"\x45\x61\x6E\x53\x01\0\0\0\x01\0\0\0\x01\0\0\0"),
@@ -19,14 +20,14 @@ ENTRIES = [(25203, 260, 10), (25203, 259, 5), (25203, 261, 127), (25305, 259, 9)
 LARGE = [(0, b"MZ"), (0x3C, b"\xF8"), (0x40, images.DEFAULT_STUB), (0x80, b"\x73\x4C\x5B\xB1" + struct.pack("<3I", KEY, KEY, KEY)),
          (0x90, b"".join(struct.pack("<II", (product << 16 | build) ^ KEY, count ^ KEY) for build, product, count in ENTRIES)),
          (0xE0, b"Rich" + struct.pack("<I", KEY)), (0xF8, b"PE\0\0")]
-# The parts of a file; its Rich header's key, size of padding, and offsets of the markers; its entries; and why what is left is refused.
+# The parts of a file; its Rich header's key, size of padding, and offsets of the markers; its entries; and the errors of what is left.
 RICH = [
-    ("one entry", SMALL, (1, 12, 0x40, 0x58), [(2, 3, 4)], None),
-    ("ten entries", LARGE, (KEY, 12, 0x80, 0xE0), ENTRIES, None),
-    ("no second marker", [(0, b"MZ"), (0x3C, b"\x43"), (0x43, b"PE\0\0")], None, [], None),
+    ("one entry", SMALL, (1, 12, 0x40, 0x58), [(2, 3, 4)], []),
+    ("ten entries", LARGE, (KEY, 12, 0x80, 0xE0), ENTRIES, []),
+    ("no second marker", [(0, b"MZ"), (0x3C, b"\x43"), (0x43, b"PE\0\0")], None, [], []),
     ("a rest that is no whole entry",
      [(0, b"MZ"), (0x3C, b"\x5C"), (0x40, b"DanS\0\0\0\0\x02\0\x03\0\x04\0\0\0\x09\x09\x09\x09Rich\0\0\0\0"), (0x5C, b"PE\0\0")],
-     (0, 4, 0x40, 0x54), [(2, 3, 4)], ("READ", "TOO_BIG", 0, 0)),
+     (0, 4, 0x40, 0x54), [(2, 3, 4)], [("TOO_BIG", None, 0, 0)]),
 ]
 RICH_REFUSED = [
     ("the small one without its first marker", [*SMALL, (0x40, b"\x44")], ("MALFORMED", "NO_DANS", 0, 0)),
@@ -105,57 +106,56 @@ HIGH = (0x1000, 0x200, 0x200, 0x800)
 LESS_DATA_THAN_MEMORY = (0x1000, 0x600, 0x400, 0x200)
 AT_NO_MULTIPLE = (0x1000, 0x100, 0x100, 0x210)
 WITHOUT_DATA = (0x1FB000, 0x28590, 0, 0)
-ROUNDED, AS_LOADED = ({"raw_pointer_rule": name} for name in ("ROUNDED_TO512", "AS_LOADED"))
-AS_OFFSETS = {"resolve_rva": False}
-# Sections, the file alignment, options, an address, and its offset in the file.
+STORED, BY_ALIGNMENT, AS_LOADED, IDENTITY = "AS_STORED", "BY_FILE_ALIGNMENT", "AS_LOADED", "IDENTITY"
+# Sections, the file alignment, the mapping, an address, and its offset in the file.
 OFFSETS = [
-    ([LESS_DATA_THAN_MEMORY], 0x200, {}, 0x1123, 0x323),
-    ([LESS_DATA_THAN_MEMORY], 0x200, {}, 0x13FF, 0x5FF),
-    ([LESS_DATA_THAN_MEMORY], 0x200, {}, 0x1400, None),
-    ([WITHOUT_DATA], 0x200, {}, 0x1FB000, None),
-    ([WITHOUT_DATA], 0x200, {}, 0x215580, None),
-    ([AT_NO_MULTIPLE], 0, {}, 0x1000, None),
-    ([AT_NO_MULTIPLE], 0x300, {}, 0x1000, None),
-    ([AT_NO_MULTIPLE], 0x200, {}, 0x1000, 0x210),
-    ([AT_NO_MULTIPLE], 0x200, {}, 0x11FF, 0x40F),
-    ([AT_NO_MULTIPLE], 0x200, {}, 0x1200, None),
-    ([AT_NO_MULTIPLE], 0x200, ROUNDED, 0x1000, 0x200),
-    ([AT_NO_MULTIPLE], 0x200, ROUNDED, 0x11FF, 0x3FF),
-    ([AT_NO_MULTIPLE], 0x200, ROUNDED, 0x1200, None),
-    ([AT_NO_MULTIPLE], 0x100, ROUNDED, 0x1000, 0x200),
+    ([LESS_DATA_THAN_MEMORY], 0x200, STORED, 0x1123, 0x323),
+    ([LESS_DATA_THAN_MEMORY], 0x200, STORED, 0x13FF, 0x5FF),
+    ([LESS_DATA_THAN_MEMORY], 0x200, STORED, 0x1400, None),
+    ([WITHOUT_DATA], 0x200, STORED, 0x1FB000, None),
+    ([WITHOUT_DATA], 0x200, STORED, 0x215580, None),
+    ([AT_NO_MULTIPLE], 0, STORED, 0x1000, None),
+    ([AT_NO_MULTIPLE], 0x300, STORED, 0x1000, None),
+    ([AT_NO_MULTIPLE], 0x200, STORED, 0x1000, 0x210),
+    ([AT_NO_MULTIPLE], 0x200, STORED, 0x11FF, 0x40F),
+    ([AT_NO_MULTIPLE], 0x200, STORED, 0x1200, None),
+    ([AT_NO_MULTIPLE], 0x200, BY_ALIGNMENT, 0x1000, 0x200),
+    ([AT_NO_MULTIPLE], 0x200, BY_ALIGNMENT, 0x11FF, 0x3FF),
+    ([AT_NO_MULTIPLE], 0x200, BY_ALIGNMENT, 0x1200, None),
+    ([AT_NO_MULTIPLE], 0x100, BY_ALIGNMENT, 0x1000, 0x210),
     ([AT_NO_MULTIPLE], 0x200, AS_LOADED, 0x1000, 0x200),
     ([AT_NO_MULTIPLE], 0x1000, AS_LOADED, 0x1001, 0x201),
     ([AT_NO_MULTIPLE], 0x100, AS_LOADED, 0x1000, 0x210),
     ([AT_NO_MULTIPLE], 0, AS_LOADED, 0x1000, None),
-    ([WIDE], 0, AS_OFFSETS, 0x1100, 0x1100),
-    ([NARROW, WIDE], 0x200, {}, 0, None),
-    ([NARROW, WIDE], 0x200, {}, 0xFFF, None),
-    ([NARROW, WIDE], 0x200, {}, 0x1100, 0x900),
-    ([NARROW, WIDE], 0x200, {}, 0x1250, 0x450),
-    ([NARROW, WIDE], 0x200, {}, 0x1500, 0xD00),
-    ([NARROW, WIDE], 0x200, {}, 0x1800, None),
-    ([NARROW, WIDE], 0x200, {}, 2**64 - 1, None),
-    ([WIDE, NARROW], 0x200, {}, 0x1250, 0xA50),
-    ([LOW, HIGH], 0x200, {}, 0x1010, 0x410),
-    ([HIGH, LOW], 0x200, {}, 0x1010, 0x810),
-    ([], 0x200, {}, 0, None),
+    ([WIDE], 0, IDENTITY, 0x1100, 0x1100),
+    ([NARROW, WIDE], 0x200, STORED, 0, None),
+    ([NARROW, WIDE], 0x200, STORED, 0xFFF, None),
+    ([NARROW, WIDE], 0x200, STORED, 0x1100, 0x900),
+    ([NARROW, WIDE], 0x200, STORED, 0x1250, 0x450),
+    ([NARROW, WIDE], 0x200, STORED, 0x1500, 0xD00),
+    ([NARROW, WIDE], 0x200, STORED, 0x1800, None),
+    ([NARROW, WIDE], 0x200, STORED, 2**64 - 1, None),
+    ([WIDE, NARROW], 0x200, STORED, 0x1250, 0xA50),
+    ([LOW, HIGH], 0x200, STORED, 0x1010, 0x410),
+    ([HIGH, LOW], 0x200, STORED, 0x1010, 0x810),
+    ([], 0x200, STORED, 0, None),
 ]
-# Sections, options, an offset, its address, and the index of the section that this lies in.
+# Sections, the mapping, an offset, its address, and the index of the section that this lies in.
 ADDRESSES = [
-    ([LESS_DATA_THAN_MEMORY], {}, 0x1FF, None, None),
-    ([LESS_DATA_THAN_MEMORY], {}, 0x200, 0x1000, 0),
-    ([LESS_DATA_THAN_MEMORY], {}, 0x5FF, 0x13FF, 0),
-    ([LESS_DATA_THAN_MEMORY], {}, 0x600, None, None),
-    ([AT_NO_MULTIPLE], {}, 0x20F, None, None),
-    ([AT_NO_MULTIPLE], ROUNDED, 0x200, 0x1000, 0),
-    ([WITHOUT_DATA], {}, 0, None, None),
-    ([NARROW, WIDE], {}, 0x450, 0x1250, 0),
-    ([NARROW, WIDE], {}, 0xA50, None, None),
-    ([NARROW, WIDE], {}, 0xD00, 0x1500, 1),
-    ([WIDE, NARROW], {}, 0x450, None, None),
-    ([LOW, HIGH], {}, 0x810, None, None),
-    ([WIDE], AS_OFFSETS, 0x1100, 0x1100, 0),
-    ([WIDE], AS_OFFSETS, 0x5000, 0x5000, None),
+    ([LESS_DATA_THAN_MEMORY], STORED, 0x1FF, None, None),
+    ([LESS_DATA_THAN_MEMORY], STORED, 0x200, 0x1000, 0),
+    ([LESS_DATA_THAN_MEMORY], STORED, 0x5FF, 0x13FF, 0),
+    ([LESS_DATA_THAN_MEMORY], STORED, 0x600, None, None),
+    ([AT_NO_MULTIPLE], STORED, 0x20F, None, None),
+    ([AT_NO_MULTIPLE], BY_ALIGNMENT, 0x200, 0x1000, 0),
+    ([WITHOUT_DATA], STORED, 0, None, None),
+    ([NARROW, WIDE], STORED, 0x450, 0x1250, 0),
+    ([NARROW, WIDE], STORED, 0xA50, None, None),
+    ([NARROW, WIDE], STORED, 0xD00, 0x1500, 1),
+    ([WIDE, NARROW], STORED, 0x450, None, None),
+    ([LOW, HIGH], STORED, 0x810, None, None),
+    ([WIDE], IDENTITY, 0x1100, 0x1100, None),
+    ([WIDE], IDENTITY, 0x5000, 0x5000, None),
 ]
 # Sections whose data begins at the file's end, where it has six bytes: one with zeros after them, one with more data than memory, one
 # without a virtual size, one without data, and one whose data is not there. An address, a size, and what a loader sees: bytes of the
@@ -176,23 +176,23 @@ AVAILABLE = [
 # Where addresses of such sections and of 0x200 bytes of headers lie, and in which section: among the zeros are those of the windows
 # that the file does not have, and no place is after a section's memory.
 REGIONS = [
-    (0, "HEADERS", None), (0x1FF, "HEADERS", None), (0x200, "NOWHERE", None), (0xFFF, "NOWHERE", None), (0x1000, "STORED", 0),
-    (0x1005, "STORED", 0), (0x1006, "ZEROS", 0), (0x100F, "ZEROS", 0), (0x11FF, "ZEROS", 0), (0x1200, "NOWHERE", None),
-    (0x3005, "STORED", 2), (0x3006, "ZEROS", 2), (0x4000, "ZEROS", 3), (0x5007, "STORED", 4), (2 ** 64 - 1, "NOWHERE", None),
+    (0, "HEADERS", None), (0x1FF, "HEADERS", None), (0x200, "UNMAPPED", None), (0xFFF, "UNMAPPED", None), (0x1000, "RAW_DATA", 0),
+    (0x1005, "RAW_DATA", 0), (0x1006, "ZEROS", 0), (0x100F, "ZEROS", 0), (0x11FF, "ZEROS", 0), (0x1200, "UNMAPPED", None),
+    (0x3005, "RAW_DATA", 2), (0x3006, "ZEROS", 2), (0x4000, "ZEROS", 3), (0x5007, "RAW_DATA", 4), (2 ** 64 - 1, "UNMAPPED", None),
 ]
-# Of a section the virtual size, the raw size, the raw pointer and the flags; and its data in a file of 0x300 bytes, by how many
-# bytes it has from where on and how many zeros follow, None where it is refused; and the data as far as the file has it.
+# Of a section the virtual size, the raw size, the raw pointer and the flags; and its data in a file of 0x300 bytes: how many bytes it
+# has from where on, how many zeros follow, and how many bytes the file lacks.
 DATA = [
-    ("uninitialized data of an object", (0, 400000, 0, 0xC0000080), (0, 0, 400000), (0, 0, 400000)),
-    ("uninitialized data of an image", (0x80, 0, 0, 0xC0000080), (0, 0, 0x80), (0, 0, 0x80)),
-    ("such data with both sizes", (0x80, 0x200, 0, 0xC0000080), (0, 0, 0x80), (0, 0, 0x80)),
-    ("other data at the front", (0x80, 0x40, 0, 0xC0000040), (0, 0x40, 0x40), (0, 0x40, 0x40)),
-    ("uninitialized data with a raw pointer", (0x80, 0x40, 0x200, 0xC0000080), (0x200, 0x40, 0x40), (0x200, 0x40, 0x40)),
-    ("data that is not cut at the virtual size", (0x10, 0x40, 0x200, 0), (0x200, 0x40, 0), (0x200, 0x40, 0)),
-    ("data to the end", (0x180, 0x100, 0x200, 0), (0x200, 0x100, 0x80), (0x200, 0x100, 0x80)),
-    ("data that ends too late", (0x180, 0x101, 0x200, 0), None, (0x200, 0x100, 0)),
-    ("data that begins too late", (0x180, 0x10, 0x400, 0), None, (0x300, 0, 0)),
-    ("no data that begins too late", (0x80, 0, 0x400, 0), None, (0x300, 0, 0x80)),
+    ("uninitialized data of an object", (0, 400000, 0, 0xC0000080), (0, 0, 400000, 0)),
+    ("uninitialized data of an image", (0x80, 0, 0, 0xC0000080), (0, 0, 0x80, 0)),
+    ("such data with both sizes", (0x80, 0x200, 0, 0xC0000080), (0, 0, 0x80, 0)),
+    ("other data at the front", (0x80, 0x40, 0, 0xC0000040), (0, 0x40, 0x40, 0)),
+    ("uninitialized data with a raw pointer", (0x80, 0x40, 0x200, 0xC0000080), (0x200, 0x40, 0x40, 0)),
+    ("data that is not cut at the virtual size", (0x10, 0x40, 0x200, 0), (0x200, 0x40, 0, 0)),
+    ("data to the end", (0x180, 0x100, 0x200, 0), (0x200, 0x100, 0x80, 0)),
+    ("data that ends too late", (0x180, 0x101, 0x200, 0), (0x200, 0x100, 0, 1)),
+    ("data that begins too late", (0x180, 0x10, 0x400, 0), (0x300, 0, 0, 0x10)),
+    ("no data that begins too late", (0x80, 0, 0x400, 0), (0x300, 0, 0x80, 0)),
 ]
 # Bytes at the end of a file, at the address 0x1000 of a section of 16 bytes; an address; a size; and the text and so many bytes there.
 CONTENTS = [
@@ -200,7 +200,7 @@ CONTENTS = [
     (b"one\0two", 0x1004, 3, b"two", b"two"),
     (b"one\0two", 0x1003, 0, b"", b""),
     (b"one\0two", 0x1003, 5, b"", None),
-    (b"one\0two", 0x1007, 0, None, None),
+    (b"one\0two", 0x1007, 0, None, b""),
     (b"one\0two", 0xFFF, 1, None, None),
     (b"\xFFone", 0x1000, 1, None, b"\xFF"),
     (bytes(16) + b"more", 0x100F, 3, b"", b"\0mo"),
@@ -210,6 +210,14 @@ CONTENTS = [
 def setUpModule():
     need(CC)
     package()
+
+
+def how(mapping):
+    return package().Options(mapping=package().Mapping[mapping])
+
+
+def image(data, mapping="AS_STORED"):
+    return package().Image(data, how(mapping))
 
 
 def signed(parts):
@@ -224,7 +232,7 @@ def object_of(records, strings):
 
 def symbols_of(records, strings):
     """The symbols of an object that has these records and this string table."""
-    return package().ObjectFile(object_of(records, strings)).symbols
+    return list(package().Image.object(object_of(records, strings)).symbols())
 
 
 def symbol_record(name=bytes(8), auxiliary=0):
@@ -252,17 +260,29 @@ def with_blocks(directory):
     return images.image_headers(0x148, 0, 0x1000, ((5, 0x148, len(directory)),)) + directory
 
 
+def available(memory):
+    """The first bytes that a loader sees, and how many zeros follow; None if it maps nothing there."""
+    return None if memory.region == package().Region.UNMAPPED else (memory.data, memory.zeros)
+
+
+def seen(memory):
+    """The same; None also if some of what was asked for is missing."""
+    return None if memory.missing else available(memory)
+
+
 class Tables(unittest.TestCase):
     def test_a_rich_header_has_its_place_and_its_entries(self):
         for name, parts, header, entries, rest in RICH:
             with self.subTest(name):
                 pe = package().Pe(signed(parts))
-                self.assertEqual((pe.rich_header, list(pe.rich_entries), told(pe.rich_rest)), (header, entries, rest))
+                found = pe.image.rich_header
+                self.assertEqual(found and (found.key, found.padding_size, found.start_offset, found.end_offset), header)
+                self.assertEqual((list(pe.rich_entries), [error_of(it) for it in pe.errors]), (entries, rest))
 
     def test_a_rich_header_needs_both_markers_in_order(self):
         for name, parts, wanted in RICH_REFUSED:
             with self.subTest(name):
-                self.assertEqual(refusal(package().Pe, signed(parts)), wanted)
+                self.assertEqual(refusal(package().Image, signed(parts)), wanted)
 
     def test_the_symbols_of_an_object_are_those_that_another_tool_shows(self):
         found = [(it.index, it.value, it.section_number, it.storage_class, it.number_of_aux_symbols, it.name)
@@ -270,10 +290,11 @@ class Tables(unittest.TestCase):
         self.assertEqual(found, SYMBOLS)
 
     def test_auxiliary_records_are_read(self):
-        by_name = {it.name: it for it in symbols_of(SYMBOL_RECORDS, STRINGS)}
-        definition = by_name[b".text"].aux(package().AuxSectionDefinition)
-        self.assertEqual(definition, (90, 6, 0, 0x2EC34278, 1, 0, (0, 0, 0)))
-        self.assertEqual((by_name[b".file"].aux_file(), by_name[b"odd"].aux_file()), (b"free.c", None))
+        by_name = {it.name: it.auxiliary() for it in symbols_of(SYMBOL_RECORDS, STRINGS)}
+        kinds, it = package().AuxiliaryKind, by_name[b".text"]
+        self.assertEqual((it.kind, it.length, it.number_of_relocations, it.number_of_line_numbers, it.checksum, it.number, it.selection),
+                         (kinds.SECTION_DEFINITION, 90, 6, 0, 0x2EC34278, 1, 0))
+        self.assertEqual((by_name[b".file"].kind, by_name[b".file"].file, by_name[b"odd"]), (kinds.FILE, b"free.c", None))
 
     def test_auxiliary_records_are_no_symbols(self):
         for auxiliary, count, wanted in INDEXES:
@@ -288,168 +309,147 @@ class Tables(unittest.TestCase):
 
     def test_a_name_is_tested_where_it_lies(self):
         """One that is not there lies at the front of the file; an empty one that is there has its own place."""
-        calls, records = package()._library.LIB, package().records
-        for name, strings, offset, wanted in UNTESTED:
-            with self.subTest(name):
-                file = b"\0" + symbol_record(struct.pack("<II", 0, offset + 4)) + strings
-                table, symbol = records.SymbolTable(1, 1, 19, len(strings)), records.NamedSymbol()
-                self.assertTrue(calls.goblin_pe_raw_symbol_at(file, len(file), ctypes.byref(table), 0, ctypes.byref(symbol)))
-                found = ctypes.string_at(symbol.name.bytes, symbol.name.length) if symbol.has_name else None
-                self.assertEqual(found, wanted)
-                place = symbol.name.bytes - ctypes.cast(file, ctypes.c_void_p).value
-                self.assertEqual((place, symbol.name.length), (0, 0) if wanted is None else (19 + offset, len(wanted)))
-
-    def test_a_text_of_the_string_table_has_an_offset(self):
         for name, strings, offset, wanted in UNTESTED:
             with self.subTest(name):
                 table = struct.pack("<I", 4 + len(strings)) + strings
-                found = package().ObjectFile(object_of(symbol_record(), table), tests_texts=False)
+                file = object_of(symbol_record(struct.pack("<II", 0, offset + 4)), table)
+                found, _ = image_of(file, None, "read_object")
+                cursor, symbol, batch = records().SymbolCursor(), records().Symbol(), records().Batch()
+                test(calls().goblin_pe_next_symbols(*map(ctypes.byref, (found, cursor, symbol)), 1, ctypes.byref(batch)))
+                self.assertEqual((symbol.has_name, value(symbol.name)), (wanted is not None, wanted or b""))
+                place = symbol.name.bytes - found.bytes.bytes
+                self.assertEqual(place, 0 if wanted is None else len(file) - len(strings) + offset)
+                found = package().Image.object(file)
                 self.assertEqual((found.string_at(offset + 4), found.string_at(3)), (wanted, None))
-                self.assertEqual(found.string_table_size, len(table))
-        without = package().ObjectFile(bytes(20))
-        self.assertEqual((without.string_at(4), without.string_table_size), (None, 0))
+        self.assertEqual(package().Image.object(bytes(20)).string_at(4), None)
 
     def test_symbols_are_read_where_a_name_is_no_text(self):
-        records = symbol_record(struct.pack("<II", 0, 4)) + symbol_record(struct.pack("<II", 0, 9)) + symbol_record(b"short")
-        file = object_of(records, b"\x0E\0\0\0d\xE9j\xE0\0last\0")
-        self.assertEqual(refusal(package().ObjectFile, file), ("READ", "BAD_INPUT", 0, 0))
-        found = package().ObjectFile(file, tests_texts=False)
-        self.assertEqual([(it.index, it.name) for it in found.symbols], [(0, None), (1, b"last"), (2, b"short")])
-        for cut, wanted in ((1, ("MALFORMED", "STRING_TABLE", 20 + 54 + 4, 10)), (14, ("READ", "BAD_OFFSET", 0, 0))):
-            self.assertEqual(refusal(package().ObjectFile, file[:-cut], None, False), wanted)
+        symbols = symbol_record(struct.pack("<II", 0, 4)) + symbol_record(struct.pack("<II", 0, 9)) + symbol_record(b"short")
+        file = object_of(symbols, b"\x0E\0\0\0d\xE9j\xE0\0last\0")
+        self.assertEqual([(it.index, it.name) for it in package().Image.object(file).symbols()], [(0, None), (1, b"last"), (2, b"short")])
+        for cut, wanted in ((1, ("MALFORMED", "STRING_TABLE", 20 + 54 + 4, 10)), (14, ("BAD_OFFSET", None, 0, 0))):
+            self.assertEqual(refusal(list, package().Image.object(file[:-cut]).symbols()), wanted)
 
     def test_an_image_has_symbols_and_texts_as_an_object_has(self):
         """Also where a name is no text."""
         data, strings = BY_NAME.read_bytes(), b"\x0E\0\0\0d\xE9j\xE0\0last\0"
-        records = symbol_record(struct.pack("<II", 0, 4)) + symbol_record(struct.pack("<II", 0, 9))
-        file = images.with_parts(data + records + strings, (data.index(b"PE\0\0") + 12, struct.pack("<II", len(data), 2)))
-        for read in package().Layout, package().Parts, package().Pe:
-            image = read(file)
-            for call in (lambda: image.symbols), image.walk_symbols, lambda: image.symbol_at(1):
-                self.assertEqual(refusal(call), ("READ", "BAD_INPUT", 0, 0))
-            self.assertEqual([it.name for it in image.walk_symbols(tests_texts=False)], [None, b"last"])
-            self.assertEqual((image.symbol_at(1, tests_texts=False).name, image.string_at(9), image.string_at(4)), (b"last", b"last", None))
-            self.assertEqual((image.string_table_size, read(data).string_table_size), (14, 0))
+        symbols = symbol_record(struct.pack("<II", 0, 4)) + symbol_record(struct.pack("<II", 0, 9))
+        file = images.with_parts(data + symbols + strings, (data.index(b"PE\0\0") + 12, struct.pack("<II", len(data), 2)))
+        for found in package().Image(file), package().Image.partial(file), package().Pe(file).image:
+            self.assertEqual([it.name for it in found.symbols()], [None, b"last"])
+            self.assertEqual((found.symbol_at(1).name, found.string_at(9), found.string_at(4)), (b"last", b"last", None))
 
     def test_a_table_that_is_not_in_the_file_has_no_symbols(self):
-        calls, records = package()._library.LIB, package().records
-        file, symbol, position, count = bytes(40), records.NamedSymbol(), ctypes.c_size_t(), ctypes.c_size_t(7)
-        most = 2 ** 64 - 1
-        for status, table in ((0, (0, most >> 32, most, most)), (0, (1, 2, 40, 0)), (4, (40, 0, 40, 0)), (4, (1, most >> 32, 0, 0)),
-                              (1, (1, 2, 40, 1)), (1, (1, 2, most, most))):
-            with self.subTest(table=table):
-                said = records.SymbolTable(*table)
-                fault = calls.goblin_pe_raw_next_symbols(
-                    file, len(file), ctypes.byref(said), ctypes.byref(position), ctypes.byref(symbol), 0, 0, ctypes.byref(count))
-                is_there = calls.goblin_pe_raw_symbol_at(file, len(file), ctypes.byref(said), 0, ctypes.byref(symbol))
-                self.assertEqual((fault.status, is_there, position.value), (status, table == (1, 2, 40, 0), 0))
+        most = 2 ** 32 - 1
+        for status, pointer, count, length in ((0, 0, most, most), (0, 1, 2, 4), (4, 41, 0, 4), (4, 1, most, 0), (1, 1, 2, 5), (1, 1, 2, most)):
+            with self.subTest(pointer=pointer, count=count, length=length):
+                found, _ = image_of(bytes(37) + struct.pack("<I", length), None, "read_object")
+                found.coff_header.pointer_to_symbol_table, found.coff_header.number_of_symbol_table = pointer, count
+                for room in 0, 1:
+                    walk = Walk(found, "symbols")
+                    self.assertEqual(walk.call(room).status, status)
+                    self.assertEqual((len(walk.rows), walk.cursor.index), (room, room) if (pointer, length) == (1, 4) else (0, 0))
 
     def test_a_string_table_is_as_long_as_its_length_field_at_least(self):
-        self.assertEqual(symbols_of(b"", b"\x04\0\0\0"), ())
+        self.assertEqual(symbols_of(b"", b"\x04\0\0\0"), [])
         self.assertEqual(refusal(symbols_of, b"", b"\x01\0\0\0"), ("MALFORMED", "COFF_LENGTH", 0, 0))
 
     def test_the_relocations_of_a_section_are_those_that_another_tool_shows(self):
-        file = relocated(RELOCATION_RECORDS)
-        section, = package().ObjectFile(file).sections
-        self.assertEqual(section.relocations(file), [(address, symbol, 4) for address, symbol in RELOCATIONS])
-
-        self.assertEqual(list(section.walk_relocations(file)), section.relocations(file))
+        found = package().Image.object(relocated(RELOCATION_RECORDS))
+        self.assertEqual(list(found.sections[0].relocations(found)), [(address, symbol, 4) for address, symbol in RELOCATIONS])
 
     def test_a_walk_gives_all_relocations_where_the_first_record_has_their_number(self):
         flag = 0x01000000  # (IMAGE_SCN_LNK_NRELOC_OVFL)
         row = struct.Struct("<IIH")
         for count in (0x10000, 0x10001, 0x20000):
             file = relocated(b"") + row.pack(count, 0, 0) + b"".join(row.pack(i, 7, 4) for i in range(count - 1))
-            section, = package().ObjectFile(file).sections
-            full = section._replace(number_of_relocations=0xFFFF, characteristics=flag)
+            whole, cut = map(package().Image.object, (file, file[:-1]))
+            full = whole.sections[0]._replace(number_of_relocations=0xFFFF, characteristics=flag)
             with self.subTest(count=count):
-                self.assertEqual(list(full.walk_relocations(file)), [(i, 7, 4) for i in range(count - 1)])
-                self.assertEqual(refusal(list, full.walk_relocations(file[:-1])), ("READ", "TOO_BIG", 0, 0))
+                self.assertEqual(list(full.relocations(whole)), [(i, 7, 4) for i in range(count - 1)])
+                self.assertEqual(refusal(list, full.relocations(cut)), ("TOO_BIG", None, 0, 0))
             for other in (full._replace(number_of_relocations=2), full._replace(characteristics=0, number_of_relocations=2)):
-                self.assertEqual(list(other.walk_relocations(file)), [(count, 0, 0), (0, 7, 4)])
+                self.assertEqual(list(other.relocations(whole)), [(count, 0, 0), (0, 7, 4)])
 
-    def test_no_relocations_are_read_before_the_end_and_refused_at_it(self):
-        section = package().ObjectFile(relocated(b"")).sections[0]._replace(pointer_to_relocations=0)
-        self.assertEqual(section.relocations(b"a"), [])
-        self.assertEqual(refusal(section.relocations, b""), ("READ", "BAD_OFFSET", 0, 0))
+    def test_no_relocations_are_read_of_any_file_and_one_is_refused_at_its_end(self):
+        section = package().Image.object(relocated(b"")).sections[0]._replace(pointer_to_relocations=0)
+        for data, wanted in (b"a", "TOO_BIG"), (b"", "BAD_OFFSET"):
+            found = package().Image.partial(data)
+            self.assertEqual(list(section.relocations(found)), [])
+            self.assertEqual(refusal(list, section._replace(number_of_relocations=1).relocations(found)), (wanted, None, 0, 0))
 
     def test_the_base_relocations_of_a_library_are_those_that_another_tool_shows(self):
+        """By the package, and by C."""
         headers = images.image_headers(0x200, 1, 0x5000, ((5, 0x4000, len(LIBRARY)),))
         images.put_section(headers, 0x148, b".reloc", LIBRARY, 0x4000, 0x200)
-        pe = package().Pe(headers + LIBRARY)
-        found = [[(word >> 12, block.rva + (word & 0xFFF)) for word in block.words] for block in pe.blocks]
-        self.assertEqual((found, pe.block_rest), (BASE_RELOCATIONS, None))
+        pe = package().Pe(headers + LIBRARY, how("AS_STORED"))
+        self.assertEqual([[(it.typ, it.rva) for it in block.relocations()] for block in pe.relocation_blocks], BASE_RELOCATIONS)
+        self.assertEqual(pe.errors, ())
+        found, _ = image_of(headers + LIBRARY)
+        for block, wanted in zip(Walk(found, "relocation_blocks").walk(2)[0], BASE_RELOCATIONS):
+            (cursor,) = (it for it in block if isinstance(it, tuple))
+            at, rows, batch = records().BaseRelocationCursor(*cursor), (records().BaseRelocation * 7)(), records().Batch()
+            test(calls().goblin_pe_next_base_relocations(*map(ctypes.byref, (found, at)), rows, 7, ctypes.byref(batch)))
+            self.assertEqual(([(it.typ, it.rva) for it in rows[:batch.count]], batch.is_done), (wanted, True))
 
     def test_a_block_needs_a_byte_after_its_head_and_has_whole_words(self):
         for name, directory, wanted, rest in BLOCKS:
             with self.subTest(name):
-                pe = package().Pe(with_blocks(directory), package().Options(resolve_rva=False))
-                self.assertEqual((list(pe.blocks), told(pe.block_rest)), (wanted, rest))
-                walk = pe.walk_blocks()
-                self.assertEqual([*itertools.islice(walk, len(wanted))], wanted)
-                self.assertEqual(refusal(next, walk, None), rest)
+                found = image(with_blocks(directory), "IDENTITY")
+                self.assertEqual([error_of(it) for it in package().Pe.of(found).errors], [rest] if rest else [])
+                walk = found.relocation_blocks()
+                blocks = [(it.rva, it.size, tuple(x.typ << 12 | x.rva - it.rva for x in it.relocations()))
+                          for it in itertools.islice(walk, len(wanted))]
+                self.assertEqual((blocks, refusal(next, walk, None)), (wanted, rest))
 
     def test_an_address_belongs_to_the_first_section_whose_window_holds_it(self):
-        for sections, alignment, how, rva, wanted in OFFSETS:
-            with self.subTest(sections=sections, alignment=alignment, rva=hex(rva), **how):
-                pe = package().Pe(with_sections(sections, alignment), options(**how))
-                self.assertEqual(pe.find_offset(rva), wanted)
+        for sections, alignment, mapping, rva, wanted in OFFSETS:
+            with self.subTest(sections=sections, alignment=alignment, rva=hex(rva), mapping=mapping):
+                found = image(with_sections(sections, alignment), mapping)
+                self.assertEqual(found.find_offset(rva), wanted)
                 if wanted is not None:
-                    self.assertEqual(pe.find_offset(pe.find_rva(wanted)), wanted)
+                    self.assertEqual(found.find_offset(found.find_rva(wanted)), wanted)
 
     def test_the_address_of_an_offset_and_the_section_of_an_address(self):
-        for sections, how, offset, rva, section in ADDRESSES:
-            with self.subTest(sections=sections, offset=hex(offset), **how):
-                pe = package().Pe(with_sections(sections, 0x200), options(**how))
-                self.assertEqual(pe.find_rva(offset), rva)
+        for sections, mapping, offset, rva, section in ADDRESSES:
+            with self.subTest(sections=sections, offset=hex(offset), mapping=mapping):
+                found = image(with_sections(sections, 0x200), mapping)
+                self.assertEqual(found.find_rva(offset), rva)
                 if rva is not None:
-                    self.assertEqual(pe.section_at(rva), None if section is None else pe.sections[section])
+                    self.assertEqual(found.memory_at(rva, 0).section, section)
 
     def test_what_a_loader_sees_at_an_address(self):
-        for rva, size, wanted in SEEN:
-            with self.subTest(rva=hex(rva), size=size):
-                pe = package().Pe(with_sections(IN_MEMORY) + b"stored")
-                self.assertEqual(pe.memory_at(rva, size), wanted)
-
-    def test_the_first_bytes_that_a_loader_sees_at_an_address(self):
-        for rva, size, wanted in AVAILABLE:
-            with self.subTest(rva=hex(rva), size=size):
-                pe = package().Pe(with_sections(IN_MEMORY) + b"stored")
-                self.assertEqual(pe.available_at(rva, size), wanted)
-        file = with_sections(IN_MEMORY) + b"stored"
-        pe = package().Pe(file, options(resolve_rva=False))
-        self.assertEqual((pe.available_at(0x210, 99), pe.available_at(len(file), 1)), ((b"stored", 0), None))
+        found = image(with_sections(IN_MEMORY) + b"stored")
+        for look, rows in (seen, SEEN), (available, AVAILABLE):
+            for rva, size, wanted in rows:
+                with self.subTest(look.__name__, rva=hex(rva), size=size):
+                    self.assertEqual(look(found.memory_at(rva, size)), wanted)
+        dump = found.with_options(how("IDENTITY"))
+        self.assertEqual(available(dump.memory_at(0x210, 99)), (b"stored", 0))
+        self.assertEqual(available(dump.memory_at(len(dump.data), 1)), None)
 
     def test_where_an_address_lies(self):
         headers = with_sections(IN_MEMORY)
         struct.pack_into("<I", headers, 0x94, 0x200)  # (size_of_headers)
-        pe = package().Pe(headers + b"stored")
         for rva, region, section in REGIONS:
             with self.subTest(rva=hex(rva)):
-                wanted = (package().Region[region], None if section is None else pe.sections[section])
-                self.assertEqual(pe.region_of(rva), wanted)
+                memory = image(headers + b"stored", "AS_LOADED" if rva < 0x1000 else "AS_STORED").memory_at(rva, 0)
+                self.assertEqual((memory.region.name, memory.section), (region, section))
 
     def test_the_data_of_sections(self):
-        file = bytes(range(256)) * 3
-        for name, (size, raw_size, pointer, flags), wanted, available in DATA:
+        file = package().Image.partial(bytes(range(256)) * 3)
+        for name, (size, raw_size, pointer, flags), (begin, length, *wanted) in DATA:
             with self.subTest(name):
-                section = package().Section(b"", size, 0, raw_size, pointer, 0, 0, 0, 0, flags, b"")
-                found = None if wanted is None else (file[wanted[0]:][:wanted[1]], wanted[2])
-                if found is None:
-                    self.assertEqual(refusal(section.data, file)[0], "READ")
-                else:
-                    self.assertEqual(section.data(file), found)
-                begin, length, zeros = available
-                self.assertEqual(section.available_data(file), (file[begin:][:length], zeros))
+                memory = package().Section(b"", bytes(8), 0, size, 0, raw_size, pointer, 0, 0, 0, 0, flags).data(file)
+                self.assertEqual((memory.data, memory.zeros, memory.missing), (file.data[begin:][:length], *wanted))
 
     def test_uninitialized_data_is_zeros_in_memory(self):
         file = with_sections([(0x1000, 16, 8, 0), (0x2000, 16, 8, 0x198)])
         for index in range(2):
             struct.pack_into("<I", file, 0x148 + 40 * index + 36, 0x80)
-        pe = package().Pe(file + b"stored" + bytes(2))
-        self.assertEqual(pe.memory_at(0x1000, 16), (b"", 16))
-        self.assertEqual(pe.region_of(0x1000), (package().Region.ZEROS, pe.sections[0]))
-        self.assertEqual(pe.memory_at(0x2000, 16), (b"stored\0\0", 8))
+        found = image(file + b"stored" + bytes(2))
+        self.assertEqual(found.memory_at(0x1000, 16), (b"", 16, 0, 0, package().Region.ZEROS))
+        self.assertEqual(found.memory_at(0x2000, 16)[:3], (b"stored\0\0", 8, 0))
 
     def test_what_is_seen_at_an_address_is_what_stands_at_its_offset(self):
         """Also up to the end of data whose raw pointer, 0x10, is rounded down, as packers make it; a loader sees the headers, too."""
@@ -457,26 +457,25 @@ class Tables(unittest.TestCase):
         struct.pack_into("<I", file, 0x94, 0x200)  # (size_of_headers)
         file += bytes(range(1, 101)) * 7
         file = file[:0x3FC] + b"last"
-        for how, front in (({}, None), (ROUNDED, None), (AS_LOADED, 0)):
-            pe = package().Pe(file, options(**how))
+        for mapping in "AS_STORED", "BY_FILE_ALIGNMENT", "AS_LOADED":
+            found = image(file, mapping)
             for rva in (0, 0x1FF, 0x200, 0xFFF, 0x1000, 0x100F, *range(0x13E0, 0x1420), 0x1FFF, 0x2000):
-                offset = pe.find_offset(rva)
-                with self.subTest(rva=hex(rva), **how):
+                offset, memory = found.find_offset(rva), found.memory_at(rva, 1)
+                with self.subTest(rva=hex(rva), mapping=mapping):
                     if rva < 0x200:
-                        self.assertEqual(offset, None if front is None else rva)
-                        self.assertEqual(pe.region_of(rva), (package().Region.HEADERS, None))
+                        front = (rva, "HEADERS") if mapping == "AS_LOADED" else (None, "UNMAPPED")
+                        self.assertEqual((offset, memory.region.name, memory.section), (*front, None))
                     if offset is not None and offset < len(file):
-                        self.assertEqual(pe.memory_at(rva, 1), (file[offset:][:1], 0))
-                        self.assertEqual(pe.available_at(rva, 1), (file[offset:][:1], 0))
-                        self.assertEqual(pe.bytes_at(rva, 1), file[offset:][:1])
+                        self.assertEqual(memory.whole(), file[offset:][:1])
                         if rva >= 0x1000:
-                            self.assertEqual(pe.region_of(rva)[0], package().Region.STORED)
-            if how:
-                self.assertEqual(pe.memory_at(0x13FC, 8), (b"last", 4))
-                self.assertEqual(pe.section_data(pe.sections[0]), (file, 0x1000 - len(file)))
+                            self.assertEqual(memory.region, package().Region.RAW_DATA)
+            if mapping != "AS_STORED":
+                self.assertEqual(found.memory_at(0x13FC, 8)[:3], (b"last", 4, 0))
+                self.assertEqual(found.sections[0].data(found)[:3], (file, 0x1000 - len(file), 0))
 
     def test_what_stands_at_an_address(self):
         for data, rva, size, text, wanted in CONTENTS:
             with self.subTest(data=data, rva=hex(rva), size=size):
-                pe = package().Pe(with_sections([(0x1000, 16, 16, 0x170)]) + data)
-                self.assertEqual((pe.text_at(rva), pe.bytes_at(rva, size)), (text, wanted))
+                found = image(with_sections([(0x1000, 16, 16, 0x170)]) + data)
+                self.assertEqual(None if refusal(found.text_at, rva) else found.text_at(rva), text)
+                self.assertEqual(found.memory_at(rva, size).whole(), wanted)

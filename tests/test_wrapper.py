@@ -1,117 +1,138 @@
-"""The script ./pe_list that users call, with a toolchain that answers what it is told."""
+"""The scripts ./pe_list and ./test that users call, with a toolchain that answers what it is told."""
 import os
 import shutil
+import sys
 
 from tests.programs import CRATES, PE_LIST, SAMPLES, TOP, Case, beside, build_pe_list, run
 
 SAMPLE = SAMPLES / "program_x64.exe"
 LISTING = beside(SAMPLE, "listing")
 RT = b"""#!/bin/sh
+echo "$*" >> "$HERE/called"
 case $1 in
-try)
-    cat > /dev/null; cat "$HERE/tried"; echo try >> "$HERE/called"
-    printf '%s' "$LINE" >&2; echo "run=ended status=${STATUS:-0} runners=1 proved=no" >&2 ;;
-lib) [ -z "$STOPPED" ] || kill -TERM 0; [ ! -e "$HERE/fails" ] ;;
-run) mkdir -p out && cp "$PROGRAM" out/pe_list && { [ -z "$EDITED" ] || echo > "$EDITED"; } ;;
+help) echo "ci [--anew]" ;;
+try) cat > /dev/null; cat "$HERE/tried"; printf '%s' "$RT_LINE" >&2; echo "run=ended status=${RT_STATUS:-0} runners=1 proved=no" >&2 ;;
+run) mkdir -p out && cp "$PROGRAM" out/pe_list ;;
+ci) ls crates/*/out >> "$HERE/called"; echo "${RT_COUNTS:-3 passed, 0 failed}" ;;
 esac
 """
+NOT_PROVED = "pe_list: not proved: ./pe_list --prove proves and builds the program\n"
 
 
-def setUpModule():
-    build_pe_list()
-
-
-class Wrapper(Case):
-    """In a copy of the repository without a program, in which `rt try` lists what stands in `tried`. Its STATUS and its LINE
-    on standard error are variables; with STOPPED the whole run is stopped as the first library is proved."""
+class Copy(Case):
+    """A copy of the repository in which nothing is built, and a toolchain that notes what it was called for."""
 
     def setUp(self):
         super().setUp()
         for it in ("samples", "bin", "temporary", *(f"crates/{crate.name}/src" for crate in CRATES.iterdir())):
             (self.folder / it).mkdir(parents=True)
-        for it in ("pe_list", "crates.txt", "HANDLES", "tools", "samples/program_x64.exe"):
+        for it in ("pe_list", "test", "crates.txt", "HANDLES", "tools", "samples/program_x64.exe"):
             (shutil.copytree if (TOP / it).is_dir() else shutil.copy)(TOP / it, self.folder / it)
         self.written("bin/rt", RT).chmod(0o755)
-        self.written("KIT-ID", b"a kit for this test\n")
         self.written("tried", LISTING)
         self.env = {**os.environ, "PATH": f"{self.folder}/bin:{os.environ['PATH']}", "TMPDIR": f"{self.folder}/temporary",
                     "HERE": str(self.folder), "PROGRAM": str(PE_LIST)}
-        self.env.pop("PE_LIST_PROVED", None)
 
-    def assert_calls(self, status, out, said, *words, stdin=SAMPLE, command=(), **more):
-        """A call of the script: its status, its output, and words of what it says. It leaves no temporary file."""
-        found = run([*command, self.folder / "pe_list", *words], stdin, env={**self.env, **more}, start_new_session=True)
-        self.assertEqual(found[:2], (status, out), found[2])
-        self.assertRegex(found[2].decode(), said)
+    def called(self):
+        """What the toolchain was called for since this was asked last."""
+        file = self.folder / "called"
+        said = file.read_text("utf-8").splitlines() if file.exists() else []
+        file.unlink(missing_ok=True)
+        return said
+
+
+class Lists(Copy):
+    @classmethod
+    def setUpClass(cls):
+        build_pe_list()
+
+    def assert_calls(self, status, out, said, *words, stdin=SAMPLE, **more):
+        """A call of the script: its status, its output, and what it says. It leaves no temporary file."""
+        self.assert_runs([self.folder / "pe_list", *words], (status, out, said.encode()), stdin, env={**self.env, **more})
         self.assertEqual(os.listdir(self.folder / "temporary"), [])
-
-    def assert_tried(self, times):
-        """How often it ran unproved."""
-        called = self.folder / "called"
-        self.assertEqual(called.read_text("ascii").count("try") if called.exists() else 0, times)
 
     def test_the_built_program(self):
         self.assert_runs([TOP / "pe_list"], (0, LISTING, b""), SAMPLE)
 
-    def test_it_lists_before_its_proof_and_says_so(self):
-        self.assert_calls(0, LISTING, "BEFORE ITS PROOF")
-        self.assert_calls(0, LISTING, "^$")
-        self.assert_tried(1)
+    def test_it_lists_unproved_and_says_so(self):
+        self.assert_calls(0, LISTING, NOT_PROVED)
+        self.assertEqual(self.called(), ["try --"])
 
-    def test_it_proves_again_where_a_source_has_changed(self):
-        """Whatever its date."""
-        self.assert_calls(0, LISTING, "BEFORE ITS PROOF")
-        for seconds in (1, 2 ** 32):
-            with self.subTest(seconds):
-                os.utime(self.written("crates/goblin_base/src/lib.rt", b"%d" % seconds), (seconds, seconds))
-                self.assert_calls(0, LISTING, "BEFORE ITS PROOF")
-                self.assert_calls(0, LISTING, "^$")
+    def test_it_proves_where_that_is_asked_for(self):
+        for words, said in ((["--prove"], ["run"]), (["--prove"], [])):
+            self.assert_calls(0, b"", "", *words)
+            self.assertEqual(self.called(), said)
+        self.assert_calls(0, LISTING, "")
+        self.assertEqual(self.called(), [])
 
-    def test_a_source_that_changes_during_the_proof(self):
-        self.assert_calls(0, LISTING, "a source has changed meanwhile", EDITED=str(self.folder / "crates/goblin_base/src/lib.rt"))
-        self.assert_calls(0, LISTING, "BEFORE ITS PROOF")
-        self.assert_calls(0, LISTING, "^$")
+    def test_a_source_that_is_newer(self):
+        self.assert_calls(0, b"", "", "--prove")
+        os.utime(self.written("crates/goblin_base/src/lib.rt", b""), (2 ** 32, 2 ** 32))
+        self.assert_calls(0, LISTING, NOT_PROVED)
+
+    def test_what_the_program_says(self):
+        self.written("tried", b"")
+        self.assert_calls(1, b"", "refused\n" + NOT_PROVED, stdin=TOP / "LICENSE", RT_STATUS="1", RT_LINE="refused\n")
+        self.assert_calls(2, b"", "usage: x\n" + NOT_PROVED, "x", RT_STATUS="2", RT_LINE="usage: x\n")
+
+    def test_no_answer(self):
+        self.written("tried", b"")
+        self.assert_calls(1, b"", "pe_list: no answer by the program as it is, unproved: run=ended status=none runners=1 proved=no. "
+                          "./pe_list --prove proves and builds it\n", RT_STATUS="none")
 
     def test_a_proof_that_fails(self):
-        self.written("fails", b"")
-        self.assert_calls(3, LISTING, "could not be built")
+        self.written("bin/rt", b"#!/bin/sh\nexit 1\n")
+        self.assert_calls(1, b"", "pe_list: the program is not proved\n", "--prove")
 
-    def test_a_file_that_is_refused(self):
-        self.written("tried", b"")
-        self.assert_calls(1, b"", "(?s)^refused\n.*the same answer", stdin=TOP / "LICENSE", STATUS="1", LINE="refused\n")
+    def test_without_a_toolchain(self):
+        (self.folder / "bin/rt").unlink()
+        for it in ("sh", "env", "dirname"):
+            (self.folder / "bin" / it).symlink_to(shutil.which(it))
+        (self.folder / "bin/python3").symlink_to(sys.executable)
+        said = "pe_list: there is no rt on the path: README.md says what is needed, under 'Get it'\n"
+        self.assert_calls(1, b"", said, PATH=f"{self.folder}/bin")
 
-    def test_a_line_that_is_another_once_it_is_proved(self):
-        self.written("tried", b"")
-        self.assert_calls(3, b"", "ANSWERS OTHERWISE", stdin=TOP / "LICENSE", STATUS="1", LINE="out of memory\n")
 
-    def test_a_wrong_use_is_answered_without_a_proof(self):
-        self.written("tried", b"")
-        self.assert_calls(2, b"", "^usage: x\n$", "x", STATUS="2", LINE="usage: x\n")
+class Gate(Copy):
+    """./test, with a Python that runs no tests."""
 
-    def test_an_answer_that_can_not_be_written(self):
-        self.assert_calls(1, b"", "(?sm)^write failed$.*the same answer", command=["sh", "-c", 'exec "$0" > /dev/full'])
-        self.assert_calls(0, LISTING, "^$")
+    def setUp(self):
+        super().setUp()
+        self.written("bin/python3", b'#!/bin/sh\necho "$*" >> "$HERE/called"\necho "2 passed, 0 failed"\n').chmod(0o755)
+        self.written("bin/cargo", b"").chmod(0o755)
+        for it in ("rlib/stamp", "incremental/proof", "pe_list"):
+            (self.folder / "crates/pe_list/out" / it).parent.mkdir(parents=True, exist_ok=True)
+            self.written("crates/pe_list/out/" + it, b"forged")
 
-    def test_a_run_that_is_stopped(self):
-        self.assert_calls(130, LISTING, "what is proved is kept", STOPPED="1")
-        self.assert_calls(0, LISTING, "BEFORE ITS PROOF")
+    def gate(self, *words, **more):
+        status, out, said = run([self.folder / "test", *words], env={**self.env, **more})
+        return status, (out + said).decode().splitlines()[-1], self.called()
 
-    def test_no_answer_before_the_proof(self):
-        self.written("tried", b"")
-        self.assert_calls(0, LISTING, "no answer before the proof", STATUS="unknown")
+    def test_what_was_built_before_is_removed(self):
+        """But for kept proofs, which the gate sets aside."""
+        self.assertEqual(self.gate(), (0, "7 passed, 0 failed", ["-m tests.unproved", "ci", "incremental", "-m tests"]))
+        self.assertEqual(self.gate("--anew")[2], ["-m tests.unproved", "help", "ci --anew", "incremental", "-m tests"])
 
-    def test_only_what_is_proved(self):
-        self.assert_calls(0, LISTING, r"crate (\d+) of \1,", PE_LIST_PROVED="only")
-        self.assert_tried(0)
+    def test_a_folder_that_is_a_link(self):
+        """The link goes, and what it leads to stays."""
+        shutil.move(self.folder / "crates/pe_list/out", self.folder / "other")
+        (self.folder / "crates/pe_list/out").symlink_to(self.folder / "other")
+        self.gate()
+        self.assertEqual((self.folder / "crates/pe_list/out").exists(), False)
+        self.assertTrue((self.folder / "other/rlib/stamp").exists())
 
-    def test_an_answer_that_is_another_once_it_is_proved(self):
-        self.written("tried", b"another\n")
-        self.assert_calls(3, b"another\n", "ANSWERS OTHERWISE")
+    def test_a_gate_that_fails(self):
+        self.assertEqual(self.gate(RT_COUNTS="3 passed, 1 failed")[:2], (1, "7 passed, 1 failed"))
 
-    def test_a_folder_as_input(self):
-        self.assert_calls(1, b"", "(?m)^read failed$", stdin=TOP)
-        self.assert_tried(0)
+    def test_the_quick_part_is_not_the_gate(self):
+        self.assertEqual(self.gate("--quick"), (0, "quick: 2 passed, 0 failed", ["-m tests.unproved"]))
+        self.assertTrue((self.folder / "crates/pe_list/out/rlib/stamp").exists())
 
-    def test_an_input_that_there_is_no_room_for(self):
-        self.assert_calls(3, b"", "can't be kept", command=["sh", "-c", 'ulimit -f 1; exec "$0"'])
-        self.assert_tried(0)
+    def test_a_part_that_would_be_skipped(self):
+        lacking = {"CC": "no-such-compiler"}
+        self.assertEqual(self.gate(**lacking), (1, "test: there is no no-such-compiler on the path: README.md says what is needed, under 'Get it'", []))
+        self.assertEqual(self.gate("--allow-missing", **lacking)[2][-1], "-m tests --allow-missing")
+        self.assertEqual(self.gate("--quick", **lacking)[0], 0)
+
+    def test_a_wrong_use(self):
+        self.assertEqual(self.gate("--fast"), (2, "usage: test [--quick] [--anew] [--allow-missing]", []))

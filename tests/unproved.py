@@ -49,9 +49,11 @@ def listings():
 
 def main():
     with_tests = sorted({CRATES / it.relative_to(CRATES).parts[0] for it in CRATES.glob("*/src/**/*.rt") if "#[test]" in it.read_text("utf-8")})
-    said, passed, failed, _ = tested("tests.test_constants")
-    print(said, flush=True)
-    failed += not with_tests
+    passed, failed = 0, int(not with_tests)
+    for module in ("tests.test_constants", "tests.test_generated"):
+        said, went_well, went_wrong, _ = tested(module)
+        print(said, flush=True)
+        passed, failed = passed + went_well, failed + went_wrong
     with concurrent.futures.ThreadPoolExecutor(len(os.sched_getaffinity(0))) as pool:
         for it in concurrent.futures.as_completed([pool.submit(listings), *[pool.submit(tests_of, crate) for crate in with_tests]]):
             name, went_well, went_wrong, said = it.result()

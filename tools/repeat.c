@@ -1,6 +1,5 @@
-/* Does the same so often: repeat open|imports|exports|each_import|each_export FILE TIMES opens an image and frees its
-   tables, or walks over its imports or its exports in batches of 64, or in batches of one. It prints how many imports
-   and exports one pass has. */
+/* Does the same so often: repeat read|imports|exports|each_import|each_export FILE TIMES reads an image and walks over
+   its sections, or walks over its imports or its exports, in batches of 64 or of one. It prints how many rows one pass has. */
 #include "goblin_pe.h"
 
 #include <stdio.h>
@@ -11,6 +10,7 @@ enum { BATCH = 64 };
 
 static uint8_t *bytes;
 static size_t length;
+static struct goblin_pe_image image;
 
 static bool read_file(const char *name)
 {
@@ -23,59 +23,42 @@ static bool read_file(const char *name)
     return bytes && fread(bytes, 1, length, from) == length;
 }
 
-static bool is_opened(size_t *imports, size_t *exports)
+static bool is_read(void)
 {
-    struct goblin_pe_file file;
-    struct goblin_pe_tables tables = { 0 };
-    if (goblin_pe_open(bytes, length, NULL, &file, &tables).status != GOBLIN_PE_STATUS_OK)
-        return false;
-    *imports = tables.import_count;
-    *exports = tables.export_count;
-    goblin_pe_free(&tables);
-    return true;
+    return goblin_pe_read_image(bytes, length, NULL, &image).status == GOBLIN_PE_STATUS_OK;
 }
 
-static bool are_imports_walked_over(size_t *imports, size_t room)
-{
-    struct goblin_pe_import_cursor position = { 0 };
-    struct goblin_pe_import records[BATCH];
-    struct goblin_pe_layout layout;
-    size_t count = 1;
-    if (goblin_pe_read_layout(bytes, length, NULL, &layout, NULL, 0).status != GOBLIN_PE_STATUS_OK)
-        return false;
-    for (*imports = 0; count; *imports += count)
-        if (goblin_pe_next_imports(bytes, length, NULL, &layout.places, &position, records, room, 0, &count).status !=
-            GOBLIN_PE_STATUS_OK)
-            return false;
-    return true;
-}
+/* A walk over a table: whether it comes to its end. */
+#define WALK(name, row, kind, next, ...) \
+    static bool name(size_t *count, size_t room) \
+    { \
+        struct kind cursor = { 0 }; \
+        struct row rows[BATCH]; \
+        struct goblin_pe_batch batch; \
+        struct goblin_pe_fault fault; \
+        *count = 0; \
+        do { \
+            fault = next(&image, &cursor, rows, room, __VA_ARGS__); \
+            *count += batch.count; \
+        } while (!batch.is_done); \
+        return fault.status == GOBLIN_PE_STATUS_OK; \
+    }
 
-static bool are_exports_walked_over(size_t *exports, size_t room)
-{
-    struct goblin_pe_export records[BATCH];
-    struct goblin_pe_layout layout;
-    size_t position = 0, count = 1;
-    if (goblin_pe_read_layout(bytes, length, NULL, &layout, NULL, 0).status != GOBLIN_PE_STATUS_OK)
-        return false;
-    for (*exports = 0; count; *exports += count)
-        if (goblin_pe_next_exports(bytes, length, NULL, &layout.places, &position, records, room, 0, &count).status !=
-            GOBLIN_PE_STATUS_OK)
-            return false;
-    return true;
-}
+WALK(walk_sections, goblin_pe_section, goblin_pe_section_cursor, goblin_pe_next_sections, &batch)
+WALK(walk_imports, goblin_pe_import, goblin_pe_import_cursor, goblin_pe_next_imports, NULL, &batch)
+WALK(walk_exports, goblin_pe_export, goblin_pe_export_cursor, goblin_pe_next_exports, NULL, &batch)
 
 int main(int argc, char **argv)
 {
-    size_t imports = 0, exports = 0;
+    size_t count = 0;
     if (argc != 4 || !read_file(argv[2]))
         return 2;
     const size_t room = strncmp(argv[1], "each_", 5) ? BATCH : 1;
     const bool of_imports = strstr(argv[1], "import"), of_exports = strstr(argv[1], "export");
     for (long times = strtol(argv[3], NULL, 10); times > 0; times--)
-        if (!(of_imports   ? are_imports_walked_over(&imports, room)
-              : of_exports ? are_exports_walked_over(&exports, room)
-                           : is_opened(&imports, &exports)))
+        if (!is_read() ||
+            !(of_imports ? walk_imports : of_exports ? walk_exports : walk_sections)(&count, room))
             return 1;
-    printf("%zu\n", imports + exports);
+    printf("%zu\n", count);
     return 0;
 }

@@ -4,14 +4,14 @@ ghost use Rattle.std.specs.Prelude.{◌≡◌, ◌<◌, OnOk, vec_capacity, vec_
 
 use std::alloc::AllocError;
 
-// For at least how many more items room is made in a list that has some, or of which none are
+// The least number of items for which a list gets room, if it has items already, or if none are
 // expected.
 const LEAST_MORE: usize = 32;
 
 /// Makes room for one more item, if the list has none.
 ///
-/// An empty list gets room for as many items as are expected. A list that has items, or of which
-/// none are expected, gets room for half as many more as it has, but at least for 32 more.
+/// An empty list gets room for as many items as are expected. If the list has items, or if none are
+/// expected, it gets room for half as many more as it has, but at least for 32 more.
 ///
 /// # Errors
 /// If memory is refused.

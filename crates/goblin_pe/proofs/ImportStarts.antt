@@ -137,6 +137,14 @@ wide-steps s t None given fault = (given, tt)
 wide-steps s t (Some (Ok x)) given fault = (given, tt)
 wide-steps s t (Some (Err e)) given fault = (given, fault.1)
 
+-- an error comes only in strict mode
+imports-strictly : (s : Imports ℕ) (r : Option (Result WalkedImport ErrorOf))
+    → IfSome r (λ r. IfErr r (IsWalkFault s.walk))
+    → IfSome r (λ r. IfErr r (λ e. reads_strictly (imports_map s) ≡ true))
+imports-strictly s None fault = tt
+imports-strictly s (Some (Ok x)) fault = tt
+imports-strictly s (Some (Err e)) fault = fault.0
+
 pub narrow_within : (s t : Imports ℕ) (r : Option (Result WalkedImport ErrorOf)) (old new : Option ℕ)
     → GivesImportWithin entries_32 s old r t new → GivesFileWithin (Narrow s) old r (Narrow t) new
 narrow_within s t r old new given =
@@ -150,6 +158,8 @@ narrow_within s t r old new given =
       spent = given.spent;
       looked = given.looked;
       ended = given.ended;
+      fewer = given.fewer;
+      strictly = imports-strictly s r given.fault;
     }
 
 pub wide_within : (s t : Imports ℕ) (r : Option (Result WalkedImport ErrorOf)) (old new : Option ℕ)
@@ -165,6 +175,8 @@ wide_within s t r old new given =
       spent = given.spent;
       looked = given.looked;
       ended = given.ended;
+      fewer = given.fewer;
+      strictly = imports-strictly s r given.fault;
     }
 
 -- ---- a walk at a cursor

@@ -6,6 +6,7 @@ use Rattle.goblin_base.specs.declared.permissive.ParseMode.TheVariants.{Permissi
 use Rattle.goblin_base.specs.Reading.{Reading}
 use Rattle.goblin_base.proofs.Steps.{mapped, step}
 use Rattle.readings.specs.Reads.{◌beside◌, in_its_place, pair_of}
+use Rattle.readings.specs.Reads as reads
 use Rattle.goblin_pe_sect.specs.declared.options.ParseOptions.{ParseOptions}
 use Rattle.goblin_pe_sect.specs.declared.options.View.{View}
 use Rattle.goblin_pe_sect.specs.Mapping.{file_offset}
@@ -20,11 +21,12 @@ use Rattle.goblin_pe_import.specs.declared.import.left_out.LeftOut.{LeftOut}
 use Rattle.goblin_pe.specs.declared.whole.damage.Damage.{Damage}
 use Rattle.goblin_pe.specs.Damages.{AreDamaged, IsDamage, IsDamaged, IsReadByBoth, IsSound, TellsDamage, left_out_of}
 use Rattle.goblin_pe.specs.Modes.{in_mode}
-use Rattle.goblin_pe.specs.Whole.{NumberedTables, TablePlaces, export_part, import_list}
+use Rattle.goblin_pe.specs.Whole.{by_layout, NumberedTables, TablePlaces, export_part, import_list}
 use Rattle.goblin_pe.specs.Whole.{layout, lists_of, mapped_in, numbered_data_part, addressing_by, places_in}
 use Rattle.goblin_pe.specs.Whole.{relocation_part, sections_after, table_parts, tables_with}
 use Rattle.goblin_pe.specs.Whole.{whole_in, whole_of, whole_with}
 use Rattle.goblin_pe.proofs.PermissiveReads.{repeats-table_parts, sections_repeat, tables_same}
+use Rattle.goblin_pe.proofs.Layouts.{tables-value}
 
 there : {A : Type 0} (reading : Reading A) (bytes : List ℕ) (damage : Option ErrorOf) → damage ≡ None → IsDamage reading bytes damage → IsSome (reading.value bytes)
 there reading bytes None is h = h
@@ -134,7 +136,7 @@ module _ (view : View) (opts : ParseOptions) (bytes : List ℕ) where
       let left_out = ap (λ (x : LeftOut). x.libraries) damaged.tables.left_out in
       alike l.0 l.1 _ refl parts (sym left_out ∙ sound.libraries) header sections
 
-  -- what a call tells of a file in which nothing is damaged, for a reader of header, sections and tables
+  -- both modes read a file alike in which nothing is damaged, for each reader of header, sections and tables
   module _ {A : Type 0} (read : ParseOptions → Reading A) (make : PeHeader → List Section → NumberedTables → A) (made : (o : ParseOptions) (h : PeHeader) (s : List Section) (t : NumberedTables) → IsRead view o bytes h s t → (read o).value bytes ≡ Some (make h s t)) where
     told : (o : Option (PeHeader × List Section)) (d : Damage) → (layout opts).value bytes ≡ o → IsSomeAnd o (λ l. IsDamaged view opts l.0 l.1 bytes d) → IsSound d → IsReadByBoth read opts bytes
     told None d is damaged sound = absurd damaged
@@ -151,3 +153,18 @@ module _ (view : View) (opts : ParseOptions) (bytes : List ℕ) where
   unfolding whole_in whole_with
   sound_whole result tells =
       sound_told (whole_in view) (λ h s t. whole_of h s (lists_of (places_in h.optional_header).magic t)) (λ o h s t read. rw (read.header, read.sections, read.tables) refl) result tells
+
+-- ---- what is made of the tables
+
+module _ {A : Type 0} (make : PeHeader → List Section → NumberedTables → A) (view : View) (opts : ParseOptions) (bytes : List ℕ) where
+  abbrev pub made_in : ParseOptions → Reading A
+  made_in o = by_layout o (λ h s. reads.mapped (make h s) (tables_with view o h s))
+
+  made : (o : ParseOptions) (h : PeHeader) (s : List Section) (t : NumberedTables) → IsRead view o bytes h s t → (made_in o).value bytes ≡ Some (make h s t)
+  made o h s t read =
+      tables-value o (λ h s. reads.mapped (make h s) (tables_with view o h s)) bytes h read.header s read.sections
+      ∙ ap (option_map (make h s)) read.tables
+
+  -- both modes make the same of a file without damage, of which no library is left out
+  pub sound_made : (l : PeHeader × List Section) (d : Damage) → (layout opts).value bytes ≡ Some l → IsDamaged view opts l.0 l.1 bytes d → IsSound d → IsReadByBoth made_in opts bytes
+  sound_made l d found damaged sound = told view opts bytes made_in make made (Some l) d found damaged sound

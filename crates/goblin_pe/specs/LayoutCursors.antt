@@ -1,5 +1,5 @@
 -- The imports of a file at a cursor.
-use Rattle.std.specs.Prelude.{◌≡◌, ℕ, Bool, List, Option, Some, None, Result, Ok, Err}
+use Rattle.std.specs.Prelude.{◌≡◌, ◌<◌, ℕ, Bool, true, List, Option, Some, None, Result, Ok, Err}
 use Rattle.std.specs.Prelude.{IfErr, IfSome, IsSomeAnd, MatchOption, length}
 use Rattle.goblin_base.specs.declared.error.ErrorOf.{ErrorOf}
 use Rattle.goblin_base.specs.Answers.{IsMemory}
@@ -9,7 +9,7 @@ use Rattle.readings.specs.Reads.{given, pick}
 use Rattle.goblin_pe_sect.specs.declared.data_directories.DataDirectory.{DataDirectory}
 use Rattle.goblin_pe_sect.specs.declared.options.ParseOptions.{ParseOptions}
 use Rattle.goblin_pe_sect.specs.Options.{is_strict}
-use Rattle.goblin_pe_sect.specs.Addresses.{MapOfAddresses}
+use Rattle.goblin_pe_sect.specs.Addresses.{MapOfAddresses, reads_strictly}
 use Rattle.goblin_pe_sect.specs.Addresses.{Addressing}
 use Rattle.goblin_pe_import.specs.ImportLookup.{entries_32, entries_64}
 use Rattle.goblin_pe_import.specs.ImportCursors.{first_import}
@@ -26,7 +26,7 @@ use Rattle.goblin_pe.specs.declared.whole.Part.TheVariants.{Absent, Refused}
 use Rattle.goblin_pe.specs.declared.whole.Part.TheVariants as part
 use Rattle.goblin_pe.specs.declared.whole.imports.FileImports.{FileImports}
 use Rattle.goblin_pe.specs.declared.whole.imports.FileImports.TheVariants.{Narrow, Wide}
-use Rattle.goblin_pe.specs.Layouts.{IsFileImportsCause, file_imports_left}
+use Rattle.goblin_pe.specs.Layouts.{IsFileImportsCause, file_imports_bound, file_imports_left}
 use Rattle.goblin_pe.specs.Whole.{TablePlaces, directory_at, entry_format}
 
 -- the imports still to come at a cursor, with this magic and this map of addresses
@@ -108,6 +108,8 @@ pub record GivesFileWithin (s : FileImports) (old : Option ℕ)
     pub looked : LooksAt (length (file_bytes s)) result old new (file_ahead s) (file_ahead t)
     pub ended : EndsWithin result (file_cursor t)
         (HaveRunOut (length (file_bytes s)) old new (file_ahead s) (file_ahead t))
+    pub fewer : IfSome result (λ r. file_imports_bound t < file_imports_bound s)
+    pub strictly : IfSome result (λ r. IfErr r (λ e. reads_strictly (file_map s) ≡ true))
 
 -- A call gives the walk at the cursor that `first` reads, or it is refused as `first` is.
 abbrev pub GivesFirst : MapOfAddresses → ℕ → List ℕ → Reading ImportCursor

@@ -6,7 +6,6 @@ pub mod Keys
 pub mod LayoutCursors
 pub mod Layouts
 pub mod Modes
-pub mod RefusedParts
 pub mod TableRuns
 pub mod TakenMemory
 pub mod TwinParts

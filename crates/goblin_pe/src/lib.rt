@@ -21,6 +21,6 @@ pub use goblin_pe_sect::{
 pub use goblin_pe_symbol::symbol;
 pub use image_checksum::{checksum, checksum_field, file_checksum};
 pub use whole::{
-    Damage, FileImports, Layout, Part, Places, RefusedPart, Whole, section_records_of,
-    section_table_offset, sections_of, size_of_headers,
+    Damage, FileImports, Layout, Part, Places, Whole, section_records_of, section_table_offset,
+    sections_of, size_of_headers,
 };

@@ -30,7 +30,6 @@ mod libraries;
 mod listed;
 mod places;
 mod reached;
-mod refused;
 
 pub use damage::Damage;
 pub use imports::FileImports;
@@ -38,7 +37,6 @@ pub use layout::{Layout, section_records_of, section_table_offset, sections_of};
 use listed::{ListedTables, export_parts};
 use places::file_alignment;
 pub use places::{Places, size_of_headers};
-pub use refused::RefusedPart;
 
 /// A table of a file, as [`Whole::read`] found it.
 #[derive(Debug, Drop)]

@@ -5,8 +5,8 @@ pub mod ImportCursors
 mod ImportFaults
 mod ImportSteps
 pub mod Imports
-mod ImportsValue
-mod ImportsWalk
+pub mod ImportsValue
+pub mod ImportsWalk
 pub mod LeftOutLibraries
 mod LibrariesWalk
 pub mod LibraryNames

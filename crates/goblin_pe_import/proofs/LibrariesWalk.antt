@@ -28,7 +28,7 @@ module _ (m : MapOfAddresses) (format : Format EntryValue) (bytes : List ℕ) (f
 
   module _ (p : ℕ) where
     abbrev library : ImportDirectoryEntry → LibraryValue
-    library r = library_at (reads_strictly m) format m.addressing bytes first p r
+    library r = library_at format m.addressing bytes first p r
 
     abbrev items : ImportDirectoryEntry → List (Option LibraryValue)
     items r = Some (library r) ∷ []
@@ -38,7 +38,7 @@ module _ (m : MapOfAddresses) (format : Format EntryValue) (bytes : List ℕ) (f
     unfolding libraries_next libraries_from_record
     by_record entry r =
         walk-slot import_slots
-        (λ p r. Some (library_at (reads_strictly m) format m.addressing bytes first p r) ∷ []) bytes
+        (λ p r. Some (library_at format m.addressing bytes first p r) ∷ []) bytes
         (reads_strictly m) (lit≤ tt) p entry r
 
     -- at most the last of them is a refusal
@@ -120,7 +120,7 @@ module _ (s t : Libraries) (p : ℕ) (is : s.at.next_record ≡ Some p) where
   pub given-left : (v : ImportDirectoryEntry) (x : WalkedLibrary)
       → reads import_slots (libraries_bytes s) p ≡ Some v → is_last_record v ≡ false
       → library_value x
-      ≡ library_at (reads_strictly (libraries_map s)) (libraries_format s) (libraries_map s).addressing
+      ≡ library_at (libraries_format s) (libraries_map s).addressing
       (libraries_bytes s) s.at.first_record p v
       → t ≡ record s { at = at_record s.at.first_record (p + 20) }
       → GivesNext library_value libraries_left IsLibrariesCause s (Some (Ok x)) t

@@ -1,5 +1,5 @@
 -- The walk over the libraries of an import directory: what is still to come.
-use Rattle.std.specs.Prelude.{◌≡◌, ℕ, Bool, true, false, if◌then◌else◌, List, [], ◌∷◌, Option}
+use Rattle.std.specs.Prelude.{◌≡◌, ℕ, Bool, true, ◌&&◌, not, if◌then◌else◌, List, [], ◌∷◌, Option}
 use Rattle.std.specs.Prelude.{Some, None, unwrap_or, Result, Err, IfErr, IfOk, IfSome, MatchOption}
 use Rattle.std.specs.Prelude.{◌+◌, ◌==◌}
 use Rattle.std.specs.Option.{ok_or}
@@ -15,8 +15,8 @@ use Rattle.readings.specs.Walks.{GivesNext, table_walk}
 use Rattle.goblin_pe_sect.specs.Addresses.{Addressing, MapOfAddresses, map_of, reads_strictly}
 use Rattle.goblin_pe_import.specs.ImportEntries.{EntryValue, entries_32, entries_64}
 use Rattle.goblin_pe_import.specs.ImportReadings.{import_record_at}
-use Rattle.goblin_pe_import.specs.ImportRecords.{import_slots, lookup_offset}
-use Rattle.goblin_pe_import.specs.ImportWalks.{entries_from, no_imports, record_index, records_left}
+use Rattle.goblin_pe_import.specs.ImportRecords.{address_table_rva, import_slots, lookup_offset}
+use Rattle.goblin_pe_import.specs.ImportWalks.{no_imports, record_index, records_left}
 use Rattle.goblin_pe_import.specs.LeftOut.{is_library_left_out}
 use Rattle.goblin_pe_import.specs.declared.import.directory_entry.ImportDirectoryEntry.{ImportDirectoryEntry}
 use Rattle.goblin_pe_import.specs.declared.import.imports.ImportCursor.{ImportCursor}
@@ -36,45 +36,29 @@ abbrev pub name_or_cause : Addressing → List ℕ → ℕ → Result (List ℕ)
 name_or_cause addressing bytes rva =
     text_or_cause addressing.longest bytes rva (addressing.offset rva)
 
--- whether an item comes first, not a refusal
-abbrev pub has_first : {A : Type 0} → List (Option A) → Bool
-has_first [] = false
-has_first (None ∷ items) = false
-has_first (Some x ∷ items) = true
-
--- whether an entry comes first in the lookup table of a descriptor, not its end or a refusal
-abbrev pub has_imports : Bool → Format EntryValue → Addressing → List ℕ → ImportDirectoryEntry
-    → Bool
-has_imports strict format addressing bytes r =
-    let table = lookup_offset addressing r in
-    has_first (entries_from strict format addressing bytes (unwrap_or table 0) table)
-
 -- the cursor before the descriptor at p, in a directory whose first one is at `first`
 abbrev pub at_record : ℕ → ℕ → ImportCursor
 at_record first p = record no_imports { first_record = first; next_record = Some p }
 
 -- A library: the index and the offset of its import descriptor, and the descriptor itself; its
--- name; whether permissive mode leaves it out of the imports; whether it has imports; and the
--- cursor before these.
+-- name; whether permissive mode leaves it out of the imports; and the cursor before these.
 pub record LibraryValue : Type 0 where
   pub index : ℕ
   pub offset : ℕ
   pub entry : ImportDirectoryEntry
   pub name : Result (List ℕ) ErrorOf
   pub is_left_out : Bool
-  pub has_imports : Bool
   pub cursor : ImportCursor
 
 -- the library of the descriptor at p, in a directory whose first one is at `first`
-abbrev pub library_at : Bool → Format EntryValue → Addressing → List ℕ → ℕ → ℕ
-    → ImportDirectoryEntry → LibraryValue
-library_at strict format addressing bytes first p r = record {
+abbrev pub library_at : Format EntryValue → Addressing → List ℕ → ℕ → ℕ → ImportDirectoryEntry
+    → LibraryValue
+library_at format addressing bytes first p r = record {
   index = record_index first p;
   offset = p;
   entry = r;
   name = name_or_cause addressing bytes r.name_rva;
   is_left_out = is_library_left_out (first == 0) format addressing bytes r;
-  has_imports = has_imports strict format addressing bytes r;
   cursor = at_record first p;
 }
 
@@ -86,9 +70,22 @@ library_value x = record {
   entry = x.import_directory_entry;
   name = result_map_both (λ s. s.now) (λ e. e) x.name;
   is_left_out = x.is_left_out;
-  has_imports = x.has_imports;
   cursor = x.cursor;
 }
+
+-- The cursor in a library, from which its imports come, and nothing else. Permissive mode gives none
+-- of a library without an address table.
+abbrev pub inside_library : Bool → Addressing → LibraryValue → ImportCursor
+inside_library strict addressing x =
+    if x.is_left_out && not strict then no_imports
+    else record no_imports {
+      library = x.index;
+      name_rva = x.entry.name_rva;
+      rva = x.entry.import_address_table_rva;
+      table_offset = unwrap_or (lookup_offset addressing x.entry) 0;
+      place = lookup_offset addressing x.entry;
+      untested = Some (address_table_rva x.entry);
+    }
 
 -- ---- all libraries
 
@@ -98,7 +95,7 @@ unfoldable pub libraries_from_record : Bool → Format EntryValue → Addressing
     → List (Option LibraryValue)
 libraries_from_record strict format addressing bytes first p =
     table_walk import_slots strict
-    (λ p r. Some (library_at strict format addressing bytes first p r) ∷ []) bytes p
+    (λ p r. Some (library_at format addressing bytes first p r) ∷ []) bytes p
 
 -- the libraries from the next descriptor on, if there is one
 unfoldable pub libraries_next : Bool → Format EntryValue → Addressing → List ℕ → ℕ → Option ℕ

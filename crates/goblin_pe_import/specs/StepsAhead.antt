@@ -1,6 +1,6 @@
 -- What a walk over imports looks at, in steps: slots and import descriptors, whether or not they
 -- give something.
-use Rattle.std.specs.Prelude.{◌≡◌, ◌⊎◌, ◌≤◌, ℕ, ◌+◌, ◌-◌, Bool, if◌then◌else◌, List, length, ⊤}
+use Rattle.std.specs.Prelude.{◌≡◌, ◌⊎◌, ◌<◌, ◌≤◌, ℕ, ◌+◌, ◌-◌, Bool, if◌then◌else◌, List, length, ⊤}
 use Rattle.std.specs.Prelude.{Option, Some, None, option_map, Result, Ok, Err, IfErr, IfSome}
 use Rattle.goblin_base.specs.declared.error.ErrorOf.{ErrorOf}
 use Rattle.goblin_base.specs.Tables.{Format, stop}
@@ -12,7 +12,7 @@ use Rattle.goblin_pe_import.specs.ImportRecords.{address_table_rva, import_slots
 use Rattle.goblin_pe_import.specs.ImportWalks.{is_skipped, no_imports, walked_value}
 use Rattle.goblin_pe_import.specs.ImportWalks.{HasName, IsImportsCause, IsWalkFault}
 use Rattle.goblin_pe_import.specs.ImportWalks.{AreImportsOver, cursor_of, imports_bytes}
-use Rattle.goblin_pe_import.specs.ImportWalks.{imports_left, imports_map}
+use Rattle.goblin_pe_import.specs.ImportWalks.{imports_bound, imports_left, imports_map}
 use Rattle.goblin_pe_import.specs.LeftOut.{amount_of, sum_of_slots}
 use Rattle.goblin_pe_import.specs.declared.import.directory_entry.ImportDirectoryEntry.{ImportDirectoryEntry}
 use Rattle.goblin_pe_import.specs.declared.import.imports.ImportCursor.{ImportCursor}
@@ -155,3 +155,4 @@ pub record GivesImportWithin {T : Type 0} (format : Format EntryValue) (s : Impo
   pub ended : EndsWithin result (cursor_of t)
       (HaveRunOut (length (imports_bytes s)) old new (imports_ahead format s)
       (imports_ahead format t))
+  pub fewer : IfSome result (λ r. imports_bound t < imports_bound s)

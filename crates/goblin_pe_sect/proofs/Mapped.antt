@@ -47,10 +47,6 @@ not_in_window alignment rva s fails holds = grind (arith, nat_tests)
 pub found_in_window : (alignment rva : ℕ) (sections : List Section) (s : Section) → find (is_in_window alignment rva) sections ≡ Some s → InWindow alignment rva s
 found_in_window alignment rva sections s e = in_window alignment rva s (found_passes (is_in_window alignment rva) sections s e)
 
--- so does what the first such record says
-pub found_record : {A : Type 0} (view : A → Section) (alignment rva : ℕ) (records : List A) (r : A) → find (λ x. is_in_window alignment rva (view x)) records ≡ Some r → InWindow alignment rva (view r)
-found_record view alignment rva records r e = in_window alignment rva (view r) (found_passes (λ x. is_in_window alignment rva (view x)) records r e)
-
 said_by : (opts : ParseOptions) (sections : List Section) (alignment rva : ℕ) (found : Option Section) → find (is_in_window alignment rva) sections ≡ found → MatchOption (option_map (λ s. offset_in opts s rva) found) (MapsNowhere sections alignment rva) (MapsTo opts sections alignment rva)
 said_by opts sections alignment rva None e = λ k s at. not_in_window alignment rva s (none_passes (is_in_window alignment rva) sections e k s at)
 said_by opts sections alignment rva (Some s) e =

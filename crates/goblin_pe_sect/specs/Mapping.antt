@@ -1,7 +1,7 @@
 -- The map from addresses in memory to file offsets.
 use Rattle.std.specs.Prelude.{IsTrue, ℕ, ◌+◌, ◌-◌, ◌==◌, ◌≡◌, ◌<◌, ◌≤◌, min, Bool, ◌&&◌, nat_le}
 use Rattle.std.specs.Prelude.{false, nat_lt, if◌then◌else◌, List, Option, Some, None, find}
-use Rattle.std.specs.Prelude.{position, slice_get, option_map, option_and_then}
+use Rattle.std.specs.Prelude.{slice_get, option_map, option_and_then}
 use Rattle.std.specs.Int.{is_power_of_two}
 use Rattle.goblin_base.specs.declared.error.CauseOf.TheVariants.{Message}
 use Rattle.goblin_base.specs.declared.error.ErrorOf.{ErrorOf}
@@ -79,11 +79,6 @@ file_offset opts sections alignment rva =
 abbrev pub section_at : ℕ → ℕ → List Section → Option Section
 section_at alignment rva sections =
     if is_power_of_two alignment then find (is_in_window alignment rva) sections else None
-
--- the index of the first section whose window holds the address
-abbrev pub section_index : ℕ → ℕ → List Section → Option ℕ
-section_index alignment rva sections =
-    if is_power_of_two alignment then position (is_in_window alignment rva) sections else None
 
 -- ---- the address of a file offset
 

@@ -27,7 +27,7 @@ mod walk;
 pub use finder::Finder;
 pub use records::{MappedRecords, front_section};
 use run::Run;
-use walk::find_in_records;
+use walk::{find_by_sections, find_in_records};
 
 /// The largest number of sections that are walked over for each address. For more sections an index
 /// is made, which takes memory. The specification says that the Windows loader limits the number of
@@ -94,6 +94,26 @@ fn listed<'e>(alloc: Global, records: MappedRecords) -> ResultOf<'e, Vec<Section
         sections.push(records.at(i))?;
     }
     Ok(sections)
+}
+
+/// The file offset of the address `rva`, by these sections and, if it is mapped, the file's front
+/// after them: that of the first section whose window holds it. The call takes no memory.
+pub fn offset_by_records(
+    records: MappedRecords,
+    file_alignment: u32,
+    opts: &ParseOptions,
+    rva: u32,
+) -> Option<usize>
+    ensures { result
+        ≡ file_offset opts.now (mapped_sections records.entry) file_alignment rva }
+{
+    find_by_sections(
+        records,
+        file_alignment,
+        opts,
+        rva as usize,
+        &mut Run::default(),
+    )
 }
 
 impl<'s> Windows<'s> {

@@ -29,8 +29,6 @@ const _: () = prove!(SIZEOF_DATA_DIRECTORY == 8);
 /// How many entries the table of data directories has.
 pub const NUM_DATA_DIRECTORIES: usize = 16;
 
-const _: () = prove!(NUM_DATA_DIRECTORIES == 16);
-
 // The kinds of data directories, each at its index.
 const KINDS: [DataDirectoryType; 15] = [
     DataDirectoryType::ExportTable,

@@ -1,13 +1,12 @@
 //! The sections of a PE file, its data directories and relocations, the mapping of addresses to
 //! file offsets, and tables of entries. `goblin_pe` re-exports the modules of this crate, except
-//! `footprint` and `mapping`.
+//! `footprint`.
 #![tactic(auto)]
 
 pub mod address_map;
 pub mod data_directories;
 mod digits;
 pub mod footprint;
-pub mod mapping;
 pub mod options;
 pub mod relocation;
 pub mod section_table;

@@ -2,7 +2,8 @@
 //!
 //! Addresses are relative to the image's base (RVAs); offsets are file offsets. Both are in bytes.
 
-ghost use Rattle.std.specs.Prelude.{◌≡◌, ◌+◌, ◌^◌, ◌<◌, ◌≤◌, ◌↔◌, ℕ, IsTrue, MatchOption};
+ghost use Rattle.std.specs.Prelude.{◌≡◌, ◌+◌, ◌^◌, ◌<◌, ◌≤◌, ◌↔◌, ℕ, IfSome, IsTrue};
+ghost use Rattle.std.specs.Prelude.{find, MatchOption};
 ghost use Rattle.std.specs.Int.{is_power_of_two};
 ghost use Rattle.std.specs.Option.{option_copied, option_map};
 ghost use Rattle.goblin_base.specs.Answers.{Answers};
@@ -11,13 +12,13 @@ ghost use Rattle.readings.specs.Reads.{text_within};
 ghost use Rattle.goblin_pe_sect.specs.Addresses.{Addressing, with_whole_names};
 ghost use Rattle.goblin_pe_sect.specs.AddressReadings.{data_at, name_or_none, text_at_address};
 ghost use Rattle.goblin_pe_sect.specs.Mapping.{read_size, window_end, window_of, raw_begin};
-ghost use Rattle.goblin_pe_sect.specs.Mapping.{file_offset, MapsTo, section_at};
+ghost use Rattle.goblin_pe_sect.specs.Mapping.{file_offset, InWindow, is_in_window, MapsTo};
+ghost use Rattle.goblin_pe_sect.specs.Mapping.{offset_in, section_at};
 ghost use Rattle.goblin_pe_sect.specs.Mapping.{MapsNowhere, OffsetsApart, IsMessage};
 ghost use Rattle.goblin_pe_sect.specs.Multiples.{greatest_multiple, least_multiple};
 ghost use Rattle.goblin_pe_sect.specs.Options.{is_strict, default_options};
 
 use crate::data_directories::DataDirectory;
-use crate::mapping::{self, file_offset};
 use crate::options::{ParseOptions, RawPointerRule};
 use crate::section_table::SectionTable;
 use goblin_base::{
@@ -124,18 +125,49 @@ pub fn window(section: &SectionTable, file_alignment: u32) -> Option<(usize, usi
     }
 }
 
+// Whether the section's window holds the address.
+#[tactic(auto, unfolding(crate::specs::Mapping::read_size))]
+fn is_in_window(rva: usize, section: &SectionTable, file_alignment: u32) -> bool
+    requires { 0 < file_alignment }
+    ensures { result ≡ is_in_window file_alignment rva section.now }
+{
+    let (begin, end) = section_window(section, file_alignment);
+    is_in_range(rva, begin, end)
+}
+
+// The first section whose window holds the address.
+#[tactic(auto, using(crate::proofs::Mapped::found_in_window))]
+fn first_in_window(
+    rva: usize,
+    sections: &[SectionTable],
+    file_alignment: u32,
+) -> Option<&SectionTable>
+    requires { 0 < file_alignment }
+    ensures value { option_copied result ≡ find (is_in_window file_alignment rva) sections.now }
+    ensures holds { IfSome result (λ s. InWindow file_alignment rva s.now) }
+{
+    sections
+        .iter()
+        .find(|section| is_in_window(rva, section, file_alignment))
+}
+
 /// The section in which an address lies: the first whose window holds it. [`find_offset`] maps the
 /// address by this section. `None` if no window holds the address, or `file_alignment` is not a
 /// power of two.
-#[tactic(auto, using(crate::proofs::First::as_given, crate::proofs::First::found_as_given))]
+#[tactic(auto, using(crate::proofs::Mapped::power_positive))]
 pub fn section_at(
     rva: usize,
     sections: &[SectionTable],
     file_alignment: u32,
 ) -> Option<&SectionTable>
-    ensures { option_copied result ≡ section_at file_alignment rva sections.now }
+    ensures value { option_copied result ≡ section_at file_alignment rva sections.now }
+    ensures holds { IfSome result (λ s. InWindow file_alignment rva s.now) }
 {
-    mapping::section_at(rva, sections, file_alignment)
+    if file_alignment.is_power_of_two() {
+        first_in_window(rva, sections, file_alignment)
+    } else {
+        None
+    }
 }
 
 /// The file offset at which the section's raw data begins when addresses are mapped. It is the raw
@@ -152,6 +184,35 @@ pub fn raw_begin(section: &SectionTable, opts: &ParseOptions) -> u32
     }
 }
 
+// The file offset of an address in the section's window.
+#[tactic(auto, using(crate::proofs::Mapped::read_size_le))]
+fn offset_in(rva: usize, section: &SectionTable, file_alignment: u32, opts: &ParseOptions) -> usize
+    requires { InWindow file_alignment rva section.now }
+    ensures { result ≡ offset_in opts.now section.now rva }
+{
+    let distance = rva - section.virtual_address as usize;
+    let raw_size = section.size_of_raw_data as usize;
+    prove!(distance < raw_size + 4096);
+    raw_begin(section, opts) as usize + distance
+}
+
+// The file offset of an address, by the first section whose window holds it.
+#[tactic(auto, unfolding(crate::specs::Mapping::file_offset))]
+fn offset_by(
+    rva: usize,
+    sections: &[SectionTable],
+    file_alignment: u32,
+    opts: &ParseOptions,
+) -> Option<usize>
+    ensures { result ≡ file_offset opts.now sections.now file_alignment rva }
+{
+    if !opts.resolve_rva {
+        return Some(rva);
+    }
+    let section = section_at(rva, sections, file_alignment)?;
+    Some(offset_in(rva, section, file_alignment, opts))
+}
+
 /// The file offset of the address `rva`, by the first section, in the order of the table, whose
 /// window holds the address. If windows overlap, the first hides the others.
 ///
@@ -164,7 +225,7 @@ pub fn raw_begin(section: &SectionTable, opts: &ParseOptions) -> u32
 ///
 /// Source: none, as for [`window`]; [`RawPointerRule`] says for which images each rule for raw
 /// pointers is right.
-#[tactic(auto, using(crate::proofs::Mapped::file_offset_first, crate::proofs::First::as_given))]
+#[tactic(auto, using(crate::proofs::Mapped::file_offset_first))]
 pub fn find_offset(
     rva: usize,
     sections: &[SectionTable],
@@ -177,7 +238,7 @@ pub fn find_offset(
         (MapsTo opts.now sections.now file_alignment rva) }
     ensures apart { OffsetsApart opts.now sections.now file_alignment }
 {
-    file_offset(rva, sections, None, file_alignment, opts)
+    offset_by(rva, sections, file_alignment, opts)
 }
 
 /// The file offset of the address `rva`, as [`find_offset`] returns it.

@@ -94,19 +94,23 @@ fn name_damage(bytes: &[u8], header: &Header) -> Option<Error>
     section_records_of(bytes, header, &ParseOptions::default()).err()
 }
 
-// Why strict mode refuses the imports, the exports and the base relocations, and how much is left
-// out of the imports.
-fn table_damage(layout: Layout) -> (Option<Error>, Option<Error>, Option<Error>, LeftOut)
-    ensures { let m = layout_map layout.entry in
-        AreDamaged m.opts m.addressing (layout_places layout.entry) (layout_bytes layout.entry)
-        result.0 result.1 result.2 result.3 }
-{
-    let left_out = layout.left_out();
-    let layout = layout.strictly();
-    let imports = import_damage(&layout);
-    let exports = layout.exports().err();
-    let relocations = layout.relocations().err();
-    (imports, exports, relocations, left_out)
+impl Layout<'_> {
+    /// Reports why strict mode refuses the imports, the exports and the base relocations, in this
+    /// order, each if it does, and how much is left out of the imports.
+    ///
+    /// Each import is looked at, and a file can list very many.
+    pub fn damage(self) -> (Option<Error>, Option<Error>, Option<Error>, LeftOut)
+        ensures { let m = layout_map self.entry in
+            AreDamaged m.opts m.addressing (layout_places self.entry) (layout_bytes self.entry)
+            result.0 result.1 result.2 result.3 }
+    {
+        let left_out = self.left_out();
+        let layout = self.strictly();
+        let imports = import_damage(&layout);
+        let exports = layout.exports().err();
+        let relocations = layout.relocations().err();
+        (imports, exports, relocations, left_out)
+    }
 }
 
 // What strict mode refuses in a file whose header and sections these options read, in a view.
@@ -121,7 +125,7 @@ fn file_damage(alloc: Global, bytes: &[u8], view: View, opts: &ParseOptions) -> 
     let header = Header::parse_with_opts(bytes, opts)?;
     let layout = Layout::in_view(alloc, bytes, &header, view, opts)?;
     let left_out_exports = layout.left_out_exports();
-    let (imports, exports, relocations, left_out) = table_damage(layout);
+    let (imports, exports, relocations, left_out) = layout.damage();
     Ok(Damage {
         dos_stub: DosStub::parse(bytes, header.dos_header.pe_pointer).err(),
         section_names: name_damage(bytes, &header),

@@ -196,6 +196,8 @@ impl<'a> Layout<'a> {
         ensures over { let alignment = (places_in header.now.optional_header).file_alignment in
             let loaded = record opts.now { raw_pointer_rule = rule_by_alignment alignment } in
             IfOk result (IsLayoutOf Loader loaded bytes.now header.now) }
+        ensures first { let count = header.now.coff_header.number_of_sections in
+            length bytes.now / 40 < count → IsErrAnd result (IsTooManySections count bytes.now) }
         ensures grown { IfErr result
             (λ e. IsMemory e → TakesIndex (header_value header.now)) }
     {
@@ -410,14 +412,10 @@ impl<'a> Layout<'a> {
         self.exports_by(self.finder())
     }
 
-    /// The exports, as [`Layout::exports`], with a finder of this layout. An address that the
-    /// finder has at hand takes no search.
-    ///
-    /// # Errors
-    /// As [`Layout::exports`].
+    // The exports, with a finder of this layout.
     #[inline(always)]
     #[tactic(auto, unfolding(crate::specs::Whole::export_part))]
-    pub fn exports_by<'m>(&self, finder: Finder<'m>) -> Result<Part<Exports<'a, 'm>>>
+    fn exports_by<'m>(&self, finder: Finder<'m>) -> Result<Part<Exports<'a, 'm>>>
         requires { map_of finder ≡ layout_map self.now }
         ensures value { Reads (part_map walked_exports) result
             (layout_table export_part self.now) (layout_bytes self.now) }

@@ -1,6 +1,6 @@
 //! The entries of an export directory's tables, in memory or as bytes of the file.
 
-ghost use Rattle.std.specs.Prelude.{◌≡◌, ◌<◌, ◌*◌, IfSome, List, Some, length};
+ghost use Rattle.std.specs.Prelude.{◌≡◌, ◌<◌, ◌*◌, ◌^◌, IfSome, List, Some, length};
 ghost use Rattle.std.specs.Prelude.{option_map, slice_get};
 ghost use Rattle.goblin_base.specs.Answers.{GivesOrMemory};
 ghost use Rattle.goblin_base.specs.Bytes.{slice_at};
@@ -211,7 +211,8 @@ impl<'a> TablesInFile<'a> {
     // How many addresses there are.
     #[tactic(auto, using(crate::proofs::WholeEntries::entry_count))]
     pub(super) fn address_count(&self) -> usize
-        ensures { result ≡ length (tables_in self.now).export_address_table }
+        ensures value { result ≡ length (tables_in self.now).export_address_table }
+        ensures few { result < 2 ^ 61 }
     {
         self.addresses.len() / SIZEOF_EXPORT_ADDRESS_TABLE_ENTRY
     }

@@ -1,6 +1,6 @@
 //! A walk over the exports of an image.
 
-ghost use Rattle.std.specs.Prelude.{◌≡◌, ◌≤◌, ◌+◌, IfOk, IfSome, MatchOption, None, Some, length};
+ghost use Rattle.std.specs.Prelude.{◌≡◌, ◌≤◌, ◌<◌, ◌^◌, ◌+◌, IfOk, IfSome, MatchOption, None, Some, length};
 ghost use Rattle.std.specs.Prelude.{option_map, slice_get};
 ghost use Rattle.std.specs.Iterator.{UpTo, at_most};
 ghost use Rattle.std.specs.Iterator.SizeHint.{IsWithinCount};
@@ -189,7 +189,8 @@ impl<'a, 'm> Exports<'a, 'm> {
 
     /// How many whole entries of the export address table the file has.
     pub fn address_count(&self) -> usize
-        ensures { result ≡ length (walked_tables self.now).export_address_table }
+        ensures value { result ≡ length (walked_tables self.now).export_address_table }
+        ensures few { result < 2 ^ 61 }
     {
         self.tables.address_count()
     }

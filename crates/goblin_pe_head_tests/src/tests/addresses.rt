@@ -1,8 +1,8 @@
 //! The windows of sections, and the pieces of an index of them.
 
 use fixture::sample::{ALIGNMENT, section};
-use goblin_pe_sect::utils::window;
-use goblin_pe_sect::{ParseOptions, SectionTable, WindowIndex};
+use goblin_pe_sect::utils::{find_offset, window};
+use goblin_pe_sect::{ParseOptions, RawPointerRule, SectionTable, WindowIndex};
 use std::alloc::Global;
 
 /// A section by its address, its size in memory, and its data's size and offset in the file.
@@ -33,6 +33,24 @@ fn a_window_is_as_long_as_its_read_size(rt: HostRuntime) {
     assert!(rt; window_of(UNALIGNED, 0x200) == Some((0x1000, 0x1200)));
     assert!(rt; window_of(WITHOUT_DATA, 0x200) == Some((0x1F_B000, 0x1F_B000)));
     assert!(rt; window_of(UNALIGNED, 0x300) == None);
+}
+
+/// The offset of an address in [`UNALIGNED`], if raw pointers are rounded down to 512.
+fn rounded(rva: usize, alignment: u32) -> Option<usize> {
+    let opts = ParseOptions {
+        raw_pointer_rule: RawPointerRule::RoundedTo512,
+        ..ParseOptions::default()
+    };
+    let sections = [section_of(UNALIGNED)];
+    find_offset(rva, &sections, alignment, &opts)
+}
+
+#[test]
+fn raw_pointers_are_rounded_to_512_at_any_alignment(rt: HostRuntime) {
+    assert!(rt; rounded(0x1000, 0x100) == Some(0x200));
+    assert!(rt; rounded(0x1000, 0x200) == Some(0x200));
+    assert!(rt; rounded(0x11FF, 0x200) == Some(0x3FF));
+    assert!(rt; rounded(0x1200, 0x200) == None);
 }
 
 /// How many pieces an index has, an offset, and the most probes to find it.

@@ -54,6 +54,17 @@ fn names_are_read_and_a_stored_number_below_4_is_none(rt: HostRuntime) {
     assert!(rt; are_names_by(rt.alloc()));
 }
 
+/// Whether one text that is not UTF-8 has the whole string table refused.
+fn is_refused_whole(alloc: Global) -> bool {
+    let strings = Strtab::parse(alloc, b"text\0\xFF\0", 0, 7, 0);
+    matches!(&strings, Err(Error::Read(_)))
+}
+
+#[test]
+fn a_string_table_with_a_text_that_is_not_utf_8_is_refused_whole(rt: HostRuntime) {
+    assert!(rt; is_refused_whole(rt.alloc()));
+}
+
 /// The name that stands in the first record of a file, whose table is gone when it is read.
 fn first_name(file: &[u8]) -> Option<&str> {
     let mut symbols = SymbolTable::parse(file, 0, 1).ok()?.iter();

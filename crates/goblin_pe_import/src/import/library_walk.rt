@@ -11,22 +11,20 @@ ghost use Rattle.goblin_pe_sect.specs.Addresses.{MapOfAddresses, map_of};
 ghost use Rattle.goblin_pe_sect.specs.Addresses.{reads_strictly};
 ghost use Rattle.goblin_pe_import.specs.ImportEntries.{EntryValue};
 ghost use Rattle.goblin_pe_import.specs.ImportWalks.{cursor_left, imports_from_record};
-ghost use Rattle.goblin_pe_import.specs.LeftOut.{leads_to_none};
 ghost use Rattle.goblin_pe_import.specs.Libraries.{AreAtEnd, AreLibrariesAt, AreLibrariesOver};
 ghost use Rattle.goblin_pe_import.specs.Libraries.{GivesNextLibrary, IsLibrariesCause, at_record};
 ghost use Rattle.goblin_pe_import.specs.Libraries.{after_library};
-ghost use Rattle.goblin_pe_import.specs.Libraries.{cursor_libraries, entries_by, has_imports};
+ghost use Rattle.goblin_pe_import.specs.Libraries.{cursor_libraries, entries_by};
+ghost use Rattle.goblin_pe_import.specs.Libraries.{inside_library};
 ghost use Rattle.goblin_pe_import.specs.Libraries.{libraries_bound, libraries_bytes};
 ghost use Rattle.goblin_pe_import.specs.Libraries.{libraries_cursor, libraries_format};
 ghost use Rattle.goblin_pe_import.specs.Libraries.{libraries_left, libraries_map, library_at};
 ghost use Rattle.goblin_pe_import.specs.Libraries.{library_value, name_or_cause};
 
-use crate::import::bitfield::Bitfield;
 use crate::import::directory_entry::{ImportDirectoryEntry, SIZEOF_IMPORT_DIRECTORY_ENTRY};
 use crate::import::imports::{ImportCursor, record_index};
-use crate::import::kept::next_kept;
 use crate::import::left_out::leads_to_none;
-use crate::import::library::lookup_offset;
+use crate::import::library::{address_table_rva, lookup_offset};
 use crate::import::slots::{may_end, next_record};
 use goblin_base::{Cause, Error, Result, pread_str_within};
 use goblin_pe_sect::address_map::Finder;
@@ -53,9 +51,6 @@ pub struct WalkedLibrary<'a> {
     /// read, or the directory lies at file offset 0. Strict mode yields the imports of the library,
     /// and then refuses it if its address table cannot be read.
     pub is_left_out: bool,
-    /// Whether the first thing that the lookup table yields is an import. If not, the table keeps
-    /// none, or strict mode refuses its first entry or its end.
-    pub has_imports: bool,
     /// The cursor before the imports of the library.
     pub cursor: ImportCursor,
 }
@@ -72,25 +67,6 @@ fn name_or_cause<'a>(bytes: &'a [u8], rva: u32, finder: &mut Finder<'_>) -> Resu
     match pread_str_within(bytes, offset, finder.longest_name()) {
         Ok(name) => Ok(name),
         Err(_) => Err(Error::Malformed(Cause::NameRead(offset))),
-    }
-}
-
-// Whether the first thing that the lookup table of an import descriptor yields is an import.
-fn has_imports<'a, T: Bitfield<'a>>(
-    bytes: &'a [u8],
-    entry: &ImportDirectoryEntry,
-    finder: &mut Finder<'_>,
-) -> bool
-    ensures value { let m = map_of finder.old in
-        result ≡ has_imports (reads_strictly m) T.format m.addressing bytes.now entry.now }
-    ensures same { finder.new ≡ finder.old }
-{
-    let place = lookup_offset(entry, finder);
-    let first = next_kept::<T>(bytes, place.unwrap_or(0), place, finder);
-    match first {
-        Some(Ok(_)) => true,
-        Some(Err(_)) => false,
-        None => false,
     }
 }
 
@@ -112,21 +88,32 @@ impl ImportCursor {
     }
 }
 
-// Whether the address table of an import descriptor cannot be read, and whether its library has
-// imports.
-fn flags_of<'a, T: Bitfield<'a>>(
-    bytes: &'a [u8],
-    entry: &ImportDirectoryEntry,
-    finder: &mut Finder<'_>,
-) -> (bool, bool)
-    ensures none { let m = map_of finder.old in
-        result.0 ≡ leads_to_none T.format m.addressing bytes.now entry.now }
-    ensures imports { let m = map_of finder.old in
-        result.1 ≡ has_imports (reads_strictly m) T.format m.addressing bytes.now entry.now }
-    ensures same { finder.new ≡ finder.old }
-{
-    let is_none = leads_to_none::<T>(bytes, entry, finder.address_map());
-    (is_none, has_imports::<T>(bytes, entry, finder))
+impl WalkedLibrary<'_> {
+    /// The cursor in this library. A walk over imports from there yields the imports of this
+    /// library, and ends. In permissive mode it yields none if the library is left out.
+    ///
+    /// The walk does not need the name. If it can't be read, the imports have an empty one, also in
+    /// strict mode.
+    pub fn inside(&self, finder: &mut Finder<'_>) -> ImportCursor
+        ensures is { let m = map_of finder.old in
+            result ≡ inside_library (reads_strictly m) m.addressing (library_value self.now) }
+        ensures same { finder.new ≡ finder.old }
+    {
+        if self.is_left_out && !finder.reads_strictly() {
+            return ImportCursor::end();
+        }
+        let entry = &self.import_directory_entry;
+        let place = lookup_offset(entry, finder);
+        ImportCursor {
+            library: self.index,
+            name_rva: entry.name_rva,
+            rva: entry.import_address_table_rva,
+            table_offset: place.unwrap_or(0),
+            place,
+            untested: Some(address_table_rva(entry)),
+            ..ImportCursor::end()
+        }
+    }
 }
 
 /// A walk over the libraries that an image imports from, in the order of their import descriptors.
@@ -184,15 +171,15 @@ impl<'a, 'm> Libraries<'a, 'm> {
     fn library_at(&mut self, offset: usize, entry: ImportDirectoryEntry) -> WalkedLibrary<'a>
         ensures value { let m = libraries_map self.old in
             library_value result
-            ≡ library_at (reads_strictly m) (libraries_format self.old) m.addressing
-            (libraries_bytes self.old) (libraries_cursor self.old).first_record offset entry }
+            ≡ library_at (libraries_format self.old) m.addressing (libraries_bytes self.old)
+            (libraries_cursor self.old).first_record offset entry }
         ensures same { self.new ≡ self.old }
     {
         let first = self.at.first_record;
-        let (is_none, has_imports) = if self.is_narrow {
-            flags_of::<u32>(self.bytes, &entry, &mut self.finder)
+        let is_none = if self.is_narrow {
+            leads_to_none::<u32>(self.bytes, &entry, self.finder.address_map())
         } else {
-            flags_of::<u64>(self.bytes, &entry, &mut self.finder)
+            leads_to_none::<u64>(self.bytes, &entry, self.finder.address_map())
         };
         WalkedLibrary {
             import_directory_entry: entry,
@@ -200,7 +187,6 @@ impl<'a, 'm> Libraries<'a, 'm> {
             offset,
             name: name_or_cause(self.bytes, entry.name_rva, &mut self.finder),
             is_left_out: is_none || first == 0,
-            has_imports,
             cursor: ImportCursor::at_record(first, offset),
         }
     }

@@ -1,7 +1,10 @@
 //! The section headers, and the front of the file, by which addresses are mapped.
 
-ghost use Rattle.std.specs.Prelude.{◌≡◌, ◌<◌, [], ◌∷◌, MatchOption, Some, length, slice_get};
-ghost use Rattle.goblin_pe_sect.specs.SectionTable.{front_section, mapped_sections};
+ghost use Rattle.std.specs.Prelude.{◌≡◌, ◌<◌, [], ◌∷◌, Bool, MatchOption, Some, find, length};
+ghost use Rattle.std.specs.Prelude.{option_map, position, slice_get};
+ghost use Rattle.std.specs.Fn.{FnReturnsAt};
+ghost use Rattle.readings.specs.Tests.{IsTest};
+ghost use Rattle.goblin_pe_sect.specs.SectionTable.{Section, front_section, mapped_sections};
 
 use crate::section_table::{SectionRecords, SectionTable};
 
@@ -78,5 +81,25 @@ impl<'a> MappedRecords<'a> {
             Some(size) if index == self.records.len() => front_section(size),
             _ => self.records.at(index),
         }
+    }
+
+    /// The first section that passes a test, and its index. The front, if it is mapped, comes last.
+    #[inline(always)]
+    pub fn find<F: Fn(&SectionTable) -> bool>(&self, test: F) -> Option<(usize, SectionTable)>
+        requires { F.IsAlwaysCallable test }
+        ensures index { (p : Section → Bool) → IsTest (λ s. s) (FnReturnsAt F.Fn test) p
+            → option_map (λ both. both.0) result ≡ position p (mapped_sections self.now) }
+        ensures section { (p : Section → Bool) → IsTest (λ s. s) (FnReturnsAt F.Fn test) p
+            → option_map (λ both. both.1) result ≡ find p (mapped_sections self.now) }
+    {
+        let mut rest = *self;
+        'sections: for index in 0..self.len() {
+            let (section, later) = rest.split_first()?;
+            if test(&section) {
+                return Some((index, section));
+            }
+            rest = later;
+        }
+        None
     }
 }

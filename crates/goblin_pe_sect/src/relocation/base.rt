@@ -137,6 +137,8 @@ impl<'a> RelocationData<'a> {
     pub fn block_at(&self, offset: usize) -> Option<Result<RelocationBlock<'a>>>
         ensures found { FindsItem (relocation_bytes self.now) offset result }
         ensures low { IfSome result (λ found. offset < 2 ^ 63) }
+        ensures inside { IfSome result (λ found. IfOk found
+            (λ block. offset + block.size ≤ length (relocation_bytes self.now))) }
     {
         let directory = self.directory();
         if offset >= directory.len() {
@@ -191,6 +193,7 @@ impl<'a> RelocationBlock<'a> {
         requires { offset < length directory.now }
         ensures value { block_item result ≡ block_at directory.now offset }
         ensures large { IfOk result (λ block. 8 ≤ block.size) }
+        ensures inside { IfOk result (λ block. offset + block.size ≤ length directory.now) }
     {
         let rest = directory.len() - offset;
         if rest <= RELOCATION_BLOCK_SIZE {

@@ -1,11 +1,11 @@
 //! The map from file offsets back to addresses.
 
-ghost use Rattle.std.specs.Prelude.{◌≡◌, Some, MatchOption};
+ghost use Rattle.std.specs.Prelude.{◌≡◌, Some, MatchOption, find};
+ghost use Rattle.std.specs.Option.{option_copied};
 ghost use Rattle.goblin_pe_sect.specs.Mapping.{IsMappedFromNowhere, file_address, file_offset};
-ghost use Rattle.goblin_pe_sect.specs.Mapping.{rva_in};
+ghost use Rattle.goblin_pe_sect.specs.Mapping.{maps_to, rva_in};
 
-use super::{raw_begin, window};
-use crate::mapping::file_address;
+use super::{find_offset, raw_begin, window};
 use crate::options::ParseOptions;
 use crate::section_table::SectionTable;
 
@@ -28,6 +28,58 @@ pub fn rva_in(
     Some(first + (offset - begin))
 }
 
+// Whether the section's window has an address at the file offset that is mapped back to it.
+fn is_mapped_back(
+    offset: usize,
+    section: &SectionTable,
+    sections: &[SectionTable],
+    file_alignment: u32,
+    opts: &ParseOptions,
+) -> bool
+    ensures { result
+        ≡ maps_to opts.now sections.now file_alignment offset
+        (rva_in opts.now file_alignment offset section.now) }
+{
+    let Some(rva) = rva_in(offset, section, file_alignment, opts) else {
+        return false;
+    };
+    match find_offset(rva, sections, file_alignment, opts) {
+        Some(found) => found == offset,
+        None => false,
+    }
+}
+
+// The first section whose window has such an address.
+fn first_back<'s>(
+    offset: usize,
+    sections: &'s [SectionTable],
+    file_alignment: u32,
+    opts: &ParseOptions,
+) -> Option<&'s SectionTable>
+    ensures { option_copied result
+        ≡ find (λ s. maps_to opts.now sections.now file_alignment offset
+        (rva_in opts.now file_alignment offset s)) sections.now }
+{
+    sections.iter().find(|section| is_mapped_back(offset, section, sections, file_alignment, opts))
+}
+
+// The address that this section has there.
+#[tactic(auto, unfolding(crate::specs::Mapping::file_address))]
+fn address_by(
+    offset: usize,
+    sections: &[SectionTable],
+    file_alignment: u32,
+    opts: &ParseOptions,
+) -> Option<usize>
+    ensures { result ≡ file_address opts.now sections.now file_alignment offset }
+{
+    if !opts.resolve_rva {
+        return Some(offset);
+    }
+    let section = first_back(offset, sections, file_alignment, opts)?;
+    rva_in(offset, section, file_alignment, opts)
+}
+
 /// The address that [`find_offset`] maps to the file offset `offset`. If there are several, it is
 /// the one in the first section, in the order of the table, that has one.
 ///
@@ -39,7 +91,7 @@ pub fn rva_in(
 /// has an address at the offset.
 ///
 /// Source: none, as for [`window`].
-#[tactic(auto, using(crate::proofs::Backward::file_address_back, crate::proofs::First::as_given))]
+#[tactic(auto, using(crate::proofs::Backward::file_address_back))]
 pub fn find_rva(
     offset: usize,
     sections: &[SectionTable],
@@ -51,5 +103,5 @@ pub fn find_rva(
         (IsMappedFromNowhere opts.now sections.now file_alignment offset)
         (λ rva. file_offset opts.now sections.now file_alignment rva ≡ Some offset) }
 {
-    file_address(offset, sections, None, file_alignment, opts)
+    address_by(offset, sections, file_alignment, opts)
 }

@@ -13,11 +13,11 @@ returns-clause-tells c =
     let bytes = c.args.bytes.now in
     let header = c.in_ok-header.header in
     let l = c.in_ok-layout.layout in
-    let d = c.table_damage.result in
+    let d = c.damage.result in
     tells_damage c.args.view opts bytes (header_value header) c.in_ok-header.ensures.value _ (recorded_sections l.records) _ refl c.in_ok-layout.ensures.value
     (λ sections read. record {
       dos_stub = subst (λ (e : Option ErrorOf). IsDamage (stub_at header.dos_header.pe_pointer) bytes e) (sym c.err.ensures.value) (damage_read _ c.parse.result (stub_at header.dos_header.pe_pointer) bytes c.parse.ensures);
       section_names = c.name_damage.ensures;
-      tables = of_file c.args.view opts bytes header l c.in_ok-layout.ensures.over sections read (λ m places b. AreDamaged m.opts m.addressing places b d.0 d.1 d.2 d.3) c.table_damage.ensures;
+      tables = of_file c.args.view opts bytes header l c.in_ok-layout.ensures.over sections read (λ m places b. AreDamaged m.opts m.addressing places b d.0 d.1 d.2 d.3) c.damage.ensures;
       left_out_exports = of_file c.args.view opts bytes header l c.in_ok-layout.ensures.over sections read (λ m places b. c.left_out_exports-left_out_exports.result ≡ exports_left_out m.addressing places b) c.left_out_exports-left_out_exports.ensures;
     })

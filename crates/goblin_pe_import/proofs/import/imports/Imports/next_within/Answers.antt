@@ -15,4 +15,5 @@ returns g c =
       spent = given.spent;
       looked = given.looked;
       ended = given.ended;
+      fewer = given.fewer;
     }

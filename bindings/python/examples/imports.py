@@ -1,0 +1,21 @@
+"""Lists the imports of untrusted files: imports.py FILE.."""
+import sys
+
+from goblin_pe import Budget, Image, Options, PeError, printable
+
+
+def list_imports(path: str) -> None:
+    """Lists the imports of a file, and its damage."""
+    budget = Budget(50_000)
+    with Image.open(path, Options(permissive=True, longest_name=512)) as image:
+        for it in image.imports(budget):
+            name = f"#{it.ordinal}" if it.name is None else printable(it.name)
+            print(f"{path} {it.library:6} {it.iat_rva:#010x} {printable(it.dll)} {name}")
+        print(image.damage(budget), end="")
+
+
+for path in sys.argv[1:]:
+    try:
+        list_imports(path)
+    except (OSError, PeError) as error:
+        print(f"{path}: {error}")

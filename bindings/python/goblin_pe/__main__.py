@@ -1,0 +1,183 @@
+"""Lists PE images, COFF objects and Terse Executables: python -m goblin_pe FILE.."""
+import argparse
+import json
+import os
+import signal
+import sys
+from collections.abc import Iterator
+from typing import Any, List
+
+from . import Budget, Image, Kind, Mapping, Options, Pe, PeError, Table, TableState, printable
+from ._pe import plain
+
+MAPPINGS = {it.name.lower().replace("_", "-"): it for it in Mapping}
+
+
+def heading(image: Image, table: Table, count: int) -> str:
+    """Whether an image has a table, and how many rows it has. Permissive mode reads imports as far as it can."""
+    state = image.table_state(table)
+    if state is TableState.REFUSED and table is Table.IMPORTS:
+        state = TableState.PRESENT
+    return "%s %s" % (table.value, count if state is TableState.PRESENT else state.value)
+
+
+def image_lines(pe: Pe) -> Iterator[str]:
+    """The lines of an image, as pe_list has them."""
+    image, optional = pe.image, pe.image.optional_header
+    fields = optional and optional.standard_fields
+    yield "header machine=%#x sections=%d" % (image.coff_header.machine, len(image.sections)) + (
+        " magic=%#x entry=%#x" % (fields.magic, fields.address_of_entry_point) if fields else "")
+    for s in pe.sections:
+        yield "section va=%#x vsize=%#x raw=%#x ptr=%#x name=%s" % (
+            s.virtual_address, s.virtual_size, s.size_of_raw_data, s.pointer_to_raw_data, printable(s.name))
+    yield heading(image, Table.IMPORTS, len(pe.imports))
+    for it in pe.imports:
+        number = it.hint if it.ordinal is None else it.ordinal
+        yield "import offset=%#x ordinal=%d rva=%#x size=%d slot=%d dll=%s name=%s" % (
+            it.iat_rva, number or 0, it.hint_name_rva, 8 if image.is_64 else 4, it.thunk_index, printable(it.dll),
+            "ORDINAL %d" % it.ordinal if it.name is None else printable(it.name))
+    yield heading(image, Table.EXPORTS, len(pe.exports))
+    for export in pe.exports:
+        to = export.forwarder
+        yield "".join((
+            "export rva=%#x" % export.rva, "" if export.offset is None else " offset=%#x" % export.offset,
+            " forward=%s.%s" % (printable(to.dll), "#%d" % to.ordinal if to.name is None else printable(to.name)) if to else "",
+            "" if export.name is None else " name=" + printable(export.name)))
+    yield heading(image, Table.RELOCATIONS, len(pe.relocation_blocks))
+    for block in pe.relocation_blocks:
+        yield "block rva=%#x size=%#x words=%d" % (block.rva, block.size, len(block.entries) // 2)
+    if any(it.table is Table.RELOCATIONS for it in pe.errors):
+        yield "block refused"
+
+
+def object_lines(image: Image, budget: Budget) -> Iterator[str]:
+    """The lines of an object."""
+    for it in image.symbols(budget):
+        yield "symbol %d value=%d section=%d class=%d aux=%d name=%s" % (
+            it.index, it.value, it.section_number, it.storage_class, it.number_of_aux_symbols, printable(it.name or b""))
+    for s in image.sections:
+        if s.number_of_relocations:
+            yield "relocations %s %d" % (printable(s.name), s.number_of_relocations)
+
+
+def te_lines(image: Image) -> Iterator[str]:
+    """The lines of a Terse Executable."""
+    header = image.te_header
+    for field in header._fields[:8] if header else ():
+        yield "%s %#x" % (field, getattr(header, field))
+    for field in header._fields[8:] if header else ():
+        yield "%s %#x %d" % (field, *getattr(header, field))
+    for s in image.sections:
+        yield "section %s va=%#x vsize=%#x raw=%#x ptr=%#x characteristics=%#x" % (
+            printable(s.name), s.virtual_address, s.virtual_size, s.size_of_raw_data, s.pointer_to_raw_data, s.characteristics)
+
+
+def lines_of(data: bytes, asked: argparse.Namespace) -> Iterator[str]:
+    """The lines of a file."""
+    budget = Budget(asked.steps)
+    kind = Kind.of(data)
+    if kind is Kind.OBJECT:
+        return object_lines(Image.object(data, asked.options), budget)
+    if kind is Kind.TE:
+        return te_lines(Image.te(data, asked.options))
+    return image_lines(Pe(data, asked.options, budget))
+
+
+def described(path: str, asked: argparse.Namespace) -> Any:
+    """All that is read of a file, as a value that JSON has: each table as far as the steps go, and why it ends early."""
+    found: Any = {"file": path}
+    try:
+        with open(path, "rb") as file:
+            data = file.read()
+        with Image.partial(data, asked.options) as image:
+            budget = Budget(asked.steps)
+            found.update(plain({
+                "refusal": image.refusal, "header_faults": dict(image.header_faults), "dos_header": image.dos_header,
+                "coff_header": image.coff_header, "optional_header": image.optional_header, "directories": image.directories,
+                "rich_header": image.rich_header, "sections": image.sections}))
+            for name in ("rich_entries", "imports", "exports", "export_addresses", "relocation_blocks"):
+                found[name] = []
+                walk = image.rich_entries() if name == "rich_entries" else getattr(image, name)(budget)
+                found[name].extend(map(plain, walk))
+            found["damage"] = plain(image.damage(budget))
+    except (OSError, PeError, MemoryError) as error:
+        found["stopped"] = str(error) or "out of memory"
+    return found
+
+
+def asked_of(words: List[str]) -> argparse.Namespace:
+    """What the words ask for."""
+    parser = argparse.ArgumentParser(
+        prog="python -m goblin_pe", description="Lists PE images, COFF objects and Terse Executables.")
+    parser.add_argument("--json", action="store_true", help="write a line of JSON for each image")
+    parser.add_argument("--permissive", action="store_true", help="skip damaged parts")
+    parser.add_argument(
+        "--mapping", choices=sorted(MAPPINGS), default="as-loaded",
+        help="how addresses are mapped to file offsets: as-loaded, as Windows maps (the default); by-file-alignment, the same without the "
+             "headers, as pefile maps; as-stored, with raw pointers as stored, as goblin and pe_list map; identity, for a dump of memory")
+    parser.add_argument("--steps", type=int, default=10_000_000, help="how many steps are taken for a file (default: %(default)s)")
+    parser.add_argument("--longest-name", type=int, metavar="BYTES", help="how many bytes of a name are read")
+    parser.add_argument("files", metavar="FILE", nargs="+")
+    asked = parser.parse_args(words)
+    try:
+        asked.options = Options(permissive=asked.permissive, mapping=MAPPINGS[asked.mapping], longest_name=asked.longest_name)
+    except ValueError as error:
+        parser.error(str(error))
+    if not asked.json and len(asked.files) > 1:
+        parser.error("only --json takes many files")
+    return asked
+
+
+def list_all(asked: argparse.Namespace) -> int:
+    """Writes a line of JSON for each file, and the progress if standard error, and not the output, is a terminal."""
+    shows = len(asked.files) > 1 and sys.stderr.isatty() and not sys.stdout.isatty()
+    status = 0
+    for number, path in enumerate(asked.files, 1):
+        found = described(path, asked)
+        status |= "stopped" in found
+        print(json.dumps(found))
+        if shows:
+            print("\r%d of %d files" % (number, len(asked.files)), end="", file=sys.stderr, flush=True)
+    if shows:
+        print(file=sys.stderr)
+    return status
+
+
+def list_one(asked: argparse.Namespace) -> int:
+    """Writes the lines of a file."""
+    try:
+        with open(asked.files[0], "rb") as file:
+            data = file.read()
+    except (OSError, MemoryError) as error:
+        return complain("read failed", error)
+    try:
+        sys.stdout.writelines(line + "\n" for line in lines_of(data, asked))
+    except (PeError, MemoryError) as error:
+        return complain("refused", error)
+    return 0
+
+
+def complain(what: str, error: Exception) -> int:
+    """Writes a line on standard error, and returns the status of the program."""
+    if sys.stderr is not None:
+        print("%s: %s" % (what, str(error) or "out of memory"), file=sys.stderr)
+    return 1
+
+
+def main(words: List[str]) -> int:
+    """Lists the files, and returns the status of the program."""
+    if sys.stdout is None:
+        return complain("write failed", OSError("standard output is closed"))
+    asked = asked_of(words)
+    try:
+        status = list_all(asked) if asked.json else list_one(asked)
+        sys.stdout.flush()
+    except OSError as error:
+        os.dup2(os.open(os.devnull, os.O_WRONLY), sys.stdout.fileno())  # (Python writes what is left as it ends)
+        return complain("write failed", error)
+    return status
+
+
+if __name__ == "__main__":
+    signal.signal(signal.SIGINT, signal.SIG_DFL)  # (a call of the library can take long)
+    sys.exit(main(sys.argv[1:]))

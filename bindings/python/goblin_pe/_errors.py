@@ -1,0 +1,126 @@
+"""Errors."""
+from __future__ import annotations
+
+import ctypes as c
+import enum
+from typing import Any
+
+from ._causes import Cause
+from ._library import LIB
+from ._records import Fault
+
+
+class ErrorKind(enum.Enum):
+    """What kind of error a PeError is."""
+
+    MALFORMED = 1
+    """The bytes violate the format: `cause` says how."""
+    BAD_MAGIC = 2
+    """The magic of the optional header is neither PE32 nor PE32+."""
+    TOO_SHORT = 3
+    """The file is too short for the entries that it counts."""
+    BAD_OFFSET = 4
+    """An offset is at or past the end of the file."""
+    TOO_BIG = 5
+    """Fewer bytes follow an offset than were needed."""
+    NOT_UTF8 = 6
+    """The bytes at an offset are not UTF-8."""
+    STEPS = 7
+    """The budget is used up."""
+    KIND = 8
+    """The call is for images, and this is an object or a Terse Executable."""
+    PLACE = 9
+    """The file has no place for a changed header or section."""
+    UNKNOWN = 10
+    """A kind that only a later version has a name for."""
+
+
+class Table(enum.Enum):
+    """A part of a file that an error is about."""
+
+    HEADER = "header"
+    """The header, with the section table and the section names."""
+    RICH_HEADER = "Rich header"
+    """The Rich header."""
+    IMPORTS = "imports"
+    """The imports and the libraries."""
+    EXPORTS = "exports"
+    """The exports, with names and without."""
+    RELOCATIONS = "relocations"
+    """The base relocations."""
+    SYMBOLS = "symbols"
+    """The symbols, or the relocations of an object."""
+
+
+class PeError(ValueError):
+    """A file, a table or a part of one can't be read. The text says what is wrong. Errors of the
+    same kind, cause and numbers are equal. If memory is refused, MemoryError is raised."""
+
+    kind: ErrorKind
+    cause: Cause | None
+    """How the file is malformed; None for other kinds."""
+    numbers: tuple[int, int]
+    """The numbers of the error, such as an offset and a size; 0 where the kind has none."""
+    table: Table | None
+    """The part of the file that could not be read; None for a look-up."""
+
+    def __init__(self, text: str, kind: ErrorKind, cause: Cause | None = None, numbers: tuple[int, int] = (0, 0),
+                 table: Table | None = None) -> None:
+        super().__init__(text)
+        self.kind, self.cause, self.numbers, self.table = kind, cause, numbers, table
+
+    def __eq__(self, other: object) -> bool:
+        if not isinstance(other, PeError):
+            return NotImplemented
+        return (self.kind, self.cause, self.numbers) == (other.kind, other.cause, other.numbers)
+
+    def __hash__(self) -> int:
+        return hash((self.kind, self.cause, self.numbers))
+
+    def __reduce__(self) -> tuple[Any, ...]:
+        return type(self), (str(self), self.kind, self.cause, self.numbers, self.table), self.__dict__
+
+
+class OutOfSteps(PeError):
+    """The budget is used up, and the walk is not over. So nothing was said of what comes next."""
+
+
+# The kinds by the statuses of the library, and those of a read by its causes.
+_KINDS = {1: ErrorKind.MALFORMED, 2: ErrorKind.BAD_MAGIC, 3: ErrorKind.TOO_SHORT, 7: ErrorKind.STEPS, 8: ErrorKind.KIND}
+_READS = {1: ErrorKind.BAD_OFFSET, 2: ErrorKind.TOO_BIG, 3: ErrorKind.NOT_UTF8}
+_MEMORY = 5
+
+
+def text_of(fault: Fault) -> str:
+    """The text of a fault."""
+    text = c.create_string_buffer(256)
+    LIB.goblin_pe_fault_string(c.byref(fault), text)
+    return text.value.decode()
+
+
+def error_of(fault: Fault, table: Table | None) -> PeError | None:
+    """The error that a fault says; None if it is none. MemoryError is raised for a refusal of memory."""
+    if not fault.status:
+        return None
+    if fault.status == _MEMORY:
+        raise MemoryError
+    kind = _READS.get(fault.cause) if fault.status == 4 else _KINDS.get(fault.status)
+    cause = Cause(fault.cause) if kind is ErrorKind.MALFORMED and fault.cause in list(Cause) else None
+    raised = OutOfSteps if kind is ErrorKind.STEPS else PeError
+    return raised(text_of(fault), kind or ErrorKind.UNKNOWN, cause, (fault.first, fault.second), table)
+
+
+def test(fault: Fault, table: Table | None) -> None:
+    """Raises the error of a call, if it has failed."""
+    if fault.status:
+        raise error_of(fault, table) or MemoryError  # (no name holds the error: it would keep its frames, and so the file)
+
+
+def steps_error(table: Table) -> OutOfSteps:
+    """The error of a walk whose budget is used up."""
+    return OutOfSteps(text_of(Fault(7)), ErrorKind.STEPS, None, (0, 0), table)
+
+
+def no_place(why: str) -> PeError:
+    """The error of a change that the file has no place for."""
+    return PeError("the file has no place: " + why, ErrorKind.PLACE)

@@ -1,0 +1,546 @@
+"""Images."""
+from __future__ import annotations
+
+import contextlib
+import ctypes as c
+import dataclasses
+import enum
+import hashlib
+import os
+import types
+from collections.abc import Iterable, Iterator, Mapping as _Mapping
+from typing import Any, Union
+
+from . import _records
+from ._errors import PeError, Table, error_of, test
+from ._headers import CoffHeader, DataDirectory, DirectoryType, DosHeader, OptionalHeader, TeHeader, read
+from ._imphash import line as imphash_line
+from ._library import LIB, Data, held, kept
+from ._number import Number
+from ._options import Budget, Options
+from ._patch import STUB as _STUB, Headers, patched, written as _written
+from ._rows import (
+    BLOCKS, EXPORT_ADDRESSES, EXPORTS, IMPORTS, LIBRARIES, RICH_ENTRIES, SECTIONS, SYMBOLS, BaseRelocation, Damage, Export,
+    ExportAddress, ExportDirectory, Forwarder, Import, Library, Memory, Region, RelocationBlock, RichEntry, RichHeader, Section, Symbol,
+    damage, export_directory, forwarder, in_range, text)
+from ._walk import Kind as WalkKind, Walk
+from .constants import IMAGE_FILE_DLL, MAGIC_64
+
+_Path = Union[str, "os.PathLike[str]"]
+
+
+class Kind(Number):
+    """What a file is, by its first bytes. Nothing here reads the last three."""
+
+    UNKNOWN = 0
+    IMAGE = 1
+    OBJECT = 2
+    TE = 3
+    ARCHIVE = 4
+    IMPORT_OBJECT = 5
+    BIG_OBJECT = 6
+
+    @classmethod
+    def of(cls, data: Data) -> Kind:
+        """What a file is. Whether it can be read is another question."""
+        with held(data) as (address, length):
+            return cls(LIB.goblin_pe_kind_of(address, length))
+
+
+class TableState(enum.Enum):
+    """Whether an image has a table, and whether it can be walked over."""
+
+    ABSENT = "absent"
+    """The image has no such table."""
+    PRESENT = "present"
+    """A walk gives its rows, as far as they can be read."""
+    REFUSED = "refused"
+    """Strict mode refuses it as a whole. In permissive mode a walk over it has no rows."""
+
+
+class Image:
+    """A PE image, a COFF object or a Terse Executable: its header, and the bytes of the file.
+
+    It keeps the bytes until close(), or the end of a `with`. Then its methods raise ValueError, and
+    its properties stay. Rows that it gave stay, too. An image can be pickled, with its bytes."""
+
+    def __init__(self, data: Data, options: Options = Options()) -> None:
+        """Reads the header and the section table of an image. PeError is raised if they can't be
+        read; `partial` reads such a file."""
+        self._read(kept(data), options, LIB.goblin_pe_read_image)
+
+    @classmethod
+    def open(cls, path: _Path, options: Options = Options()) -> Image:
+        """The image in a file, which is read whole. OSError is raised if it can't be read."""
+        with open(path, "rb") as file:
+            return cls(file.read(), options)
+
+    @classmethod
+    def partial(cls, data: Data, options: Options = Options()) -> Image:
+        """The header as far as it goes, whatever the file holds. What can't be read is zeros, and
+        `header_faults` says why. All walks and look-ups work."""
+        faults = _records.HeaderFaults()
+        image = cls._made(data, options, LIB.goblin_pe_read_partial_image, faults)
+        tables = {"rich_header": Table.RICH_HEADER}
+        errors = {name: error_of(getattr(faults, name), tables.get(name, Table.HEADER)) for name, _ in faults._fields_}
+        image._faults = types.MappingProxyType({name: error for name, error in errors.items() if error})
+        return image
+
+    @classmethod
+    def object(cls, data: Data, options: Options = Options()) -> Image:
+        """A COFF object: it has sections, symbols and relocations. The machine is not tested: ask
+        Kind.of first."""
+        return cls._made(data, options, LIB.goblin_pe_read_object)
+
+    @classmethod
+    def te(cls, data: Data, options: Options = Options()) -> Image:
+        """A Terse Executable: it has sections, and a `te_header`."""
+        header = _records.TeHeader()
+        image = cls._made(data, options, LIB.goblin_pe_read_te, header)
+        image._te_header = read(TeHeader, header)
+        return image
+
+    def with_options(self, options: Options) -> Image:
+        """The same image, read by other options. The header is not read again."""
+        image = type(self).__new__(type(self))
+        image.__dict__.update(self.__dict__)
+        image._record = _records.Image.from_buffer_copy(self._record)
+        image._record.options, image._options = _tested(options)._record(), options
+        image._sections = None
+        return image
+
+    def close(self) -> None:
+        """Lets go of the bytes."""
+        if self._data is not None:
+            self._stay = {"dos_stub": self.dos_stub, "rich_header": self.rich_header}
+            self._sections = self.sections
+        self._data = None
+
+    def __enter__(self) -> Image:
+        return self
+
+    def __exit__(
+        self,
+        kind: type[BaseException] | None,
+        error: BaseException | None,
+        trace: types.TracebackType | None,
+    ) -> None:
+        self.close()
+
+    def __reduce__(self) -> tuple[Any, ...]:
+        state = {**self.__dict__, "_data": bytes(self.data), "_record": bytes(self._record), "_faults": dict(self._faults), "_sections": None}
+        return _restored, (type(self), state)
+
+    def __repr__(self) -> str:
+        return "<%s of %d sections>" % (self.kind.name.lower(), self._record.section_count)
+
+    # How the library is called.
+
+    _te_header: TeHeader | None = None
+    _faults: _Mapping[str, PeError] = types.MappingProxyType({})
+    _refusal: PeError | None = None
+    _sections: tuple[Section, ...] | None = None
+    # What stays when the bytes are gone.
+    _stay: _Mapping[str, Any] = types.MappingProxyType({})
+
+    @classmethod
+    def _made(cls, data: Data, options: Options, call: Any, *also: Any) -> Any:
+        # an image that another call than the usual one fills
+        image = cls.__new__(cls)
+        image._read(kept(data), options, call, *also)
+        return image
+
+    def _read(self, data: Any, options: Options, call: Any, *also: Any) -> None:
+        self._data: Any = data
+        self._options, self._record = _tested(options), _records.Image()
+        with held(data) as (address, length):
+            fault = call(address, length, c.byref(options._record()), c.byref(self._record), *map(c.byref, also))
+        if call is LIB.goblin_pe_read_partial_image:
+            self._refusal = error_of(fault, Table.HEADER)
+        else:
+            test(fault, Table.HEADER)
+
+    @contextlib.contextmanager
+    def _held(self) -> Iterator[Any]:
+        # the record for a call, with the bytes where they are now
+        data = self._data
+        if data is None:
+            raise ValueError("the image is closed")
+        with held(data) as (address, length):
+            self._record.bytes.bytes, self._record.bytes.length = address, length
+            yield c.byref(self._record)
+
+    def _memory(self, call: Any, *arguments: Any) -> Memory:
+        # the memory that a call gives, as views of the bytes
+        memory = _records.Memory()
+        with self._held() as image:
+            call(image, *arguments, c.byref(memory))
+            begin = (memory.bytes.bytes or 0) - self._record.bytes.bytes if memory.bytes.length else 0
+        section = memory.section_index if memory.section_index < self._record.section_count else None
+        data = self.data[begin: begin + memory.bytes.length]
+        return Memory(data, memory.zeros, memory.missing, section, Region(memory.region))
+
+    def _looked_up(self, call: Any, kind: Any, *arguments: Any) -> Any:
+        # what a look-up sets, and whether it says that there is one
+        found = kind()
+        with self._held() as image:
+            return found if call(image, *arguments, c.byref(found)) else None
+
+    def _first(self, kind: WalkKind, cursor: Any) -> Any:
+        # the row at a cursor; None if there is none
+        return next(iter(Walk(self, kind, cursor, Budget(1))), None)
+
+    # Headers.
+    @property
+    def data(self) -> memoryview:
+        """The bytes of the file."""
+        if self._data is None:
+            raise ValueError("the image is closed")
+        return memoryview(self._data).cast("B")
+
+    @property
+    def options(self) -> Options:
+        """How the image is read."""
+        return self._options
+
+    @property
+    def kind(self) -> Kind:
+        """What it is: an image, an object or a Terse Executable."""
+        return Kind(self._record.kind)
+
+    @property
+    def header_faults(self) -> _Mapping[str, PeError]:
+        """The parts of the header that `partial` could not read, and why: dos_header, dos_stub,
+        rich_header, coff_header, standard_fields, windows_fields, directories, section_table and
+        section_names."""
+        return self._faults
+
+    @property
+    def refusal(self) -> PeError | None:
+        """Why Image(data) refuses a file that `partial` read; None if it reads it."""
+        return self._refusal
+
+    @property
+    def is_64(self) -> bool:
+        """Whether the optional header is one for 64 bits."""
+        optional = self.optional_header
+        return optional is not None and optional.standard_fields.magic == MAGIC_64
+
+    @property
+    def is_lib(self) -> bool:
+        """Whether the COFF header has the flag of a dynamic-link library."""
+        return bool(self._record.coff_header.characteristics & IMAGE_FILE_DLL)
+
+    @property
+    def entry(self) -> int:
+        """The rva of the entry point; 0 if there is none."""
+        entry: int = self._record.optional_header.standard_fields.address_of_entry_point
+        return entry
+
+    @property
+    def image_base(self) -> int:
+        """The preferred address in memory; 0 if there is no optional header."""
+        base: int = self._record.optional_header.windows_fields.image_base
+        return base
+
+    @property
+    def dos_header(self) -> DosHeader:
+        """The DOS header; zeros in an object and a Terse Executable."""
+        header: DosHeader = read(DosHeader, self._record.dos_header)
+        return header
+
+    @property
+    def dos_stub(self) -> bytes:
+        """The bytes between the DOS header and the PE signature."""
+        if "dos_stub" in self._stay:
+            return self._stay["dos_stub"]  # type: ignore[no-any-return]
+        size = self._record.dos_stub_size
+        if self._record.is_dos_stub_replaced:
+            return _written(self._record)[_STUB: _STUB + size]
+        return bytes(self.data[_STUB: _STUB + size])
+
+    @property
+    def rich_header(self) -> RichHeader | None:
+        """The Rich header; None if there is none."""
+        if "rich_header" in self._stay:
+            return self._stay["rich_header"]  # type: ignore[no-any-return]
+        it = self._record.rich_header
+        if not it.is_present:
+            return None
+        return RichHeader(bytes(self.data[it.start_offset: it.end_offset]), it.key, it.start_offset, it.end_offset, it.padding_size)
+
+    @property
+    def coff_header(self) -> CoffHeader:
+        """The COFF header."""
+        header: CoffHeader = read(CoffHeader, self._record.coff_header)
+        return header
+
+    @property
+    def optional_header(self) -> OptionalHeader | None:
+        """The optional header. If it is None, there are no directories, and no address has an
+        offset."""
+        if not self._record.has_optional_header:
+            return None
+        header: OptionalHeader = read(OptionalHeader, self._record.optional_header)
+        return header
+
+    @property
+    def directories(self) -> tuple[DataDirectory, ...]:
+        """The sixteen data directories, by DirectoryType; zeros where the file has fewer."""
+        return tuple(read(DataDirectory, it) for it in self._record.directories)
+
+    @property
+    def te_header(self) -> TeHeader | None:
+        """The header of a Terse Executable; None of another file."""
+        return self._te_header
+
+    @property
+    def sections(self) -> tuple[Section, ...]:
+        """The section headers."""
+        if self._sections is None:
+            self._sections = tuple(Walk(self, SECTIONS))
+        return self._sections
+
+    # Walks.
+    def rich_entries(self) -> Walk[RichEntry]:
+        """The entries of the Rich header."""
+        return Walk(self, RICH_ENTRIES)
+
+    def imports(self, budget: Budget | None = None) -> Walk[Import]:
+        """The imports, in the order of the import directory. `damage` counts the entries that give
+        none."""
+        return Walk(self, IMPORTS, None, budget)
+
+    def libraries(self, budget: Budget | None = None) -> Walk[Library]:
+        """The DLLs: one for each entry of the import directory, also the skipped ones. Each row
+        looks at the whole address table of its DLL: 5,000 rows of a hostile file of a megabyte can
+        take a second."""
+        return Walk(self, LIBRARIES, None, budget)
+
+    def exports(self, budget: Budget | None = None) -> Walk[Export]:
+        """The exports that have a name pointer, in the order of these."""
+        return Walk(self, EXPORTS, None, budget)
+
+    def export_addresses(self, budget: Budget | None = None) -> Walk[ExportAddress]:
+        """The export address table: all ordinals, also those without a name."""
+        return Walk(self, EXPORT_ADDRESSES, None, budget)
+
+    def relocation_blocks(self, budget: Budget | None = None) -> Walk[RelocationBlock]:
+        """The blocks of base relocations. Bytes that are no block raise PeError in both modes."""
+        return Walk(self, BLOCKS, None, budget)
+
+    def symbols(self, budget: Budget | None = None) -> Walk[Symbol]:
+        """The symbols of an image or an object."""
+        return Walk(self, SYMBOLS, None, budget)
+
+    def table_state(self, table: Table) -> TableState:
+        """Whether the image has a table, and whether it can be walked over."""
+        kind, is_there = _TABLES[table]
+        if not is_there(self._record):
+            return TableState.ABSENT
+        if kind is None:
+            return TableState.PRESENT
+        try:
+            self._test_table(kind)
+        except PeError:
+            return TableState.REFUSED
+        return TableState.PRESENT
+
+    def _test_table(self, kind: WalkKind) -> None:
+        # raises why strict mode refuses a table as a whole
+        strict = self.with_options(dataclasses.replace(self.options, permissive=False))
+        steps = [None] if kind.counts_steps else []
+        with strict._held() as image:
+            cursor, batch = kind.cursor(), _records.Batch()
+            test(kind.call(image, c.byref(cursor), None, 0, *steps, c.byref(batch)), kind.table)
+
+    # Look-ups.
+    def section_by_name(self, name: bytes | str) -> Section | None:
+        """The first section of this name; None if there is none, or if the options cut the name."""
+        wanted, longest = name.encode() if isinstance(name, str) else name, self.options.longest_name
+        if longest is None or len(wanted) <= longest:
+            return next((it for it in self.sections if it.name == wanted), None)
+        # (a name that was cut is longer by this limit)
+        limited = self.with_options(dataclasses.replace(self.options, longest_name=len(wanted)))
+        return next((it for it, other in zip(self.sections, limited.sections) if it.name == wanted == other.name), None)
+
+    def section_by_number(self, number: int) -> Section | None:
+        """The section of this number, from 1, as symbols have it."""
+        if -0x8000 <= number < -2:  # (symbols have numbers of 16 bits with a sign)
+            number += 0x10000
+        return self.sections[number - 1] if 0 < number <= len(self.sections) else None
+
+    def export_directory(self) -> ExportDirectory | None:
+        """The export directory; None if there is none. PeError is raised for a damaged one in strict
+        mode."""
+        found = _records.ExportDirectory()
+        with self._held() as image:
+            test(LIB.goblin_pe_read_export_directory(image, c.byref(found)), Table.EXPORTS)
+            return export_directory(found)
+
+    def find_export(self, name: bytes | str, budget: Budget | None = None) -> Export | None:
+        """The first export of this name."""
+        wanted = name.encode() if isinstance(name, str) else bytes(name)
+        # (a name that is longer than the wanted one need not be read whole)
+        image = self.with_options(dataclasses.replace(self.options, longest_name=max(len(wanted), 1)))
+        found = next((it for it in image.exports(budget) if it.name == wanted), None)
+        if found is None or found.forwarder is None:
+            return found
+        return found._replace(forwarder=self.forwarder_at(found.rva))
+
+    def find_export_by_ordinal(self, ordinal: int) -> ExportAddress | None:
+        """The export of this ordinal, also one without a name."""
+        directory = self.export_directory()
+        if directory is None or ordinal < directory.ordinal_base:
+            return None
+        cursor = _records.ExportAddressCursor(in_range(ordinal - directory.ordinal_base))
+        found: ExportAddress | None = self._first(EXPORT_ADDRESSES, cursor)
+        return found if found and found.rva else None
+
+    def symbol_at(self, index: int) -> Symbol | None:
+        """The symbol whose record has this index, as relocations name it."""
+        found: Symbol | None = self._first(SYMBOLS, _records.SymbolCursor(in_range(index)))
+        return found
+
+    def string_at(self, offset: int) -> bytes | None:
+        """The text at an offset of the string table, if there is one."""
+        found = _records.Slice()
+        with self._held() as image:
+            is_there = LIB.goblin_pe_string_at(image, in_range(offset), c.byref(found))
+            return text(found) if is_there else None
+
+    def find_offset(self, rva: int) -> int | None:
+        """The file offset of an address, as the mapping says. It may lie past the end."""
+        found = self._looked_up(LIB.goblin_pe_find_offset, c.c_size_t, in_range(rva))
+        return None if found is None else int(found.value)
+
+    def find_rva(self, offset: int) -> int | None:
+        """The address of a file offset: one that find_offset maps to it."""
+        found = self._looked_up(LIB.goblin_pe_find_rva, c.c_size_t, in_range(offset))
+        return None if found is None else int(found.value)
+
+    def memory_at(self, rva: int, size: int) -> Memory:
+        """What a loader puts at an address: at most `size` bytes, as far as they are known."""
+        return self._memory(LIB.goblin_pe_memory_at, in_range(rva), in_range(size))
+
+    def text_at(self, rva: int) -> bytes:
+        """The text at an address, up to a NUL. PeError is raised if there is none."""
+        found = _records.Slice()
+        with self._held() as image:
+            test(LIB.goblin_pe_text_at(image, in_range(rva), c.byref(found)), None)
+            return text(found)
+
+    def forwarder_at(self, rva: int) -> Forwarder:
+        """The forwarder whose text is at an address. PeError is raised if there is none."""
+        found = _records.Forwarder()
+        with self._held() as image:
+            test(LIB.goblin_pe_forwarder_at(image, in_range(rva), c.byref(found)), None)
+            return forwarder(found) or Forwarder(b"", None, None)
+
+    # Facts about the whole file.
+    def damage(self, budget: Budget | None = None) -> Damage:
+        """What strict mode refuses, and what the walks skip. Both modes give the same. OutOfSteps is
+        raised if the budget is too small for the whole image: then nothing is known of it."""
+        left = None if budget is None else budget.left
+        steps, found = c.c_size_t(left or 0), _records.Damage()
+        with self._held() as image:
+            test(LIB.goblin_pe_read_damage(image, c.byref(found), None if left is None else c.byref(steps)), None)
+        if budget is not None and left is not None:
+            budget.left = steps.value
+        return damage(found)
+
+    def imphash(self, budget: Budget | None = None) -> str | None:
+        """The hash of the imports that analysts compare, in hexadecimal, as pefile's get_imphash.
+        None if there are no imports, or if the options cut a name: it would be another hash."""
+        digest, separator, longest = hashlib.md5(usedforsecurity=False), b"", self.options.longest_name
+        for it in self.imports(budget):
+            if longest and (len(it.dll) > longest or len(it.name or b"") > longest):
+                return None
+            line = imphash_line(it.dll, it.name, it.ordinal)
+            if line:
+                digest.update(separator + line)
+                separator = b","
+        return digest.hexdigest() if separator else None
+
+    def footprint(self, budget: Budget | None = None) -> list[range]:
+        """The file offsets of the bytes on which these answers depend: the headers, the section
+        headers, and all rows of the imports, exports and base relocations, by the options of the
+        image. Another file of the same length with the same bytes there may differ in all else: in
+        its symbols, the data of sections, what is at addresses, the overlay, the checksum, and its
+        damage. Names are read whole, so the budget does not limit the time: with long names that
+        overlap, a file of a megabyte takes half a minute."""
+        if budget is not None and budget.left is not None:
+            self.damage(budget)  # (the library looks at all of the image: so the budget has to reach)
+        found = _records.Footprint()
+        with self._held() as image:
+            test(LIB.goblin_pe_read_footprint(image, c.byref(found)), None)
+        try:
+            return [range(it.offset, it.offset + it.length) for it in found.ranges[: found.count]]
+        finally:
+            LIB.goblin_pe_free_footprint(c.byref(found))
+
+    def fingerprint(self, budget: Budget | None = None) -> str:
+        """A key for a cache: the SHA-256 of the file's length and its footprint. The options are not
+        in it: keep them beside it. `footprint` says what the key covers, and how long it takes."""
+        digest = hashlib.sha256(b"%d" % len(self.data))
+        for it in self.footprint(budget):
+            digest.update(b" %d %d " % (it.start, it.stop))
+            digest.update(self.data[it.start: it.stop])
+        return digest.hexdigest()
+
+    def overlay(self) -> memoryview:
+        """The bytes after the data of all sections; empty if there are none."""
+        ends = [it.pointer_to_raw_data + it.size_of_raw_data for it in self.sections if it.pointer_to_raw_data and it.size_of_raw_data]
+        return self.data[max(ends, default=len(self.data)):]
+
+    def checksum(self) -> int | None:
+        """The checksum of the file, for check_sum of the optional header."""
+        found = self._looked_up(LIB.goblin_pe_checksum, c.c_uint32)
+        return None if found is None else int(found.value)
+
+    def patched(
+        self,
+        *,
+        dos_header: DosHeader | None = None,
+        coff_header: CoffHeader | None = None,
+        optional_header: OptionalHeader | None = None,
+        directories: Iterable[DataDirectory] | None = None,
+        sections: Iterable[Section] = (),
+        checksum: bool = False,
+    ) -> bytes:
+        """The file with these headers, and with these headers of its first sections. What is not
+        given stays as it is. With `checksum` the checksum is computed anew. PeError is raised if the
+        file has no place for them."""
+        return patched(self, Headers(
+            dos_header or self.dos_header, coff_header or self.coff_header, optional_header or self.optional_header,
+            self.directories if directories is None else tuple(directories)), tuple(sections), checksum)
+
+
+def _tested(options: Options) -> Options:
+    if not isinstance(options, Options):
+        raise TypeError("Options are wanted, not %r" % (options,))
+    return options
+
+
+def _restored(cls: type[Image], state: dict[str, Any]) -> Image:
+    # an image that was pickled
+    image = cls.__new__(cls)
+    image.__dict__.update(state)
+    image._record = _records.Image.from_buffer_copy(state["_record"])
+    image._faults = types.MappingProxyType(state["_faults"])
+    return image
+
+
+def _directory(which: DirectoryType) -> Any:
+    return lambda record: record.directories[which].virtual_address or record.directories[which].size
+
+
+# Of each table what it is walked by, and whether an image has it.
+_TABLES: dict[Table, tuple[Any, Any]] = {
+    Table.HEADER: (None, lambda record: True),
+    Table.RICH_HEADER: (None, lambda record: record.rich_header.is_present),
+    Table.IMPORTS: (IMPORTS, _directory(DirectoryType.IMPORT_TABLE)),
+    Table.EXPORTS: (EXPORTS, _directory(DirectoryType.EXPORT_TABLE)),
+    Table.RELOCATIONS: (BLOCKS, _directory(DirectoryType.BASE_RELOCATION_TABLE)),
+    Table.SYMBOLS: (SYMBOLS, lambda record: record.coff_header.pointer_to_symbol_table),
+}

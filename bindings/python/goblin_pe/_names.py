@@ -1,0 +1,56 @@
+"""Numbers and flags of headers, symbols and relocations by the names of their constants."""
+from typing import Dict, List, Literal, Tuple
+
+from . import constants
+
+# The constants of each kind begin so; of those with a field the bits of it are one number.
+_BEGINNINGS = {"machine": "COFF_MACHINE_", "subsystem": "IMAGE_SUBSYSTEM_", "file": "IMAGE_FILE_", "dll": "IMAGE_DLLCHARACTERISTICS_",
+               "section": "IMAGE_SCN_", "storage_class": "IMAGE_SYM_CLASS_", "comdat": "IMAGE_COMDAT_SELECT_",
+               "weak_external": "IMAGE_WEAK_EXTERN_SEARCH_", "base_relocation": "IMAGE_REL_BASED_"}
+_FIELDS = {"section": constants.IMAGE_SCN_ALIGN_MASK}
+_FLAGS = ("file", "dll", "section")
+# What the constants of relocations of a machine begin with.
+_RELOCATIONS = {constants.COFF_MACHINE_X86: "I386", constants.COFF_MACHINE_X86_64: "AMD64", constants.COFF_MACHINE_ARM: "ARM",
+                constants.COFF_MACHINE_THUMB: "ARM", constants.COFF_MACHINE_ARMNT: "ARM", constants.COFF_MACHINE_ARM64: "ARM64",
+                constants.COFF_MACHINE_IA64: "IA64"}
+Kind = Literal["machine", "subsystem", "file", "dll", "section", "storage_class", "comdat", "weak_external", "base_relocation"]
+
+
+def _constants(beginning: str) -> Dict[str, int]:
+    # those whose names begin so, but for masks
+    return {name: number for name, number in vars(constants).items() if name.startswith(beginning) and not name.endswith("_MASK")}
+
+
+_NAMES: Dict[str, Dict[str, int]] = {kind: _constants(beginning) for kind, beginning in _BEGINNINGS.items()}
+
+
+def _flags(flags: int, kind: str) -> List[Tuple[str, int]]:
+    # the flags that have names, each with its bits
+    found, left, field = [], flags, _FIELDS.get(kind, 0)
+    for name, number in _NAMES[kind].items():
+        mask = field if number & field else number
+        if number and left & mask == number:
+            found.append((name, number))
+            left &= ~mask
+    return found
+
+
+def names_of(number: int, kind: Kind) -> List[str]:
+    """The names of a number or of flags in goblin_pe.constants, and what is left in hexadecimal."""
+    if kind not in _FLAGS:
+        return [name for name, named in _NAMES[kind].items() if named == number] or [hex(number)]
+    found = _flags(number, kind)
+    left = number & ~sum(bits for _, bits in found)
+    return [name for name, _ in found] + [hex(left)] * bool(left)
+
+
+def relocation_name(machine: int, typ: int) -> str:
+    """The name of the type of a relocation of an object for this machine."""
+    names = _constants("IMAGE_REL_%s_" % _RELOCATIONS[machine]) if machine in _RELOCATIONS else {}
+    return next((name for name, named in names.items() if named == typ), hex(typ))
+
+
+def printable(name: bytes) -> str:
+    r"""A text for a name that can be printed: each byte outside printable ASCII, and the backslash,
+    is \x and two digits. So two names that print alike are equal."""
+    return "".join(chr(byte) if 32 <= byte < 127 and byte != 92 else "\\x%02x" % byte for byte in name)

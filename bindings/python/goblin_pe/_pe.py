@@ -1,0 +1,127 @@
+"""Images with lists."""
+from __future__ import annotations
+
+import enum
+import json
+import os
+import types
+from collections.abc import Iterable
+from typing import Any, Union
+
+from ._errors import OutOfSteps, PeError
+from ._image import Image
+from ._library import Data
+from ._names import printable
+from ._options import Budget, Options
+from ._rows import (
+    BLOCKS, Export, ExportAddress, ExportDirectory, Import, RelocationBlock, RichEntry, Section)
+
+_Path = Union[str, "os.PathLike[str]"]
+
+
+def plain(value: Any) -> Any:
+    """A value that JSON has: the fields of a row and of an error, the name of a number, and a printable text of bytes."""
+    if isinstance(value, (bytes, memoryview)):
+        return printable(bytes(value))
+    if isinstance(value, enum.Enum):
+        return value.name
+    if isinstance(value, PeError):
+        return {"text": str(value), "kind": value.kind.name, "cause": plain(value.cause), "table": plain(value.table)}
+    if isinstance(value, dict):
+        return {name: plain(it) for name, it in value.items()}
+    if hasattr(value, "_fields"):
+        return {name: plain(it) for name, it in zip(value._fields, value)}
+    return [plain(it) for it in value] if isinstance(value, (tuple, list)) else value
+
+
+class Pe:
+    """An image and the rows of its tables: what the walks of an Image give, as tuples. All of it is
+    read at once, so a budget limits the memory that it takes. The tuples stay when the file is
+    closed."""
+
+    image: Image
+    """The headers, and look-ups."""
+    sections: tuple[Section, ...]
+    rich_entries: tuple[RichEntry, ...]
+    imports: tuple[Import, ...]
+    export_directory: ExportDirectory | None
+    exports: tuple[Export, ...]
+    export_addresses: tuple[ExportAddress, ...]
+    relocation_blocks: tuple[RelocationBlock, ...]
+    errors: tuple[PeError, ...]
+    """Why tuples end early, each error with its `table`. In both modes bytes that are no entry of the
+    Rich header, and bytes that are no block of base relocations; in permissive mode every error at
+    which a walk ended."""
+
+    def __init__(self, data: Data, options: Options = Options(), budget: Budget | None = None) -> None:
+        """Reads an image and lists its tables. PeError is raised as by Image, and in strict
+        mode for the first table that is refused; OutOfSteps in both modes."""
+        self._list(Image(data, options), budget)
+
+    @classmethod
+    def open(cls, path: _Path, options: Options = Options(), budget: Budget | None = None) -> Pe:
+        """The image in a file, which is read whole."""
+        return cls.of(Image.open(path, options), budget)
+
+    @classmethod
+    def of(cls, image: Image, budget: Budget | None = None) -> Pe:
+        """Lists the tables of an image, such as a partial one."""
+        pe = cls.__new__(cls)
+        pe._list(image, budget)
+        return pe
+
+    def _list(self, image: Image, budget: Budget | None) -> None:
+        errors: list[PeError] = []
+
+        def listed(rows: Iterable[Any], ends_early: bool = False) -> tuple[Any, ...]:
+            # all rows; an error that refuses no table ends them
+            found: list[Any] = []
+            try:
+                found.extend(rows)
+            except OutOfSteps:
+                raise
+            except PeError as error:
+                if not (ends_early or image.options.permissive):
+                    raise
+                errors.append(error.with_traceback(None))
+            return tuple(found)
+
+        self.image, self.sections = image, image.sections
+        self.rich_entries = listed(image.rich_entries(), True)
+        self.imports = listed(image.imports(budget))
+        self.export_directory = next(iter(listed(image.export_directory() for _ in range(1))), None)
+        self.exports = listed(image.exports(budget))
+        self.export_addresses = listed(image.export_addresses(budget))
+        if not image.options.permissive:
+            image._test_table(BLOCKS)
+        self.relocation_blocks = listed(image.relocation_blocks(budget), True)
+        self.errors = tuple(errors)
+
+    @property
+    def name(self) -> bytes | None:
+        """The image's own name as a DLL."""
+        return self.export_directory.name if self.export_directory else None
+
+    @property
+    def libraries(self) -> tuple[bytes, ...]:
+        """The names of the DLLs that it imports from, sorted, each once."""
+        return tuple(sorted({it.dll for it in self.imports}))
+
+    def to_json(self) -> str:
+        """All that was read, as JSON. Names are as by `printable`."""
+        image = self.image
+        headers = ("dos_header", "coff_header", "optional_header", "rich_header", "directories")
+        lists = ("sections", "rich_entries", "imports", "export_directory", "exports", "export_addresses", "relocation_blocks", "errors")
+        values = {**{it: getattr(image, it) for it in headers}, **{it: getattr(self, it) for it in lists}}
+        return json.dumps(plain(values))
+
+    def __enter__(self) -> Pe:
+        return self
+
+    def __exit__(
+        self,
+        kind: type[BaseException] | None,
+        error: BaseException | None,
+        trace: types.TracebackType | None,
+    ) -> None:
+        self.image.close()

@@ -1,0 +1,473 @@
+"""The rows of tables, as named tuples of Python's own: they stay when the file is closed."""
+from __future__ import annotations
+
+import ctypes as c
+import hashlib
+import operator
+import struct
+from typing import TYPE_CHECKING, Any, Callable, Iterator, NamedTuple, TypeVar
+
+from . import _records
+from ._errors import PeError, Table, error_of, test
+from ._library import LIB
+from ._number import Number
+from ._walk import Kind, Walk
+from .constants import IMAGE_SCN_LNK_NRELOC_OVFL, SIZEOF_SECTION_TABLE
+
+if TYPE_CHECKING:
+    from ._image import Image
+    from ._options import Budget
+
+
+def in_range(number: int) -> int:
+    """A number that the library can take. OverflowError is raised for another one."""
+    if not 0 <= number < 1 << 64:
+        raise OverflowError("a number from 0 to 2**64 - 1 is wanted, not %d" % number)
+    return number
+
+
+_Row = TypeVar("_Row", bound=type)
+
+
+def _sorted_with_none(row: _Row) -> _Row:
+    # a row whose fields may be None is sorted, too: None comes first. An error is sorted by its text.
+    def key(it: Any) -> Any:
+        return tuple((field is not None, str(field) if isinstance(field, PeError) else field) for field in it)
+
+    for compare in operator.lt, operator.le, operator.gt, operator.ge:
+        setattr(row, "__%s__" % compare.__name__, lambda one, other, compare=compare: (
+            compare(key(one), key(other)) if isinstance(other, tuple) else NotImplemented))
+    return row
+
+
+class Region(Number):
+    """Where memory of an image comes from."""
+
+    UNMAPPED = 0
+    """The loader maps nothing there."""
+    HEADERS = 1
+    """The headers."""
+    RAW_DATA = 2
+    """The raw data of a section."""
+    ZEROS = 3
+    """The zeros that follow the raw data of a section."""
+
+
+class Memory(NamedTuple):
+    """Bytes that a loader puts into memory: `data`, then `zeros` zeros. `missing` more were asked
+    for, and are unknown. `section` is the index of the section, and `region` what is at the first
+    byte. `bytes(memory)` is the data and the zeros."""
+
+    data: memoryview
+    zeros: int
+    missing: int
+    section: int | None
+    region: Region
+
+    def whole(self) -> memoryview | None:
+        """`data`, if it is all that was asked for: no zeros follow, and nothing is missing."""
+        return None if self.zeros or self.missing else self.data
+
+    def __bytes__(self) -> bytes:
+        return bytes(self.data) + bytes(self.zeros)
+
+
+class Section(NamedTuple):
+    """A section header. The name is from the string table if the stored name is a slash and a
+    number, else the stored bytes before the first NUL. In a TE file the address and the pointers
+    are moved to where they are in the file."""
+
+    name: bytes
+    stored_name: bytes
+    index: int
+    virtual_size: int
+    virtual_address: int
+    size_of_raw_data: int
+    pointer_to_raw_data: int
+    pointer_to_relocations: int
+    pointer_to_linenumbers: int
+    number_of_relocations: int
+    number_of_linenumbers: int
+    characteristics: int
+
+    def data(self, image: Image) -> Memory:
+        """The contents of the section: its raw data, and the zeros up to the virtual size."""
+        return image._memory(LIB.goblin_pe_section_data, c.byref(_section_record(self)))
+
+    def relocations(self, image: Image, budget: Budget | None = None) -> Walk[CoffRelocation]:
+        """All relocations of a section of an object, also if there are more than 65,535."""
+        cursor = _section_record(self).relocations
+        cursor.index = int(cursor.is_extended)  # (the first record is then their number)
+        return Walk(image, COFF_RELOCATIONS, cursor, budget)
+
+    def with_name_offset(self, offset: int) -> Section:
+        """The same section, whose stored name leads to this offset of the string table."""
+        record = _section_record(self)
+        test(LIB.goblin_pe_set_name_offset(c.byref(record), in_range(offset)), None)
+        return self._replace(stored_name=bytes(record.stored_name))
+
+    def to_bytes(self) -> bytes:
+        """The 40 bytes of the section header, with the stored name."""
+        out, written = c.create_string_buffer(SIZEOF_SECTION_TABLE), c.c_size_t()
+        test(LIB.goblin_pe_write_section(c.byref(_section_record(self)), out, len(out), c.byref(written)), None)
+        return out.raw
+
+
+class RichHeader(NamedTuple):
+    """The Rich header: by which tools the image was made. `stored` are its bytes from the marker
+    DanS up to the marker Rich, under the key."""
+
+    stored: bytes
+    key: int
+    start_offset: int
+    end_offset: int
+    padding_size: int
+
+    def hash(self) -> str:
+        """The MD5 that analysts compare, in hexadecimal, as pefile's get_rich_header_hash."""
+        key = self.key.to_bytes(4, "little")
+        cleared = bytes(byte ^ key[i % 4] for i, byte in enumerate(self.stored))
+        return hashlib.md5(cleared, usedforsecurity=False).hexdigest()
+
+
+class RichEntry(NamedTuple):
+    """A tool, and how many files it made."""
+
+    build: int
+    product: int
+    use_count: int
+
+
+@_sorted_with_none
+class Import(NamedTuple):
+    """An import, by `name`, with a `hint`, or by `ordinal`: what it has not is None. `library` and
+    `thunk_index` are the indexes of its entries in the import directory and in the lookup table.
+    The loader puts the address at `iat_rva`. The dll is empty if permissive mode could not read
+    it."""
+
+    dll: bytes
+    name: bytes | None
+    hint: int | None
+    ordinal: int | None
+    iat_rva: int
+    hint_name_rva: int
+    library: int
+    thunk_index: int
+
+
+@_sorted_with_none
+class Library(NamedTuple):
+    """A DLL that the image imports from: an entry of the import directory. A DLL may have several.
+    Permissive mode skips one that has no address table."""
+
+    name: bytes | None
+    name_error: PeError | None
+    index: int
+    offset: int
+    import_lookup_table_rva: int
+    time_date_stamp: int
+    forwarder_chain: int
+    name_rva: int
+    import_address_table_rva: int
+    is_skipped: bool
+    cursor: tuple[int, ...]
+
+    def imports(self, image: Image, budget: Budget | None = None) -> Walk[Import]:
+        """The imports of this library alone. They begin at the `cursor`, which is opaque."""
+        cursor, fields = _records.ImportCursor(*self.cursor), len(_records.ImportCursor._fields_)
+        if not fields - 1 <= len(self.cursor) <= fields:
+            raise TypeError("the cursor of a library is wanted, not %r" % (self.cursor,))
+        return Walk(image, IMPORTS, cursor, budget)
+
+
+@_sorted_with_none
+class Forwarder(NamedTuple):
+    """Where an export is forwarded to: an export of another DLL, by `name` or by `ordinal`."""
+
+    dll: bytes
+    name: bytes | None
+    ordinal: int | None
+
+
+@_sorted_with_none
+class Export(NamedTuple):
+    """An export that has a name pointer. The name is None if it can't be read, and the offset if
+    the address has none."""
+
+    name: bytes | None
+    ordinal: int
+    hint: int
+    rva: int
+    name_rva: int
+    offset: int | None
+    forwarder: Forwarder | None
+
+
+class ExportAddress(NamedTuple):
+    """An entry of the export address table, with or without a name. The rva is 0 if the ordinal is
+    unused. Image.forwarder_at reads where it is forwarded to."""
+
+    ordinal: int
+    rva: int
+    is_forwarder: bool
+
+
+class ExportDirectory(NamedTuple):
+    """The export directory: the image's own name, and the table as stored."""
+
+    name: bytes | None
+    export_flags: int
+    time_date_stamp: int
+    major_version: int
+    minor_version: int
+    name_rva: int
+    ordinal_base: int
+    address_table_entries: int
+    number_of_name_pointers: int
+    export_address_table_rva: int
+    name_pointer_rva: int
+    ordinal_table_rva: int
+
+
+class BaseRelocation(NamedTuple):
+    """What a loader changes if it loads the image elsewhere. The type is an IMAGE_REL_BASED_*."""
+
+    rva: int
+    typ: int
+
+
+class RelocationBlock(NamedTuple):
+    """A block of base relocations, for one page: `entries` are two bytes each."""
+
+    rva: int
+    size: int
+    entries: bytes
+
+    def relocations(self) -> Iterator[BaseRelocation]:
+        """The base relocations of the block."""
+        for (word,) in struct.iter_unpack("<H", self.entries[: len(self.entries) & ~1]):
+            yield BaseRelocation(self.rva + (word & 0xFFF) & 0xFFFFFFFF, word >> 12)
+
+
+class AuxiliaryKind(Number):
+    """Which auxiliary records a symbol has."""
+
+    FUNCTION_DEFINITION = 1
+    BEGIN_AND_END_FUNCTION = 2
+    WEAK_EXTERNAL = 3
+    FILE = 4
+    SECTION_DEFINITION = 5
+
+
+class Auxiliary(NamedTuple):
+    """What the auxiliary records of a symbol say: the fields of its kind. All others are 0 or None.
+
+    FUNCTION_DEFINITION: tag_index, total_size, pointer_to_line_number, pointer_to_next_function.
+    BEGIN_AND_END_FUNCTION: line_number, pointer_to_next_function.
+    WEAK_EXTERNAL: tag_index, the index of the symbol that stands in, and characteristics.
+    FILE: file, the name of a source file; if that is None, it is in the string table at
+        string_offset.
+    SECTION_DEFINITION: length, number_of_relocations, number_of_line_numbers, checksum, number and
+        selection.
+    """
+
+    kind: AuxiliaryKind
+    tag_index: int
+    total_size: int
+    pointer_to_line_number: int
+    pointer_to_next_function: int
+    line_number: int
+    characteristics: int
+    file: bytes | None
+    string_offset: int
+    length: int
+    number_of_relocations: int
+    number_of_line_numbers: int
+    checksum: int
+    number: int
+    selection: int
+
+
+@_sorted_with_none
+class Symbol(NamedTuple):
+    """A symbol of an image or an object. The name is None if it can't be read."""
+
+    index: int
+    name: bytes | None
+    stored_name: bytes
+    value: int
+    section_number: int
+    typ: int
+    storage_class: int
+    number_of_aux_symbols: int
+    aux_bytes: bytes
+
+    def auxiliary(self) -> Auxiliary | None:
+        """What the auxiliary records say; None if there are none, or of no known kind."""
+        auxiliary, found = c.create_string_buffer(self.aux_bytes, len(self.aux_bytes) or 1), _records.Auxiliary()
+        stored = _records.SymbolRecord(
+            (c.c_uint8 * 8)(*self.stored_name), self.value, self.section_number, self.typ, self.storage_class, self.number_of_aux_symbols)
+        record = _records.Symbol(auxiliary=_records.Slice(c.addressof(auxiliary), len(self.aux_bytes)), record=stored)
+        kind = LIB.goblin_pe_read_auxiliary(c.byref(record), c.byref(found))
+        return _auxiliary(AuxiliaryKind(kind), found) if kind else None
+
+
+class CoffRelocation(NamedTuple):
+    """A relocation of an object. Image.symbol_at reads the symbol."""
+
+    virtual_address: int
+    symbol_table_index: int
+    typ: int
+
+
+class Damage(NamedTuple):
+    """What strict mode refuses of an image, part by part, and what the walks skip. `str(damage)` is
+    a line for each part that is damaged and for each count that is not 0.
+
+    skipped_libraries, skipped_entries: what permissive mode skips: libraries without an address
+        table, and imports whose hint is cut.
+    unmapped_entries, skipped_exports: what both modes skip: entries that lead nowhere, and name
+        pointers that give no export.
+    is_sound: whether both modes read the image, and read it alike.
+    """
+
+    dos_stub: PeError | None
+    section_names: PeError | None
+    imports: PeError | None
+    exports: PeError | None
+    relocations: PeError | None
+    skipped_libraries: int
+    skipped_entries: int
+    unmapped_entries: int
+    skipped_exports: int
+    is_sound: bool
+
+    def errors(self) -> dict[str, PeError]:
+        """The damaged parts, by the names of the fields."""
+        return {name: error for name, error in zip(self._fields[:5], self[:5]) if error}  # type: ignore[misc]
+
+    def __str__(self) -> str:
+        lines = ["%s: %s" % it for it in self.errors().items()]
+        texts = ("libraries are skipped", "imports are skipped", "import entries lead nowhere", "name pointers give no export")
+        lines += ["%d %s" % it for it in zip(self[5:9], texts) if it[0]]
+        return "".join(line + "\n" for line in lines)
+
+
+# ---- the rows of records ----
+
+_U32 = 0xFFFFFFFF
+
+
+def text(it: Any) -> bytes:
+    """The bytes of a slice."""
+    return c.string_at(it.bytes, it.length)
+
+
+def _section_record(it: Section) -> _records.Section:
+    record = _records.Section(
+        index=it.index, virtual_size=it.virtual_size, virtual_address=it.virtual_address, size_of_raw_data=it.size_of_raw_data,
+        pointer_to_raw_data=it.pointer_to_raw_data, pointer_to_relocations=it.pointer_to_relocations,
+        pointer_to_linenumbers=it.pointer_to_linenumbers, number_of_relocations=it.number_of_relocations,
+        number_of_linenumbers=it.number_of_linenumbers, characteristics=it.characteristics)
+    record.stored_name[:] = it.stored_name
+    if tuple(getattr(record, name) for name in it._fields[2:]) != it[2:]:
+        raise OverflowError("a number does not fit its field: %r" % (it,))
+    record.relocations.offset, record.relocations.count = it.pointer_to_relocations, it.number_of_relocations
+    record.relocations.is_extended = bool(
+        it.characteristics & IMAGE_SCN_LNK_NRELOC_OVFL and it.number_of_relocations == 0xFFFF)
+    return record
+
+
+def _section(it: Any, image: Image) -> Section:
+    return Section(
+        text(it.name), bytes(it.stored_name), it.index, it.virtual_size, it.virtual_address, it.size_of_raw_data, it.pointer_to_raw_data,
+        it.pointer_to_relocations, it.pointer_to_linenumbers, it.number_of_relocations, it.number_of_linenumbers, it.characteristics)
+
+
+def _rich_entry(it: Any, image: Image) -> RichEntry:
+    return RichEntry(it.build, it.product, it.use_count)
+
+
+def _import(it: Any, image: Image) -> Import:
+    is_by_name, number = it.is_by_name, it.hint_or_ordinal
+    return Import(
+        text(it.dll), text(it.name) if is_by_name else None, number if is_by_name else None, None if is_by_name else number,
+        it.iat_rva & _U32, it.hint_name_rva & _U32, it.library_index, it.thunk_index)
+
+
+def _library(it: Any, image: Image) -> Library:
+    error, record, cursor = error_of(it.name_fault, Table.IMPORTS), it.record, it.imports
+    return Library(
+        None if error else text(it.name), error, it.index, it.offset, record.import_lookup_table_rva, record.time_date_stamp,
+        record.forwarder_chain, record.name_rva, record.import_address_table_rva, it.is_skipped,
+        tuple(int(getattr(cursor, name)) for name, _ in cursor._fields_ if name != "reserved"))
+
+
+def forwarder(it: Any) -> Forwarder | None:
+    """The forwarder of a record; None if it is none."""
+    if not it.kind:
+        return None
+    return Forwarder(text(it.dll), text(it.name) if it.kind == 1 else None, it.ordinal if it.kind == 2 else None)
+
+
+def _export(it: Any, image: Image) -> Export:
+    return Export(
+        text(it.name) if it.has_name else None, it.ordinal, it.hint, it.rva & _U32, it.name_rva & _U32,
+        it.offset if it.has_offset else None, forwarder(it.forwarder))
+
+
+def _export_address(it: Any, image: Image) -> ExportAddress:
+    return ExportAddress(it.ordinal, it.rva & _U32, it.is_forwarder)
+
+
+def export_directory(it: Any) -> ExportDirectory | None:
+    """The export directory of a record; None if there is none."""
+    if not it.is_present:
+        return None
+    fields = (getattr(it.record, name) for name in ExportDirectory._fields[1:])
+    return ExportDirectory(text(it.name) if it.has_name else None, *fields)
+
+
+def _block(it: Any, image: Image) -> RelocationBlock:
+    return RelocationBlock(it.rva & _U32, it.size, bytes(image.data[it.relocations.offset: it.relocations.end]))
+
+
+def _symbol(it: Any, image: Image) -> Symbol:
+    record = it.record
+    return Symbol(
+        it.index, text(it.name) if it.has_name else None, bytes(record.name), record.value, record.section_number, record.typ,
+        record.storage_class, record.number_of_aux_symbols, text(it.auxiliary))
+
+
+def _auxiliary(kind: AuxiliaryKind, it: Any) -> Auxiliary:
+    is_named = kind == AuxiliaryKind.FILE and not it.string_offset
+    return Auxiliary(
+        kind, it.tag_index, it.total_size, it.pointer_to_line_number, it.pointer_to_next_function, it.line_number, it.characteristics,
+        text(it.file) if is_named else None, it.string_offset, it.length, it.number_of_relocations, it.number_of_line_numbers,
+        it.checksum, it.number, it.selection)
+
+
+def _coff_relocation(it: Any, image: Image) -> CoffRelocation:
+    return CoffRelocation(it.virtual_address, it.symbol_table_index, it.typ)
+
+
+def damage(it: Any) -> Damage:
+    """The damage of a record."""
+    tables = (Table.HEADER, Table.HEADER, Table.IMPORTS, Table.EXPORTS, Table.RELOCATIONS)
+    errors = (error_of(getattr(it, name), table) for name, table in zip(Damage._fields, tables))
+    return Damage(*errors, *(getattr(it, name) for name in Damage._fields[5:]))
+
+
+# What each table is walked by.
+SECTIONS = Kind(LIB.goblin_pe_next_sections, _records.Section, _records.SectionCursor, Table.HEADER, _section)
+RICH_ENTRIES = Kind(LIB.goblin_pe_next_rich_entries, _records.RichEntry, _records.RichCursor, Table.RICH_HEADER, _rich_entry)
+IMPORTS = Kind(LIB.goblin_pe_next_imports, _records.Import, _records.ImportCursor, Table.IMPORTS, _import, counts_steps=True)
+LIBRARIES = Kind(LIB.goblin_pe_next_libraries, _records.Library, _records.ImportCursor, Table.IMPORTS, _library)
+EXPORTS = Kind(LIB.goblin_pe_next_exports, _records.Export, _records.ExportCursor, Table.EXPORTS, _export, counts_steps=True)
+EXPORT_ADDRESSES = Kind(
+    LIB.goblin_pe_next_export_addresses, _records.ExportAddress, _records.ExportAddressCursor, Table.EXPORTS, _export_address)
+BLOCKS = Kind(
+    LIB.goblin_pe_next_relocation_blocks, _records.RelocationBlock, _records.RelocationBlockCursor, Table.RELOCATIONS, _block)
+SYMBOLS = Kind(LIB.goblin_pe_next_symbols, _records.Symbol, _records.SymbolCursor, Table.SYMBOLS, _symbol)
+COFF_RELOCATIONS = Kind(
+    LIB.goblin_pe_next_coff_relocations, _records.CoffRelocation, _records.CoffRelocationCursor, Table.SYMBOLS, _coff_relocation)

@@ -1,0 +1,78 @@
+"""Walks over tables."""
+from __future__ import annotations
+
+import ctypes as c
+from typing import TYPE_CHECKING, Any, Callable, Generic, Iterator, NamedTuple, TypeVar
+
+from . import _records
+from ._errors import Table, steps_error, test
+from ._options import Budget
+
+if TYPE_CHECKING:
+    from ._image import Image
+
+_Row = TypeVar("_Row", covariant=True)
+
+# How many rows are read at once: first, and then.
+_FIRST, _ROOM = 32, 256
+
+
+class Kind(NamedTuple):
+    """What a table is walked by: the call, its record and cursor, the table for its errors, and how a row is made of a record.
+    A call that does not count steps takes one for each row."""
+
+    call: Any
+    record: Any
+    cursor: Any
+    table: Table
+    row: Callable[[Any, Image], Any]
+    counts_steps: bool = False
+
+
+class Walk(Generic[_Row]):
+    """An iterator over the rows of a table. It reads the file as it goes on, and keeps no row. It
+    raises the rows' error after the rows before it. After OutOfSteps it goes on as soon as its
+    budget has more steps, so you can keep a walk, and go on with it later."""
+
+    def __init__(self, image: Image, kind: Kind, cursor: Any = None, budget: Budget | None = None) -> None:
+        if not (budget is None or isinstance(budget, Budget)):
+            raise TypeError("a Budget is wanted, not %r" % (budget,))
+        self._image, self._kind, self._budget = image, kind, budget
+        self._cursor = kind.cursor() if cursor is None else cursor
+        self._rows: Iterator[Any] = iter(())
+        self._room, self._is_over = _FIRST, False
+
+    def __iter__(self) -> Walk[_Row]:
+        return self
+
+    def __next__(self) -> _Row:
+        for row in self._rows:
+            return row  # type: ignore[no-any-return]
+        while not self._is_over:
+            self._rows = iter(self._batch())
+            for row in self._rows:
+                return row  # type: ignore[no-any-return]
+        raise StopIteration
+
+    def _batch(self) -> list[Any]:
+        # the next rows
+        kind, budget = self._kind, self._budget
+        left = None if budget is None else budget.left
+        room = self._room if kind.counts_steps or left is None else min(self._room, left)
+        if not room:
+            raise steps_error(kind.table)
+        records, batch = (kind.record * room)(), _records.Batch()
+        steps = None if left is None else c.c_size_t(left)
+        taken = [steps and c.byref(steps)] if kind.counts_steps else []
+        cursor = kind.cursor.from_buffer_copy(self._cursor)  # (its own: another thread may go on with the walk meanwhile)
+        with self._image._held() as image:
+            fault = kind.call(image, c.byref(cursor), records, room, *taken, c.byref(batch))
+            if fault.status:
+                self._is_over = fault.status not in (5, 7)  # (with more memory or steps it goes on)
+                test(fault, kind.table)
+            row, of = kind.row, self._image
+            rows = [row(it, of) for it in records[: batch.count]]
+        if budget is not None and left is not None:
+            budget.left = steps.value if kind.counts_steps and steps is not None else left - batch.count
+        self._cursor, self._room, self._is_over = cursor, _ROOM, batch.is_done
+        return rows

@@ -1,0 +1,1006 @@
+//! The image.
+
+use std::fmt;
+use std::io::{self, Write};
+use std::ops::Range;
+use std::ptr::NonNull;
+
+use crate::constants::{IMAGE_FILE_DLL, MAGIC_64};
+use crate::error::Error;
+use crate::ffi;
+use crate::headers::{
+    CoffHeader, DataDirectory, DirectoryType, DosHeader, Header, OptionalHeader, STUB, TeHeader,
+    default_stub,
+};
+use crate::imphash;
+use crate::memory::room;
+use crate::options::{Budget, Options};
+use crate::patch;
+use crate::rows::{
+    Export, ExportAddress, ExportDirectory, Forwarder, Import, Library, RelocationBlock, RichEntry,
+    RichHeader, Section, Symbol,
+};
+use crate::text::Text;
+use crate::walk::{Rows, Walk, Walked};
+
+/// A PE image, a COFF object or a Terse Executable.
+///
+/// It is a header that was read, and the bytes of the file. It takes no memory of its own, and is
+/// cheap to copy (half a kilobyte). Its tables are read when you walk over them.
+///
+/// ```no_run
+/// use goblin_pe::{Image, Options};
+///
+/// let bytes = std::fs::read("some.dll")?;
+/// let image = Image::read(&bytes, Options::permissive())?;
+/// for section in image.sections() {
+///     println!("{:<8} {:#10x} {:#x}", section.name, section.virtual_address, section.virtual_size);
+/// }
+/// # Ok::<(), std::io::Error>(())
+/// ```
+///
+/// It can't outlive the bytes:
+///
+/// ```compile_fail
+/// # use goblin_pe::Image;
+/// let bytes = std::fs::read("some.dll")?;
+/// let image = Image::parse(&bytes)?;
+/// drop(bytes);
+/// println!("{image:?}");
+/// # Ok::<(), std::io::Error>(())
+/// ```
+#[derive(Clone, Copy)]
+pub struct Image<'a> {
+    pub(crate) record: ffi::Image<'a>,
+}
+
+// Fills a record by a call.
+fn filled<T: Default>(
+    table: Option<Table>,
+    call: impl FnOnce(&mut T) -> ffi::Fault,
+) -> Result<T, Error> {
+    let mut record = T::default();
+    Error::test(call(&mut record), table)?;
+    Ok(record)
+}
+
+/// # Reading
+impl<'a> Image<'a> {
+    /// Reads the header and the section table of an image. The other tables are not looked at.
+    ///
+    /// # Errors
+    /// What is wrong with the header, the section table or a section name. In permissive mode less
+    /// is wrong, but some is: a file without a whole header and section table, an optional header
+    /// of an unknown magic, more than sixteen data directories, a section name of a slash and no
+    /// number, and a Rich marker without `DanS`. [`read_partial`](Self::read_partial) reads such a
+    /// file.
+    pub fn read(bytes: &'a [u8], options: Options) -> Result<Image<'a>, Error> {
+        let (of, length) = (bytes.as_ptr(), bytes.len());
+        // SAFETY: so many bytes are there.
+        let record = filled(Some(Table::Header), |it| unsafe {
+            ffi::goblin_pe_read_image(of, length, &options.record(), it)
+        })?;
+        Ok(Image { record })
+    }
+
+    /// Reads an image by the default options: strictly.
+    ///
+    /// # Errors
+    /// As [`Image::read`].
+    pub fn parse(bytes: &'a [u8]) -> Result<Image<'a>, Error> {
+        Image::read(bytes, Options::default())
+    }
+
+    /// Reads the header of an image as far as it goes, whatever the file holds. What can't be read
+    /// is zeros, and the faults say why. All walks and look-ups work on such an image.
+    ///
+    /// ```no_run
+    /// use goblin_pe::{Image, Options};
+    ///
+    /// let bytes = std::fs::read("damaged.exe")?;
+    /// let (image, faults) = Image::read_partial(&bytes, Options::permissive());
+    /// for (part, error) in faults.errors() {
+    ///     println!("{part}: {error}");
+    /// }
+    /// println!("{} sections are there", image.sections().len());
+    /// # Ok::<(), std::io::Error>(())
+    /// ```
+    #[must_use]
+    pub fn read_partial(bytes: &'a [u8], options: Options) -> (Image<'a>, HeaderFaults) {
+        let (of, length) = (bytes.as_ptr(), bytes.len());
+        let (mut record, mut faults) = (ffi::Image::default(), ffi::HeaderFaults::default());
+        // SAFETY: so many bytes are there.
+        let refusal = unsafe {
+            let options = options.record();
+            ffi::goblin_pe_read_partial_image(of, length, &options, &mut record, &mut faults)
+        };
+        (Image { record }, HeaderFaults::of(refusal, &faults))
+    }
+
+    /// Reads the header of a COFF object. It has sections, symbols and relocations, and no
+    /// directories and addresses. The machine is not tested: ask [`Kind::of`] first.
+    ///
+    /// # Errors
+    /// A file that is too short for its section headers, and a bad section name, as the mode says.
+    pub fn read_object(bytes: &'a [u8], options: Options) -> Result<Image<'a>, Error> {
+        let (of, length) = (bytes.as_ptr(), bytes.len());
+        // SAFETY: so many bytes are there.
+        let record = filled(Some(Table::Header), |it| unsafe {
+            ffi::goblin_pe_read_object(of, length, &options.record(), it)
+        })?;
+        Ok(Image { record })
+    }
+
+    /// Reads the header of a Terse Executable. It has sections, and no directories and addresses.
+    /// The addresses and pointers of sections are moved to where they are in this file.
+    ///
+    /// # Errors
+    /// A file that is too short for the header or its section headers, and a stripped size below
+    /// that of the header.
+    pub fn read_te(bytes: &'a [u8], options: Options) -> Result<(Image<'a>, TeHeader), Error> {
+        let (of, length) = (bytes.as_ptr(), bytes.len());
+        let mut header = TeHeader::default();
+        // SAFETY: so many bytes are there.
+        let record = filled(Some(Table::Header), |it| unsafe {
+            ffi::goblin_pe_read_te(of, length, &options.record(), it, &mut header)
+        })?;
+        Ok((Image { record }, header))
+    }
+
+    /// The same image, read by other options: in the other mode, with another mapping or with
+    /// another limit for names. The header itself is not read again.
+    ///
+    /// ```no_run
+    /// use goblin_pe::{Image, Mapping};
+    ///
+    /// # let bytes = [];
+    /// let image = Image::parse(&bytes)?;
+    /// let as_goblin = image.with_options(image.options().with_mapping(Mapping::AsStored));
+    /// if image.imports().ne(as_goblin.imports()) {
+    ///     println!("goblin sees other imports than Windows");
+    /// }
+    /// # Ok::<(), goblin_pe::Error>(())
+    /// ```
+    #[must_use]
+    pub const fn with_options(mut self, options: Options) -> Image<'a> {
+        self.record.options = options.record();
+        self
+    }
+}
+
+/// # Headers
+impl<'a> Image<'a> {
+    /// The bytes of the file.
+    #[must_use]
+    pub const fn bytes(&self) -> &'a [u8] {
+        self.record.bytes.get()
+    }
+
+    /// How the image is read.
+    #[must_use]
+    pub const fn options(&self) -> Options {
+        Options::of(&self.record.options)
+    }
+
+    /// What it is: an image, an object or a Terse Executable.
+    #[must_use]
+    pub const fn kind(&self) -> Kind {
+        Kind::numbered(self.record.kind)
+    }
+
+    /// Whether the optional header is one for 64 bits.
+    #[must_use]
+    pub fn is_64(&self) -> bool {
+        let optional = self.optional_header();
+        optional.is_some_and(|it| it.standard_fields.magic == MAGIC_64)
+    }
+
+    /// Whether the COFF header has the flag of a dynamic-link library.
+    #[must_use]
+    pub fn is_lib(&self) -> bool {
+        self.record.coff_header.characteristics & IMAGE_FILE_DLL != 0
+    }
+
+    /// The RVA of the entry point; 0 if there is none.
+    #[must_use]
+    pub fn entry(&self) -> u32 {
+        let fields = &self.record.optional_header.standard_fields;
+        fields.address_of_entry_point
+    }
+
+    /// The preferred address of the image in memory; 0 if it has no optional header.
+    #[must_use]
+    pub fn image_base(&self) -> u64 {
+        self.record.optional_header.windows_fields.image_base
+    }
+
+    /// The DOS header; zeros in an object and a Terse Executable.
+    #[must_use]
+    pub const fn dos_header(&self) -> &DosHeader {
+        &self.record.dos_header
+    }
+
+    /// The Rich header; `None` if there is none.
+    #[must_use]
+    pub fn rich_header(&self) -> Option<RichHeader<'a>> {
+        let it = &self.record.rich_header;
+        let stored = it.start_offset as usize..it.end_offset as usize;
+        it.is_present.then(|| RichHeader {
+            stored: self.bytes().get(stored).unwrap_or_default(),
+            key: it.key,
+            start_offset: it.start_offset,
+            end_offset: it.end_offset,
+            padding_size: it.padding_size,
+        })
+    }
+
+    /// The COFF header.
+    #[must_use]
+    pub const fn coff_header(&self) -> &CoffHeader {
+        &self.record.coff_header
+    }
+
+    /// The optional header. If it is `None`, there are no directories, and no address has an offset.
+    #[must_use]
+    pub const fn optional_header(&self) -> Option<&OptionalHeader> {
+        if self.record.has_optional_header {
+            Some(&self.record.optional_header)
+        } else {
+            None
+        }
+    }
+
+    /// A data directory; `None` if it is zeros.
+    #[must_use]
+    pub fn directory(&self, which: DirectoryType) -> Option<DataDirectory> {
+        let it = self.record.directories[which as usize];
+        (it != DataDirectory::default()).then_some(it)
+    }
+
+    /// The whole header, with the DOS stub and all data directories. You can change it, and put it
+    /// into the file: see [`patched`](Self::patched).
+    #[must_use]
+    pub fn header(&self) -> Header<'a> {
+        let it = &self.record;
+        let stub = self.bytes().get(STUB..STUB.saturating_add(it.dos_stub_size));
+        Header {
+            dos_header: it.dos_header,
+            dos_stub: match stub {
+                Some(stub) if !it.is_dos_stub_replaced => stub,
+                _ if it.is_dos_stub_replaced => default_stub(it),
+                _ => &[],
+            },
+            coff_header: it.coff_header,
+            optional_header: self.optional_header().copied(),
+            directories: it.directories,
+        }
+    }
+}
+
+/// # Walks
+impl<'a> Image<'a> {
+    /// The section headers, in order.
+    pub fn sections(&self) -> Rows<'a, Section<'a>> {
+        Rows::of(*self, self.record.section_count)
+    }
+
+    /// A walk over the entries of the Rich header.
+    pub fn rich_entries(&self) -> Walk<'a, RichEntry> {
+        Walk::of(self)
+    }
+
+    /// A walk over the imports, in the order of the import directory.
+    ///
+    /// Entries that lead nowhere give no import, in either mode. Permissive mode also skips
+    /// libraries without an address table, and entries whose hint is cut. [`damage`](Self::damage)
+    /// counts all of these.
+    pub fn imports(&self) -> Walk<'a, Import<'a>> {
+        Walk::of(self)
+    }
+
+    /// A walk over the libraries: one for each entry of the import directory, also the skipped ones.
+    ///
+    /// A row is one step of a budget. But libraries may share one long address table: then 5,000
+    /// rows of a megabyte take a second, and 100,000 rows of 16 megabytes three minutes. If you don't
+    /// trust the file, take some hundreds.
+    pub fn libraries(&self) -> Walk<'a, Library<'a>> {
+        Walk::of(self)
+    }
+
+    /// A walk over the exports that have a name pointer, in the order of these.
+    ///
+    /// A name pointer without an ordinal, with an ordinal past the address table, or with a forwarder
+    /// that can't be read gives no export, in either mode. [`damage`](Self::damage) counts these.
+    pub fn exports(&self) -> Walk<'a, Export<'a>> {
+        Walk::of(self)
+    }
+
+    /// A walk over the export address table: all ordinals, also those without a name.
+    pub fn export_addresses(&self) -> Walk<'a, ExportAddress> {
+        Walk::of(self)
+    }
+
+    /// A walk over the blocks of base relocations. In both modes bytes that are no block are an
+    /// error, after the blocks before them.
+    pub fn relocation_blocks(&self) -> Walk<'a, RelocationBlock<'a>> {
+        Walk::of(self)
+    }
+
+    /// A walk over the symbols of an image or an object.
+    pub fn symbols(&self) -> Walk<'a, Symbol<'a>> {
+        Walk::of(self)
+    }
+
+    /// Whether the image has a table, and whether it can be walked over. The header is always there.
+    #[must_use]
+    pub fn table_state(&self, table: Table) -> TableState {
+        let it = &self.record;
+        let has = |which| self.directory(which).is_some();
+        let (is_there, fault) = match table {
+            Table::Header => (true, ffi::Fault::default()),
+            Table::RichHeader => (it.rich_header.is_present, ffi::Fault::default()),
+            Table::Imports => (has(DirectoryType::ImportTable), self.refusal::<Import>()),
+            Table::Exports => (has(DirectoryType::ExportTable), self.refusal::<Export>()),
+            Table::Relocations => (
+                has(DirectoryType::BaseRelocationTable),
+                self.refusal::<RelocationBlock>(),
+            ),
+            Table::Symbols => (
+                it.coff_header.pointer_to_symbol_table != 0,
+                self.refusal::<Symbol>(),
+            ),
+        };
+        match Error::some(fault, table) {
+            _ if !is_there => TableState::Absent,
+            None => TableState::Present,
+            Some(error) => TableState::Refused(error),
+        }
+    }
+
+    // Why strict mode refuses a table as a whole.
+    pub(crate) fn refusal<T: Walked<'a>>(&self) -> ffi::Fault {
+        let mut strict = self.record;
+        strict.options.is_permissive = false;
+        let (mut cursor, mut steps) = (T::Cursor::default(), usize::MAX);
+        let (rows, mut batch) = (NonNull::dangling().as_ptr(), ffi::Batch::default());
+        // SAFETY: there is room for no row.
+        unsafe { T::next(&strict, &mut cursor, rows, 0, &mut steps, &mut batch) }
+    }
+}
+
+/// # Look-ups
+impl<'a> Image<'a> {
+    /// The first section of this name. `None` if there is none, and if the options cut this name.
+    #[must_use]
+    pub fn section_by_name(&self, name: impl AsRef<[u8]>) -> Option<Section<'a>> {
+        let name = name.as_ref();
+        let longest = u32::try_from(name.len().max(1)).unwrap_or(0);
+        // (a name of the options may be a part of one, and one by this limit is longer then)
+        let limited = self.with_options(self.options().with_longest_name(longest));
+        let is_named = |it: &Section| it.name == *name;
+        let mut found = self.sections().zip(limited.sections());
+        found.find_map(|(it, limited)| (is_named(&it) && is_named(&limited)).then_some(it))
+    }
+
+    /// The section of this number, from 1, as the `section_number` of a symbol has it. `None` for
+    /// the numbers 0, -1 and -2 of symbols without a section, and if there is no such section.
+    #[must_use]
+    pub fn section_by_number(&self, number: i16) -> Option<Section<'a>> {
+        let index = usize::try_from(number).ok()?.checked_sub(1)?;
+        self.sections().nth(index)
+    }
+
+    /// The export directory; `None` if the image has none, or permissive mode skips a damaged one.
+    ///
+    /// # Errors
+    /// In strict mode a damaged export directory.
+    pub fn export_directory(&self) -> Result<Option<ExportDirectory<'a>>, Error> {
+        let read = |it: &mut _| ffi::goblin_pe_read_export_directory(&self.record, it);
+        let it = filled(Some(Table::Exports), read)?;
+        Ok(ExportDirectory::of(&it))
+    }
+
+    /// The first export of this name; `None` if there is none.
+    ///
+    /// # Errors
+    /// As a walk over the exports, and [`ErrorKind::Steps`](crate::ErrorKind::Steps).
+    ///
+    /// ```no_run
+    /// use goblin_pe::{Budget, Image};
+    ///
+    /// # let bytes = [];
+    /// let image = Image::parse(&bytes)?;
+    /// let is_server = image.find_export("DllGetClassObject", &mut Budget::steps(100_000))?.is_some();
+    /// # Ok::<(), goblin_pe::Error>(())
+    /// ```
+    pub fn find_export(
+        &self,
+        name: impl AsRef<[u8]>,
+        budget: &mut Budget,
+    ) -> Result<Option<Export<'a>>, Error> {
+        // (a name that is longer than the wanted one need not be read whole)
+        let name = name.as_ref();
+        let longest = u32::try_from(name.len().max(1)).unwrap_or(0);
+        let image = self.with_options(self.options().with_longest_name(longest));
+        let wanted = Some(Text(name));
+        let found = |row: &Result<Export, _>| row.as_ref().map_or(true, |it| it.name == wanted);
+        let Some(mut export) = image.exports().within(budget).find(found).transpose()? else {
+            return Ok(None);
+        };
+        if export.forwarder.is_some() {
+            export.forwarder = Some(self.forwarder_at(export.rva)?);
+        }
+        Ok(Some(export))
+    }
+
+    /// The export of this ordinal, also one without a name; `None` if there is none, or the ordinal
+    /// is unused.
+    ///
+    /// # Errors
+    /// As [`export_directory`](Self::export_directory).
+    pub fn find_export_by_ordinal(&self, ordinal: usize) -> Result<Option<ExportAddress>, Error> {
+        let Some(directory) = self.export_directory()? else {
+            return Ok(None);
+        };
+        let Some(index) = ordinal.checked_sub(directory.ordinal_base as usize) else {
+            return Ok(None);
+        };
+        let found = self.first::<ExportAddress>(ffi::ExportAddressCursor { index })?;
+        Ok(found.filter(|it| it.rva != 0))
+    }
+
+    // The row at a cursor.
+    fn first<T: Walked<'a>>(&self, mut cursor: T::Cursor) -> Result<Option<T>, Error>
+    where
+        T::Record: Default,
+    {
+        let mut batch = ffi::Batch::default();
+        // SAFETY: there is room for one row.
+        let row = filled(Some(T::TABLE), |row| unsafe {
+            T::next(&self.record, &mut cursor, row, 1, &mut { usize::MAX }, &mut batch)
+        })?;
+        Ok((batch.count == 1).then(|| T::of(&row, self)))
+    }
+
+    /// The symbol whose record has this index, as relocations name it; `None` if the symbol table
+    /// ends before.
+    ///
+    /// # Errors
+    /// A file that is too short for the symbol table or the string table.
+    pub fn symbol_at(&self, index: u32) -> Result<Option<Symbol<'a>>, Error> {
+        let index = index as usize;
+        self.first(ffi::SymbolCursor { index })
+    }
+
+    /// The text at an offset of the string table; `None` if there is none, or it is not UTF-8. The
+    /// offset counts from the length field of the table.
+    #[must_use]
+    pub fn string_at(&self, offset: u32) -> Option<Text<'a>> {
+        let mut text = ffi::Slice::default();
+        let is_there = ffi::goblin_pe_string_at(&self.record, offset as usize, &mut text);
+        is_there.then(|| Text(text.get()))
+    }
+
+    /// The file offset of an RVA, as the mapping of the options says. It may lie past the end of the
+    /// file. `None` outside of sections and mapped headers, in the zeros after raw data, and if the
+    /// file alignment is no power of two.
+    #[must_use]
+    pub fn find_offset(&self, rva: u32) -> Option<usize> {
+        let mut offset = 0;
+        let is_there = ffi::goblin_pe_find_offset(&self.record, rva as usize, &mut offset);
+        is_there.then_some(offset)
+    }
+
+    /// The RVA of a file offset: one that [`find_offset`](Self::find_offset) maps to it.
+    #[must_use]
+    pub fn find_rva(&self, offset: usize) -> Option<u32> {
+        let mut rva = 0;
+        let is_there = ffi::goblin_pe_find_rva(&self.record, offset, &mut rva);
+        u32::try_from(rva).ok().filter(|_| is_there)
+    }
+
+    /// What a loader puts at an RVA: the section and region, and the first `size` bytes as far as
+    /// they are known.
+    ///
+    /// ```no_run
+    /// use goblin_pe::{DirectoryType, Image};
+    ///
+    /// # let bytes = [];
+    /// let image = Image::parse(&bytes)?;
+    /// if let Some(debug) = image.directory(DirectoryType::DebugTable) {
+    ///     // (28 bytes, or none if the image has fewer)
+    ///     let first = image.memory_at(debug.virtual_address, 28).whole();
+    ///     println!("{first:x?}");
+    /// }
+    /// # Ok::<(), goblin_pe::Error>(())
+    /// ```
+    #[must_use]
+    pub fn memory_at(&self, rva: u32, size: usize) -> Memory<'a> {
+        let mut memory = ffi::Memory::default();
+        ffi::goblin_pe_memory_at(&self.record, rva as usize, size, &mut memory);
+        Memory::of(&memory, self)
+    }
+
+    /// The text at an RVA, up to a NUL, the end of the file or the limit of the options. The end of
+    /// the section is not looked at.
+    ///
+    /// # Errors
+    /// An address without an offset, an offset past the end, and a text that is not UTF-8.
+    pub fn text_at(&self, rva: u32) -> Result<Text<'a>, Error> {
+        let read = |it: &mut _| ffi::goblin_pe_text_at(&self.record, rva as usize, it);
+        let text: ffi::Slice = filled(None, read)?;
+        Ok(Text(text.get()))
+    }
+
+    /// The forwarder whose text is at an RVA, as an [`ExportAddress`] has it.
+    ///
+    /// # Errors
+    /// As [`text_at`](Self::text_at), and a text that is no forwarder.
+    pub fn forwarder_at(&self, rva: u32) -> Result<Forwarder<'a>, Error> {
+        let read = |it: &mut _| ffi::goblin_pe_forwarder_at(&self.record, rva as usize, it);
+        let it = filled(None, read)?;
+        let (dll, ordinal) = (Text::default(), 0); // (it always has a kind)
+        Ok(Forwarder::of(&it).unwrap_or(Forwarder::Ordinal { dll, ordinal }))
+    }
+}
+
+/// # Facts about the whole file
+impl<'a> Image<'a> {
+    /// What strict mode refuses of the image, part by part, and what the walks skip. Both modes give
+    /// the same.
+    ///
+    /// # Errors
+    /// [`ErrorKind::Steps`](crate::ErrorKind::Steps), if the budget is too small for the whole
+    /// image: then nothing is known of its damage. And [`ErrorKind::Memory`](crate::ErrorKind::Memory).
+    pub fn damage(&self, budget: &mut Budget) -> Result<Damage, Error> {
+        let it = budget.take(|steps| {
+            filled(None, |it| ffi::goblin_pe_read_damage(&self.record, it, steps))
+        })?;
+        Ok(Damage::of(&it))
+    }
+
+    /// The file offsets of the bytes on which these answers depend: the header, the section headers,
+    /// and all rows of the imports, exports and base relocations, by the options of the image.
+    /// Another file of the same length, with the same bytes there, gets the same answers by the same
+    /// options. It may differ in all else: in its symbols, the data of sections, what is at addresses,
+    /// the overlay, the checksum, and its [`damage`](Self::damage). The ranges come in order, with a
+    /// byte between each and the next.
+    ///
+    /// Names are read whole, whatever the options say. So the budget does not limit the time: with
+    /// long names that overlap, a file of a megabyte takes half a minute.
+    ///
+    /// # Errors
+    /// [`ErrorKind::Steps`](crate::ErrorKind::Steps) and
+    /// [`ErrorKind::Memory`](crate::ErrorKind::Memory).
+    pub fn footprint(&self, budget: &mut Budget) -> Result<Vec<Range<usize>>, Error> {
+        // (the library looks at all of the image: so the budget has to reach)
+        if budget.left() != usize::MAX {
+            self.damage(budget)?;
+        }
+        let mut footprint = ffi::Footprint {
+            ranges: NonNull::dangling().as_ptr(),
+            count: 0,
+        };
+        let fault = ffi::goblin_pe_read_footprint(&self.record, &mut footprint);
+        Error::test(fault, None)?;
+        // SAFETY: the library has filled so many ranges.
+        let found = unsafe { std::slice::from_raw_parts(footprint.ranges, footprint.count) };
+        let ranges = room(found.len()).map(|mut ranges| {
+            ranges.extend(found.iter().map(|it| it.offset..it.offset + it.length));
+            ranges
+        });
+        // SAFETY: the library made it, and it is freed once.
+        unsafe { ffi::goblin_pe_free_footprint(&mut footprint) };
+        ranges
+    }
+
+    /// Writes the key of the image for a cache: the length of the file, and the ranges of its
+    /// footprint with their bytes. Its SHA-256 is `Image.fingerprint` of the package for Python. The
+    /// options are not in it: keep them beside it.
+    ///
+    /// # Errors
+    /// As [`footprint`](Self::footprint), and the errors of the writer.
+    pub fn write_key(&self, mut to: impl Write, budget: &mut Budget) -> io::Result<()> {
+        write!(to, "{}", self.bytes().len())?;
+        for range in self.footprint(budget)? {
+            write!(to, " {} {} ", range.start, range.end)?;
+            to.write_all(&self.bytes()[range])?;
+        }
+        Ok(())
+    }
+
+    /// The text whose MD5 is the imphash that analysts compare, as pefile's `get_imphash` hashes it.
+    /// `None` if there are no imports, or if the options cut a name: then the hash would be another.
+    ///
+    /// # Errors
+    /// As a walk over the imports, and [`ErrorKind::Steps`](crate::ErrorKind::Steps).
+    pub fn imphash_text(&self, budget: &mut Budget) -> Result<Option<String>, Error> {
+        let longest = self.options().longest_name as usize;
+        imphash::text(self.imports().within(budget), longest)
+    }
+
+    /// The bytes after the data of all sections; empty if there are none. It begins at
+    /// `bytes().len() - overlay().len()`.
+    ///
+    /// A section with the raw pointer 0 has no data. If the end of the file cuts a section, there is
+    /// no overlay.
+    #[must_use]
+    pub fn overlay(&self) -> &'a [u8] {
+        let with_data = |it: &Section| it.pointer_to_raw_data > 0 && it.size_of_raw_data > 0;
+        let end = |it: Section| it.pointer_to_raw_data as usize + it.size_of_raw_data as usize;
+        let end = self.sections().filter(with_data).map(end).max();
+        end.and_then(|end| self.bytes().get(end..)).unwrap_or_default()
+    }
+
+    /// The checksum of the file, for `check_sum` of the optional header; `None` if there is no
+    /// optional header. Windows tests it in drivers. [`update_checksum`] stores it.
+    #[must_use]
+    pub fn checksum(&self) -> Option<u32> {
+        let mut sum = 0;
+        let is_there = ffi::goblin_pe_checksum(&self.record, &mut sum);
+        is_there.then_some(sum)
+    }
+
+    /// A copy of the file with this header, and with these headers of its first sections.
+    ///
+    /// # Errors
+    /// [`ErrorKind::Place`](crate::ErrorKind::Place), if the file has no place for them: the PE
+    /// signature, the section table and the data stay where they are. And as [`Header::to_vec`].
+    ///
+    /// ```no_run
+    /// use goblin_pe::{Image, update_checksum};
+    ///
+    /// # let bytes = [];
+    /// let image = Image::parse(&bytes)?;
+    /// let mut header = image.header();
+    /// header.coff_header.time_date_stamp = 0;
+    /// let mut changed = image.patched(&header, &[])?;
+    /// update_checksum(&mut changed)?;
+    /// # Ok::<(), goblin_pe::Error>(())
+    /// ```
+    pub fn patched(&self, header: &Header, sections: &[Section]) -> Result<Vec<u8>, Error> {
+        patch::patched(self, header, sections)
+    }
+}
+
+impl fmt::Debug for Image<'_> {
+    fn fmt(&self, f: &mut fmt::Formatter<'_>) -> fmt::Result {
+        f.debug_struct("Image")
+            .field("kind", &self.kind())
+            .field("machine", &self.record.coff_header.machine)
+            .field("sections", &self.record.section_count)
+            .finish_non_exhaustive()
+    }
+}
+
+impl<'a> TryFrom<&'a [u8]> for Image<'a> {
+    type Error = Error;
+
+    /// As [`Image::parse`].
+    fn try_from(bytes: &'a [u8]) -> Result<Image<'a>, Error> {
+        Image::parse(bytes)
+    }
+}
+
+/// Computes the checksum of an image and stores it in the optional header. Returns it.
+///
+/// # Errors
+/// As [`Image::read`] in permissive mode; [`ErrorKind::Place`](crate::ErrorKind::Place), if there is
+/// no optional header.
+pub fn update_checksum(file: &mut [u8]) -> Result<u32, Error> {
+    let image = Image::read(file, Options::permissive())?;
+    let sum = image.checksum().ok_or(Error::place())?;
+    let field = image.dos_header().pe_pointer as usize + CHECK_SUM;
+    let place = file.get_mut(field..).and_then(<[u8]>::first_chunk_mut);
+    *place.ok_or(Error::place())? = sum.to_le_bytes();
+    Ok(sum)
+}
+
+// Where the checksum is, from the PE signature on.
+const CHECK_SUM: usize = 4 + 20 + 64;
+
+/// What a file is, by its first bytes. Nothing here reads archives, import objects and big objects.
+///
+/// ```no_run
+/// use goblin_pe::{Image, Kind, Options};
+///
+/// let bytes = std::fs::read("some.file")?;
+/// let image = match Kind::of(&bytes) {
+///     Kind::Object => Image::read_object(&bytes, Options::permissive())?,
+///     Kind::Te => Image::read_te(&bytes, Options::permissive())?.0,
+///     _ => Image::read(&bytes, Options::permissive())?,
+/// };
+/// println!("{image:?}");
+/// # Ok::<(), std::io::Error>(())
+/// ```
+#[derive(Clone, Copy, Debug, PartialEq, Eq, PartialOrd, Ord, Hash)]
+#[non_exhaustive]
+pub enum Kind {
+    /// None of the others.
+    Unknown = 0,
+    /// A PE image.
+    Image = 1,
+    /// A COFF object.
+    Object = 2,
+    /// A Terse Executable.
+    Te = 3,
+    /// A static library or an import library.
+    Archive = 4,
+    /// A member of an import library that says what a name is imported by.
+    ImportObject = 5,
+    /// A COFF object with more than 65,279 sections.
+    BigObject = 6,
+}
+
+impl Kind {
+    /// What a file is. Whether it can be read is another question.
+    #[must_use]
+    pub fn of(bytes: &[u8]) -> Kind {
+        // SAFETY: so many bytes are there.
+        Kind::numbered(unsafe { ffi::goblin_pe_kind_of(bytes.as_ptr(), bytes.len()) })
+    }
+
+    const fn numbered(number: u32) -> Kind {
+        match number {
+            1 => Kind::Image,
+            2 => Kind::Object,
+            3 => Kind::Te,
+            4 => Kind::Archive,
+            5 => Kind::ImportObject,
+            6 => Kind::BigObject,
+            _ => Kind::Unknown,
+        }
+    }
+}
+
+/// A part of a file that an error is about. `{}` prints it in lower case.
+#[derive(Clone, Copy, Debug, PartialEq, Eq, PartialOrd, Ord, Hash)]
+#[non_exhaustive]
+pub enum Table {
+    /// The header, with the section table and the section names.
+    Header,
+    /// The Rich header.
+    RichHeader,
+    /// The imports and the libraries.
+    Imports,
+    /// The exports, with names and without.
+    Exports,
+    /// The base relocations.
+    Relocations,
+    /// The symbols, or the relocations of an object.
+    Symbols,
+}
+
+impl fmt::Display for Table {
+    fn fmt(&self, f: &mut fmt::Formatter<'_>) -> fmt::Result {
+        f.pad(match self {
+            Table::Header => "header",
+            Table::RichHeader => "Rich header",
+            Table::Imports => "imports",
+            Table::Exports => "exports",
+            Table::Relocations => "relocations",
+            Table::Symbols => "symbols",
+        })
+    }
+}
+
+/// Whether an image has a table, and whether it can be walked over.
+#[derive(Clone, Copy, Debug, PartialEq, Eq, Hash)]
+pub enum TableState {
+    /// The image has no such table: its data directory is zeros.
+    Absent,
+    /// A walk gives its rows, as far as they can be read.
+    Present,
+    /// Strict mode refuses the table as a whole. In permissive mode a walk over it has no rows.
+    Refused(Error),
+}
+
+/// Where memory of an image comes from.
+#[derive(Clone, Copy, Debug, Default, PartialEq, Eq, PartialOrd, Ord, Hash)]
+#[non_exhaustive]
+pub enum Region {
+    /// The loader maps nothing there.
+    #[default]
+    Unmapped = 0,
+    /// The headers.
+    Headers = 1,
+    /// The raw data of a section.
+    RawData = 2,
+    /// The zeros that follow the raw data of a section.
+    Zeros = 3,
+}
+
+/// Bytes that a loader puts into memory: `bytes`, then `zeros` zeros. `missing` more were asked for,
+/// and are unknown: they lie past the section's memory, or the file ends before them.
+#[derive(Clone, Copy, Debug, Default, PartialEq, Eq, PartialOrd, Ord, Hash)]
+#[non_exhaustive]
+pub struct Memory<'a> {
+    /// The bytes of the file.
+    pub bytes: &'a [u8],
+    /// How many zeros follow them.
+    pub zeros: usize,
+    /// How many bytes are unknown.
+    pub missing: usize,
+    /// The index of the section; `None` outside of sections.
+    pub section: Option<usize>,
+    /// What is at the first byte.
+    pub region: Region,
+}
+
+impl<'a> Memory<'a> {
+    pub(crate) fn of(it: &ffi::Memory<'a>, image: &Image) -> Memory<'a> {
+        let is_in_one = it.section_index < image.record.section_count;
+        Memory {
+            bytes: it.bytes.get(),
+            zeros: it.zeros,
+            missing: it.missing,
+            section: is_in_one.then_some(it.section_index),
+            region: match it.region {
+                1 => Region::Headers,
+                2 => Region::RawData,
+                3 => Region::Zeros,
+                _ => Region::Unmapped,
+            },
+        }
+    }
+
+    /// The bytes, if they are all that was asked for: no zeros follow, and nothing is missing.
+    #[must_use]
+    pub const fn whole(&self) -> Option<&'a [u8]> {
+        if self.zeros == 0 && self.missing == 0 {
+            Some(self.bytes)
+        } else {
+            None
+        }
+    }
+
+    /// The bytes and the zeros, as memory has them.
+    ///
+    /// # Errors
+    /// [`ErrorKind::Memory`](crate::ErrorKind::Memory): a file can ask for four gigabytes of zeros.
+    pub fn to_vec(&self) -> Result<Vec<u8>, Error> {
+        let size = self.bytes.len().saturating_add(self.zeros);
+        let mut bytes = room(size)?;
+        bytes.extend_from_slice(self.bytes);
+        bytes.resize(size, 0);
+        Ok(bytes)
+    }
+}
+
+/// Which parts of a header [`Image::read_partial`] could not read, and why. A part that is there, or
+/// that the file does not have, is `None`. A part whose place only another part tells has that
+/// part's error.
+#[derive(Clone, Copy, Debug, Default, PartialEq, Eq, Hash)]
+#[non_exhaustive]
+pub struct HeaderFaults {
+    /// Why [`Image::read`] refuses the file; `None` if it reads it.
+    pub refusal: Option<Error>,
+    /// The DOS header and the PE signature.
+    pub dos_header: Option<Error>,
+    /// The DOS stub.
+    pub dos_stub: Option<Error>,
+    /// The Rich header.
+    pub rich_header: Option<Error>,
+    /// The COFF header.
+    pub coff_header: Option<Error>,
+    /// The standard fields of the optional header.
+    pub standard_fields: Option<Error>,
+    /// The Windows fields of the optional header.
+    pub windows_fields: Option<Error>,
+    /// The data directories. The first sixteen are given if there are more.
+    pub directories: Option<Error>,
+    /// The section table. The complete section headers are given.
+    pub section_table: Option<Error>,
+    /// The section names. A section whose name is bad has its eight bytes.
+    pub section_names: Option<Error>,
+}
+
+impl HeaderFaults {
+    /// The parts that can't be read, as pairs (name of the field, why), without `refusal`.
+    pub fn errors(&self) -> impl Iterator<Item = (&'static str, Error)> + use<> {
+        let parts = [
+            ("dos_header", self.dos_header),
+            ("dos_stub", self.dos_stub),
+            ("rich_header", self.rich_header),
+            ("coff_header", self.coff_header),
+            ("standard_fields", self.standard_fields),
+            ("windows_fields", self.windows_fields),
+            ("directories", self.directories),
+            ("section_table", self.section_table),
+            ("section_names", self.section_names),
+        ];
+        parts.into_iter().filter_map(|(name, why)| Some((name, why?)))
+    }
+
+    fn of(refusal: ffi::Fault, it: &ffi::HeaderFaults) -> HeaderFaults {
+        let header = |fault| Error::some(fault, Table::Header);
+        HeaderFaults {
+            refusal: header(refusal),
+            dos_header: header(it.dos_header),
+            dos_stub: header(it.dos_stub),
+            rich_header: Error::some(it.rich_header, Table::RichHeader),
+            coff_header: header(it.coff_header),
+            standard_fields: header(it.standard_fields),
+            windows_fields: header(it.windows_fields),
+            directories: header(it.directories),
+            section_table: header(it.section_table),
+            section_names: header(it.section_names),
+        }
+    }
+}
+
+/// The damage of an image: what strict mode refuses, part by part, and what the walks skip.
+///
+/// `{}` prints a line for each part that is damaged, and for each count that is not 0; nothing of an
+/// image without damage.
+#[derive(Clone, Copy, Debug, Default, PartialEq, Eq, Hash)]
+#[non_exhaustive]
+pub struct Damage {
+    /// Of the DOS stub.
+    pub dos_stub: Option<Error>,
+    /// Of the names of the sections.
+    pub section_names: Option<Error>,
+    /// Of the imports.
+    pub imports: Option<Error>,
+    /// Of the exports.
+    pub exports: Option<Error>,
+    /// Of the base relocation directory, and not of its blocks.
+    pub relocations: Option<Error>,
+    /// How many libraries permissive mode skips: they have no address table.
+    pub skipped_libraries: usize,
+    /// How many imports permissive mode skips: their hint is cut.
+    pub skipped_entries: usize,
+    /// How many entries give no import, in either mode: they lead nowhere.
+    pub unmapped_entries: usize,
+    /// How many name pointers give no export, in either mode.
+    pub skipped_exports: usize,
+    /// Whether both modes read the image, and read it alike.
+    pub is_sound: bool,
+}
+
+impl Damage {
+    /// The damaged parts, as pairs (name of the field, why).
+    pub fn errors(&self) -> impl Iterator<Item = (&'static str, Error)> + use<> {
+        let parts = [
+            ("dos_stub", self.dos_stub),
+            ("section_names", self.section_names),
+            ("imports", self.imports),
+            ("exports", self.exports),
+            ("relocations", self.relocations),
+        ];
+        parts.into_iter().filter_map(|(name, why)| Some((name, why?)))
+    }
+
+    fn of(it: &ffi::Damage) -> Damage {
+        Damage {
+            dos_stub: Error::some(it.dos_stub, Table::Header),
+            section_names: Error::some(it.section_names, Table::Header),
+            imports: Error::some(it.imports, Table::Imports),
+            exports: Error::some(it.exports, Table::Exports),
+            relocations: Error::some(it.relocations, Table::Relocations),
+            skipped_libraries: it.skipped_libraries,
+            skipped_entries: it.skipped_entries,
+            unmapped_entries: it.unmapped_entries,
+            skipped_exports: it.skipped_exports,
+            is_sound: it.is_sound,
+        }
+    }
+}
+
+impl fmt::Display for Damage {
+    fn fmt(&self, f: &mut fmt::Formatter<'_>) -> fmt::Result {
+        for (part, why) in self.errors() {
+            writeln!(f, "{part}: {why}")?;
+        }
+        let counts = [
+            (self.skipped_libraries, "libraries are skipped"),
+            (self.skipped_entries, "imports are skipped"),
+            (self.unmapped_entries, "import entries lead nowhere"),
+            (self.skipped_exports, "name pointers give no export"),
+        ];
+        for (count, what) in counts.into_iter().filter(|(count, _)| *count > 0) {
+            writeln!(f, "{count} {what}")?;
+        }
+        Ok(())
+    }
+}

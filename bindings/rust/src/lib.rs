@@ -1,0 +1,121 @@
+//! Reads PE images, COFF objects and TE files that you can't trust.
+//!
+//! This program lists the imports of an untrusted image. It limits its work, its memory and the
+//! length of each name, and it says what it could not read:
+//!
+//! ```no_run
+//! use goblin_pe::{Budget, Error, Image, Options};
+//!
+//! fn list(bytes: &[u8]) -> Result<(), Error> {
+//!     let image = Image::read(bytes, Options::permissive().with_longest_name(512))?;
+//!     let mut budget = Budget::steps(1_000_000);
+//!     for import in image.imports().within(&mut budget) {
+//!         let import = import?;
+//!         println!("{} {}", import.dll, import.name);
+//!     }
+//!     for export in image.exports().within(&mut budget) {
+//!         println!("exports {}", export?.name.unwrap_or_default());
+//!     }
+//!     let entry = image.memory_at(image.entry(), 16);
+//!     println!("begins with {:02x?}, in {:?}", entry.bytes, entry.region);
+//!     print!("{}", image.damage(&mut budget)?);
+//!     Ok(())
+//! }
+//!
+//! let bytes = std::fs::read("some.dll")?;
+//! if let Err(error) = list(&bytes) {
+//!     println!("not read to its end: {error}");
+//! }
+//! # Ok::<(), std::io::Error>(())
+//! ```
+//!
+//! # One image
+//!
+//! [`Image::read`] reads the header of an image, and nothing else. The [`Image`] is a small value
+//! that borrows the bytes: copy it, keep it, send it to another thread. It takes no memory.
+//! [`Image::read_partial`] reads what is there of a damaged header, [`Image::read_object`] a COFF
+//! object, and [`Image::read_te`] a Terse Executable. All of them give the same type.
+//! [`Image::with_options`] reads the same image by other options.
+//!
+//! # Walks
+//!
+//! Each table has a method that walks over it, such as [`Image::imports`]. A [`Walk`] is an
+//! iterator over `Result<Row, Error>`. It reads the file as it goes on, some hundred rows at a time,
+//! and ends after its first error. Rows, names and texts borrow the bytes and not the image.
+//!
+//! [`Pe`] collects the walks: it is an image with a `Vec` for each table.
+//!
+//! # Limits
+//!
+//! A small file can list very much: 256 KiB can list 850 million imports. What a file can make long
+//! takes a [`Budget`] of steps. A step is one look at an entry of an import or export table, or one
+//! row of another walk. Several calls can share one budget, which then limits their sum. When it is
+//! used up, they return an error of the kind [`ErrorKind::Steps`]. They never return less than there
+//! is without that error.
+//!
+//! [`Options::with_longest_name`] limits how much of a name is read. Without it a file of a megabyte
+//! can list a million names of a megabyte.
+//!
+//! # Strict and permissive
+//!
+//! Strict mode, the default, refuses a damaged table. Permissive mode skips the damaged parts, and
+//! [`Image::damage`] reports what it skipped.
+//!
+//! By default addresses are mapped as Windows maps them. [`Mapping`] has the rules of goblin and
+//! pefile, too: packers hide imports from readers that map otherwise.
+//!
+//! # Numbers
+//!
+//! - An address relative to the image base (an RVA) is a `u32`, as in every record of the format.
+//!   So you can hand that of a directory, a section or a row to any look-up, without a cast.
+//!   The same holds for the index of a symbol and the offset of a string.
+//! - A file offset, a size and the index of a row are a `usize`, so that you can index bytes and
+//!   slices with them. An ordinal is a `usize`, too: it is an index plus a base.
+//! - Names are a [`Text`]: bytes that need not be UTF-8. `{}` prints them safely escaped.
+//!
+//! # Platforms
+//!
+//! x86-64 Linux, Rust 1.85, and no other crate.
+#![deny(missing_docs)]
+#![warn(clippy::pedantic)]
+
+#[cfg(doctest)]
+mod borrowed;
+#[allow(clippy::doc_markdown)] // (processors are called PowerPC and the like)
+pub mod constants;
+mod error;
+mod ffi;
+mod headers;
+mod image;
+mod imphash;
+mod memory;
+pub mod names;
+mod options;
+mod patch;
+mod pe;
+mod rows;
+mod tables;
+mod text;
+mod walk;
+
+pub use error::{Cause, Error, ErrorKind};
+pub use headers::{
+    CoffHeader, DataDirectory, DirectoryType, DosHeader, Header, OptionalHeader, StandardFields,
+    TeHeader, WindowsFields,
+};
+pub use image::{
+    Damage, HeaderFaults, Image, Kind, Memory, Region, Table, TableState, update_checksum,
+};
+pub use options::{Budget, Mapping, Options};
+pub use pe::Pe;
+pub use rows::{
+    Auxiliary, BaseRelocation, CoffRelocation, Export, ExportAddress, ExportDirectory, Forwarder,
+    Import, Imported, Library, RelocationBlock, RichEntry, RichHeader, Section, Symbol,
+};
+pub use text::Text;
+pub use walk::{Row, Rows, Walk, Within};
+
+// The programs of the page.
+#[cfg(doctest)]
+#[doc = include_str!("../README.md")]
+mod page {}

@@ -1,0 +1,164 @@
+//! How a file is read, and how much work may be done for it.
+
+use std::fmt;
+
+use crate::ffi;
+
+/// How a file is read. The default is strict, maps as Windows does, and reads names whole.
+///
+/// ```
+/// use goblin_pe::{Mapping, Options};
+///
+/// const UNTRUSTED: Options = Options::permissive().with_longest_name(512);
+/// let as_goblin = Options::default().with_mapping(Mapping::AsStored);
+/// assert!(UNTRUSTED.is_permissive && !as_goblin.is_permissive);
+/// ```
+#[derive(Clone, Copy, Debug, Default, PartialEq, Eq, Hash)]
+#[non_exhaustive]
+pub struct Options {
+    /// How addresses are mapped to file offsets, and where the data of a section begins.
+    pub mapping: Mapping,
+    /// How many bytes of a name are read; 0 is no limit. A longer name is cut after the character
+    /// that reaches past the limit, so a name that is longer than the limit was cut. The limit
+    /// holds for the names of DLLs, imports, exports, symbols and sections, for forwarders and for
+    /// [`Image::text_at`](crate::Image::text_at).
+    pub longest_name: u32,
+    /// Whether damaged parts are skipped, and not refused.
+    pub is_permissive: bool,
+}
+
+impl Options {
+    /// The defaults, but permissive: damaged parts are skipped.
+    #[must_use]
+    pub const fn permissive() -> Options {
+        Options {
+            mapping: Mapping::AsLoaded,
+            longest_name: 0,
+            is_permissive: true,
+        }
+    }
+
+    /// The same options with this mapping.
+    #[must_use]
+    pub const fn with_mapping(mut self, mapping: Mapping) -> Options {
+        self.mapping = mapping;
+        self
+    }
+
+    /// The same options with this limit for names, in bytes; 0 is no limit.
+    #[must_use]
+    pub const fn with_longest_name(mut self, longest_name: u32) -> Options {
+        self.longest_name = longest_name;
+        self
+    }
+
+    // As the library takes them.
+    pub(crate) const fn record(self) -> ffi::Options {
+        ffi::Options {
+            mapping: self.mapping as u32,
+            longest_name: self.longest_name,
+            is_permissive: self.is_permissive,
+            reserved: [0; 3],
+        }
+    }
+
+    // Those of a record.
+    pub(crate) const fn of(record: &ffi::Options) -> Options {
+        Options {
+            mapping: match record.mapping {
+                1 => Mapping::ByFileAlignment,
+                2 => Mapping::AsStored,
+                3 => Mapping::Identity,
+                _ => Mapping::AsLoaded,
+            },
+            longest_name: record.longest_name,
+            is_permissive: record.is_permissive,
+        }
+    }
+}
+
+/// How addresses are mapped to file offsets, and where the data of a section begins.
+///
+/// The first three agree on sections whose raw pointer is a multiple of 512, as the specification
+/// asks for.
+#[derive(Clone, Copy, Debug, Default, PartialEq, Eq, PartialOrd, Ord, Hash)]
+#[non_exhaustive]
+pub enum Mapping {
+    /// As Windows maps: the raw pointer is rounded down to 512 if the file alignment is at least
+    /// 512, and the headers are mapped at address 0.
+    #[default]
+    AsLoaded = 0,
+    /// As pefile maps: as [`AsLoaded`](Self::AsLoaded), without the headers.
+    ByFileAlignment = 1,
+    /// As goblin maps: the raw pointer is taken as stored, and the headers are not mapped.
+    AsStored = 2,
+    /// An address is a file offset: the bytes are a dump of the image in memory.
+    Identity = 3,
+}
+
+/// How many steps calls may still take. Lend one budget to several walks and calls: it then limits
+/// their sum.
+///
+/// A step is one look at an entry of an import or export table, whether or not it gives a row, or
+/// one row of another walk. To see the end of a table may need a step, too. A call that needs more
+/// steps than are left returns an error of the kind [`ErrorKind::Steps`](crate::ErrorKind::Steps).
+///
+/// A walk reads its rows in batches. So the budget may be ahead of the row that you hold.
+///
+/// ```no_run
+/// use goblin_pe::{Budget, Image};
+///
+/// # let bytes = [];
+/// let image = Image::parse(&bytes)?;
+/// let mut budget = Budget::steps(100_000);
+/// let imports = image.imports().within(&mut budget).collect::<Result<Vec<_>, _>>()?;
+/// let exports = image.exports().within(&mut budget).collect::<Result<Vec<_>, _>>()?;
+/// println!("{} imports, {} exports", imports.len(), exports.len());
+/// println!("{} steps are left", budget.left());
+/// # Ok::<(), goblin_pe::Error>(())
+/// ```
+#[derive(Clone, PartialEq, Eq)]
+#[must_use]
+pub struct Budget {
+    steps: usize,
+}
+
+impl Budget {
+    /// A budget of so many steps. 100,000 steps take 10 to 200 milliseconds, by the length of the
+    /// names, if the options limit it. [`Image::libraries`](crate::Image::libraries) and
+    /// [`Image::footprint`](crate::Image::footprint) can take longer.
+    pub const fn steps(steps: usize) -> Budget {
+        Budget { steps }
+    }
+
+    /// A budget that is never used up. Use it for files that you trust.
+    pub const fn unlimited() -> Budget {
+        Budget { steps: usize::MAX }
+    }
+
+    /// How many steps are left; `usize::MAX` if there is no limit.
+    #[must_use]
+    pub const fn left(&self) -> usize {
+        self.steps
+    }
+
+    // The steps, which calls count down; `usize::MAX` stays.
+    pub(crate) fn take<T>(&mut self, call: impl FnOnce(&mut usize) -> T) -> T {
+        let is_limited = self.steps != usize::MAX;
+        let answer = call(&mut self.steps);
+        if !is_limited {
+            self.steps = usize::MAX;
+        }
+        answer
+    }
+}
+
+impl fmt::Debug for Budget {
+    /// How many steps are left.
+    fn fmt(&self, f: &mut fmt::Formatter<'_>) -> fmt::Result {
+        match self.steps {
+            usize::MAX => f.write_str("Budget(unlimited)"),
+            left => write!(f, "Budget({left} steps left)"),
+        }
+    }
+}

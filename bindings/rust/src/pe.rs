@@ -1,0 +1,158 @@
+//! Images with lists.
+
+use crate::error::{Error, ErrorKind};
+use crate::image::{Image, Table};
+use crate::options::{Budget, Options};
+use crate::rows::{
+    Export, ExportAddress, ExportDirectory, Import, RelocationBlock, RichEntry, Section,
+};
+use crate::text::Text;
+use crate::walk::Walk;
+
+/// An image and the rows of its tables: what the walks of an [`Image`] give, collected.
+///
+/// If you don't trust the file, lend [`Pe::read`] a budget: it then lists at most so many rows, of 8
+/// to 128 bytes each.
+///
+/// ```no_run
+/// use goblin_pe::{Budget, Options, Pe};
+///
+/// let bytes = std::fs::read("some.dll")?;
+/// let pe = Pe::read(&bytes, Options::permissive(), &mut Budget::steps(1_000_000))?;
+/// println!("{} imports of {:?}", pe.imports.len(), pe.libraries());
+/// if let Some(export) = pe.exports.iter().find(|it| it.name == Some("DllGetClassObject".into())) {
+///     println!("{:#x}", export.rva);
+/// }
+/// # Ok::<(), std::io::Error>(())
+/// ```
+#[derive(Clone, Debug)]
+#[non_exhaustive]
+pub struct Pe<'a> {
+    /// The image: its headers, and look-ups.
+    pub image: Image<'a>,
+    /// The sections.
+    pub sections: Vec<Section<'a>>,
+    /// The entries of the Rich header.
+    pub rich_entries: Vec<RichEntry>,
+    /// The imports.
+    pub imports: Vec<Import<'a>>,
+    /// The export directory.
+    pub export_directory: Option<ExportDirectory<'a>>,
+    /// The exports that have a name pointer.
+    pub exports: Vec<Export<'a>>,
+    /// The export address table.
+    pub export_addresses: Vec<ExportAddress>,
+    /// The blocks of base relocations.
+    pub relocation_blocks: Vec<RelocationBlock<'a>>,
+    /// Why lists end early, each error with its [`table`](Error::table). In both modes bytes that are
+    /// no entry of the Rich header, and bytes that are no block of base relocations; in permissive
+    /// mode every error at which a walk ended.
+    pub errors: Vec<Error>,
+}
+
+impl<'a> Pe<'a> {
+    /// Reads an image and lists its tables.
+    ///
+    /// # Errors
+    /// As [`Image::read`]; in strict mode the first table that is refused; and in both modes
+    /// [`ErrorKind::Steps`](crate::ErrorKind::Steps) and
+    /// [`ErrorKind::Memory`](crate::ErrorKind::Memory).
+    pub fn read(bytes: &'a [u8], options: Options, budget: &mut Budget) -> Result<Pe<'a>, Error> {
+        Pe::of(Image::read(bytes, options)?, budget)
+    }
+
+    /// Reads an image and lists its tables, strictly and without a limit.
+    ///
+    /// # Errors
+    /// As [`Pe::read`].
+    pub fn parse(bytes: &'a [u8]) -> Result<Pe<'a>, Error> {
+        Pe::read(bytes, Options::default(), &mut Budget::unlimited())
+    }
+
+    /// Lists the tables of an image, such as a partial one.
+    ///
+    /// # Errors
+    /// As [`Pe::read`].
+    pub fn of(image: Image<'a>, budget: &mut Budget) -> Result<Pe<'a>, Error> {
+        let mut pe = Pe {
+            image,
+            sections: Vec::new(),
+            rich_entries: Vec::new(),
+            imports: Vec::new(),
+            export_directory: None,
+            exports: Vec::new(),
+            export_addresses: Vec::new(),
+            relocation_blocks: Vec::new(),
+            errors: Vec::new(),
+        };
+        let sections = Walk::of(&image).append(&mut pe.sections, budget);
+        pe.keep(sections, Ends::Refused)?;
+        let entries = image.rich_entries().append(&mut pe.rich_entries, budget);
+        pe.keep(entries, Ends::Early)?;
+        let imports = image.imports().append(&mut pe.imports, budget);
+        pe.keep(imports, Ends::Refused)?;
+        let directory = image.export_directory().map(|it| pe.export_directory = it);
+        pe.keep(directory, Ends::Refused)?;
+        let exports = image.exports().append(&mut pe.exports, budget);
+        pe.keep(exports, Ends::Refused)?;
+        let addresses = image.export_addresses().append(&mut pe.export_addresses, budget);
+        pe.keep(addresses, Ends::Refused)?;
+        if !image.options().is_permissive {
+            Error::test(image.refusal::<RelocationBlock>(), Some(Table::Relocations))?;
+        }
+        let blocks = image.relocation_blocks().append(&mut pe.relocation_blocks, budget);
+        pe.keep(blocks, Ends::Early)?;
+        Ok(pe)
+    }
+
+    // Keeps why a list ended, or returns it: if steps or memory ran out, and in strict mode if the table
+    // is refused for it.
+    fn keep(&mut self, ended: Result<(), Error>, ends: Ends) -> Result<(), Error> {
+        let Err(error) = ended else {
+            return Ok(());
+        };
+        let is_strict = !self.image.options().is_permissive;
+        let is_no_damage = matches!(error.kind(), ErrorKind::Steps | ErrorKind::Memory);
+        if is_no_damage || is_strict && matches!(ends, Ends::Refused) {
+            return Err(error);
+        }
+        if self.errors.try_reserve(1).is_err() {
+            return Err(Error::memory(error.table()));
+        }
+        self.errors.push(error);
+        Ok(())
+    }
+
+    /// The image's own name as a DLL; `None` if it has none.
+    #[must_use]
+    pub fn name(&self) -> Option<Text<'a>> {
+        self.export_directory?.name
+    }
+
+    /// The names of the DLLs that it imports from, sorted, each once.
+    #[must_use]
+    pub fn libraries(&self) -> Vec<Text<'a>> {
+        let mut names: Vec<_> = self.imports.iter().map(|it| it.dll).collect();
+        names.sort_unstable();
+        names.dedup();
+        names
+    }
+}
+
+// What an error at the end of a walk means in strict mode.
+#[derive(Clone, Copy)]
+enum Ends {
+    // The table is refused.
+    Refused,
+    // The list ends before bytes that are no row.
+    Early,
+}
+
+impl<'a> TryFrom<&'a [u8]> for Pe<'a> {
+    type Error = Error;
+
+    /// As [`Pe::parse`].
+    fn try_from(bytes: &'a [u8]) -> Result<Pe<'a>, Error> {
+        Pe::parse(bytes)
+    }
+}

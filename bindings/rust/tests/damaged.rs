@@ -1,0 +1,363 @@
+//! What is read of damaged files: walks, damage, partial images and forwarders.
+use goblin_pe::{
+    Budget, Cause, DirectoryType, Error, ErrorKind, Forwarder, Image, Imported, Mapping, Options, Pe,
+    Region, Row, Table, Text, Walk,
+};
+use std::fmt::Debug;
+
+fn sample(name: &str) -> Vec<u8> {
+    let beside = concat!(env!("CARGO_MANIFEST_DIR"), "/../../samples");
+    let folder = std::env::var("GOBLIN_PE_SAMPLES").unwrap_or(beside.into());
+    std::fs::read(format!("{folder}/{name}")).expect("a sample")
+}
+
+fn put(bytes: &mut [u8], place: usize, number: u32) {
+    bytes[place..place + 4].copy_from_slice(&number.to_le_bytes());
+}
+
+fn number(bytes: &[u8], place: usize) -> u32 {
+    u32::from_le_bytes(bytes[place..place + 4].try_into().expect("four bytes"))
+}
+
+// The file offset of a table.
+fn place(image: &Image, which: DirectoryType) -> usize {
+    let directory = image.directory(which).expect("a directory");
+    image.find_offset(directory.virtual_address).expect("an offset")
+}
+
+// The file offset of the entry of a data directory.
+fn entry(image: &Image, which: DirectoryType) -> usize {
+    image.dos_header().pe_pointer as usize + 24 + 112 + 8 * which as usize
+}
+
+fn damage_of(bytes: &[u8]) -> goblin_pe::Damage {
+    let image = Image::read(bytes, Options::permissive()).expect("an image");
+    image.damage(&mut Budget::unlimited()).expect("its damage")
+}
+
+#[test]
+fn errors_have_kinds_numbers_and_texts() {
+    let error = Image::parse(b"").expect_err("no bytes");
+    assert_eq!(error.kind(), ErrorKind::Malformed(Cause::NoDosSignature));
+    assert_eq!(error.to_string(), "the file is too short for the DOS signature");
+    let error = Image::read(b"no image", Options::permissive()).expect_err("no image");
+    let text = "the file begins with 0x6f6e in place of the DOS signature";
+    assert_eq!((error.to_string().as_str(), error.numbers()), (text, (0x6f6e, 0)));
+    assert_eq!(error.kind(), ErrorKind::Malformed(Cause::DosMagic));
+    let error = Image::read_te(b"VZ", Options::default()).expect_err("no header");
+    assert_eq!(error.kind(), ErrorKind::TooBig);
+}
+
+#[test]
+fn a_walk_ends_with_the_error_of_a_read() -> Result<(), Error> {
+    let mut bytes = sample("imports_by_name_x64.dll");
+    let record = place(&Image::parse(&bytes)?, DirectoryType::ImportTable);
+    put(&mut bytes, record + 12, 0x9000); // (the name of the only library, where no section is)
+    let error = Pe::parse(&bytes).expect_err("a bad name");
+    assert_eq!(error.kind(), ErrorKind::Malformed(Cause::Unmapped));
+    assert_eq!(error.table(), Some(Table::Imports));
+    let image = Image::parse(&bytes)?;
+    let mut walk = image.imports();
+    assert_eq!((walk.next(), walk.next()), (Some(Err(error)), None));
+    let library = image.libraries().next().expect("a library")?;
+    assert_eq!(library.name, Err(error));
+    let import = library.imports(&image).next().expect("an import")?;
+    assert_eq!((import.dll, import.name.to_string().as_str()), (Text(b""), "GetTickCount"));
+    let damage = damage_of(&bytes);
+    assert_eq!(Vec::from_iter(damage.errors()), [("imports", error)]);
+    assert!(!damage.is_sound && damage.to_string().starts_with("imports: "));
+    Ok(())
+}
+
+#[test]
+fn relocation_blocks_end_with_the_error_of_what_follows() -> Result<(), Error> {
+    let mut bytes = sample("imports_by_name_x64.dll");
+    let (image, which) = (Image::parse(&bytes)?, DirectoryType::BaseRelocationTable);
+    let size = image.directory(which).expect("a directory").size;
+    let (begin, entry) = (place(&image, which), entry(&image, which));
+    let blocks = Pe::parse(&bytes)?.relocation_blocks.len();
+    put(&mut bytes, entry + 4, size + 8);
+    put(&mut bytes, begin + size as usize + 4, 4); // (a block that says it has four bytes)
+    let pe = Pe::parse(&bytes)?;
+    assert_eq!(pe.relocation_blocks.len(), blocks);
+    let kinds = Vec::from_iter(pe.errors.iter().map(|it| (it.table(), it.kind())));
+    let wanted = ErrorKind::Malformed(Cause::BlockSize);
+    assert_eq!(kinds, [(Some(Table::Relocations), wanted)]);
+    let mut walk = pe.image.relocation_blocks().skip(blocks);
+    assert_eq!((walk.next(), walk.next()), (Some(Err(pe.errors[0])), None));
+    Ok(())
+}
+
+#[test]
+fn exports_with_too_many_counted() -> Result<(), Error> {
+    let bytes = sample("forwarders_x64.dll");
+    let whole = Pe::parse(&bytes)?;
+    let record = place(&whole.image, DirectoryType::ExportTable);
+    let first = whole.export_addresses.iter().find(|it| it.rva != 0).copied();
+    for (field, are_addresses_read) in [(0x14, false), (0x18, true)] {
+        let mut changed = bytes.clone();
+        put(&mut changed, record + field, u32::MAX); // (addresses, then name pointers)
+        let error = Pe::parse(&changed).expect_err("too many exports");
+        assert_eq!(error.table(), Some(Table::Exports));
+        assert_eq!(damage_of(&changed).exports, Some(error));
+        let image = Image::read(&changed, Options::permissive())?;
+        assert_eq!(Pe::of(image, &mut Budget::unlimited())?.exports, []);
+        if are_addresses_read {
+            let ordinal = first.expect("an address").ordinal;
+            assert_eq!(Image::parse(&changed)?.find_export_by_ordinal(ordinal)?, first);
+            assert_eq!(image.find_export_by_ordinal(usize::MAX)?, None);
+        }
+    }
+    Ok(())
+}
+
+// The address table is empty. The last name pointer is known as the last, so the end takes no step.
+#[test]
+fn name_pointers_without_exports_are_steps_and_damage() -> Result<(), Error> {
+    let mut bytes = sample("forwarders_x64.dll");
+    let record = place(&Image::parse(&bytes)?, DirectoryType::ExportTable);
+    put(&mut bytes, record + 0x14, 0);
+    let (pointers, image) = (number(&bytes, record + 0x18) as usize, Image::parse(&bytes)?);
+    for steps in 0..pointers + 2 {
+        let mut budget = Budget::steps(steps);
+        let last = image.exports().within(&mut budget).last();
+        let wanted = (steps < pointers).then_some(ErrorKind::Steps);
+        assert_eq!(last.and_then(Result::err).map(|it| it.kind()), wanted, "{steps}");
+    }
+    let damage = image.damage(&mut Budget::unlimited())?;
+    assert_eq!((damage.skipped_exports, damage.is_sound), (pointers, true));
+    Ok(())
+}
+
+#[test]
+fn forwarders_are_those_at_their_addresses() -> Result<(), Error> {
+    let bytes = sample("forwarders_x64.dll");
+    let pe = Pe::parse(&bytes)?;
+    let forwarders = Vec::from_iter(pe.exports.iter().filter_map(|it| it.forwarder));
+    let (ws2, ntdll) = (Text(b"WS2_32"), Text(b"NTDLL"));
+    let (ordinal, name) = (3, Text(b"RtlZeroMemory"));
+    assert_eq!(forwarders[0], Forwarder::Ordinal { dll: ws2, ordinal });
+    assert_eq!(forwarders[1], Forwarder::Name { dll: ntdll, name });
+    for export in &pe.exports {
+        let address = pe.image.find_export_by_ordinal(export.ordinal)?.expect("an address");
+        assert_eq!((address.rva, address.is_forwarder), (export.rva, export.forwarder.is_some()));
+        if address.is_forwarder {
+            assert_eq!(Some(pe.image.forwarder_at(export.rva)?), export.forwarder);
+        }
+    }
+    let error = pe.image.forwarder_at(0x9000).expect_err("no section is there");
+    assert_eq!(error.kind(), ErrorKind::Malformed(Cause::Unmapped));
+    Ok(())
+}
+
+// The name of the first import is in the headers, where packers put it: Windows maps them, and goblin
+// does not.
+#[test]
+fn names_in_the_headers_are_read_as_windows_maps_them() -> Result<(), Error> {
+    let mut bytes = sample("imports_by_name_x64.dll");
+    let image = Image::parse(&bytes)?;
+    let lookup = number(&bytes, place(&image, DirectoryType::ImportTable));
+    let slot = image.find_offset(lookup).expect("a lookup table");
+    let header = image.optional_header().expect("an optional header");
+    let hint = header.windows_fields.size_of_headers - 16;
+    put(&mut bytes, slot, hint);
+    bytes[hint as usize..][..15].copy_from_slice(b"\0\0VirtualAlloc\0");
+    for (mapping, is_seen) in [(Mapping::AsStored, false), (Mapping::AsLoaded, true)] {
+        let image = Image::read(&bytes, Options::permissive().with_mapping(mapping))?;
+        let first = image.imports().next().transpose()?;
+        let wanted = is_seen.then(|| String::from("VirtualAlloc"));
+        assert_eq!(first.map(|it| it.name.to_string()), wanted);
+        let damage = image.damage(&mut Budget::unlimited())?;
+        assert_eq!(damage.unmapped_entries, usize::from(!is_seen));
+        assert_eq!(image.find_offset(hint).is_some(), is_seen);
+        let region = if is_seen { Region::Headers } else { Region::Unmapped };
+        assert_eq!(image.memory_at(hint, 2).region, region);
+    }
+    Ok(())
+}
+
+// Four libraries share a table of imports by ordinal between entries that lead nowhere. The last of
+// them has an address table where no section is.
+fn libraries_of_shared_imports() -> Vec<u8> {
+    let mut bytes = sample("imports_by_name_x64.dll");
+    let image = Image::parse(&bytes).expect("an image");
+    let text = image.sections().next().expect("a section");
+    let (rva, begin) = (text.virtual_address, text.pointer_to_raw_data as usize);
+    let entry = entry(&image, DirectoryType::ImportTable);
+    put(&mut bytes, entry, rva);
+    bytes[begin..begin + 0x200].fill(0);
+    for (index, record) in bytes[begin..].chunks_mut(20).take(4).enumerate() {
+        let addresses = if index == 3 { 0x9000 } else { rva + 0x100 };
+        for (at, number) in [(0, rva + 0x100), (12, rva + 0xF0), (16, addresses)] {
+            put(record, at, number);
+        }
+    }
+    bytes[begin + 0xF0..][..5].copy_from_slice(b"a.dll");
+    let (dead, flag) = (0x7FFF_FFF0, 1 << 63);
+    let slots = [dead, flag | 7, flag | 8, dead, dead, dead, flag | 9];
+    for (slot, number) in bytes[begin + 0x100..].chunks_mut(8).zip(slots) {
+        slot.copy_from_slice(&u64::to_le_bytes(number));
+    }
+    bytes
+}
+
+// How many items a walk gives. It gives the same whenever its steps run out, and it goes on then.
+fn count<'a, T: Row<'a> + Clone + PartialEq + Debug>(walk: &Walk<'a, T>) -> usize {
+    let all = Vec::from_iter(walk.clone());
+    for steps in 1..12 {
+        let (mut rest, mut found, mut calls) = (walk.clone(), Vec::new(), 0);
+        loop {
+            let mut budget = Budget::steps(steps);
+            let mut within = rest.within(&mut budget);
+            found.extend(within.by_ref());
+            rest = within.into_inner();
+            match found.last() {
+                Some(Err(error)) if error.kind() == ErrorKind::Steps => found.pop(),
+                _ => break,
+            };
+            calls += 1;
+            assert!(calls < 1000, "a walk has no end");
+        }
+        assert_eq!(found, all, "{steps} steps at a time");
+    }
+    all.len()
+}
+
+#[test]
+fn walks_go_on_after_their_steps_ran_out() -> Result<(), Error> {
+    let mut counts = [0; 5];
+    for bytes in [sample("forwarders_x64.dll"), libraries_of_shared_imports()] {
+        for options in [Options::default(), Options::permissive()] {
+            let image = Image::read(&bytes, options)?;
+            counts[0] += count(&image.imports());
+            counts[1] += count(&image.libraries());
+            counts[2] += count(&image.exports());
+            counts[3] += count(&image.export_addresses());
+            counts[4] += count(&image.relocation_blocks());
+        }
+    }
+    // (strict mode refuses the last library after its imports)
+    assert_eq!(counts, [13 + 9, 8, 10, 14, 4]);
+    let damage = damage_of(&libraries_of_shared_imports());
+    let imports = damage.imports.expect("a library without an address table");
+    assert_eq!(imports.kind(), ErrorKind::Malformed(Cause::Unmapped));
+    assert_eq!((damage.skipped_libraries, damage.unmapped_entries), (1, 12));
+    Ok(())
+}
+
+#[test]
+fn names_are_cut_after_the_limit() -> Result<(), Error> {
+    let mut bytes = sample("imports_by_name_x64.dll");
+    let long = Options::default().with_longest_name(8);
+    let image = Image::read(&bytes, long)?;
+    let import = image.imports().next().expect("an import")?;
+    assert_eq!(import.dll, Text(b"KERNEL32."));
+    assert!(matches!(import.name, Imported::Name { name: Text(b"GetTickCo"), .. }));
+    assert_eq!(image.imphash_text(&mut Budget::unlimited())?, None);
+    let (header, end) = (image.dos_header().pe_pointer as usize, bytes.len());
+    let name = bytes.windows(8).position(|it| it == b".text\0\0\0").expect("a name");
+    put(&mut bytes, header + 12, u32::try_from(end).expect("a small file"));
+    bytes[name..name + 8].copy_from_slice(b"/4\0\0\0\0\0\0");
+    bytes.extend(b"\x10\0\0\0eleven_more\0");
+    let image = Image::read(&bytes, long)?;
+    assert_eq!(image.sections().next().map(|it| it.name), Some(Text(b"eleven_mo")));
+    assert_eq!(image.section_by_name("eleven_more"), None);
+    assert!(Image::parse(&bytes)?.section_by_name("eleven_more").is_some());
+    Ok(())
+}
+
+// A change that both modes refuse, of an image whose optional header and whose section table begin at
+// these offsets; the parts of the header that can't be read then, and how many sections are missing.
+type Refused = (fn(&mut Vec<u8>, usize, usize), &'static [&'static str], usize);
+const REFUSED: [Refused; 6] = [
+    // (seventeen data directories; a section whose name is a slash and no number)
+    (|bytes, header, _| bytes[header + 108] = 17, &[], 0),
+    (|bytes, _, table| bytes[table..][..5].copy_from_slice(b"/abc\0"), &["section_names"], 0),
+    // (the magic of a ROM image; a header cut in its directories, and in its Windows fields)
+    (
+        |bytes, header, _| bytes[header..][..2].copy_from_slice(&[7, 1]),
+        &["standard_fields", "windows_fields", "directories"],
+        0,
+    ),
+    (|bytes, header, _| bytes.truncate(header + 120), &["directories", "section_table"], 4),
+    (
+        |bytes, header, _| bytes.truncate(header + 111),
+        &["windows_fields", "directories", "section_table"],
+        4,
+    ),
+    // (a section table that is cut in its third record)
+    (|bytes, _, table| bytes.truncate(table + 100), &["section_table"], 2),
+];
+
+#[test]
+fn a_partial_image_has_what_is_there_of_a_refused_header() -> Result<(), Error> {
+    let bytes = sample("imports_by_name_x64.dll");
+    let whole = Pe::parse(&bytes)?;
+    let coff = whole.image.coff_header();
+    let header = whole.image.dos_header().pe_pointer as usize + 24;
+    let table = header + usize::from(coff.size_of_optional_header);
+    for (change, wanted, missing) in REFUSED {
+        let mut changed = bytes.clone();
+        change(&mut changed, header, table);
+        for options in [Options::default(), Options::permissive()] {
+            let (image, faults) = Image::read_partial(&changed, options);
+            assert_eq!(faults.refusal, Image::read(&changed, options).err());
+            assert!(faults.refusal.is_some());
+            let names = Vec::from_iter(faults.errors().map(|(name, _)| name));
+            assert_eq!(names, wanted);
+            assert_eq!((image.sections().len(), image.coff_header()), (4 - missing, coff));
+            for (found, section) in image.sections().zip(&whole.sections) {
+                assert_eq!(found.virtual_address, section.virtual_address);
+            }
+            if missing == 0 && faults.windows_fields.is_none() {
+                assert_eq!(image.imports().collect::<Result<Vec<_>, _>>()?, whole.imports);
+                assert_eq!(image.text_at(0x2000), whole.image.text_at(0x2000));
+                let sections = Vec::from_iter(image.sections());
+                assert_eq!(image.patched(&image.header(), &sections)?, changed);
+            }
+        }
+    }
+    Ok(())
+}
+
+#[test]
+fn a_partial_image_of_a_sound_file_is_that_image() -> Result<(), Error> {
+    let bytes = sample("forwarders_x64.dll");
+    let whole = Pe::parse(&bytes)?;
+    let (image, faults) = Image::read_partial(&bytes, Options::default());
+    assert_eq!((faults.refusal, faults.errors().count()), (None, 0));
+    assert_eq!(format!("{image:?}"), format!("{:?}", whole.image));
+    assert_eq!(image.header(), whole.image.header());
+    assert_eq!(Pe::of(image, &mut Budget::unlimited())?.exports, whole.exports);
+    Ok(())
+}
+
+#[test]
+fn a_partial_image_of_other_bytes_is_zeros() {
+    let (image, faults) = Image::read_partial(b"no image", Options::default());
+    let cause = faults.refusal.map(|it| it.kind());
+    assert_eq!(cause, Some(ErrorKind::Malformed(Cause::DosMagic)));
+    assert!(faults.errors().all(|(_, error)| Some(error) == faults.refusal));
+    assert!(image.optional_header().is_none() && image.coff_header().machine == 0);
+    assert_eq!((image.sections().len(), image.find_offset(0x1000)), (0, None));
+    assert!(image.imports().next().is_none() && image.relocation_blocks().next().is_none());
+    // (a DOS header that leads past the file has no stub, and no place for another header)
+    let mut bytes = sample("imports_by_name_x64.dll");
+    put(&mut bytes, 0x3C, u32::MAX);
+    let (image, _) = Image::read_partial(&bytes, Options::permissive());
+    assert!(image.header().dos_stub.is_empty() && image.checksum().is_none());
+    assert!(image.patched(&image.header(), &[]).is_err());
+}
+
+#[test]
+fn a_partial_image_has_the_sections_that_fit_into_the_file() -> Result<(), Error> {
+    let mut bytes = sample("imports_by_name_x64.dll");
+    let signature = Image::parse(&bytes)?.dos_header().pe_pointer as usize;
+    bytes[signature + 7] = 0xFF;
+    let (image, faults) = Image::read_partial(&bytes, Options::default());
+    assert_eq!(image.coff_header().number_of_sections, 0xFF04);
+    let room = (bytes.len() - signature - 24 - 240) / 40;
+    assert_eq!((image.sections().len(), faults.section_table.is_some()), (room, true));
+    assert!(image.imports().next().is_some());
+    Ok(())
+}

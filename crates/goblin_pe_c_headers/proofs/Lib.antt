@@ -1,0 +1,16 @@
+pub mod Batches
+pub mod GivenEntries
+pub mod GivenOnward
+pub mod GivenWords
+pub mod Items
+pub mod SeenBytes
+pub mod Named
+pub mod NamedObject
+pub mod NamedTe
+pub mod RichEntries
+pub mod RichWalks
+pub mod Names
+pub mod PlacedSections
+pub mod Puts
+pub mod SymbolTables
+pub mod Symbols

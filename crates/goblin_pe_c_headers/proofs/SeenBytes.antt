@@ -1,0 +1,104 @@
+-- What is in memory where an address has an offset inside the file.
+use Rattle.std.proofs.Common.{◌≡◌, ℕ, IsSomeAnd, IsTrue, ◌+◌, ◌-◌, ◌<◌, ◌^◌, Bool, true, false, cond, List, Option, Some, None, find, length, max, min, nat_lt, refl, arith, rules, tests, option_and_then, option_map, slice_range}
+use Rattle.std.specs.Int.{is_power_of_two}
+use Rattle.std.specs.Option.{unwrap_or}
+use Rattle.goblin_base.proofs.RecordRoundTrip.{length-slice}
+use Rattle.goblin_base.proofs.Steps.{same_value}
+use Rattle.goblin_pe_sect.specs.Mapping.{InWindow, file_offset, is_in_window, offset_in, raw_begin, read_size}
+use Rattle.goblin_pe_sect.specs.SectionTable.{Section}
+use Rattle.goblin_pe_sect.proofs.Mapped.{found_in_window}
+use Rattle.goblin_pe_c_headers.specs.declared.options.PeOptions.{PeOptions}
+use Rattle.goblin_pe_c_headers.specs.declared.places.PePlaces.{PePlaces}
+use Rattle.goblin_pe_c_headers.specs.Addresses.{MappedImage, mapped_image, mapped_offset}
+use Rattle.goblin_pe_c_headers.specs.Memory.{Memory, SeesFile, front_at, holder, holder_index, is_unstored, memory_at, memory_by, memory_in_file, memory_length, memory_mapped, stored_in_memory, stored_of, stored_size, window_size}
+
+module _ (file : List ℕ) (p : ℕ) (inside : p < length file) where
+  -- the byte at the offset, and nothing else, is known
+  abbrev Sees : Memory → Type 0
+  Sees seen = (seen.bytes ≡ slice_range file p (p + 1)) × (seen.missing ≡ 0)
+
+  one-byte : front_at file p 1 ≡ slice_range file p (p + 1)
+  one-byte =
+      let begin : min p (length file) ≡ p = omega (arith, inside) in
+      let end : min (p + 1) (length file) ≡ p + 1 = omega (arith, inside) in
+      rw (begin, end) refl
+
+  length-one : length (slice_range file p (p + 1)) ≡ 1
+  length-one = length-slice file p 1 (omega (arith, inside))
+
+  in_file : (outside : ℕ) → Sees (memory_in_file file outside p 1)
+  in_file outside = rw (one-byte, length-one) (refl, refl)
+
+  module _ (m : MappedImage) (outside rva : ℕ) (even : is_power_of_two m.alignment ≡ true) where
+    -- the section that holds the address in its window has the offset there
+    record Holds (s : Section) : Type 0 where
+      within : InWindow m.alignment rva s
+      at : raw_begin m.opts s + (rva - s.virtual_address) ≡ p
+      there : is_unstored s ≡ false
+
+    stored-one : (s : Section) → Holds s → stored_of m.opts m.alignment (length file) s (rva - s.virtual_address) 1 ≡ 1
+    stored-one s h =
+        let window : window_size m.alignment s ≡ read_size s m.alignment = rw even refl in
+        let most : stored_in_memory m.opts m.alignment (length file) s ≡ max (min (window_size m.alignment s) (length file - raw_begin m.opts s)) (min (memory_length m.alignment s) (stored_size m.opts s)) = rw (h.there) refl in
+        omega (arith, window, most, h.within.0, h.within.1, h.at, inside)
+
+    most-one : (s : Section) → Holds s → min 1 (memory_length m.alignment s - (rva - s.virtual_address)) ≡ 1
+    most-one s h =
+        let window : window_size m.alignment s ≡ read_size s m.alignment = rw even refl in
+        omega (arith, window, h.within.0, h.within.1)
+
+    in_section : (index : ℕ) (s : Section) → Holds s → Sees (memory_by m file outside rva 1 index (Some s))
+    in_section index s h =
+        rw (most-one s h, stored-one s h, h.at, one-byte, length-one) (refl, refl)
+
+    -- what holds the address is the section whose window does
+    held : (s : Section) → find (is_in_window m.alignment rva) m.sections ≡ Some s → holder m rva ≡ Some s
+    held s found = rw (even, found) refl
+
+    by_section : (found : Option Section) → find (is_in_window m.alignment rva) m.sections ≡ found
+        → option_map (λ s. offset_in m.opts s rva) found ≡ Some p
+        → ((s : Section) → holder m rva ≡ Some s → is_unstored s ≡ false)
+        → Sees (memory_by m file outside rva 1 (unwrap_or (holder_index m rva) outside) (holder m rva))
+    by_section None found at stored = absurd cc
+    by_section (Some s) found at stored =
+        rw (held s found)
+        (in_section (unwrap_or (holder_index m rva) outside) s (record {
+          within = found_in_window m.alignment rva m.sections s found;
+          at = same_value _ _ at;
+          there = stored s (held s found);
+        }))
+
+  by_map : (m : MappedImage) (outside rva : ℕ) (b even : Bool) → m.opts.resolve_rva ≡ b → is_power_of_two m.alignment ≡ even
+      → cond b (cond even (option_map (λ s. offset_in m.opts s rva) (find (is_in_window m.alignment rva) m.sections)) None) (Some rva) ≡ Some p
+      → ((s : Section) → holder m rva ≡ Some s → is_unstored s ≡ false)
+      → Sees (memory_mapped file outside rva 1 (Some m))
+  by_map m outside rva true true on even at stored = rw on (by_section m outside rva even _ refl at stored)
+  by_map m outside rva true false on even at stored = absurd cc
+  by_map m outside rva false even on is at stored =
+      let same : rva ≡ p = same_value rva p at in
+      rw (on, same) (in_file outside)
+
+  mapped_by : (m : MappedImage) (outside rva : ℕ) → mapped_offset m rva ≡ Some p
+      → ((s : Section) → holder m rva ≡ Some s → is_unstored s ≡ false)
+      → Sees (memory_mapped file outside rva 1 (Some m))
+  unfolding file_offset
+  mapped_by m outside rva at stored = by (nat_lt rva (2 ^ 32)) at
+    where
+      by : (small : Bool) → cond small (file_offset m.opts m.sections m.alignment rva) None ≡ Some p → Sees (memory_mapped file outside rva 1 (Some m))
+      by true at = by_map m outside rva m.opts.resolve_rva (is_power_of_two m.alignment) refl refl at stored
+      by false at = absurd cc
+
+stored-there : (s : Section) (b : Bool) → is_unstored s ≡ b → ¬ (IsTrue (is_unstored s)) → is_unstored s ≡ false
+stored-there s true is stored = absurd (stored (search (rules, tests, is)))
+stored-there s false is stored = is
+
+pub sees_file : (o : PeOptions) (p : PePlaces) (bytes : List ℕ) → SeesFile o p bytes
+unfolding memory_at
+sees_file o p bytes = λ rva offset at inside stored. by rva offset (mapped_image o p bytes) at inside stored
+  where
+    by : (rva offset : ℕ) (m : Option MappedImage) → option_and_then (λ m. mapped_offset m rva) m ≡ Some offset → offset < length bytes
+        → ¬ IsSomeAnd (option_and_then (λ m. holder m rva) m) (λ s. IsTrue (is_unstored s))
+        → ((memory_mapped bytes p.number_of_sections rva 1 m).bytes ≡ slice_range bytes offset (offset + 1)) × ((memory_mapped bytes p.number_of_sections rva 1 m).missing ≡ 0)
+    by rva offset None at inside stored = absurd cc
+    by rva offset (Some m) at inside stored =
+        mapped_by bytes offset inside m p.number_of_sections rva at (λ s held. stored-there s (is_unstored s) refl (λ yes. stored (rw held yes)))

@@ -1,0 +1,145 @@
+-- Where a symbol table and its string table lie.
+use Rattle.std.proofs.Common.{◌≡◌, ℕ, ◌+◌, ◌-◌, ◌*◌, Bool, true, false, cond, List, [], length, refl, ap, sym, subst, ◌∙◌, arith, inl, inr, ◌⊎◌, ◌==◌, drop, Option, Some, None, nat_le, nat_lt, option_map, slice_range, le-leb, leb-true, length-drop, length-take}
+use Rattle.std.specs.Option.{unwrap_or}
+use Rattle.goblin_base.specs.declared.endian.Endian.TheVariants.{Little}
+use Rattle.goblin_base.specs.Bytes.{number_at, slice_at, text_of}
+use Rattle.goblin_base.specs.Parts.{bytes_between}
+use Rattle.goblin_base.specs.Strtab.{string_table}
+use Rattle.goblin_base.proofs.Steps.{mapped, same_value, step}
+use Rattle.goblin_pe_head.specs.declared.header.coff.CoffHeader.{CoffHeader}
+use Rattle.goblin_pe_head.specs.CoffHeader.{string_table_offset, symbols_end}
+use Rattle.goblin_pe_head.specs.CoffReadings.{strings_at, strings_of, symbols_of}
+use Rattle.goblin_pe_c_headers.specs.Symbols.{FindsTables, found_tables, symbol_tables, tables_with, texts_at, texts_of}
+
+-- the texts of a string table are the bytes where they lie
+texts_inside : (inside : Bool) (text : Option (List ℕ)) (s : List ℕ) → cond inside text None ≡ Some s → (inside ≡ true) × (text ≡ Some s)
+texts_inside true text s is = (refl, is)
+texts_inside false text s is = absurd (cc is)
+
+texts_same : (is_text : Bool) (xs s : List ℕ) → cond is_text (Some xs) None ≡ Some s → s ≡ xs
+texts_same true xs s is = sym (same_value xs s is)
+texts_same false xs s is = absurd (cc is)
+
+texts_long : (bytes : List ℕ) (p n : ℕ) (s : List ℕ) → string_table bytes p n ≡ Some s → length s ≡ n
+texts_long bytes p n s is =
+    let table = texts_inside (nat_le (p + n) (length bytes)) (text_of (slice_range bytes p (p + n))) s is in
+    let same : s ≡ slice_range bytes p (p + n) = texts_same _ _ s table.1 in
+    let le = leb-true (p + n) (length bytes) table.0 in
+    ap length same ∙ omega (arith, length-take (p + n - p) (drop p bytes), length-drop p bytes, le)
+
+texts_there : (bytes : List ℕ) (p n : ℕ) (s : List ℕ) → string_table bytes p n ≡ Some s → bytes_between bytes p (p + length s) ≡ Some s
+texts_there bytes p n s is =
+    let table = texts_inside (nat_le (p + n) (length bytes)) (text_of (slice_range bytes p (p + n))) s is in
+    let same : s ≡ slice_range bytes p (p + n) = texts_same _ _ s table.1 in
+    let long = texts_long bytes p n s is in
+    let begins : nat_le p (p + n) ≡ true = le-leb p (p + n) (omega arith) in
+    rw (long, begins, table.0) (ap (λ (xs : List ℕ). Some xs) (sym same))
+
+by_size : (few : Bool) (table : Option (List ℕ)) (s : List ℕ) → cond few None table ≡ Some s → table ≡ Some s
+by_size true table s is = absurd (cc is)
+by_size false table s is = is
+
+-- what is read of a string table is its texts
+strings_there : (bytes : List ℕ) (p : ℕ) (s : List ℕ) → (strings_at p).value bytes ≡ Some s → bytes_between bytes (p + 4) (p + 4 + length s) ≡ Some s
+strings_there bytes p s is =
+    let size = step (number_at Little 4 bytes p) _ s is in
+    texts_there bytes (p + 4) (size.value - 4) s (by_size (nat_lt size.value 4) (string_table bytes (p + 4) (size.value - 4)) s size.then)
+
+-- what a header leads to, by how many bytes the texts have
+abbrev Leads : CoffHeader → List ℕ → Option (List ℕ) × Option (List ℕ) → Type 0
+Leads header bytes x = (tables_with header (option_map (λ s. length s) x.1)).value bytes ≡ Some (unwrap_or x.0 [], unwrap_or x.1 [])
+
+without_tables : (header : CoffHeader) (bytes : List ℕ) (x : Option (List ℕ) × Option (List ℕ)) → (header.pointer_to_symbol_table == 0) ≡ true → (symbol_tables header).value bytes ≡ Some x → Leads header bytes x
+unfolding symbols_of strings_of string_table_offset
+without_tables header bytes x none is =
+    let made : (symbol_tables header).value bytes ≡ Some (None, None) = rw none refl in
+    let same = same_value _ _ (sym made ∙ is) in
+    subst (Leads header bytes) same refl
+
+-- by the tables that are there
+both_lead : (header : CoffHeader) (bytes records strings : List ℕ) → slice_at bytes header.pointer_to_symbol_table (18 * header.number_of_symbol_table) ≡ Some records
+    → (strings_at (symbols_end header)).value bytes ≡ Some strings → Leads header bytes (Some records, Some strings)
+both_lead header bytes records strings placed ended =
+    let texts = strings_there bytes (symbols_end header) strings ended in
+    rw (placed, texts) refl
+
+symbols_placed : (header : CoffHeader) (bytes : List ℕ) → (header.pointer_to_symbol_table == 0) ≡ false → (symbols_of header).value bytes ≡ option_map (λ (t : List ℕ). Some t) (slice_at bytes header.pointer_to_symbol_table (18 * header.number_of_symbol_table))
+unfolding symbols_of
+symbols_placed header bytes some = rw some refl
+
+strings_placed : (header : CoffHeader) (bytes : List ℕ) → (header.pointer_to_symbol_table == 0) ≡ false → (strings_of header).value bytes ≡ option_map (λ (t : List ℕ). Some t) ((strings_at (symbols_end header)).value bytes)
+unfolding strings_of string_table_offset
+strings_placed header bytes some = rw some refl
+
+with_tables : (header : CoffHeader) (bytes : List ℕ) (x : Option (List ℕ) × Option (List ℕ)) → (header.pointer_to_symbol_table == 0) ≡ false → (symbol_tables header).value bytes ≡ Some x → Leads header bytes x
+with_tables header bytes x some is =
+    let read = step ((symbols_of header).value bytes) _ x is in
+    let both = mapped ((strings_of header).value bytes) (λ (strings : Option (List ℕ)). (read.value, strings)) x read.then in
+    let records = mapped (slice_at bytes header.pointer_to_symbol_table (18 * header.number_of_symbol_table)) (λ (t : List ℕ). Some t) read.value (sym (symbols_placed header bytes some) ∙ read.is) in
+    let strings = mapped ((strings_at (symbols_end header)).value bytes) (λ (t : List ℕ). Some t) both.value (sym (strings_placed header bytes some) ∙ both.is) in
+    let holds = both_lead header bytes records.value strings.value records.is strings.is in
+    subst (Leads header bytes) both.made
+    (subst (λ (symbols : Option (List ℕ)). Leads header bytes (symbols, both.value)) records.made
+    (subst (λ (texts : Option (List ℕ)). Leads header bytes (Some records.value, texts)) strings.made holds))
+
+either : (b : Bool) → (b ≡ true) ⊎ (b ≡ false)
+either true = inl refl
+either false = inr refl
+
+-- tables that were read are led to
+leads : (header : CoffHeader) (bytes : List ℕ) (x : Option (List ℕ) × Option (List ℕ)) → (symbol_tables header).value bytes ≡ Some x → Leads header bytes x
+leads header bytes x is =
+    elim (either (header.pointer_to_symbol_table == 0)) [
+      | inl none ↦ without_tables header bytes x none is
+      | inr some ↦ with_tables header bytes x some is
+    ]
+
+-- ---- tables that are found
+
+not_few : (few : Bool) (table : Option (List ℕ)) (s : List ℕ) → cond few None table ≡ Some s → few ≡ false
+not_few true table s is = absurd (cc is)
+not_few false table s is = refl
+
+-- the length of a string table that was read says how many bytes its texts have
+texts_length : (bytes : List ℕ) (p : ℕ) (s : List ℕ) → (strings_at p).value bytes ≡ Some s → (texts_at p).value bytes ≡ Some (Some (length s))
+texts_length bytes p s is =
+    let size = step (number_at Little 4 bytes p) _ s is in
+    let table = string_table bytes (p + 4) (size.value - 4) in
+    let few = not_few (nat_lt size.value 4) table s size.then in
+    let long = texts_long bytes (p + 4) (size.value - 4) s (by_size (nat_lt size.value 4) table s size.then) in
+    rw (size.is, few, long) refl
+
+texts_placed : (header : CoffHeader) (bytes : List ℕ) → (header.pointer_to_symbol_table == 0) ≡ false → (texts_of header).value bytes ≡ (texts_at (symbols_end header)).value bytes
+unfolding texts_of string_table_offset
+texts_placed header bytes some = rw some refl
+
+-- how many bytes the texts have is what a header leads to
+abbrev HasTexts : CoffHeader → List ℕ → Option (List ℕ) → Type 0
+HasTexts header bytes strings = (texts_of header).value bytes ≡ Some (option_map (λ s. length s) strings)
+
+no_texts : (header : CoffHeader) (bytes : List ℕ) (strings : Option (List ℕ)) → (header.pointer_to_symbol_table == 0) ≡ true → (strings_of header).value bytes ≡ Some strings → HasTexts header bytes strings
+unfolding strings_of string_table_offset texts_of
+no_texts header bytes strings none is =
+    let made : (strings_of header).value bytes ≡ Some None = rw none refl in
+    subst (HasTexts header bytes) (same_value _ _ (sym made ∙ is)) (rw none refl)
+
+some_texts : (header : CoffHeader) (bytes : List ℕ) (strings : Option (List ℕ)) → (header.pointer_to_symbol_table == 0) ≡ false → (strings_of header).value bytes ≡ Some strings → HasTexts header bytes strings
+some_texts header bytes strings some is =
+    let there = mapped ((strings_at (symbols_end header)).value bytes) (λ (t : List ℕ). Some t) strings (sym (strings_placed header bytes some) ∙ is) in
+    subst (HasTexts header bytes) there.made (texts_placed header bytes some ∙ texts_length bytes (symbols_end header) there.value there.is)
+
+has_texts : (header : CoffHeader) (bytes : List ℕ) (strings : Option (List ℕ)) → (strings_of header).value bytes ≡ Some strings → HasTexts header bytes strings
+has_texts header bytes strings is =
+    elim (either (header.pointer_to_symbol_table == 0)) [
+      | inl none ↦ no_texts header bytes strings none is
+      | inr some ↦ some_texts header bytes strings some is
+    ]
+
+-- tables that are read are found
+pub finds_tables : FindsTables
+unfolding found_tables
+finds_tables header bytes x is =
+    let read = step ((symbols_of header).value bytes) _ x is in
+    let both = mapped ((strings_of header).value bytes) (λ (strings : Option (List ℕ)). (read.value, strings)) x read.then in
+    let texts : HasTexts header bytes x.1 = subst (λ (y : Option (List ℕ) × Option (List ℕ)). HasTexts header bytes y.1) both.made (has_texts header bytes both.value both.is) in
+    rw (texts, leads header bytes x is) refl

@@ -1,0 +1,77 @@
+-- The file offsets of the addresses of an image, and the addresses of offsets.
+use Rattle.std.specs.Prelude.{ℕ, ◌^◌, nat_lt, if◌then◌else◌, List, [], Option, Some, None, find}
+use Rattle.std.specs.Prelude.{option_and_then, option_map}
+use Rattle.std.specs.Option.{is_some}
+use Rattle.goblin_base.specs.Reading.{Reading}
+use Rattle.readings.specs.Reads.{text_within}
+use Rattle.goblin_pe_sect.specs.AddressReadings.{at_address}
+use Rattle.goblin_pe_sect.specs.declared.options.ParseOptions.{ParseOptions}
+use Rattle.goblin_pe_sect.specs.Mapping.{file_offset, is_at, rva_in}
+use Rattle.goblin_pe_sect.specs.Options.{front_of}
+use Rattle.goblin_pe_sect.specs.SectionTable.{Section, mapped_sections, with_front}
+use Rattle.goblin_pe_c_headers.specs.declared.address.Mapped.{Mapped}
+use Rattle.goblin_pe_c_headers.specs.declared.options.PeOptions.{PeOptions}
+use Rattle.goblin_pe_c_headers.specs.declared.places.PePlaces.{PePlaces}
+use Rattle.goblin_pe_c_headers.specs.Options.{are_known, longest_of, maps_addresses, options_at, view_of}
+use Rattle.goblin_pe_c_headers.specs.Places.{placed_sections}
+
+-- What maps the addresses of an image: its sections and, if it is mapped, the file's front after
+-- them, the file alignment and the options.
+pub record MappedImage : Type 0 where
+  pub sections : List Section
+  pub alignment : ℕ
+  pub opts : ParseOptions
+
+abbrev pub mapped_view : Mapped → MappedImage
+mapped_view m = record {
+  sections = mapped_sections m.records;
+  alignment = m.file_alignment;
+  opts = m.opts;
+}
+
+-- the sections of an image, if the file has their headers; none are needed if addresses are offsets
+abbrev pub sections_for : PeOptions → PePlaces → List ℕ → Option (List Section)
+sections_for o p bytes =
+    if maps_addresses o then (placed_sections p).value bytes else Some []
+
+-- What maps the addresses of an image. Nothing does if the options are not known, or if the file has
+-- no room for the section headers.
+unfoldable pub mapped_image : PeOptions → PePlaces → List ℕ → Option MappedImage
+mapped_image o p bytes =
+    if are_known o
+    then option_map (λ sections. record {
+      sections = with_front (front_of (view_of o) p.size_of_headers) sections;
+      alignment = p.file_alignment;
+      opts = options_at o p.file_alignment;
+    }) (sections_for o p bytes)
+    else None
+
+-- the file offset of an address, if it has one; an address has 32 bits
+abbrev pub mapped_offset : MappedImage → ℕ → Option ℕ
+mapped_offset m rva =
+    if nat_lt rva (2 ^ 32) then file_offset m.opts m.sections m.alignment rva else None
+
+abbrev pub image_map : PeOptions → PePlaces → List ℕ → ℕ → Option ℕ
+image_map o p bytes rva = option_and_then (λ m. mapped_offset m rva) (mapped_image o p bytes)
+
+-- the address that the first section whose raw data holds the offset has there
+abbrev pub first_address : MappedImage → ℕ → Option ℕ
+first_address m offset =
+    if m.opts.resolve_rva
+    then option_and_then (rva_in m.opts m.alignment offset)
+    (find (λ s. is_some (rva_in m.opts m.alignment offset s)) m.sections)
+    else Some offset
+
+-- this address, if it is mapped back to the offset
+abbrev pub mapped_address : MappedImage → ℕ → Option ℕ
+mapped_address m offset =
+    option_and_then (λ rva. if is_at offset (mapped_offset m rva) then Some rva else None)
+    (first_address m offset)
+
+abbrev pub image_address : PeOptions → PePlaces → List ℕ → ℕ → Option ℕ
+image_address o p bytes offset =
+    option_and_then (λ m. mapped_address m offset) (mapped_image o p bytes)
+
+-- the text at an address, cut if the options set a limit
+abbrev pub text_at : PeOptions → PePlaces → List ℕ → ℕ → Reading (List ℕ)
+text_at o p bytes rva = at_address (image_map o p bytes) rva (text_within (longest_of o))

@@ -1,0 +1,110 @@
+-- The auxiliary records of a symbol, as a call gives them.
+use Rattle.std.specs.Prelude.{◌≡◌, ℕ, ◌*◌, ◌/◌, ◌==◌, ◌&&◌, ◌||◌, nat_lt, pos, int_lt, nat_abs}
+use Rattle.std.specs.Prelude.{if◌then◌else◌, List, [], ◌∷◌, length, take}
+use Rattle.goblin_base.specs.declared.endian.Endian.TheVariants.{Little}
+use Rattle.goblin_base.specs.Bytes.{before_nul, number}
+use Rattle.goblin_pe_symbol.specs.declared.symbol.Symbol.{Symbol}
+use Rattle.goblin_pe_symbol.specs.AuxiliarySymbols.{begin_and_end_function_record}
+use Rattle.goblin_pe_symbol.specs.AuxiliarySymbols.{function_definition_record}
+use Rattle.goblin_pe_symbol.specs.AuxiliarySymbols.{section_definition_record, weak_external_record}
+use Rattle.goblin_pe_c_headers.specs.declared.auxiliary.AuxiliaryKind.{AuxiliaryKind}
+use Rattle.goblin_pe_c_headers.specs.declared.auxiliary.AuxiliaryKind.TheVariants as kind
+use Rattle.goblin_pe_c_headers.specs.declared.auxiliary.PeAuxiliary.{PeAuxiliary}
+
+-- Source: PE Format, "Auxiliary Symbol Records".
+
+-- the kind of the auxiliary records of a symbol, by its class: external, static, of a function, of a
+-- file, or a weak external
+abbrev pub kind_with : Symbol → AuxiliaryKind
+kind_with s =
+    if (s.storage_class == 2) && ((s.typ / 16 == 2) && int_lt (pos 0) s.section_number)
+    then kind.FunctionDefinition
+    else if (s.storage_class == 2) && ((nat_abs s.section_number == 0) && (s.value == 0))
+    then kind.WeakExternal
+    else if s.storage_class == 105 then kind.WeakExternal
+    else if s.storage_class == 101 then kind.BeginAndEndFunction
+    else if s.storage_class == 103 then kind.File
+    else if s.storage_class == 3 then kind.SectionDefinition
+    else kind.None
+
+-- the kind by the records: none if there are none, or they are cut
+abbrev pub kind_of : Symbol → List ℕ → AuxiliaryKind
+kind_of s records =
+    if (s.number_of_aux_symbols == 0) || nat_lt (length records) (18 * s.number_of_aux_symbols)
+    then kind.None
+    else kind_with s
+
+-- the number of a kind
+abbrev pub kind_number : AuxiliaryKind → ℕ
+kind_number kind.None = 0
+kind_number kind.FunctionDefinition = 1
+kind_number kind.BeginAndEndFunction = 2
+kind_number kind.WeakExternal = 3
+kind_number kind.File = 4
+kind_number kind.SectionDefinition = 5
+
+-- no auxiliary record; the name of a file is that of the record which is given
+abbrev pub zero_auxiliary : PeAuxiliary → PeAuxiliary
+zero_auxiliary a = record a {
+  tag_index = 0;
+  total_size = 0;
+  pointer_to_line_number = 0;
+  pointer_to_next_function = 0;
+  line_number = 0;
+  number = 0;
+  length = 0;
+  checksum = 0;
+  number_of_relocations = 0;
+  number_of_line_numbers = 0;
+  selection = 0;
+  reserved = 0 ∷ 0 ∷ 0 ∷ [];
+  characteristics = 0;
+  string_offset = 0;
+  reserved2 = 0;
+}
+
+-- the number in the place of a file's name, if that begins with four zeros
+abbrev pub file_offset : List ℕ → ℕ
+file_offset records = if number Little 4 records 0 == 0 then number Little 4 records 4 else 0
+
+-- the name of a file
+abbrev pub file_name : AuxiliaryKind → List ℕ → List ℕ
+file_name kind.File records = before_nul records
+file_name other records = []
+
+-- the first of these records, of this kind
+abbrev pub fields_said : AuxiliaryKind → List ℕ → PeAuxiliary → PeAuxiliary
+fields_said kind.None records zeros = zeros
+fields_said kind.FunctionDefinition records zeros =
+    let read = function_definition_record Little (take 18 records) in
+    record zeros {
+      tag_index = read.tag_index;
+      total_size = read.total_size;
+      pointer_to_line_number = read.pointer_to_line_number;
+      pointer_to_next_function = read.pointer_to_next_function;
+    }
+fields_said kind.BeginAndEndFunction records zeros =
+    let read = begin_and_end_function_record Little (take 18 records) in
+    record zeros {
+      pointer_to_next_function = read.pointer_to_next_function;
+      line_number = read.line_number;
+    }
+fields_said kind.WeakExternal records zeros =
+    let read = weak_external_record Little (take 18 records) in
+    record zeros { tag_index = read.tag_index; characteristics = read.characteristics }
+fields_said kind.File records zeros = record zeros { string_offset = file_offset records }
+fields_said kind.SectionDefinition records zeros =
+    let read = section_definition_record Little (take 18 records) in
+    record zeros {
+      number = read.number;
+      length = read.length;
+      checksum = read.checksum;
+      number_of_relocations = read.number_of_relocations;
+      number_of_line_numbers = read.number_of_line_numbers;
+      selection = read.selection;
+    }
+
+-- the record says the first of these records, of this kind
+abbrev pub AuxiliarySaid : AuxiliaryKind → List ℕ → PeAuxiliary → Type 0
+AuxiliarySaid kind records a =
+    (a.file.now ≡ file_name kind records) × (a ≡ fields_said kind records (zero_auxiliary a))

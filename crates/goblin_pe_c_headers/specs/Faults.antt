@@ -1,0 +1,239 @@
+-- Refusals as numbers.
+use Rattle.std.specs.Prelude.{◌≡◌, ◌⊎◌, ℕ, ◌-◌, ◌%◌, ◌^◌, ◌==◌, nat_lt, List, [], ◌∷◌, codes, drop}
+use Rattle.std.specs.Prelude.{length, if◌then◌else◌, Option, Some, None, Result, Ok, Err, slice_get}
+use Rattle.std.specs.Prelude.{option_map, ⊤, bytes_eq}
+use Rattle.std.specs.Option.{option_or}
+use Rattle.goblin_base.specs.ErrorText.{cause_text, fault_text, magic_text, memory_text, short_text}
+use Rattle.goblin_base.specs.declared.error.CauseOf.{CauseOf}
+use Rattle.goblin_base.specs.declared.error.ReadFault.{ReadFault}
+use Rattle.goblin_base.specs.declared.error.ErrorOf.{ErrorOf}
+use Rattle.goblin_base.specs.declared.error.ErrorOf.TheVariants.{Malformed, BadMagic}
+use Rattle.goblin_base.specs.declared.error.ErrorOf.TheVariants.{BufferTooShort, Read, Memory}
+use Rattle.goblin_base.specs.declared.error.ReadFault.TheVariants.{BadOffset, TooBig, BadInput}
+use Rattle.goblin_base.specs.declared.error.CauseOf.TheVariants.{Message, NoDosSignature, DosMagic}
+use Rattle.goblin_base.specs.declared.error.CauseOf.TheVariants.{NoPePointer, NoPeSignature, NoDans}
+use Rattle.goblin_base.specs.declared.error.CauseOf.TheVariants.{PeMagic, StubBeforeStart, NameText}
+use Rattle.goblin_base.specs.declared.error.CauseOf.TheVariants.{StubPastEnd, RichBounds, Unmapped}
+use Rattle.goblin_base.specs.declared.error.CauseOf.TheVariants.{StrippedSize, CoffLength, NameRead}
+use Rattle.goblin_base.specs.declared.error.CauseOf.TheVariants.{DirectoryIndex, DirectoryCount}
+use Rattle.goblin_base.specs.declared.error.CauseOf.TheVariants.{NameBase64, NameDecimal, HintEntry}
+use Rattle.goblin_base.specs.declared.error.CauseOf.TheVariants.{NameOffset, SymbolName, LookupEnd}
+use Rattle.goblin_base.specs.declared.error.CauseOf.TheVariants.{StringTable, FieldTooWide}
+use Rattle.goblin_base.specs.declared.error.CauseOf.TheVariants.{ImportRecordEnd, ExportTable}
+use Rattle.goblin_base.specs.declared.error.CauseOf.TheVariants.{Forwarder, ForwarderOrdinal}
+use Rattle.goblin_base.specs.declared.error.CauseOf.TheVariants.{RelocRange, BlockSize, BlockRange}
+use Rattle.goblin_base.specs.declared.error.CauseOf.TheVariants.{Overflow, SlotCount}
+use Rattle.goblin_pe_c_headers.specs.declared.fault.PeFault.{PeFault}
+use Rattle.goblin_pe_c_headers.specs.declared.options.PeOptions.{PeOptions}
+use Rattle.goblin_pe_c_headers.specs.Options.{are_known}
+use Rattle.goblin_pe_c_headers.specs.declared.fault.Status.{Status}
+use Rattle.goblin_pe_c_headers.specs.declared.fault.Status.TheVariants as status
+
+abbrev pub fault : ℕ → ℕ → ℕ → ℕ → PeFault
+fault status cause first second = record {
+  status = status;
+  cause = cause;
+  first = first;
+  second = second;
+}
+
+-- the number of a status
+abbrev pub number_of : Status → ℕ
+number_of status.Ok = 0
+number_of status.Malformed = 1
+number_of status.BadMagic = 2
+number_of status.BufferTooShort = 3
+number_of status.Read = 4
+number_of status.Memory = 5
+number_of status.Options = 6
+number_of status.Steps = 7
+number_of status.Kind = 8
+
+-- the status with this number
+abbrev pub status_with : ℕ → Option Status
+status_with number =
+    if number == 0 then Some status.Ok
+    else if number == 1 then Some status.Malformed
+    else if number == 2 then Some status.BadMagic
+    else if number == 3 then Some status.BufferTooShort
+    else if number == 4 then Some status.Read
+    else if number == 5 then Some status.Memory
+    else if number == 6 then Some status.Options
+    else if number == 7 then Some status.Steps
+    else if number == 8 then Some status.Kind
+    else None
+
+-- what a file is too short for, by its number
+abbrev pub word_number : List ℕ → ℕ
+word_number what =
+    if bytes_eq what (codes "sections") then 1
+    else if bytes_eq what (codes "name pointers") then 2
+    else if bytes_eq what (codes "address table entries") then 3
+    else 0
+
+-- nothing is refused
+abbrev pub no_fault : PeFault
+no_fault = fault 0 0 0 0
+
+-- the numbers of a refusal
+abbrev pub fault_of : ErrorOf → PeFault
+fault_of (Malformed (Message text)) = fault 1 1 0 0
+fault_of (Malformed NoDosSignature) = fault 1 2 0 0
+fault_of (Malformed (DosMagic magic)) = fault 1 3 magic 0
+fault_of (Malformed NoPePointer) = fault 1 4 0 0
+fault_of (Malformed (NoPeSignature offset)) = fault 1 5 offset 0
+fault_of (Malformed (PeMagic magic)) = fault 1 6 magic 0
+fault_of (Malformed (StubBeforeStart offset)) = fault 1 7 offset 0
+fault_of (Malformed (StubPastEnd length end)) = fault 1 8 length end
+fault_of (Malformed NoDans) = fault 1 9 0 0
+fault_of (Malformed (RichBounds begin end)) = fault 1 10 begin end
+fault_of (Malformed (StrippedSize size)) = fault 1 11 size 0
+fault_of (Malformed CoffLength) = fault 1 12 0 0
+fault_of (Malformed (DirectoryIndex index)) = fault 1 13 index 0
+fault_of (Malformed (DirectoryCount count)) = fault 1 14 count 0
+fault_of (Malformed NameText) = fault 1 15 0 0
+fault_of (Malformed NameBase64) = fault 1 16 0 0
+fault_of (Malformed NameDecimal) = fault 1 17 0 0
+fault_of (Malformed (NameOffset offset)) = fault 1 18 offset 0
+fault_of (Malformed (SymbolName offset)) = fault 1 19 offset 0
+fault_of (Malformed (StringTable offset length)) = fault 1 20 offset length
+fault_of (Malformed FieldTooWide) = fault 1 21 0 0
+fault_of (Malformed (Unmapped rva)) = fault 1 22 rva 0
+fault_of (Malformed (NameRead offset)) = fault 1 23 offset 0
+fault_of (Malformed (HintEntry offset)) = fault 1 24 offset 0
+fault_of (Malformed (LookupEnd offset)) = fault 1 25 offset 0
+fault_of (Malformed (ImportRecordEnd offset)) = fault 1 26 offset 0
+fault_of (Malformed (ExportTable offset)) = fault 1 27 offset 0
+fault_of (Malformed Forwarder) = fault 1 28 0 0
+fault_of (Malformed ForwarderOrdinal) = fault 1 29 0 0
+fault_of (Malformed (RelocRange offset size)) = fault 1 30 offset size
+fault_of (Malformed (BlockSize size)) = fault 1 31 size 0
+fault_of (Malformed (BlockRange begin size)) = fault 1 32 begin size
+fault_of (Malformed Overflow) = fault 1 33 0 0
+fault_of (Malformed (SlotCount entries slots)) = fault 1 34 entries slots
+fault_of (BadMagic magic) = fault 2 0 magic 0
+fault_of (BufferTooShort count what) = fault 3 (word_number what.now) count 0
+fault_of (Read BadOffset) = fault 4 1 0 0
+fault_of (Read TooBig) = fault 4 2 0 0
+fault_of (Read BadInput) = fault 4 3 0 0
+fault_of (Memory e) = fault 5 0 0 0
+
+-- the numbers of what a call returns
+abbrev pub status_of : {A : Type 0} → Result A ErrorOf → PeFault
+status_of (Ok x) = no_fault
+status_of (Err e) = fault_of e
+
+-- why a call with these options is refused before it begins; no fault if they are known
+abbrev pub options_fault : PeOptions → PeFault
+options_fault o = if are_known o then no_fault else fault 6 0 o.mapping 0
+
+-- why a call for images alone is refused, by the kind of its record
+abbrev pub kind_fault : ℕ → PeFault
+kind_fault kind = if kind == 1 then no_fault else fault 8 0 kind 0
+
+-- both, for a call that looks at both
+abbrev pub image_fault : ℕ → PeOptions → PeFault
+image_fault kind o = if kind == 1 then options_fault o else kind_fault kind
+
+-- The causes from number 2 on, in the order of their numbers, with these numbers of their own.
+-- Number 1 is a message of the caller's, which has no numbers.
+abbrev pub causes : ℕ → ℕ → List CauseOf
+causes first second =
+    NoDosSignature
+    ∷ DosMagic (first % 2 ^ 16)
+    ∷ NoPePointer
+    ∷ NoPeSignature first
+    ∷ PeMagic (first % 2 ^ 32)
+    ∷ StubBeforeStart (first % 2 ^ 32)
+    ∷ StubPastEnd first second
+    ∷ NoDans
+    ∷ RichBounds first second
+    ∷ StrippedSize (first % 2 ^ 32)
+    ∷ CoffLength
+    ∷ DirectoryIndex first
+    ∷ DirectoryCount first
+    ∷ NameText
+    ∷ NameBase64
+    ∷ NameDecimal
+    ∷ NameOffset first
+    ∷ SymbolName (first % 2 ^ 32)
+    ∷ StringTable first second
+    ∷ FieldTooWide
+    ∷ Unmapped first
+    ∷ NameRead first
+    ∷ HintEntry first
+    ∷ LookupEnd first
+    ∷ ImportRecordEnd first
+    ∷ ExportTable first
+    ∷ Forwarder
+    ∷ ForwarderOrdinal
+    ∷ RelocRange first (second % 2 ^ 32)
+    ∷ BlockSize (first % 2 ^ 32)
+    ∷ BlockRange first second
+    ∷ Overflow
+    ∷ SlotCount first second
+    ∷ []
+
+-- the cause with these numbers
+abbrev pub cause_of : PeFault → Option CauseOf
+cause_of fault =
+    if nat_lt fault.cause 2
+    then None
+    else slice_get (causes fault.first fault.second) (fault.cause - 2)
+
+-- what a file is too short for, by its number
+abbrev pub word_of : ℕ → Option (List ℕ)
+word_of number =
+    if number == 0 then Some (codes "entries")
+    else if number == 1 then Some (codes "sections")
+    else if number == 2 then Some (codes "name pointers")
+    else if number == 3 then Some (codes "address table entries")
+    else None
+
+-- why a read was refused, by its number
+abbrev pub read_fault_of : ℕ → Option ReadFault
+read_fault_of number =
+    if number == 1 then Some BadOffset
+    else if number == 2 then Some TooBig
+    else if number == 3 then Some BadInput
+    else None
+
+-- the text of a fault of a call, which is not of the file
+abbrev pub call_text : ℕ → Option (List ℕ)
+call_text status =
+    if status == 6
+    then Some (codes "the options have an unknown mapping, or reserved bytes that are not zero")
+    else if status == 7 then Some (codes "no steps are left")
+    else if status == 8
+    then Some (codes "the record is not of an image, but of an object or a TE file")
+    else None
+
+-- the text of a fault of the file
+abbrev pub file_text : PeFault → Option (List ℕ)
+file_text fault =
+    if fault.status == 1 then option_map cause_text (cause_of fault)
+    else if fault.status == 2 then Some (magic_text fault.first)
+    else if fault.status == 3 then option_map (short_text fault.first) (word_of fault.cause)
+    else if fault.status == 4 then option_map fault_text (read_fault_of fault.cause)
+    else if fault.status == 5 then Some memory_text
+    else None
+
+-- the text of the fault with these numbers
+abbrev pub refusal_text : PeFault → Option (List ℕ)
+refusal_text f = option_or (call_text f.status) (file_text f)
+
+-- a refusal that its numbers describe fully: it has no message of the caller's, and no text without
+-- a number
+abbrev pub IsNumbered : ErrorOf → Type 0
+IsNumbered (Malformed (Message text)) = ⊥
+IsNumbered (BufferTooShort count what) = word_of (word_number what.now) ≡ Some what.now
+IsNumbered e = ⊤
+
+-- the whole text, or one that was cut and ends in three dots; no text where there is none
+abbrev pub IsKept : Option (List ℕ) → List ℕ → Type 0
+IsKept None text = text ≡ []
+IsKept (Some whole) text = (text ≡ whole) ⊎ (drop (length text - 3) text ≡ codes "...")
+
+-- the text of the refusal with these numbers, no text where they are of no refusal
+abbrev pub IsTextOf : PeFault → List ℕ → Type 0
+IsTextOf fault text = IsKept (refusal_text fault) text

@@ -1,0 +1,62 @@
+-- The record of an image, as definitions.
+use Rattle.std.specs.Prelude.{◌≡◌, ℕ, List, [], ◌∷◌, false, replicate}
+use Rattle.goblin_pe_head.specs.HeaderParts.{no_windows_fields}
+use Rattle.goblin_pe_head.specs.PeHeader.{zero_dos_header}
+use Rattle.goblin_pe_head.specs.declared.header.coff.CoffHeader.{CoffHeader}
+use Rattle.goblin_pe_sect.specs.declared.data_directories.DataDirectory.{DataDirectory}
+use Rattle.goblin_pe_c_headers.specs.declared.image.PeImage.{PeImage}
+use Rattle.goblin_pe_c_headers.specs.declared.image.PeRichHeader.{PeRichHeader}
+use Rattle.goblin_pe_c_headers.specs.declared.options.PeOptions.{PeOptions}
+use Rattle.goblin_pe_c_headers.specs.Headers.{no_standard_fields}
+
+-- a COFF header of zeros
+abbrev pub zero_coff_header : CoffHeader
+zero_coff_header = record {
+  machine = 0;
+  number_of_sections = 0;
+  time_date_stamp = 0;
+  pointer_to_symbol_table = 0;
+  number_of_symbol_table = 0;
+  size_of_optional_header = 0;
+  characteristics = 0;
+}
+
+abbrev pub no_rich_header : PeRichHeader
+no_rich_header = record {
+  key = 0;
+  start_offset = 0;
+  end_offset = 0;
+  padding_size = 0;
+  is_present = false;
+  reserved = 0 ∷ 0 ∷ 0 ∷ [];
+}
+
+abbrev pub zero_directory : DataDirectory
+zero_directory = record { virtual_address = 0; size = 0 }
+
+-- An image with zeros, but for its bytes, its options and its kind. (Its bytes are those of the record
+-- that is given.)
+abbrev pub zero_image : PeOptions → ℕ → PeImage → PeImage
+zero_image options kind image = record image {
+  options = options;
+  kind = kind;
+  section_table = 0;
+  section_count = 0;
+  dos_header = zero_dos_header;
+  coff_header = zero_coff_header;
+  has_optional_header = false;
+  is_dos_stub_replaced = false;
+  moved_by = 0;
+  optional_header = record {
+    standard_fields = no_standard_fields;
+    windows_fields = no_windows_fields;
+  };
+  directories = replicate 16 zero_directory;
+  dos_stub_size = 0;
+  rich_header = no_rich_header;
+  reserved = 0;
+}
+
+-- the record of the file with these bytes
+abbrev pub IsImage : List ℕ → PeImage → (PeImage → PeImage) → Type 0
+IsImage bytes image made = (image.bytes.now ≡ bytes) × (image ≡ made image)

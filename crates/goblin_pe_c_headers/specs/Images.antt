@@ -1,0 +1,7 @@
+-- A slice of a file.
+use Rattle.std.specs.Prelude.{ℕ, List}
+use Rattle.goblin_pe_c_headers.specs.declared.image.PeSlice.{PeSlice}
+
+-- the bytes of a slice
+abbrev pub slice_view : PeSlice → List ℕ
+slice_view text = text.bytes.now

@@ -1,0 +1,222 @@
+-- What is in memory at an address of an image, and the contents of a section: as a loader maps it.
+use Rattle.std.specs.Prelude.{ℕ, ◌+◌, ◌-◌, ◌==◌, ◌≡◌, ◌<◌, ◌&&◌, Bool, IsTrue, bit_and, max, min, not}
+use Rattle.std.specs.Prelude.{nat_le, nat_lt, if◌then◌else◌, List, [], find, position, Option, Some, None}
+use Rattle.std.specs.Prelude.{IsSomeAnd, length, option_and_then, slice_range}
+use Rattle.std.specs.Int.{is_power_of_two}
+use Rattle.std.specs.Option.{option_or, unwrap_or}
+use Rattle.goblin_pe_sect.specs.declared.options.ParseOptions.{ParseOptions}
+use Rattle.goblin_pe_sect.specs.Mapping.{raw_begin, read_size}
+use Rattle.goblin_pe_sect.specs.SectionTable.{Section}
+use Rattle.goblin_pe_c_headers.specs.declared.memory.PeMemory.{PeMemory}
+use Rattle.goblin_pe_c_headers.specs.declared.memory.Region.{Region}
+use Rattle.goblin_pe_c_headers.specs.declared.memory.Region.TheVariants as region
+use Rattle.goblin_pe_c_headers.specs.declared.options.PeOptions.{PeOptions}
+use Rattle.goblin_pe_c_headers.specs.declared.places.PePlaces.{PePlaces}
+use Rattle.goblin_pe_c_headers.specs.Addresses.{MappedImage, image_map, mapped_image}
+use Rattle.goblin_pe_c_headers.specs.Options.{are_known, options_at}
+
+-- Source: PE Format, "Section Table (Section Headers)", on the virtual size, the raw size and the
+-- raw pointer, and "Section Flags", on uninitialized data. Loaders map whole file blocks: where a
+-- section's window, by which its addresses are mapped, passes its virtual size, its memory does, too.
+
+-- ---- what a record says
+
+-- the number of a region
+abbrev pub region_number : Region → ℕ
+region_number region.Unmapped = 0
+region_number region.Headers = 1
+region_number region.RawData = 2
+region_number region.Zeros = 3
+
+-- bytes, how many zeros follow them, how many bytes are missing after these, the section, and what is
+-- at the first byte
+pub record Memory : Type 0 where
+  pub bytes : List ℕ
+  pub zeros : ℕ
+  pub missing : ℕ
+  pub section_index : ℕ
+  pub region : ℕ
+  pub reserved : ℕ
+
+abbrev pub memory_view : PeMemory → Memory
+memory_view m = record {
+  bytes = m.bytes.now;
+  zeros = m.zeros;
+  missing = m.missing;
+  section_index = m.section_index;
+  region = m.region;
+  reserved = m.reserved;
+}
+
+-- these bytes and zeros are known
+abbrev pub known : List ℕ × ℕ → ℕ → ℕ → Region → Memory
+known found missing index where_from = record {
+  bytes = found.0;
+  zeros = found.1;
+  missing = missing;
+  section_index = index;
+  region = region_number where_from;
+  reserved = 0;
+}
+
+-- all bytes are missing
+abbrev pub unknown : ℕ → ℕ → Memory
+unknown missing index = known ([], 0) missing index region.Unmapped
+
+-- ---- bytes of which the file may lack some
+
+-- the first n bytes from p on, as far as the file has them
+abbrev pub front_at : List ℕ → ℕ → ℕ → List ℕ
+front_at bytes p n = slice_range bytes (min p (length bytes)) (min (p + n) (length bytes))
+
+-- these, and how many zeros follow them: none if the file lacks some of the bytes
+abbrev pub available : List ℕ → ℕ → ℕ → ℕ → List ℕ × ℕ
+available bytes p n zeros =
+    let found = front_at bytes p n in (found, if length found == n then zeros else 0)
+
+-- ---- the contents of a section
+
+-- a section's size in memory: its virtual size, and its raw size where that is 0
+abbrev pub memory_size : Section → ℕ
+memory_size s = if s.virtual_size == 0 then s.size_of_raw_data else s.virtual_size
+
+-- The section is one of uninitialized data that has no place in the file: it has the bit
+-- IMAGE_SCN_CNT_UNINITIALIZED_DATA, and its raw pointer is 0. The raw size is then that in memory,
+-- as in objects.
+abbrev pub is_unstored : Section → Bool
+is_unstored s = not (bit_and s.characteristics 0x80 == 0) && s.pointer_to_raw_data == 0
+
+-- how many bytes of a section are raw data: from where they begin, by the rule of the options, to
+-- where they end as stored
+abbrev pub stored_size : ParseOptions → Section → ℕ
+stored_size opts s =
+    if is_unstored s
+    then 0
+    else s.pointer_to_raw_data + s.size_of_raw_data - raw_begin opts s
+
+-- how many zeros follow these up to the size in memory
+abbrev pub zeros_after : ParseOptions → Section → ℕ
+zeros_after opts s = memory_size s - stored_size opts s
+
+-- the raw data of a section as far as the file has it, and the zeros that follow where it has all
+abbrev pub contents_in : ParseOptions → List ℕ → ℕ → Section → Memory
+contents_in opts bytes index s =
+    let stored = stored_size opts s in
+    let found = available bytes (raw_begin opts s) stored (zeros_after opts s) in
+    known found (stored - length found.0) index
+    (if stored == 0 then region.Zeros else region.RawData)
+
+-- the contents of a section of an image with this file alignment; if the options are not known,
+-- all is missing
+abbrev pub section_data : PeOptions → ℕ → List ℕ → ℕ → Section → Memory
+section_data o alignment bytes index s =
+    let opts = options_at o alignment in
+    if are_known o
+    then contents_in opts bytes index s
+    else unknown (stored_size opts s + zeros_after opts s) index
+
+-- ---- a section's memory
+
+-- how many bytes a section's window has; there is none if the alignment is not a power of two
+abbrev pub window_size : ℕ → Section → ℕ
+window_size alignment s = if is_power_of_two alignment then read_size s alignment else 0
+
+-- the address is one of so many from the section's address on
+abbrev pub is_among : ℕ → ℕ → Section → Bool
+is_among size rva s = nat_le s.virtual_address rva && nat_lt rva (s.virtual_address + size)
+
+-- how many bytes the section's memory has, in which its window lies
+abbrev pub memory_length : ℕ → Section → ℕ
+memory_length alignment s = max (memory_size s) (window_size alignment s)
+
+-- How many bytes of a section's memory are the file's: those of its raw data, and of the file blocks
+-- in its window as far as the file, whose end is given, has them. None are, if it has no place in the
+-- file. Of raw data that the file lacks it is not known what it is.
+abbrev pub stored_in_memory : ParseOptions → ℕ → ℕ → Section → ℕ
+stored_in_memory opts alignment end s =
+    if is_unstored s
+    then 0
+    else max (min (window_size alignment s) (end - raw_begin opts s))
+    (min (memory_length alignment s) (stored_size opts s))
+
+-- ---- what holds an address
+
+-- the first section whose window holds an address, or else the first whose memory does; the file's
+-- front, if it is mapped, comes after all sections
+abbrev pub holder : MappedImage → ℕ → Option Section
+holder m rva =
+    option_or (find (λ s. is_among (window_size m.alignment s) rva s) m.sections)
+    (find (λ s. is_among (memory_length m.alignment s) rva s) m.sections)
+
+-- its index
+abbrev pub holder_index : MappedImage → ℕ → Option ℕ
+holder_index m rva =
+    option_or (position (λ s. is_among (window_size m.alignment s) rva s) m.sections)
+    (position (λ s. is_among (memory_length m.alignment s) rva s) m.sections)
+
+-- ---- so many bytes
+
+-- how many of so many bytes of a section's memory, from a distance on, are the file's
+abbrev pub stored_of : ParseOptions → ℕ → ℕ → Section → ℕ → ℕ → ℕ
+stored_of opts alignment end s distance size =
+    min size (stored_in_memory opts alignment end s - distance)
+
+-- the first bytes of a section's memory, at most so many, from an address in it on
+abbrev pub memory_of : MappedImage → List ℕ → ℕ → ℕ → Section → List ℕ × ℕ
+memory_of m bytes rva size s =
+    let distance = rva - s.virtual_address in
+    let most = min size (memory_length m.alignment s - distance) in
+    let stored = stored_of m.opts m.alignment (length bytes) s distance most in
+    available bytes (raw_begin m.opts s + distance) stored (most - stored)
+
+-- what is at an address in a section's memory
+abbrev pub region_in : MappedImage → List ℕ → ℕ → Section → Region
+region_in m bytes rva s =
+    if nat_lt (rva - s.virtual_address) (stored_in_memory m.opts m.alignment (length bytes) s)
+    then region.RawData
+    else region.Zeros
+
+-- So many bytes from an address on, by what holds it. The file's front has the index after those of
+-- all sections.
+abbrev pub memory_by : MappedImage → List ℕ → ℕ → ℕ → ℕ → ℕ → Option Section → Memory
+memory_by m bytes outside rva size index None = unknown size outside
+memory_by m bytes outside rva size index (Some s) =
+    let found = memory_of m bytes rva size s in
+    known found (size - (length found.0 + found.1)) index
+    (if index == outside then region.Headers else region_in m bytes rva s)
+
+-- so many bytes from an offset on, where addresses are offsets
+abbrev pub memory_in_file : List ℕ → ℕ → ℕ → ℕ → Memory
+memory_in_file bytes outside rva size =
+    let found = front_at bytes rva size in
+    known (found, 0) (size - length found) outside
+    (if nat_lt rva (length bytes) then region.RawData else region.Unmapped)
+
+-- so many bytes from an address on, by what maps the addresses, if anything does
+abbrev pub memory_mapped : List ℕ → ℕ → ℕ → ℕ → Option MappedImage → Memory
+memory_mapped bytes outside rva size None = unknown size outside
+memory_mapped bytes outside rva size (Some m) =
+    if m.opts.resolve_rva
+    then memory_by m bytes outside rva size (unwrap_or (holder_index m rva) outside) (holder m rva)
+    else memory_in_file bytes outside rva size
+
+-- So many bytes from an address on, as a loader maps them. Outside of sections the index is the
+-- number of sections.
+unfoldable pub memory_at : PeOptions → PePlaces → List ℕ → ℕ → ℕ → Memory
+memory_at o p bytes rva size =
+    memory_mapped bytes p.number_of_sections rva size (mapped_image o p bytes)
+
+-- an address lies in uninitialized data, which has no place in the file
+abbrev pub IsUnstored : PeOptions → PePlaces → List ℕ → ℕ → Type 0
+IsUnstored o p bytes rva =
+    IsSomeAnd (option_and_then (λ m. holder m rva) (mapped_image o p bytes))
+    (λ s. IsTrue (is_unstored s))
+
+-- Where an address has an offset inside the file, the byte there is what is in memory, but in
+-- uninitialized data.
+abbrev pub SeesFile : PeOptions → PePlaces → List ℕ → Type 0
+SeesFile o p bytes =
+    (rva offset : ℕ) → image_map o p bytes rva ≡ Some offset → offset < length bytes
+    → ¬ IsUnstored o p bytes rva
+    → let seen = memory_at o p bytes rva 1 in
+    (seen.bytes ≡ slice_range bytes offset (offset + 1)) × (seen.missing ≡ 0)

@@ -1,0 +1,52 @@
+-- What a call reports of an object.
+use Rattle.std.specs.Prelude.{◌≡◌, ◌+◌, Bool, List, None, Some}
+use Rattle.goblin_base.specs.declared.endian.Endian.TheVariants.{Little}
+use Rattle.goblin_base.specs.Reading.{Reading}
+use Rattle.readings.specs.Reads.{◌>>=◌, mapped, record_at}
+use Rattle.goblin_pe_sect.specs.Options.{is_strict}
+use Rattle.goblin_pe_sect.specs.SectionTable.{Section}
+use Rattle.goblin_pe_head.specs.declared.header.coff.CoffHeader.{CoffHeader}
+use Rattle.goblin_pe_head.specs.CoffHeader.{coff_header, symbols_end}
+use Rattle.goblin_pe_head.specs.CoffReadings.{sections_at}
+use Rattle.goblin_pe_c_headers.specs.declared.image.PeImage.{PeImage}
+use Rattle.goblin_pe_c_headers.specs.declared.options.PeOptions.{PeOptions}
+use Rattle.goblin_pe_c_headers.specs.ImageRecords.{zero_image}
+use Rattle.goblin_pe_c_headers.specs.Options.{header_options, longest_of}
+use Rattle.goblin_pe_c_headers.specs.Sections.{RowsHold}
+
+-- an object: its header and its sections
+pub record ObjectFile : Type 0 where
+  pub header : CoffHeader
+  pub sections : List Section
+
+-- the header at the front of a file
+abbrev pub object_header : Reading CoffHeader
+object_header = record_at 20 (coff_header Little) 0
+
+-- the sections of an object, which follow the header and what it says of an optional header
+abbrev pub object_sections : Bool → CoffHeader → Reading (List Section)
+object_sections strict h =
+    sections_at strict (symbols_end h) h.number_of_sections (20 + h.size_of_optional_header)
+
+-- an object: its header is at the front of the file
+unfoldable pub object_file : Bool → Reading ObjectFile
+object_file strict =
+    object_header >>= λ header.
+    mapped (λ sections. record { header = header; sections = sections })
+    (object_sections strict header)
+
+-- the record of an object with this header
+abbrev pub object_image : PeOptions → CoffHeader → PeImage → PeImage
+object_image o h image = record (zero_image o 2 image) {
+  section_table = 20 + h.size_of_optional_header;
+  section_count = h.number_of_sections;
+  coff_header = h;
+}
+
+-- The rows of an object's sections hold the sections that are read, with their whole names.
+unfoldable pub ObjectRowsAreRead : Type 0
+ObjectRowsAreRead =
+    (image : PeImage) (x : ObjectFile) → longest_of image.options ≡ None
+    → (object_file (is_strict (header_options image.options).parse_mode)).value image.bytes.now ≡ Some x
+    → image ≡ object_image image.options x.header image
+    → RowsHold image x.sections

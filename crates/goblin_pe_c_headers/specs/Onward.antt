@@ -1,0 +1,121 @@
+-- What a call gives of a table from a position on: as many of its items as there is room for, or fewer
+-- where it is cut.
+use Rattle.std.specs.Prelude.{◌≡◌, ◌⊎◌, ℕ, ◌+◌, ◌<◌, ◌≤◌, ⊤, List, [], ◌∷◌, map, take, drop, length, min}
+use Rattle.std.specs.Prelude.{Bool, true, false}
+use Rattle.std.specs.Prelude.{Option, Some, None, IsSomeAnd}
+use Rattle.goblin_base.specs.declared.error.ErrorOf.{ErrorOf}
+use Rattle.goblin_base.specs.Answers.{FirstFault}
+use Rattle.goblin_base.specs.Reading.{Reading}
+use Rattle.goblin_pe_c_headers.specs.Filled.{Filled}
+use Rattle.goblin_pe_c_headers.specs.declared.batch.PeBatch.{PeBatch}
+
+-- what a caller passes, to be gone on with
+pub record Batch (P R : Type 0) : Type 0 where
+  pub position : P
+  pub records : List R
+
+-- A table that comes in batches: what contracts see of a record, what is said of an item, and the
+-- items that come from a position on, `None` in place of one that is refused. Nothing is there where
+-- what leads to the items is refused.
+pub record Table (P R A B : Type 0) : Type 0 where
+  pub view : R → B
+  pub said : A → B
+  pub from : P → Option (List (Option A))
+
+-- items, none of them refused
+abbrev pub unrefused : {A : Type 0} → List A → List (Option A)
+unrefused items = map (λ x. Some x) items
+
+-- the values up to the first refusal
+unfoldable pub values_before : {A : Type 0} → List (Option A) → List A
+values_before [] = []
+values_before (Some x ∷ items) = x ∷ values_before items
+values_before (None ∷ items) = []
+
+-- the very next is a refusal
+abbrev pub IsRefusedNext : {A : Type 0} → List (Option A) → Type 0
+IsRefusedNext [] = ⊥
+IsRefusedNext (Some x ∷ items) = ⊥
+IsRefusedNext (None ∷ items) = ⊤
+
+-- The records hold what comes next, as far as there is room, and the others are the caller's own.
+pub record IsBatch {R A B : Type 0} (view : R → B) (said : A → B) (next : List A)
+    (old new : List R) (count : ℕ) : Type 0 where
+  pub counted : count ≡ min (length old) (length next)
+  pub filled : Filled view (map said (take count next)) old new
+
+-- The records hold these values so far.
+pub record AtBatch {R A B : Type 0} (view : R → B) (said : A → B) (old : List R) (values : List A)
+    (records : List R) (count : ℕ) : Type 0 where
+  pub counted : length values ≡ count
+  pub filled : Filled view (map said values) old records
+  pub same : length records ≡ length old
+  pub fits : count ≤ length old
+
+-- There is room for nothing more, or all is given up to a refusal; the very next is no refusal, if
+-- there is room for any.
+abbrev pub IsWhole : {A : Type 0} → List (Option A) → ℕ → ℕ → Type 0
+IsWhole left room count =
+    (count ≡ min room (length (values_before left))) × (IsRefusedNext left → room ≡ 0)
+
+-- Of these that are left the records hold those that come first, and from the new position on come
+-- the others; without room the position stays. Where more would come, and there is room, the batch was
+-- cut.
+pub record FillsFrom {P R A B : Type 0} (table : Table P R A B) (IsCut : Type 0)
+    (left : List (Option A)) (old new : Batch P R) (count : ℕ) : Type 0 where
+  pub batch : IsBatch table.view table.said (take count (values_before left)) old.records
+      new.records count
+  pub later : table.from new.position ≡ Some (drop count left)
+  pub whole : IsCut ⊎ IsWhole left (length old.records) count
+  pub stays : length old.records ≡ 0 → new.position ≡ old.position
+
+-- What every batch gives: what comes from the old position on, as above; and what holds of its table
+-- besides, as how the position moves.
+abbrev pub GivesFrom : {P R A B : Type 0} → Table P R A B → Type 0
+    → (List (Option A) → Type 0) → Batch P R → Batch P R → ℕ → Type 0
+GivesFrom table IsCut Holds old new count =
+    IsSomeAnd (table.from old.position)
+    (λ left. FillsFrom table IsCut left old new count × Holds left)
+
+-- The end is told only where nothing is left, and there is room. Where it is not told, there is no
+-- more room, or the batch was cut, or what comes next is a refusal.
+pub record TellsEnd {A : Type 0} (IsCut : Type 0) (rest : List (Option A)) (room count : ℕ)
+    (is_done : Bool) : Type 0 where
+  pub ended : is_done ≡ true → rest ≡ []
+  pub without_room : room ≡ 0 → is_done ≡ false
+  pub goes_on : is_done ≡ false → (room ≤ count) ⊎ IsCut ⊎ IsRefusedNext rest
+
+-- What every batch gives, and what is said of it.
+abbrev pub FillsNext : {P R A B : Type 0} → Table P R A B → Type 0
+    → (List (Option A) → Type 0) → Batch P R → Batch P R → PeBatch → Type 0
+FillsNext table IsCut Holds old new batch =
+    GivesFrom table IsCut
+    (λ left. TellsEnd IsCut (drop batch.count left) (length old.records) batch.count batch.is_done
+    × Holds left) old new batch.count
+
+-- What is said where a call is refused: no record, and to stop.
+abbrev pub no_batch : PeBatch
+no_batch = record { count = 0; is_done = true }
+
+-- Why a batch is refused where items may be: what leads to them is, or else the very next, and there
+-- is room for it.
+abbrev pub IsNextFault : {P R S A : Type 0} → Reading S → List ℕ → (S → List (Option A))
+    → (S → ErrorOf → Type 0) → Batch P R → ErrorOf → Type 0
+IsNextFault read bytes left IsCause old e =
+    FirstFault (read.value bytes) (read.IsCause bytes)
+    (λ s e. (0 < length old.records) × IsRefusedNext (left s) × IsCause s e) e
+
+-- ---- lists
+
+-- a list, of which an item has its index as its position; contracts see of a row what a view tells
+abbrev pub row_table : {W B : Type 0} → (W → B) → List B → Table ℕ W B B
+row_table view items =
+    record { view = view; said = λ b. b; from = λ i. Some (unrefused (drop i items)) }
+
+-- its items from an index on, and the index of those that come next
+abbrev pub GivesRows : {W B : Type 0} → (W → B) → List B → Batch ℕ W → Batch ℕ W → PeBatch → Type 0
+GivesRows view items old new batch =
+    FillsNext (row_table view items) ⊥ (λ left. new.position ≡ old.position + batch.count) old new batch
+
+abbrev pub GivesOnward : {W : Type 0} → List W → Batch ℕ W → Batch ℕ W → PeBatch → Type 0
+GivesOnward items old new batch = GivesRows (λ w. w) items old new batch

@@ -1,0 +1,72 @@
+-- The options that a caller passes.
+use Rattle.std.specs.Prelude.{ℕ, ◌==◌, ◌&&◌, nat_le, false, true, if◌then◌else◌, Bool, List, Option, Some, None}
+use Rattle.std.specs.List.{list_all}
+use Rattle.goblin_base.specs.declared.permissive.ParseMode.TheVariants.{Strict, Permissive}
+use Rattle.goblin_pe_sect.specs.declared.options.ParseOptions.{ParseOptions}
+use Rattle.goblin_pe_sect.specs.declared.options.RawPointerRule.{RawPointerRule}
+use Rattle.goblin_pe_sect.specs.declared.options.RawPointerRule.TheVariants.{AsStored}
+use Rattle.goblin_pe_sect.specs.declared.options.View.{View}
+use Rattle.goblin_pe_sect.specs.declared.options.View.TheVariants.{Loader, Sections}
+use Rattle.goblin_pe_sect.specs.Options.{default_options, is_strict, rule_by_alignment}
+use Rattle.goblin_pe_head.specs.declared.optional_header.OptionalHeader.{OptionalHeader}
+use Rattle.goblin_pe_head.specs.HeaderReadings.{pe_header}
+use Rattle.goblin_pe_head.specs.PeHeader.{PeHeader}
+use Rattle.goblin_pe_c_headers.specs.declared.options.PeOptions.{PeOptions}
+
+-- the options are known: the mapping has a number of its own, and zeros follow
+abbrev pub are_known : PeOptions → Bool
+are_known o = nat_le o.mapping 3 && list_all (λ b. b == 0) o.reserved
+
+-- the rule for raw pointers by this mapping, at this file alignment
+abbrev pub rule_at : ℕ → ℕ → RawPointerRule
+rule_at mapping alignment =
+    if mapping == 0 then rule_by_alignment alignment
+    else if mapping == 1 then rule_by_alignment alignment
+    else AsStored
+
+-- what addresses are mapped by: with the mapping 0 as the Windows loader does
+abbrev pub view_of : PeOptions → View
+view_of o = if o.mapping == 0 then Loader else Sections
+
+-- the options by which a header is read: the mode
+abbrev pub header_options : PeOptions → ParseOptions
+header_options o =
+    record default_options { parse_mode = if o.is_permissive then Permissive else Strict }
+
+-- RVAs are mapped to offsets; if not, they are offsets
+abbrev pub maps_addresses : PeOptions → Bool
+maps_addresses o = if o.mapping == 3 then false else true
+
+-- The options that a caller says, of a file with this file alignment. Those that a caller can't say
+-- have their defaults.
+abbrev pub options_at : PeOptions → ℕ → ParseOptions
+options_at o alignment = record (header_options o) {
+  resolve_rva = maps_addresses o;
+  raw_pointer_rule = rule_at o.mapping alignment;
+}
+
+-- the limit of a name's length that a number says; 0 is none
+abbrev pub name_limit : ℕ → Option ℕ
+name_limit longest = if longest == 0 then None else Some longest
+
+-- how many bytes of a name are read, if there is a limit
+abbrev pub longest_of : PeOptions → Option ℕ
+longest_of o = name_limit o.longest_name
+
+-- the file alignment that an optional header says; 0 without one
+abbrev pub alignment_by : Option OptionalHeader → ℕ
+alignment_by None = 0
+alignment_by (Some h) = h.windows_fields.file_alignment
+
+-- that which the header of a file says; 0 without a header
+abbrev pub alignment_of : Option PeHeader → ℕ
+alignment_of None = 0
+alignment_of (Some h) = alignment_by h.optional_header
+
+unfoldable pub alignment_in : PeOptions → List ℕ → ℕ
+alignment_in o bytes =
+    alignment_of ((pe_header (is_strict (header_options o).parse_mode)).value bytes)
+
+-- the options that a caller says of a file
+abbrev pub options_in : PeOptions → List ℕ → ParseOptions
+options_in o bytes = options_at o (alignment_in o bytes)

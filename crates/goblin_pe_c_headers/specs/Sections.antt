@@ -1,0 +1,128 @@
+-- The rows of sections, as definitions.
+use Rattle.std.specs.Prelude.{◌≡◌, IsSomeAnd, ℕ, Bool, if◌then◌else◌, List, Option, Some, None}
+use Rattle.std.specs.Prelude.{◌+◌, ◌*◌, ◌/◌, ◌==◌, map, length, option_and_then, slice_range, take}
+use Rattle.std.specs.List.{range_with_len}
+use Rattle.goblin_base.specs.declared.endian.Endian.TheVariants.{Little}
+use Rattle.goblin_base.specs.Bytes.{before_nul}
+use Rattle.readings.specs.Reads.{◌>>=◌, taken, text_within}
+use Rattle.goblin_pe_sect.specs.Options.{is_strict}
+use Rattle.goblin_pe_sect.specs.SectionName.{name_value}
+use Rattle.goblin_pe_sect.specs.SectionTable.{Section, section_record, unnamed}
+use Rattle.goblin_pe_head.specs.CoffHeader.{symbols_end}
+use Rattle.goblin_pe_head.specs.TeHeader.{section_moved}
+use Rattle.goblin_pe_c_headers.specs.declared.cursor.PeCoffRelocationCursor.{PeCoffRelocationCursor}
+use Rattle.goblin_pe_c_headers.specs.declared.image.PeImage.{PeImage}
+use Rattle.goblin_pe_c_headers.specs.declared.section.Naming.{Naming}
+use Rattle.goblin_pe_c_headers.specs.declared.section.PeSection.{PeSection}
+use Rattle.goblin_pe_c_headers.specs.Onward.{Batch}
+use Rattle.goblin_pe_c_headers.specs.Options.{header_options, longest_of}
+use Rattle.goblin_pe_c_headers.specs.Places.{headers_there}
+use Rattle.goblin_pe_c_headers.specs.Relocations.{relocations_begin}
+
+-- the name that the eight bytes of a name lead to in the string table, whole or, where there is a
+-- limit, cut there
+unfoldable pub real_name_in : Bool → Option ℕ → List ℕ → ℕ → List ℕ → Option (List ℕ)
+real_name_in strict longest bytes table name =
+    option_and_then (λ place. (taken place >>= λ n. text_within longest (table + n)).value bytes)
+    (name_value strict name)
+
+-- a section with its name from the string table at `table`
+abbrev pub named_in : Bool → Option ℕ → List ℕ → ℕ → Section → Section
+named_in strict longest bytes table s =
+    record s { real_name = real_name_in strict longest bytes table s.name }
+
+-- what a row holds of a section; its real name is the name if that is from the string table
+abbrev pub section_view : PeSection → Section
+section_view s = record {
+  name = s.stored_name;
+  real_name = if s.has_long_name then Some s.name.now else None;
+  virtual_size = s.virtual_size;
+  virtual_address = s.virtual_address;
+  size_of_raw_data = s.size_of_raw_data;
+  pointer_to_raw_data = s.pointer_to_raw_data;
+  pointer_to_relocations = s.pointer_to_relocations;
+  pointer_to_linenumbers = s.pointer_to_linenumbers;
+  number_of_relocations = s.number_of_relocations;
+  number_of_linenumbers = s.number_of_linenumbers;
+  characteristics = s.characteristics;
+}
+
+-- a row: a section, its name, its index, and where its relocations begin
+pub record SectionRow : Type 0 where
+  pub section : Section
+  pub name : List ℕ
+  pub index : ℕ
+  pub relocations : PeCoffRelocationCursor
+
+abbrev pub row_view : PeSection → SectionRow
+row_view s = record {
+  section = section_view s;
+  name = s.name.now;
+  index = s.index;
+  relocations = s.relocations;
+}
+
+-- the row of a section with its stored name alone: the bytes at the front of its header before a NUL
+abbrev pub unnamed_row : List ℕ → ℕ → Section → SectionRow
+unnamed_row header i s = record {
+  section = s;
+  name = before_nul (take 8 header);
+  index = i;
+  relocations = relocations_begin s;
+}
+
+-- a row with a name from the string table, if there is one
+abbrev pub with_name : Option (List ℕ) → SectionRow → SectionRow
+with_name None row = row
+with_name (Some name) row =
+    record row { name = name; section = record (row.section) { real_name = Some name } }
+
+-- What the sections of an image are read by: the mode, the limit of a name, the file, the offset of
+-- the string table in it, and how far the sections moved to the front.
+pub record NamingSaid : Type 0 where
+  pub strict : Bool
+  pub longest : Option ℕ
+  pub bytes : List ℕ
+  pub strings : ℕ
+  pub displacement : Option ℕ
+
+abbrev pub naming_said : Naming → NamingSaid
+naming_said n = record {
+  strict = is_strict n.opts.parse_mode;
+  longest = n.longest;
+  bytes = n.bytes.now;
+  strings = n.strings;
+  displacement = n.displacement;
+}
+
+-- those of a Terse Executable moved
+abbrev pub naming_of : PeImage → NamingSaid
+naming_of image = record {
+  strict = is_strict (header_options image.options).parse_mode;
+  longest = longest_of image.options;
+  bytes = image.bytes.now;
+  strings = symbols_end image.coff_header;
+  displacement = if image.kind == 3 then Some image.moved_by else None;
+}
+
+-- the row of the section header with these bytes
+abbrev pub row_of : NamingSaid → ℕ → List ℕ → SectionRow
+row_of n i header =
+    let s = section_moved n.displacement (section_record Little header) in
+    with_name (real_name_in n.strict n.longest n.bytes n.strings s.name)
+    (unnamed_row header i (unnamed s))
+
+-- the rows of the section headers in these bytes
+abbrev pub section_rows : NamingSaid → List ℕ → List SectionRow
+section_rows n headers =
+    map (λ i. row_of n i (slice_range headers (40 * i) (40 * i + 40)))
+    (range_with_len 0 (length headers / 40))
+
+abbrev pub SectionBatch : Type 0
+SectionBatch = Batch ℕ PeSection
+
+-- The rows of an image hold these sections: its section headers are there.
+abbrev pub RowsHold : PeImage → List Section → Type 0
+RowsHold image sections =
+    IsSomeAnd ((headers_there image.section_count image.section_table).value image.bytes.now)
+    (λ headers. map (λ (r : SectionRow). r.section) (section_rows (naming_of image) headers) ≡ sections)

@@ -1,0 +1,184 @@
+-- The symbols of a table from one of its records on, and what a call gives of them.
+use Rattle.std.specs.Prelude.{◌≡◌, ℕ, zero, suc, ◌+◌, ◌-◌, ◌*◌, ◌/◌, ◌==◌, if◌then◌else◌}
+use Rattle.std.specs.Prelude.{List, [], length, nat_lt, take, drop, slice_index, true}
+use Rattle.std.specs.Prelude.{Option, Some, None}
+use Rattle.std.specs.Option.{unwrap_or}
+use Rattle.std.specs.Str.{is_utf8}
+use Rattle.goblin_base.specs.declared.endian.Endian.TheVariants.{Little}
+use Rattle.goblin_base.specs.declared.error.CauseOf.TheVariants.{CoffLength, StringTable}
+use Rattle.goblin_base.specs.Answers.{◌>>=◌}
+use Rattle.goblin_base.specs.Bytes.{text_within}
+use Rattle.goblin_base.specs.Reading.{Reading}
+use Rattle.goblin_base.specs.Strtab.{is_in_piece, rest_at}
+use Rattle.readings.specs.Reads as reads
+use Rattle.readings.specs.Reads.{because, bytes_between, given, mapped, needs, number_at, pair_of}
+use Rattle.readings.specs.Reads.{◌beside◌, pick, slice_at}
+use Rattle.goblin_pe_symbol.specs.declared.symbol.Symbol.{Symbol}
+use Rattle.goblin_pe_symbol.specs.Symbols.{SymbolItem, aux, name_offset_of, stored_offset}
+use Rattle.goblin_pe_symbol.specs.Symbols.{symbols_from}
+use Rattle.goblin_pe_head.specs.declared.header.coff.CoffHeader.{CoffHeader}
+use Rattle.goblin_pe_head.specs.CoffHeader.{string_table_offset, symbols_end}
+use Rattle.goblin_pe_head.specs.CoffReadings.{strings_of, symbols_of}
+use Rattle.goblin_pe_c_headers.specs.declared.symbol.PeSymbol.{PeSymbol}
+use Rattle.goblin_pe_c_headers.specs.Filled.{without_text}
+use Rattle.goblin_pe_c_headers.specs.Onward.{Batch, FillsNext, Table, unrefused}
+use Rattle.goblin_pe_c_headers.specs.declared.batch.PeBatch.{PeBatch}
+use Rattle.goblin_pe_c_headers.specs.declared.image.PeImage.{PeImage}
+use Rattle.goblin_pe_c_headers.specs.Options.{longest_of}
+
+-- the name at the end of the bytes of a string table: an empty one, if a piece ends there
+abbrev pub name_at_end : List ℕ → Option (List ℕ)
+name_at_end strings = if is_in_piece strings (length strings) then Some [] else None
+
+-- the name at an offset of the bytes of a string table: what is left of the piece there, where that
+-- is UTF-8, whatever the other bytes are, whole or, where there is a limit, cut there
+abbrev pub name_in_piece : Option ℕ → List ℕ → ℕ → Option (List ℕ)
+name_in_piece longest strings o =
+    if o == length strings then name_at_end strings else text_within longest strings o
+
+-- Of bytes that are UTF-8 as a whole, these are the texts of the string table that they are.
+abbrev pub NamesOfText : Type 0
+NamesOfText =
+    (strings : List ℕ) (o : ℕ) → is_utf8 strings ≡ true
+    → name_in_piece None strings o ≡ rest_at strings o
+
+-- the name: if a number is stored in its place, what a string table has at that offset, else the
+-- one in the record
+abbrev pub name_in : (ℕ → Option (List ℕ)) → Option (List ℕ) → Symbol → Option (List ℕ)
+name_in names inline_name symbol =
+    if slice_index symbol.name 0 == 0
+    then (name_offset_of symbol.name >>= names)
+    else inline_name
+
+-- a symbol with its index, its name, and the bytes of its auxiliary records
+pub record NamedSymbol : Type 0 where
+  pub index : ℕ
+  pub name : Option (List ℕ)
+  pub auxiliary : List ℕ
+  pub symbol : Symbol
+
+-- the bytes of the auxiliary records of the symbol at index i: as many as it says and the table has
+abbrev pub auxiliary_of : List ℕ → ℕ → Symbol → List ℕ
+auxiliary_of table i symbol = take (18 * symbol.number_of_aux_symbols) (drop (18 * (i + 1)) table)
+
+-- a symbol at an index of a table, with this name and its auxiliary records
+abbrev pub symbol_named : List ℕ → ℕ → Option (List ℕ) → Symbol → NamedSymbol × List ℕ
+symbol_named table i name symbol =
+    without_text (record {
+      index = i;
+      name = name;
+      auxiliary = auxiliary_of table i symbol;
+      symbol = symbol;
+    })
+
+-- a symbol of a table with its name from the record or a string table
+abbrev pub named_symbol : List ℕ → (ℕ → Option (List ℕ)) → SymbolItem → NamedSymbol × List ℕ
+named_symbol table names item =
+    symbol_named table item.0 (name_in names item.1 item.2) item.2
+
+-- what a record holds of it, and what replaces a missing name
+abbrev pub named_symbol_view : PeSymbol → NamedSymbol × List ℕ
+named_symbol_view s = (
+  record {
+    index = s.index;
+    name = if s.has_name then Some s.name.now else None;
+    auxiliary = s.auxiliary.now;
+    symbol = s.record;
+  },
+  if s.has_name then [] else s.name.now,
+)
+
+-- the symbols of a table from record i on, which is read as a symbol whatever it is
+abbrev pub symbols_onward : List ℕ → ℕ → List SymbolItem
+symbols_onward table i = symbols_from (length table / 18 - i) 0 table i
+
+-- the index after a symbol and its auxiliary records
+abbrev pub next_index : List ℕ → ℕ → ℕ
+next_index table i = i + 1 + aux table i
+
+-- the index after n symbols, of which the first is at index i
+unfoldable pub index_after : List ℕ → ℕ → ℕ → ℕ
+index_after table zero i = i
+index_after table (suc n) i = next_index table (index_after table n i)
+
+abbrev pub SymbolBatch : Type 0
+SymbolBatch = Batch ℕ PeSymbol
+
+-- the symbols of a table with their names, from any record on
+abbrev pub named_symbol_table : List ℕ → (ℕ → Option (List ℕ))
+    → Table ℕ PeSymbol SymbolItem (NamedSymbol × List ℕ)
+named_symbol_table table names = record {
+  view = named_symbol_view;
+  said = named_symbol table names;
+  from = λ i. Some (unrefused (symbols_onward table i));
+}
+
+-- The records hold the symbols from the position on, as far as there is room. The position is then
+-- that of the symbols that come next.
+abbrev pub GivesSymbols : List ℕ → (ℕ → Option (List ℕ)) → SymbolBatch → SymbolBatch
+    → PeBatch → Type 0
+GivesSymbols table names old new batch =
+    FillsNext (named_symbol_table table names) ⊥
+    (λ left. new.position ≡ index_after table batch.count old.position) old new batch
+
+-- ---- where the tables lie
+
+-- the symbol table and the string table that a header leads to
+abbrev pub symbol_tables : CoffHeader → Reading (Option (List ℕ) × Option (List ℕ))
+symbol_tables header =
+    reads.◌>>=◌ (symbols_of header)
+    (λ symbols. mapped (λ strings. (symbols, strings)) (strings_of header))
+
+-- the n bytes at p, of which there may be none
+abbrev pub strings_said : ℕ → ℕ → Reading (List ℕ)
+strings_said p n = because (StringTable p n) (bytes_between p (p + n))
+
+-- how many bytes the texts of the string table that a header leads to have, by its length, which
+-- includes the four bytes that say it; none where there is no such table
+abbrev pub texts_at : ℕ → Reading (Option ℕ)
+texts_at p =
+    reads.◌>>=◌ (number_at Little 4 p)
+    (λ n. pick (nat_lt n 4) (needs None CoffLength) (given (Some (n - 4))))
+
+abbrev pub texts_where : Option ℕ → Reading (Option ℕ)
+texts_where None = given None
+texts_where (Some p) = texts_at p
+
+unfoldable pub texts_of : CoffHeader → Reading (Option ℕ)
+texts_of header = texts_where (string_table_offset header)
+
+-- the bytes of the symbol table and of the texts of the string table, by how many bytes these have;
+-- no bytes if there are none
+abbrev pub tables_with : CoffHeader → Option ℕ → Reading (List ℕ × List ℕ)
+tables_with header None = given ([], [])
+tables_with header (Some n) =
+    slice_at header.pointer_to_symbol_table (18 * header.number_of_symbol_table)
+    beside strings_said (symbols_end header + 4) n
+
+-- the tables that a header leads to, whatever their bytes are
+unfoldable pub found_tables : CoffHeader → Reading (List ℕ × List ℕ)
+found_tables header = reads.◌>>=◌ (texts_of header) (tables_with header)
+
+-- Where the tables are read whose texts are tested, those are found that they are.
+abbrev pub FindsTables : Type 0
+FindsTables =
+    (header : CoffHeader) (bytes : List ℕ) (tables : Option (List ℕ) × Option (List ℕ))
+    → (symbol_tables header).value bytes ≡ Some tables
+    → (found_tables header).value bytes ≡ Some (unwrap_or tables.0 [], unwrap_or tables.1 [])
+
+-- the texts of the string table, by how many bytes these have
+abbrev pub strings_with : CoffHeader → Option ℕ → Reading (Option (List ℕ))
+strings_with header None = given None
+strings_with header (Some n) = mapped (λ s. Some s) (strings_said (symbols_end header + 4) n)
+
+-- the texts of the string table that a header leads to, if there is one
+unfoldable pub string_bytes : CoffHeader → Reading (Option (List ℕ))
+string_bytes header = reads.◌>>=◌ (texts_of header) (strings_with header)
+
+-- the text at an offset of the string table of an image, whose first four bytes are its length: what
+-- is left of the piece there, where that is UTF-8, by the limit
+abbrev pub string_at : PeImage → ℕ → Option (List ℕ)
+string_at image o =
+    (string_bytes image.coff_header).value image.bytes.now
+    >>= λ found. found >>= λ strings. stored_offset o
+    >>= name_in_piece (longest_of image.options) strings

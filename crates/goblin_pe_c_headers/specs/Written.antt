@@ -1,0 +1,91 @@
+-- What is written of the records of a caller.
+use Rattle.std.specs.Prelude.{◌≡◌, ◌==◌, if◌then◌else◌, ℕ, Bool, List, [], length, map}
+use Rattle.std.specs.Prelude.{IsSomeAnd, Option, None, Some, Result, Ok, Err, option_and_then}
+use Rattle.goblin_base.specs.declared.endian.Endian.TheVariants.{Little}
+use Rattle.goblin_base.specs.declared.error.ErrorOf.{ErrorOf}
+use Rattle.goblin_base.specs.Answers.{FirstFault, IsSliceFault}
+use Rattle.goblin_base.specs.Bytes.{overwritten}
+use Rattle.goblin_base.specs.Reading.{Reading}
+use Rattle.readings.specs.Reads.{given, pick, slice_at}
+use Rattle.goblin_pe_head.specs.DosStub.{default_stub}
+use Rattle.goblin_pe_sect.specs.declared.data_directories.DataDirectory.{DataDirectory}
+use Rattle.goblin_pe_sect.specs.SectionName.{IsNameOffsetFault, indirect_name, name_value}
+use Rattle.goblin_pe_head.specs.declared.optional_header.OptionalHeader.{OptionalHeader}
+use Rattle.goblin_pe_head.specs.PeHeader.{IsUnwrittenPart, PeHeader, header_bytes}
+use Rattle.goblin_pe_c_headers.specs.declared.image.PeImage.{PeImage}
+use Rattle.goblin_pe_c_headers.specs.declared.section.PeSection.{PeSection}
+
+-- ---- what records say
+
+-- the entry of a directory; where its record ends does not matter
+abbrev pub entry_said : DataDirectory → Option (ℕ × DataDirectory)
+entry_said d = Some (0, d)
+
+-- the optional header, if there is one
+abbrev pub optional_said : PeImage → Option OptionalHeader
+optional_said image =
+    if image.has_optional_header
+    then Some (record {
+      standard_fields = image.optional_header.standard_fields;
+      windows_fields = image.optional_header.windows_fields;
+      data_directories = record { data_directories = map entry_said image.directories };
+    })
+    else None
+
+-- the header, its Rich header part of the stub, with the PE signature
+abbrev pub header_said : PeImage → List ℕ → PeHeader
+header_said image stub = record {
+  dos_header = image.dos_header;
+  dos_stub = stub;
+  rich_header = None;
+  signature = 0x4550;
+  coff_header = image.coff_header;
+  optional_header = optional_said image;
+}
+
+-- the DOS stub: the built-in one, or bytes of the file
+abbrev pub image_stub : PeImage → Reading (List ℕ)
+image_stub image =
+    pick image.is_dos_stub_replaced (given default_stub)
+    (pick (image.dos_stub_size == 0) (given []) (slice_at 64 image.dos_stub_size))
+
+-- ---- what calls do
+
+-- what a caller passes in to be written to: bytes, and how many were written
+pub record Output : Type 0 where
+  pub out : List ℕ
+  pub written : ℕ
+
+-- A call has made this change to the bytes and told its size; or there is no such change, the cause
+-- is true, and everything is unchanged.
+abbrev pub WritesOut : Option (List ℕ) → (ℕ → Type 0) → (ErrorOf → Type 0) → Output → Output
+    → Result Unit ErrorOf → Type 0
+WritesOut change IsSize IsCause old new (Ok x) = (change ≡ Some new.out) × IsSize new.written
+WritesOut change IsSize IsCause old new (Err e) = (change ≡ None) × IsCause e × (new ≡ old)
+
+-- The front of bytes is a header's, where there is room for it; without any room they stay.
+abbrev pub with_header : List ℕ → List ℕ → Option (List ℕ)
+with_header out header = if length out == 0 then Some out else overwritten out 0 header
+
+-- A call has written the header that records say to the front of bytes, and told how many it takes;
+-- without any room it told that alone.
+abbrev pub WritesHeader : PeImage → Output → Output → Result Unit ErrorOf → Type 0
+WritesHeader image old new =
+    let stub = (image_stub image).value image.bytes.now in
+    let made = option_and_then (λ s. header_bytes Little (header_said image s)) stub in
+    WritesOut (option_and_then (with_header old.out) made)
+    (λ size. IsSomeAnd made (λ header. size ≡ length header))
+    (FirstFault stub ((image_stub image).IsCause image.bytes.now) (λ s.
+    FirstFault made (IsUnwrittenPart (optional_said image))
+    (λ header. IsSliceFault old.out 0 (length header))))
+    old new
+
+-- A call has set the eight bytes of a section's name to those that hold a number, which readers
+-- find there; or none hold it, the cause is true, and everything is unchanged.
+abbrev pub SetsName : ℕ → PeSection → PeSection → Result Unit ErrorOf → Type 0
+SetsName offset old new (Ok x) =
+    (indirect_name offset ≡ Some new.stored_name)
+    × ((strict : Bool) → name_value strict new.stored_name ≡ Some (Some offset))
+    × (new ≡ record old { stored_name = new.stored_name })
+SetsName offset old new (Err e) =
+    (indirect_name offset ≡ None) × IsNameOffsetFault offset e × (new ≡ old)

@@ -1,0 +1,145 @@
+//! The file offset of an RVA, the RVA of a file offset, and the text at an RVA.
+
+ghost use Rattle.std.specs.Prelude.{◌≡◌, option_map};
+ghost use Rattle.goblin_pe_sect.specs.SectionTable.{recorded_sections};
+ghost use Rattle.goblin_pe_c_headers.specs.Addresses.{first_address, image_address, image_map};
+ghost use Rattle.goblin_pe_c_headers.specs.Addresses.{mapped_image, mapped_offset};
+ghost use Rattle.goblin_pe_c_headers.specs.Addresses.{mapped_view, sections_for, text_at};
+ghost use Rattle.goblin_pe_c_headers.specs.Calls.{ReadsWithout};
+ghost use Rattle.goblin_pe_c_headers.specs.Images.{slice_view};
+
+use crate::image::PeSlice;
+use crate::options::{PeOptions, are_known, longest_of, maps_addresses, options_at, view_of};
+use crate::places::{PePlaces, section_records};
+use goblin_base::read::pread_str_within;
+use goblin_base::{Cause, Error, Result};
+use goblin_pe_sect::ParseOptions;
+use goblin_pe_sect::address_map::{MappedRecords, offset_by_records};
+use goblin_pe_sect::section_table::SectionRecords;
+use goblin_pe_sect::utils::rva_in;
+
+// What maps the RVAs of an image.
+#[derive(Copy, Clone)]
+pub(crate) struct Mapped<'a> {
+    // The section headers in the file, and the file's front if it is mapped.
+    pub(crate) records: MappedRecords<'a>,
+    // The file alignment of the raw data.
+    pub(crate) file_alignment: u32,
+    // The options.
+    pub(crate) opts: ParseOptions,
+}
+
+// The section headers, if the file has room for them; none are needed if RVAs are offsets.
+#[tactic(auto, using(goblin_pe_sect::proofs::SectionRecords::sections_none))]
+fn records_for<'a>(
+    bytes: &'a [u8],
+    options: &PeOptions,
+    places: &PePlaces,
+) -> Option<SectionRecords<'a>>
+    ensures { option_map recorded_sections result ≡ sections_for options.now places.now bytes.now }
+{
+    if !maps_addresses(options) {
+        return Some(SectionRecords::of(&bytes[..0]));
+    }
+    section_records(bytes, places).ok()
+}
+
+// What maps the RVAs of an image. Nothing does if the options are not known, or if the file has no
+// room for the section headers.
+#[tactic(auto, unfolding(crate::specs::Addresses::mapped_image))]
+pub(crate) fn mapped_by<'a>(
+    bytes: &'a [u8],
+    options: &PeOptions,
+    places: &PePlaces,
+) -> Option<Mapped<'a>>
+    ensures { option_map mapped_view result ≡ mapped_image options.now places.now bytes.now }
+{
+    if !are_known(options) {
+        return None;
+    }
+    let records = records_for(bytes, options, places)?;
+    let front = view_of(options).front(places.size_of_headers);
+    Some(Mapped {
+        records: MappedRecords { records, front },
+        file_alignment: places.file_alignment,
+        opts: options_at(options, places.file_alignment),
+    })
+}
+
+// The file offset of an RVA.
+fn mapped_offset(mapped: &Mapped, rva: usize) -> Option<usize>
+    ensures { result ≡ mapped_offset (mapped_view mapped.now) rva }
+{
+    if rva > u32::MAX as usize {
+        return None;
+    }
+    offset_by_records(
+        mapped.records,
+        mapped.file_alignment,
+        &mapped.opts,
+        rva as u32,
+    )
+}
+
+/// The file offset of an RVA, as the options map. If several sections hold it, the first one counts.
+pub fn offset_of(bytes: &[u8], options: &PeOptions, places: &PePlaces, rva: usize) -> Option<usize>
+    ensures { result ≡ image_map options.now places.now bytes.now rva }
+{
+    mapped_offset(&mapped_by(bytes, options, places)?, rva)
+}
+
+// The RVA that the first section whose raw data holds the offset has there.
+fn first_address(mapped: &Mapped, offset: usize) -> Option<usize>
+    ensures { result ≡ first_address (mapped_view mapped.now) offset }
+{
+    if !mapped.opts.resolve_rva {
+        return Some(offset);
+    }
+    let alignment = mapped.file_alignment;
+    let (_, section) = mapped.records.find(|section| rva_in(
+        offset,
+        section,
+        alignment,
+        &mapped.opts,
+    ).is_some())?;
+    rva_in(offset, &section, alignment, &mapped.opts)
+}
+
+/// The RVA of a file offset: that in the first section whose raw data holds the offset, or else in
+/// the headers, if they are mapped. `None` if it is not mapped back to the offset, because an
+/// earlier section hides it.
+pub fn rva_of(bytes: &[u8], options: &PeOptions, places: &PePlaces, offset: usize) -> Option<usize>
+    ensures { result ≡ image_address options.now places.now bytes.now offset }
+{
+    let mapped = mapped_by(bytes, options, places)?;
+    let rva = first_address(&mapped, offset)?;
+    match mapped_offset(&mapped, rva) {
+        Some(found) if found == offset => Some(rva),
+        _ => None,
+    }
+}
+
+/// Reads the text at an RVA, up to a NUL, the end of the file or the options' limit.
+///
+/// # Errors
+/// [`Error::Malformed`] with [`Cause::Unmapped`] if the RVA has no file offset, and
+/// [`Error::Read`] if there is no text; nothing is then changed.
+pub fn read_text<'a>(
+    bytes: &'a [u8],
+    options: &PeOptions,
+    places: &PePlaces,
+    rva: usize,
+    text: &mut PeSlice<'a>,
+) -> Result<()>
+    ensures { ReadsWithout (text_at options.now places.now bytes.now rva) bytes.now
+        (λ whole. slice_view text.new ≡ whole) (text.new ≡ text.old) result }
+{
+    let Some(offset) = offset_of(bytes, options, places, rva) else {
+        return Err(Error::Malformed(Cause::Unmapped(rva)));
+    };
+    let found = pread_str_within(bytes, offset, longest_of(options))?;
+    *text = PeSlice {
+        bytes: found.as_bytes(),
+    };
+    Ok(())
+}

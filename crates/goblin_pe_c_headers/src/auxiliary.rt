@@ -1,0 +1,221 @@
+//! The auxiliary records of a symbol.
+
+ghost use Rattle.std.specs.Prelude.{◌≡◌, ◌≤◌, [], length};
+ghost use Rattle.goblin_pe_c_headers.specs.Auxiliary.{AuxiliarySaid, file_offset, kind_of, kind_with};
+ghost use Rattle.goblin_pe_c_headers.specs.Auxiliary.{zero_auxiliary};
+
+use crate::symbol::PeSymbol;
+use goblin_base::read::before_nul;
+use goblin_base::{Endian, Record, field_u32};
+use goblin_pe_symbol::symbol::{
+    AuxBeginAndEndFunction, AuxFunctionDefinition, AuxSectionDefinition, AuxWeakExternal,
+    COFF_SYMBOL_SIZE, IMAGE_SYM_CLASS_EXTERNAL, IMAGE_SYM_CLASS_FILE, IMAGE_SYM_CLASS_FUNCTION,
+    IMAGE_SYM_CLASS_STATIC, IMAGE_SYM_CLASS_WEAK_EXTERNAL, IMAGE_SYM_DTYPE_FUNCTION,
+    IMAGE_SYM_UNDEFINED, Symbol,
+};
+
+/// Which auxiliary records a symbol has, by its class and type. An undefined external symbol of
+/// value 0 has those of a weak external.
+#[derive(Copy, Clone)]
+pub enum AuxiliaryKind {
+    /// None.
+    None = 0,
+    /// The definition of a function.
+    FunctionDefinition = 1,
+    /// The beginning or the end of a function.
+    BeginAndEndFunction = 2,
+    /// A symbol that another may stand in for.
+    WeakExternal = 3,
+    /// The name of a source file.
+    File = 4,
+    /// The definition of a section.
+    SectionDefinition = 5,
+}
+
+const _: () = prove!(
+    AuxiliaryKind::None as u32 == 0
+        && AuxiliaryKind::FunctionDefinition as u32 == 1
+        && AuxiliaryKind::BeginAndEndFunction as u32 == 2
+        && AuxiliaryKind::WeakExternal as u32 == 3
+        && AuxiliaryKind::File as u32 == 4
+        && AuxiliaryKind::SectionDefinition as u32 == 5
+);
+
+/// The first auxiliary record of a symbol: the fields of its kind; all others are zeros.
+#[repr(C)]
+#[derive(Copy, Clone)]
+pub struct PeAuxiliary<'a> {
+    /// `FunctionDefinition`, and `WeakExternal`: the index of the symbol that stands in.
+    pub tag_index: u32,
+    /// `FunctionDefinition`.
+    pub total_size: u32,
+    /// `FunctionDefinition`.
+    pub pointer_to_line_number: u32,
+    /// `FunctionDefinition`, `BeginAndEndFunction`.
+    pub pointer_to_next_function: u32,
+    /// `BeginAndEndFunction`.
+    pub line_number: u16,
+    /// `SectionDefinition`: the section that this one goes with, from 1.
+    pub number: u16,
+    /// `SectionDefinition`.
+    pub length: u32,
+    /// `SectionDefinition`.
+    pub checksum: u32,
+    /// `SectionDefinition`.
+    pub number_of_relocations: u16,
+    /// `SectionDefinition`.
+    pub number_of_line_numbers: u16,
+    /// `SectionDefinition`: an `IMAGE_COMDAT_SELECT_*`.
+    pub selection: u8,
+    /// Zeros.
+    pub reserved: [u8; 3],
+    /// `WeakExternal`: an `IMAGE_WEAK_EXTERN_SEARCH_*`.
+    pub characteristics: u32,
+    /// `File`: the name of the source file. If it begins with four zeros it is in the string table,
+    /// at `string_offset`.
+    pub file: &'a [u8],
+    /// `File`: where the name is in the string table; else 0.
+    pub string_offset: u32,
+    /// Zero.
+    pub reserved2: u32,
+}
+
+// The kind of the auxiliary records of such a symbol, if it has any.
+fn kind_with(symbol: &Symbol) -> AuxiliaryKind
+    ensures { result ≡ kind_with symbol.now }
+{
+    let is_function = symbol.derived_type() == IMAGE_SYM_DTYPE_FUNCTION;
+    match symbol.storage_class {
+        IMAGE_SYM_CLASS_EXTERNAL if is_function && 0 < symbol.section_number => {
+            AuxiliaryKind::FunctionDefinition
+        }
+        IMAGE_SYM_CLASS_EXTERNAL
+            if symbol.section_number == IMAGE_SYM_UNDEFINED && symbol.value == 0 => {
+            AuxiliaryKind::WeakExternal
+        }
+        IMAGE_SYM_CLASS_WEAK_EXTERNAL => AuxiliaryKind::WeakExternal,
+        IMAGE_SYM_CLASS_FUNCTION => AuxiliaryKind::BeginAndEndFunction,
+        IMAGE_SYM_CLASS_FILE => AuxiliaryKind::File,
+        IMAGE_SYM_CLASS_STATIC => AuxiliaryKind::SectionDefinition,
+        _ => AuxiliaryKind::None,
+    }
+}
+
+// The kind of the auxiliary records of a symbol: none if there are none, or they are cut.
+fn kind_of(symbol: &Symbol, records: &[u8]) -> AuxiliaryKind
+    ensures kind { result ≡ kind_of symbol.now records.now }
+{
+    let count = symbol.number_of_aux_symbols as usize;
+    if count == 0 || records.len() < COFF_SYMBOL_SIZE * count {
+        return AuxiliaryKind::None;
+    }
+    kind_with(symbol)
+}
+
+// No auxiliary record.
+fn zero_auxiliary(bytes: &[u8]) -> PeAuxiliary<'_>
+    ensures file { result.file.now ≡ [] }
+    ensures zeros { result ≡ zero_auxiliary result }
+{
+    PeAuxiliary {
+        tag_index: 0,
+        total_size: 0,
+        pointer_to_line_number: 0,
+        pointer_to_next_function: 0,
+        line_number: 0,
+        number: 0,
+        length: 0,
+        checksum: 0,
+        number_of_relocations: 0,
+        number_of_line_numbers: 0,
+        selection: 0,
+        reserved: [0; 3],
+        characteristics: 0,
+        file: &bytes[..0],
+        string_offset: 0,
+        reserved2: 0,
+    }
+}
+
+// The number in the place of a file's name, if that begins with four zeros.
+fn file_offset(records: &[u8]) -> u32
+    requires { 18 ≤ length records.now }
+    ensures { result ≡ file_offset records.now }
+{
+    if field_u32(records, 0, Endian::Little) == 0 {
+        field_u32(records, 4, Endian::Little)
+    } else {
+        0
+    }
+}
+
+// The record that these bytes are for a symbol of this kind.
+fn auxiliary_said(kind: AuxiliaryKind, records: &[u8]) -> PeAuxiliary<'_>
+    requires { 18 ≤ length records.now }
+    ensures { AuxiliarySaid kind records.now result }
+{
+    let zeros = zero_auxiliary(records);
+    let record = &records[..COFF_SYMBOL_SIZE];
+    match kind {
+        AuxiliaryKind::None => zeros,
+        AuxiliaryKind::FunctionDefinition => {
+            let read = AuxFunctionDefinition::in_record(record, Endian::Little);
+            PeAuxiliary {
+                tag_index: read.tag_index,
+                total_size: read.total_size,
+                pointer_to_line_number: read.pointer_to_line_number,
+                pointer_to_next_function: read.pointer_to_next_function,
+                ..zeros
+            }
+        }
+        AuxiliaryKind::BeginAndEndFunction => {
+            let read = AuxBeginAndEndFunction::in_record(record, Endian::Little);
+            PeAuxiliary {
+                pointer_to_next_function: read.pointer_to_next_function,
+                line_number: read.line_number,
+                ..zeros
+            }
+        }
+        AuxiliaryKind::WeakExternal => {
+            let read = AuxWeakExternal::in_record(record, Endian::Little);
+            PeAuxiliary {
+                tag_index: read.tag_index,
+                characteristics: read.characteristics,
+                ..zeros
+            }
+        }
+        AuxiliaryKind::File => PeAuxiliary {
+            file: before_nul(records),
+            string_offset: file_offset(records),
+            ..zeros
+        },
+        AuxiliaryKind::SectionDefinition => {
+            let read = AuxSectionDefinition::in_record(record, Endian::Little);
+            PeAuxiliary {
+                number: read.number,
+                length: read.length,
+                checksum: read.checksum,
+                number_of_relocations: read.number_of_relocations,
+                number_of_line_numbers: read.number_of_line_numbers,
+                selection: read.selection,
+                ..zeros
+            }
+        }
+    }
+}
+
+/// Reads the auxiliary records of a symbol, and returns their kind. It is none if the symbol has
+/// none, or they are cut, or its class and type name no kind.
+pub fn read_auxiliary<'a>(symbol: &PeSymbol<'a>, auxiliary: &mut PeAuxiliary<'a>) -> AuxiliaryKind
+    ensures kind { result ≡ kind_of symbol.now.record symbol.now.auxiliary.now }
+    ensures said { AuxiliarySaid result symbol.now.auxiliary.now auxiliary.new }
+{
+    let records = symbol.auxiliary;
+    let kind = kind_of(&symbol.record, records);
+    *auxiliary = if records.len() < COFF_SYMBOL_SIZE {
+        zero_auxiliary(records)
+    } else {
+        auxiliary_said(kind, records)
+    };
+    kind
+}

@@ -1,0 +1,628 @@
+//! Refusals as numbers, and their texts by these.
+
+ghost use Rattle.std.specs.Prelude.{◌≡◌, ◌≤◌, Some, length, option_map, slice_get};
+ghost use Rattle.std.specs.Fmt.InlineText.{inline_text};
+ghost use Rattle.goblin_base.specs.declared.error.ErrorOf.TheVariants.{Malformed, Read};
+ghost use Rattle.goblin_base.specs.ErrorText.{error_text};
+ghost use Rattle.goblin_pe_c_headers.specs.Faults.{IsNumbered, IsTextOf, cause_of, causes, fault};
+ghost use Rattle.goblin_pe_c_headers.specs.Faults.{call_text, fault_of, file_text, image_fault, kind_fault, number_of, options_fault, status_of};
+ghost use Rattle.goblin_pe_c_headers.specs.Faults.{status_with};
+ghost use Rattle.goblin_pe_c_headers.specs.Faults.{no_fault, read_fault_of, refusal_text};
+ghost use Rattle.goblin_pe_c_headers.specs.Faults.{word_number, word_of};
+ghost use Rattle.goblin_pe_c_headers.specs.Filled.{Filled};
+
+use crate::kind::Kind;
+use crate::options::{PeOptions, are_known};
+use goblin_base::{Cause, Error, ReadFault, Result};
+use std::alloc::AllocError;
+use std::fmt::InlineText;
+
+// The number of the first cause that numbers say in full.
+const FIRST_CAUSE: u32 = 2;
+
+// How many causes there are from it on.
+const CAUSES: usize = 33;
+
+// There is room for so many bytes of a text; of a longer one the last three are dots.
+const TEXT_ROOM: usize = 160;
+
+const _: () = prove!(TEXT_ROOM == 160);
+
+// The item of a table at this index.
+fn item_at<T: Copy>(table: &[T], index: u32) -> Option<T>
+    ensures { result ≡ slice_get table.now index }
+{
+    table.get(index as usize).copied()
+}
+
+/// What kind of refusal it is. A later version may add numbers, here and to the causes, but changes
+/// none.
+#[derive(Copy, Clone)]
+pub enum Status {
+    /// Nothing is refused.
+    Ok = 0,
+    /// The bytes are not what the format says: the cause is a [`Cause`](CauseNumber).
+    Malformed = 1,
+    /// An optional header has the magic number `first`, neither of the two that are read.
+    BadMagic = 2,
+    /// The file is too short for `first` entries: the cause is a [`Counted`].
+    BufferTooShort = 3,
+    /// A read at an offset was refused: the cause is a [`ReadFault`](ReadRefusal).
+    Read = 4,
+    /// Memory was asked for and refused.
+    Memory = 5,
+    /// The options have an unknown mapping, `first`, or reserved bytes that are not zero.
+    Options = 6,
+    /// There are no steps left, and the table may have more rows.
+    Steps = 7,
+    /// The call is for images, and the record is of an object or a TE file: its kind is `first`.
+    Kind = 8,
+}
+
+const _: () = prove!(
+    Status::Ok as u32 == 0
+        && Status::Malformed as u32 == 1
+        && Status::BadMagic as u32 == 2
+        && Status::BufferTooShort as u32 == 3
+        && Status::Read as u32 == 4
+        && Status::Memory as u32 == 5
+        && Status::Options as u32 == 6
+        && Status::Steps as u32 == 7
+        && Status::Kind as u32 == 8
+);
+
+// The statuses in the order of their numbers.
+const STATUSES: [Status; 9] = [
+    Status::Ok,
+    Status::Malformed,
+    Status::BadMagic,
+    Status::BufferTooShort,
+    Status::Read,
+    Status::Memory,
+    Status::Options,
+    Status::Steps,
+    Status::Kind,
+];
+
+impl Status {
+    // The status with this number.
+    fn of(number: u32) -> Option<Status>
+        ensures { result ≡ status_with number }
+    {
+        item_at(&STATUSES, number)
+    }
+}
+
+/// What a file is too short for.
+#[derive(Copy, Clone)]
+enum Counted {
+    /// Something else, which the text calls entries.
+    Other = 0,
+    /// Section records.
+    Sections = 1,
+    /// Entries of the export name pointer table.
+    NamePointers = 2,
+    /// Entries of the export address table.
+    AddressTableEntries = 3,
+}
+
+const _: () = prove!(
+    Counted::Other as u32 == 0
+        && Counted::Sections as u32 == 1
+        && Counted::NamePointers as u32 == 2
+        && Counted::AddressTableEntries as u32 == 3
+);
+
+// What a file can be too short for, in the order of its numbers.
+const COUNTED: [Counted; 4] = [
+    Counted::Other,
+    Counted::Sections,
+    Counted::NamePointers,
+    Counted::AddressTableEntries,
+];
+
+/// Why a read was refused.
+#[derive(Copy, Clone)]
+enum ReadRefusal {
+    /// It begins at or past the end.
+    BadOffset = 1,
+    /// There are not enough bytes from there on.
+    TooBig = 2,
+    /// The bytes are not UTF-8.
+    BadInput = 3,
+}
+
+const _: () = prove!(
+    ReadRefusal::BadOffset as u32 == 1
+        && ReadRefusal::TooBig as u32 == 2
+        && ReadRefusal::BadInput as u32 == 3
+);
+
+// The refusals of a read in the order of their numbers.
+const READ_REFUSALS: [ReadRefusal; 3] = [
+    ReadRefusal::BadOffset,
+    ReadRefusal::TooBig,
+    ReadRefusal::BadInput,
+];
+
+/// What is wrong with a file. `first` and `second` are the two numbers of the cause; offsets are
+/// file offsets in bytes.
+#[derive(Copy, Clone)]
+enum CauseNumber {
+    /// A message of a caller's own, in Rattle alone.
+    Message = 1,
+    /// The file is too short for the DOS signature.
+    NoDosSignature = 2,
+    /// The file begins with `first` in place of the DOS signature.
+    DosMagic = 3,
+    /// The file is too short for the DOS header.
+    NoPePointer = 4,
+    /// The file has no four bytes at offset `first`, where the PE signature is placed.
+    NoPeSignature = 5,
+    /// `first` stands where the PE signature is placed.
+    PeMagic = 6,
+    /// The PE signature is placed at offset `first`, before 0x40, where the DOS stub begins.
+    StubBeforeStart = 7,
+    /// The DOS stub would pass the file's `first` bytes: it would end at offset `second`.
+    StubPastEnd = 8,
+    /// The DOS stub has the marker `Rich` with a key, but under that key no marker `DanS`.
+    NoDans = 9,
+    /// The data of the Rich header would begin at `first` and end at `second`, not after it, in
+    /// bytes counted from offset 0x40.
+    RichBounds = 10,
+    /// The header of a Terse Executable says that `first` bytes were stripped, fewer than its
+    /// own 40.
+    StrippedSize = 11,
+    /// The length of a string table is below 4, the size of the field that says it.
+    CoffLength = 12,
+    /// No kind of data directory has the index `first`.
+    DirectoryIndex = 13,
+    /// There are `first` data directories, more than sixteen.
+    DirectoryCount = 14,
+    /// The bytes after the slash of a section's indirect name are not UTF-8.
+    NameText = 15,
+    /// A section's indirect name has a character that is no digit of base 64.
+    NameBase64 = 16,
+    /// A section's name has no decimal number after its slash.
+    NameDecimal = 17,
+    /// No section name can hold `first`, an offset in a string table.
+    NameOffset = 18,
+    /// A symbol's name: no text stands at offset `first` of the string table, or the stored
+    /// number is `first`, below 4.
+    SymbolName = 19,
+    /// A string table at offset `first`, of `second` bytes, would pass the file.
+    StringTable = 20,
+    /// A Windows field of 64 bits has a value that does not fit 32.
+    FieldTooWide = 21,
+    /// The address `first` has no file offset.
+    Unmapped = 22,
+    /// No text stands at offset `first`, to which the address of a name is mapped.
+    NameRead = 23,
+    /// The two bytes of a hint would pass the file at offset `first`.
+    HintEntry = 24,
+    /// A lookup table of imports meets the file's end at offset `first`, before its last entry.
+    LookupEnd = 25,
+    /// An import directory meets the file's end at offset `first`, before its last record.
+    ImportRecordEnd = 26,
+    /// An export directory's record would pass the file at offset `first`.
+    ExportTable = 27,
+    /// A forwarder's text has no dot, or nothing after its first dot.
+    Forwarder = 28,
+    /// A forwarder's text has no decimal number below 2^32 after its `#`.
+    ForwarderOrdinal = 29,
+    /// A base relocation directory at offset `first`, of `second` bytes, would pass the file,
+    /// or begins at or past its end.
+    RelocRange = 30,
+    /// A base relocation block says that it has `first` bytes, below the 8 of its own head.
+    BlockSize = 31,
+    /// The words of a base relocation block, `second` bytes at `first` from the directory's
+    /// front, would pass the directory, or begin at its end.
+    BlockRange = 32,
+    /// A sum or a product of offsets passes 64 bits.
+    Overflow = 33,
+    /// A library of imports made by hand has `first` entries, but `second` slots.
+    SlotCount = 34,
+}
+
+const _: () = prove!(
+    CauseNumber::Message as u32 == 1
+        && CauseNumber::NoDosSignature as u32 == 2
+        && CauseNumber::DosMagic as u32 == 3
+        && CauseNumber::NoPePointer as u32 == 4
+        && CauseNumber::NoPeSignature as u32 == 5
+        && CauseNumber::PeMagic as u32 == 6
+        && CauseNumber::StubBeforeStart as u32 == 7
+        && CauseNumber::StubPastEnd as u32 == 8
+        && CauseNumber::NoDans as u32 == 9
+        && CauseNumber::RichBounds as u32 == 10
+        && CauseNumber::StrippedSize as u32 == 11
+        && CauseNumber::CoffLength as u32 == 12
+        && CauseNumber::DirectoryIndex as u32 == 13
+        && CauseNumber::DirectoryCount as u32 == 14
+        && CauseNumber::NameText as u32 == 15
+        && CauseNumber::NameBase64 as u32 == 16
+        && CauseNumber::NameDecimal as u32 == 17
+        && CauseNumber::NameOffset as u32 == 18
+        && CauseNumber::SymbolName as u32 == 19
+        && CauseNumber::StringTable as u32 == 20
+        && CauseNumber::FieldTooWide as u32 == 21
+        && CauseNumber::Unmapped as u32 == 22
+        && CauseNumber::NameRead as u32 == 23
+        && CauseNumber::HintEntry as u32 == 24
+        && CauseNumber::LookupEnd as u32 == 25
+        && CauseNumber::ImportRecordEnd as u32 == 26
+        && CauseNumber::ExportTable as u32 == 27
+        && CauseNumber::Forwarder as u32 == 28
+        && CauseNumber::ForwarderOrdinal as u32 == 29
+        && CauseNumber::RelocRange as u32 == 30
+        && CauseNumber::BlockSize as u32 == 31
+        && CauseNumber::BlockRange as u32 == 32
+        && CauseNumber::Overflow as u32 == 33
+        && CauseNumber::SlotCount as u32 == 34
+);
+
+/// Why a call gave no value, in numbers; the status 0 is that it gave one.
+#[repr(C)]
+#[derive(Copy, Clone)]
+pub struct PeFault {
+    /// What kind of refusal it is, by the numbers of [`Status`]; 0 where nothing is refused.
+    pub status: u32,
+    /// By the status a [`Cause`](CauseNumber), a [`Counted`] or a [`ReadFault`](ReadRefusal); else
+    /// 0.
+    pub cause: u32,
+    /// The number that the cause, or else the status, calls `first`; else 0.
+    pub first: u64,
+    /// The number that the cause calls `second`; else 0.
+    pub second: u64,
+}
+
+// A fault of this status.
+fn fault(status: Status, cause: u32, first: u64, second: u64) -> PeFault
+    ensures { result ≡ fault (number_of status) cause first second }
+{
+    PeFault {
+        status: status as u32,
+        cause,
+        first,
+        second,
+    }
+}
+
+// A fault with this cause.
+fn malformed(cause: u32, first: u64, second: u64) -> PeFault
+    ensures { result ≡ fault 1 cause first second }
+{
+    fault(Status::Malformed, cause, first, second)
+}
+
+// The number of what a file is too short for.
+fn word_number(what: &str) -> u32
+    ensures { result ≡ word_number what.now }
+{
+    let counted = if what == "sections" {
+        Counted::Sections
+    } else if what == "name pointers" {
+        Counted::NamePointers
+    } else if what == "address table entries" {
+        Counted::AddressTableEntries
+    } else {
+        Counted::Other
+    };
+    counted as u32
+}
+
+// The number of a refusal of a read.
+fn read_number(refused: &ReadFault) -> u32
+    ensures { fault_of (Read refused.now) ≡ fault 4 result 0 0 }
+{
+    let refusal = match refused {
+        ReadFault::BadOffset => ReadRefusal::BadOffset,
+        ReadFault::TooBig => ReadRefusal::TooBig,
+        ReadFault::BadInput => ReadRefusal::BadInput,
+    };
+    refusal as u32
+}
+
+/// That nothing is refused.
+pub fn no_fault() -> PeFault
+    ensures { result ≡ no_fault }
+{
+    fault(Status::Ok, 0, 0, 0)
+}
+
+/// Why a call with these options is refused before it begins; no fault if they are known.
+pub fn refused_call(options: &PeOptions) -> PeFault
+    ensures { result ≡ options_fault options.now }
+{
+    if are_known(options) {
+        no_fault()
+    } else {
+        fault(Status::Options, 0, u64::from(options.mapping), 0)
+    }
+}
+
+/// Why a call for images alone is refused, by the kind of its record.
+pub fn refused_kind(kind: u32) -> PeFault
+    ensures { result ≡ kind_fault kind }
+{
+    if kind == Kind::Image as u32 {
+        no_fault()
+    } else {
+        fault(Status::Kind, 0, u64::from(kind), 0)
+    }
+}
+
+/// Both, for a call that looks at both.
+pub fn refused_image(kind: u32, options: &PeOptions) -> PeFault
+    ensures { result ≡ image_fault kind options.now }
+{
+    if kind == Kind::Image as u32 {
+        refused_call(options)
+    } else {
+        refused_kind(kind)
+    }
+}
+
+/// That no steps are left.
+pub fn out_of_steps() -> PeFault
+    ensures { result ≡ fault 7 0 0 0 }
+{
+    fault(Status::Steps, 0, 0, 0)
+}
+
+// The numbers of a cause.
+fn cause_numbers(cause: &Cause) -> PeFault
+    ensures value { result ≡ fault_of (Malformed cause.now) }
+    ensures text { IsNumbered (Malformed cause.now)
+        → refusal_text result ≡ Some (error_text (Malformed cause.now)) }
+{
+    match cause {
+        Cause::Message(_) => malformed(CauseNumber::Message as u32, 0, 0),
+        Cause::NoDosSignature => malformed(CauseNumber::NoDosSignature as u32, 0, 0),
+        Cause::DosMagic(magic) => malformed(CauseNumber::DosMagic as u32, u64::from(*magic), 0),
+        Cause::NoPePointer => malformed(CauseNumber::NoPePointer as u32, 0, 0),
+        Cause::NoPeSignature(offset) => malformed(
+            CauseNumber::NoPeSignature as u32,
+            *offset as u64,
+            0,
+        ),
+        Cause::PeMagic(magic) => malformed(CauseNumber::PeMagic as u32, u64::from(*magic), 0),
+        Cause::StubBeforeStart(offset) => malformed(
+            CauseNumber::StubBeforeStart as u32,
+            u64::from(*offset),
+            0,
+        ),
+        Cause::StubPastEnd(length, end) => malformed(
+            CauseNumber::StubPastEnd as u32,
+            *length as u64,
+            *end as u64,
+        ),
+        Cause::NoDans => malformed(CauseNumber::NoDans as u32, 0, 0),
+        Cause::RichBounds(begin, end) => malformed(
+            CauseNumber::RichBounds as u32,
+            *begin as u64,
+            *end as u64,
+        ),
+        Cause::StrippedSize(size) => malformed(
+            CauseNumber::StrippedSize as u32,
+            u64::from(*size),
+            0,
+        ),
+        Cause::CoffLength => malformed(CauseNumber::CoffLength as u32, 0, 0),
+        Cause::DirectoryIndex(index) => malformed(
+            CauseNumber::DirectoryIndex as u32,
+            *index as u64,
+            0,
+        ),
+        Cause::DirectoryCount(count) => malformed(
+            CauseNumber::DirectoryCount as u32,
+            *count as u64,
+            0,
+        ),
+        Cause::NameText => malformed(CauseNumber::NameText as u32, 0, 0),
+        Cause::NameBase64 => malformed(CauseNumber::NameBase64 as u32, 0, 0),
+        Cause::NameDecimal => malformed(CauseNumber::NameDecimal as u32, 0, 0),
+        Cause::NameOffset(offset) => malformed(CauseNumber::NameOffset as u32, *offset as u64, 0),
+        Cause::SymbolName(offset) => malformed(
+            CauseNumber::SymbolName as u32,
+            u64::from(*offset),
+            0,
+        ),
+        Cause::StringTable(offset, length) => malformed(
+            CauseNumber::StringTable as u32,
+            *offset as u64,
+            *length as u64,
+        ),
+        Cause::FieldTooWide => malformed(CauseNumber::FieldTooWide as u32, 0, 0),
+        Cause::Unmapped(rva) => malformed(CauseNumber::Unmapped as u32, *rva as u64, 0),
+        Cause::NameRead(offset) => malformed(CauseNumber::NameRead as u32, *offset as u64, 0),
+        Cause::HintEntry(offset) => malformed(CauseNumber::HintEntry as u32, *offset as u64, 0),
+        Cause::LookupEnd(offset) => malformed(CauseNumber::LookupEnd as u32, *offset as u64, 0),
+        Cause::ImportRecordEnd(offset) => malformed(
+            CauseNumber::ImportRecordEnd as u32,
+            *offset as u64,
+            0,
+        ),
+        Cause::ExportTable(offset) => malformed(CauseNumber::ExportTable as u32, *offset as u64, 0),
+        Cause::Forwarder => malformed(CauseNumber::Forwarder as u32, 0, 0),
+        Cause::ForwarderOrdinal => malformed(CauseNumber::ForwarderOrdinal as u32, 0, 0),
+        Cause::RelocRange(offset, size) => malformed(
+            CauseNumber::RelocRange as u32,
+            *offset as u64,
+            u64::from(*size),
+        ),
+        Cause::BlockSize(size) => malformed(CauseNumber::BlockSize as u32, u64::from(*size), 0),
+        Cause::BlockRange(begin, size) => malformed(
+            CauseNumber::BlockRange as u32,
+            *begin as u64,
+            *size as u64,
+        ),
+        Cause::Overflow => malformed(CauseNumber::Overflow as u32, 0, 0),
+        Cause::SlotCount(entries, slots) => malformed(
+            CauseNumber::SlotCount as u32,
+            *entries as u64,
+            *slots as u64,
+        ),
+    }
+}
+
+/// The numbers of a refusal.
+pub fn fault_of(error: &Error) -> PeFault
+    ensures value { result ≡ fault_of error.now }
+    ensures text { IsNumbered error.now → refusal_text result ≡ Some (error_text error.now) }
+{
+    match error {
+        Error::Malformed(cause) => cause_numbers(cause),
+        Error::BadMagic(magic) => fault(Status::BadMagic, 0, *magic, 0),
+        Error::BufferTooShort(count, what) => fault(
+            Status::BufferTooShort,
+            word_number(what),
+            *count as u64,
+            0,
+        ),
+        Error::Read(refused) => fault(Status::Read, read_number(refused), 0, 0),
+        Error::Memory(_) => fault(Status::Memory, 0, 0, 0),
+    }
+}
+
+/// The numbers of what a call answers: those of its refusal, or that nothing is refused.
+pub fn status_of(answer: Result<()>) -> PeFault
+    ensures { result ≡ status_of answer.entry }
+{
+    match answer {
+        Ok(()) => no_fault(),
+        Err(error) => fault_of(&error),
+    }
+}
+
+// The causes from the second on, in the order of their numbers, with these numbers of their own.
+// The first is a message of the caller's, which no numbers say.
+fn causes(first: u64, second: u64) -> [Cause; CAUSES]
+    ensures { result ≡ causes first second }
+{
+    let number = first as usize;
+    let other = second as usize;
+    let short = (first % 0x1_0000) as u16;
+    let half = (first % 0x1_0000_0000) as u32;
+    let other_half = (second % 0x1_0000_0000) as u32;
+    [
+        Cause::NoDosSignature,
+        Cause::DosMagic(short),
+        Cause::NoPePointer,
+        Cause::NoPeSignature(number),
+        Cause::PeMagic(half),
+        Cause::StubBeforeStart(half),
+        Cause::StubPastEnd(number, other),
+        Cause::NoDans,
+        Cause::RichBounds(number, other),
+        Cause::StrippedSize(half),
+        Cause::CoffLength,
+        Cause::DirectoryIndex(number),
+        Cause::DirectoryCount(number),
+        Cause::NameText,
+        Cause::NameBase64,
+        Cause::NameDecimal,
+        Cause::NameOffset(number),
+        Cause::SymbolName(half),
+        Cause::StringTable(number, other),
+        Cause::FieldTooWide,
+        Cause::Unmapped(number),
+        Cause::NameRead(number),
+        Cause::HintEntry(number),
+        Cause::LookupEnd(number),
+        Cause::ImportRecordEnd(number),
+        Cause::ExportTable(number),
+        Cause::Forwarder,
+        Cause::ForwarderOrdinal,
+        Cause::RelocRange(number, other_half),
+        Cause::BlockSize(half),
+        Cause::BlockRange(number, other),
+        Cause::Overflow,
+        Cause::SlotCount(number, other),
+    ]
+}
+
+// The cause with these numbers.
+fn cause_of(fault: &PeFault) -> Option<Cause>
+    ensures { result ≡ cause_of fault.now }
+{
+    let index = fault.cause.checked_sub(FIRST_CAUSE)?;
+    item_at(&causes(fault.first, fault.second), index)
+}
+
+// What a file is too short for, by its number.
+fn word_of(number: u32) -> Option<&'static str>
+    ensures { option_map (λ s. s.now) result ≡ word_of number }
+{
+    Some(match item_at(&COUNTED, number)? {
+        Counted::Other => "entries",
+        Counted::Sections => "sections",
+        Counted::NamePointers => "name pointers",
+        Counted::AddressTableEntries => "address table entries",
+    })
+}
+
+// Why a read was refused, by its number.
+fn read_fault_of(number: u32) -> Option<ReadFault>
+    ensures { result ≡ read_fault_of number }
+{
+    let index = number.checked_sub(ReadRefusal::BadOffset as u32)?;
+    Some(match item_at(&READ_REFUSALS, index)? {
+        ReadRefusal::BadOffset => ReadFault::BadOffset,
+        ReadRefusal::TooBig => ReadFault::TooBig,
+        ReadRefusal::BadInput => ReadFault::BadInput,
+    })
+}
+
+// The text of a fault of a call, which is not of the file.
+fn call_text(status: u32) -> Option<&'static str>
+    ensures { option_map (λ s. s.now) result ≡ call_text status }
+{
+    match status {
+        6 => Some("the options have an unknown mapping, or reserved bytes that are not zero"),
+        7 => Some("no steps are left"),
+        8 => Some("the record is not of an image, but of an object or a TE file"),
+        _ => None,
+    }
+}
+
+// The refusal with these numbers.
+fn error_of(fault: &PeFault) -> Option<Error>
+    ensures { option_map error_text result ≡ file_text fault.now }
+{
+    Some(match Status::of(fault.status)? {
+        Status::Malformed => Error::Malformed(cause_of(fault)?),
+        Status::BadMagic => Error::BadMagic(fault.first),
+        Status::BufferTooShort => {
+            Error::BufferTooShort(fault.first as usize, word_of(fault.cause)?)
+        }
+        Status::Read => Error::Read(read_fault_of(fault.cause)?),
+        Status::Memory => Error::Memory(AllocError),
+        _ => return None,
+    })
+}
+
+/// The text of the refusal with these numbers, whole, or cut and ended by three dots, in 160 bytes
+/// at most; none where they are of no refusal.
+pub fn text_of(fault: &PeFault) -> InlineText<TEXT_ROOM>
+    ensures text { IsTextOf fault.now (inline_text result) }
+    ensures short { length (inline_text result) ≤ 160 }
+{
+    if let Some(text) = call_text(fault.status) {
+        return InlineText::of(text);
+    }
+    match error_of(fault) {
+        Some(error) => InlineText::of(error),
+        None => InlineText::new(),
+    }
+}
+
+/// Puts a text where there is room for it, and answers how long it is.
+pub fn put_text(text: &mut [u8], whole: &[u8]) -> usize
+    ensures filled { Filled (λ b. b) whole.now text.old text.new }
+    ensures length { result ≡ length whole.now }
+{
+    let count = whole.len().min(text.len());
+    text[..count].copy_from_slice(&whole[..count]);
+    whole.len()
+}

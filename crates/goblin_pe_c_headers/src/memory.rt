@@ -1,0 +1,377 @@
+//! What is in memory at an RVA of an image, and the contents of a section: as a loader maps them.
+
+ghost use Rattle.std.specs.Prelude.{◌≡◌, ◌+◌, ◌^◌, ◌<◌, ◌≤◌, Some, length, option_map};
+ghost use Rattle.std.specs.Option.{unwrap_or};
+ghost use Rattle.goblin_pe_c_headers.specs.Addresses.{mapped_view};
+ghost use Rattle.goblin_pe_c_headers.specs.Memory.{SeesFile, available, contents_in, front_at};
+ghost use Rattle.goblin_pe_c_headers.specs.Memory.{holder, holder_index, is_among, is_unstored};
+ghost use Rattle.goblin_pe_c_headers.specs.Memory.{known, memory_at, memory_by, memory_in_file};
+ghost use Rattle.goblin_pe_c_headers.specs.Memory.{memory_length, memory_of, memory_size};
+ghost use Rattle.goblin_pe_c_headers.specs.Memory.{memory_view, region_in, region_number};
+ghost use Rattle.goblin_pe_c_headers.specs.Memory.{section_data, stored_in_memory, stored_size};
+ghost use Rattle.goblin_pe_c_headers.specs.Memory.{unknown, window_size, zeros_after};
+ghost use Rattle.goblin_pe_c_headers.specs.Sections.{section_view};
+
+use crate::address::{Mapped, mapped_by};
+use crate::options::{PeOptions, are_known, options_at};
+use crate::places::PePlaces;
+use crate::section::{PeSection, section_of};
+use goblin_pe_sect::section_table::IMAGE_SCN_CNT_UNINITIALIZED_DATA;
+use goblin_pe_sect::utils::{raw_begin, window};
+use goblin_pe_sect::{ParseOptions, SectionTable};
+
+/// Where memory of an image comes from.
+#[derive(Copy, Clone)]
+pub enum Region {
+    /// The loader maps nothing there.
+    Unmapped = 0,
+    /// The headers.
+    Headers = 1,
+    /// The raw data of a section, in whole file blocks. With
+    /// [`Identity`](crate::options::PeMapping), the file.
+    RawData = 2,
+    /// The zeros that follow the raw data of a section.
+    Zeros = 3,
+}
+
+const _: () = prove!(
+    Region::Unmapped as u32 == 0
+        && Region::Headers as u32 == 1
+        && Region::RawData as u32 == 2
+        && Region::Zeros as u32 == 3
+);
+
+/// The bytes that a loader puts somewhere: `bytes`, then `zeros` zeros. `missing` more were asked
+/// for, and are unknown: they lie past the section's memory, or the file ends before them.
+#[repr(C)]
+#[derive(Copy, Clone)]
+pub struct PeMemory<'a> {
+    /// The bytes of the file.
+    pub bytes: &'a [u8],
+    /// How many zeros follow them.
+    pub zeros: usize,
+    /// How many bytes are missing after these.
+    pub missing: usize,
+    /// The index of the section; the image's `section_count` outside of sections.
+    pub section_index: usize,
+    /// What is at the first byte: a [`Region`].
+    pub region: u32,
+    /// Zero.
+    pub reserved: u32,
+}
+
+// The record of bytes and zeros that are known.
+fn known<'a>(
+    found: (&'a [u8], usize),
+    missing: usize,
+    section_index: usize,
+    region: Region,
+) -> PeMemory<'a>
+    ensures { memory_view result ≡ known (found.entry.0.now, found.entry.1) missing section_index region }
+{
+    PeMemory {
+        bytes: found.0,
+        zeros: found.1,
+        missing,
+        section_index,
+        region: region as u32,
+        reserved: 0,
+    }
+}
+
+// The record where all bytes are missing.
+fn unknown(bytes: &[u8], missing: usize, section_index: usize) -> PeMemory<'_>
+    ensures { memory_view result ≡ unknown missing section_index }
+{
+    known((&bytes[..0], 0), missing, section_index, Region::Unmapped)
+}
+
+// The first `size` bytes from an offset on, as far as the file has them.
+fn front_at(bytes: &[u8], offset: usize, size: usize) -> &[u8]
+    ensures value { result.now ≡ front_at bytes.now offset size }
+    ensures few { length result.now ≤ size }
+{
+    let end = bytes.len().min(offset.saturating_add(size));
+    &bytes[offset.min(bytes.len())..end]
+}
+
+// These, and the zeros that follow if the file has all of them.
+fn available(bytes: &[u8], offset: usize, size: usize, zeros: usize) -> (&[u8], usize)
+    ensures value { (result.0.now, result.1) ≡ available bytes.now offset size zeros }
+    ensures few { length result.0.now ≤ size }
+    ensures zeros { result.1 ≤ zeros }
+{
+    let found = front_at(bytes, offset, size);
+    (found, if found.len() == size { zeros } else { 0 })
+}
+
+// The size of a section in memory: its virtual size, and its raw size if that is 0.
+fn memory_size(section: &SectionTable) -> usize
+    ensures value { result ≡ memory_size section.now }
+    ensures small { result < 2 ^ 32 }
+{
+    if section.virtual_size == 0 {
+        section.size_of_raw_data as usize
+    } else {
+        section.virtual_size as usize
+    }
+}
+
+// Whether a section is one of uninitialized data that has no place in the file.
+fn is_unstored(section: &SectionTable) -> bool
+    ensures { result ≡ is_unstored section.now }
+{
+    section.characteristics & IMAGE_SCN_CNT_UNINITIALIZED_DATA != 0
+        && section.pointer_to_raw_data == 0
+}
+
+// How many bytes of a section are raw data: from where they begin, by the rule of `opts`, to where
+// they end as stored.
+fn stored_size(section: &SectionTable, opts: &ParseOptions) -> usize
+    ensures value { result ≡ stored_size opts.now section.now }
+    ensures small { result < 2 ^ 33 }
+{
+    if is_unstored(section) {
+        return 0;
+    }
+    let end = section.pointer_to_raw_data as usize + section.size_of_raw_data as usize;
+    end.saturating_sub(raw_begin(section, opts) as usize)
+}
+
+// How many zeros follow these up to the size in memory.
+fn zeros_after(section: &SectionTable, opts: &ParseOptions) -> usize
+    ensures value { result ≡ zeros_after opts.now section.now }
+    ensures small { result < 2 ^ 32 }
+{
+    memory_size(section).saturating_sub(stored_size(section, opts))
+}
+
+// The raw data of a section as far as the file has it, and the zeros that follow if it has all.
+fn contents_in<'a>(
+    bytes: &'a [u8],
+    section: &SectionTable,
+    index: usize,
+    opts: &ParseOptions,
+) -> PeMemory<'a>
+    ensures { memory_view result ≡ contents_in opts.now bytes.now index section.now }
+{
+    let stored = stored_size(section, opts);
+    let begin = raw_begin(section, opts) as usize;
+    let found = available(bytes, begin, stored, zeros_after(section, opts));
+    let region = if stored == 0 {
+        Region::Zeros
+    } else {
+        Region::RawData
+    };
+    known(found, stored - found.0.len(), index, region)
+}
+
+/// The contents of a section of an image: its raw data, and the zeros that the loader adds up to
+/// the virtual size.
+pub fn section_data<'a>(
+    bytes: &'a [u8],
+    options: &PeOptions,
+    file_alignment: u32,
+    section: &PeSection,
+) -> PeMemory<'a>
+    ensures { memory_view result
+        ≡ section_data options.now file_alignment bytes.now section.now.index
+        (section_view section.now) }
+{
+    let index = section.index;
+    let section = section_of(section);
+    let opts = options_at(options, file_alignment);
+    if are_known(options) {
+        return contents_in(bytes, &section, index, &opts);
+    }
+    let missing = stored_size(&section, &opts) + zeros_after(&section, &opts);
+    unknown(bytes, missing, index)
+}
+
+// How many bytes the window of a section has.
+#[tactic(auto, using(goblin_pe_sect::proofs::Mapped::read_size_le))]
+fn window_size(section: &SectionTable, file_alignment: u32) -> usize
+    ensures value { result ≡ window_size file_alignment section.now }
+    ensures small { result < 2 ^ 33 }
+{
+    match window(section, file_alignment) {
+        Some((begin, end)) => {
+            let raw_size = section.size_of_raw_data as usize;
+            prove!(end - begin < raw_size + 4096);
+            end - begin
+        }
+        None => 0,
+    }
+}
+
+// How many bytes the memory of a section has.
+fn memory_length(section: &SectionTable, file_alignment: u32) -> usize
+    ensures value { result ≡ memory_length file_alignment section.now }
+    ensures small { result < 2 ^ 33 }
+{
+    memory_size(section).max(window_size(section, file_alignment))
+}
+
+// Whether an RVA is one of `size` from the section's address on.
+fn is_among(rva: usize, section: &SectionTable, size: usize) -> bool
+    requires { size < 2 ^ 33 }
+    ensures { result ≡ is_among size rva section.now }
+{
+    let begin = section.virtual_address as usize;
+    begin <= rva && rva < begin + size
+}
+
+// How many bytes of a section's memory are those of a file with this end.
+fn stored_in_memory(
+    section: &SectionTable,
+    file_alignment: u32,
+    opts: &ParseOptions,
+    end: usize,
+) -> usize
+    ensures value { result ≡ stored_in_memory opts.now file_alignment end section.now }
+    ensures small { result < 2 ^ 33 }
+{
+    if is_unstored(section) {
+        return 0;
+    }
+    let left = end.saturating_sub(raw_begin(section, opts) as usize);
+    let data = memory_length(section, file_alignment).min(stored_size(section, opts));
+    window_size(section, file_alignment).min(left).max(data)
+}
+
+// What holds an RVA, with its index: the first section whose window does, or else the first whose
+// memory does. The file's front comes last.
+fn holder(mapped: &Mapped, rva: usize) -> Option<(usize, SectionTable)>
+    ensures index { option_map (λ both. both.0) result ≡ holder_index (mapped_view mapped.now) rva }
+    ensures section { option_map (λ both. both.1) result ≡ holder (mapped_view mapped.now) rva }
+{
+    let alignment = mapped.file_alignment;
+    let by_window = mapped.records.find(|section| is_among(
+        rva,
+        section,
+        window_size(section, alignment),
+    ));
+    if by_window.is_some() {
+        return by_window;
+    }
+    mapped.records.find(|section| is_among(rva, section, memory_length(section, alignment)))
+}
+
+// The first bytes of a section's memory, at most `size`, from an RVA in it on.
+fn memory_of<'a>(
+    bytes: &'a [u8],
+    mapped: &Mapped,
+    section: &SectionTable,
+    rva: usize,
+    size: usize,
+) -> (&'a [u8], usize)
+    ensures value { (result.0.now, result.1)
+        ≡ memory_of (mapped_view mapped.now) bytes.now rva size section.now }
+    ensures few { length result.0.now + result.1 ≤ size }
+{
+    let alignment = mapped.file_alignment;
+    let distance = rva.saturating_sub(section.virtual_address as usize);
+    let most = size.min(memory_length(section, alignment).saturating_sub(distance));
+    let stored = stored_in_memory(section, alignment, &mapped.opts, bytes.len());
+    let stored = most.min(stored.saturating_sub(distance));
+    let begin = raw_begin(section, &mapped.opts) as usize;
+    available(bytes, begin.saturating_add(distance), stored, most - stored)
+}
+
+// What is at an RVA in a section's memory.
+fn region_in(bytes: &[u8], mapped: &Mapped, section: &SectionTable, rva: usize) -> Region
+    ensures { result ≡ region_in (mapped_view mapped.now) bytes.now rva section.now }
+{
+    let distance = rva.saturating_sub(section.virtual_address as usize);
+    let end = bytes.len();
+    if distance < stored_in_memory(section, mapped.file_alignment, &mapped.opts, end) {
+        Region::RawData
+    } else {
+        Region::Zeros
+    }
+}
+
+// The first `size` bytes from an RVA on, by the section of this index that holds it.
+fn memory_held<'a>(
+    bytes: &'a [u8],
+    mapped: &Mapped,
+    outside: usize,
+    rva: usize,
+    size: usize,
+    index: usize,
+    section: &SectionTable,
+) -> PeMemory<'a>
+    ensures { memory_view result
+        ≡ memory_by (mapped_view mapped.now) bytes.now outside rva size index (Some section.now) }
+{
+    let found = memory_of(bytes, mapped, section, rva, size);
+    let missing = size - (found.0.len() + found.1);
+    if index == outside {
+        return known(found, missing, index, Region::Headers);
+    }
+    known(
+        found,
+        missing,
+        index,
+        region_in(bytes, mapped, section, rva),
+    )
+}
+
+// The first `size` bytes from an RVA on, by what holds it.
+fn memory_by<'a>(
+    bytes: &'a [u8],
+    mapped: &Mapped,
+    outside: usize,
+    rva: usize,
+    size: usize,
+) -> PeMemory<'a>
+    ensures { let m = mapped_view mapped.now in
+        memory_view result
+        ≡ memory_by m bytes.now outside rva size (unwrap_or (holder_index m rva) outside)
+        (holder m rva) }
+{
+    match holder(mapped, rva) {
+        Some((index, section)) => {
+            memory_held(bytes, mapped, outside, rva, size, index, &section)
+        }
+        None => unknown(bytes, size, outside),
+    }
+}
+
+// The first `size` bytes from an offset on, where RVAs are offsets.
+fn memory_in_file(bytes: &[u8], outside: usize, rva: usize, size: usize) -> PeMemory<'_>
+    ensures { memory_view result ≡ memory_in_file bytes.now outside rva size }
+{
+    let found = front_at(bytes, rva, size);
+    let region = if rva < bytes.len() {
+        Region::RawData
+    } else {
+        Region::Unmapped
+    };
+    known((found, 0), size - found.len(), outside, region)
+}
+
+/// What a loader puts at an RVA: the first `size` bytes as far as they are known, the region and the
+/// section. Where the RVA has an offset inside the file, the first byte is the byte there, except in
+/// uninitialized data without a raw pointer, which is zeros.
+#[tactic(auto, unfolding(crate::specs::Memory::memory_at))]
+pub fn memory_at<'a>(
+    bytes: &'a [u8],
+    options: &PeOptions,
+    places: &PePlaces,
+    rva: usize,
+    size: usize,
+) -> PeMemory<'a>
+    ensures value { memory_view result ≡ memory_at options.now places.now bytes.now rva size }
+    ensures file { SeesFile options.now places.now bytes.now }
+{
+    let outside = places.number_of_sections;
+    let Some(mapped) = mapped_by(bytes, options, places) else {
+        return unknown(bytes, size, outside);
+    };
+    if mapped.opts.resolve_rva {
+        memory_by(bytes, &mapped, outside, rva, size)
+    } else {
+        memory_in_file(bytes, outside, rva, size)
+    }
+}

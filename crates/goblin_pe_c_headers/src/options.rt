@@ -1,0 +1,160 @@
+//! How a file is read, as a caller says it.
+
+ghost use Rattle.std.specs.Prelude.{◌≡◌};
+ghost use Rattle.goblin_pe_c_headers.specs.Options.{alignment_in, header_options, options_at};
+ghost use Rattle.goblin_pe_c_headers.specs.Options.{are_known, longest_of, maps_addresses, name_limit};
+ghost use Rattle.goblin_pe_c_headers.specs.Options.{options_in, rule_at, view_of};
+
+use goblin_pe_head::header::Header;
+use goblin_pe_sect::options::{ParseMode, ParseOptions, RawPointerRule, View};
+
+/// How RVAs are mapped to file offsets, and where the raw data of a section begins. The first three
+/// agree on sections whose raw pointer is a multiple of 512, as the specification asks for.
+pub enum PeMapping {
+    /// As the Windows loader maps: the raw pointer is rounded down to 512 when the file alignment
+    /// is at least 512, and the headers are mapped at RVA 0. The default: packers hide imports from
+    /// readers that map otherwise.
+    AsLoaded = 0,
+    /// As pefile maps: the same, without the headers.
+    ByFileAlignment = 1,
+    /// As goblin maps: the raw pointer is taken as stored; no headers.
+    AsStored = 2,
+    /// An RVA is a file offset: the bytes are a dump of the image in memory.
+    Identity = 3,
+}
+
+const _: () = prove!(
+    PeMapping::AsLoaded as u32 == 0
+        && PeMapping::ByFileAlignment as u32 == 1
+        && PeMapping::AsStored as u32 == 2
+        && PeMapping::Identity as u32 == 3
+);
+
+/// How an image is read. Zeros are the defaults.
+#[repr(C)]
+#[derive(Copy, Clone)]
+pub struct PeOptions {
+    /// A [`PeMapping`]. The calls that read a header or look up an address refuse another number:
+    /// [`Status::Options`](crate::fault::Status), or false.
+    pub mapping: u32,
+    /// How many bytes of a name are read; 0 is no limit. A longer name is cut after the character
+    /// that reaches past the limit. So a name that is longer than the limit was cut. The rest is
+    /// not tested: it may not be UTF-8. The limit holds for the names of DLLs, imports, exports and
+    /// symbols, for section names in a string table, for forwarders and for texts at an RVA. A
+    /// forwarder is cut as one text; its export name may then be empty.
+    pub longest_name: u32,
+    /// Whether damaged parts are skipped, and not refused. The damage of an image tells what was
+    /// skipped. Neither mode reads a file without a complete header and section table, an optional
+    /// header of an unknown magic, more than sixteen data directories, a section name of a slash
+    /// and no number, or a Rich marker without DanS; a partial read does.
+    pub is_permissive: bool,
+    /// Zeros. Calls refuse other numbers, as an unknown mapping: later versions may have options
+    /// here.
+    pub reserved: [u8; 3],
+}
+
+/// Whether the options are known: a mapping with a number of its own, and zeros after it.
+#[inline(always)]
+pub fn are_known(options: &PeOptions) -> bool
+    ensures { result ≡ are_known options.now }
+{
+    let [first, second, third] = options.reserved;
+    options.mapping <= PeMapping::Identity as u32 && first == 0 && second == 0 && third == 0
+}
+
+/// The limit of a name's length that a number says; 0 is none.
+#[inline(always)]
+pub fn name_limit(longest: u32) -> Option<u32>
+    ensures { result ≡ name_limit longest }
+{
+    if longest == 0 { None } else { Some(longest) }
+}
+
+/// How many bytes of a name are read, if there is a limit.
+#[inline(always)]
+pub fn longest_of(options: &PeOptions) -> Option<u32>
+    ensures { result ≡ longest_of options.now }
+{
+    name_limit(options.longest_name)
+}
+
+// The rule for raw pointers by this mapping, at this file alignment.
+#[inline(always)]
+fn rule_at(mapping: u32, file_alignment: u32) -> RawPointerRule
+    ensures { result ≡ rule_at mapping file_alignment }
+{
+    match mapping {
+        0 | 1 => RawPointerRule::by_file_alignment(file_alignment),
+        _ => RawPointerRule::AsStored,
+    }
+}
+
+/// What the addresses of an image are mapped by.
+#[inline(always)]
+pub fn view_of(options: &PeOptions) -> View
+    ensures { result ≡ view_of options.now }
+{
+    if options.mapping == 0 {
+        View::Loader
+    } else {
+        View::Sections
+    }
+}
+
+/// The options by which the header and the sections of a file are read: only the mode matters there.
+#[inline(always)]
+pub fn header_options(options: &PeOptions) -> ParseOptions
+    ensures { result ≡ header_options options.now }
+{
+    let parse_mode = if options.is_permissive {
+        ParseMode::Permissive
+    } else {
+        ParseMode::Strict
+    };
+    ParseOptions::default().with_parse_mode(parse_mode)
+}
+
+/// Whether RVAs are mapped to offsets; if not, they are offsets.
+#[inline(always)]
+pub fn maps_addresses(options: &PeOptions) -> bool
+    ensures { result ≡ maps_addresses options.now }
+{
+    options.mapping != PeMapping::Identity as u32
+}
+
+/// The options that a caller says, of a file with this file alignment.
+#[inline(always)]
+pub fn options_at(options: &PeOptions, file_alignment: u32) -> ParseOptions
+    ensures { result ≡ options_at options.now file_alignment }
+{
+    ParseOptions {
+        resolve_rva: maps_addresses(options),
+        raw_pointer_rule: rule_at(options.mapping, file_alignment),
+        ..header_options(options)
+    }
+}
+
+// The file alignment that the header of a file says; 0 where it says none, or can't be read.
+#[tactic(auto, unfolding(crate::specs::Options::alignment_in))]
+fn alignment_in(bytes: &[u8], options: &PeOptions) -> u32
+    ensures { result ≡ alignment_in options.now bytes.now }
+{
+    match Header::parse_with_opts(bytes, &header_options(options)) {
+        Ok(header) => match &header.optional_header {
+            Some(optional) => optional.windows_fields.file_alignment,
+            None => 0,
+        },
+        Err(_) => 0,
+    }
+}
+
+/// The options that a caller says, of a file whose header says its file alignment. The header is
+/// read only for the mappings that ask for it.
+pub fn options_in(bytes: &[u8], options: &PeOptions) -> ParseOptions
+    ensures { result ≡ options_in options.now bytes.now }
+{
+    match options.mapping {
+        0 | 1 => options_at(options, alignment_in(bytes, options)),
+        _ => options_at(options, 0),
+    }
+}

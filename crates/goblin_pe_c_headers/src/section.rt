@@ -1,0 +1,346 @@
+//! The rows of sections, and their headers written back.
+
+ghost use Rattle.std.specs.Prelude.{◌≡◌, ◌+◌, ◌*◌, ◌<◌, ◌/◌, length, option_map};
+ghost use Rattle.std.specs.Prelude.{slice_range, take};
+ghost use Rattle.goblin_base.specs.declared.endian.Endian.TheVariants.{Little};
+ghost use Rattle.goblin_base.specs.Answers.{IsSliceFault};
+ghost use Rattle.goblin_base.specs.Bytes.{before_nul, overwritten};
+ghost use Rattle.goblin_base.specs.Record.{encoding};
+ghost use Rattle.goblin_pe_sect.specs.Options.{is_strict};
+ghost use Rattle.goblin_pe_sect.specs.SectionReadings.{SectionWritesBack};
+ghost use Rattle.goblin_pe_sect.specs.SectionTable.{section_fields, section_record, unnamed};
+ghost use Rattle.goblin_pe_head.specs.TeHeader.{section_moved};
+ghost use Rattle.goblin_pe_c_headers.specs.Calls.{ReadsWithout};
+ghost use Rattle.goblin_pe_c_headers.specs.Onward.{GivesRows, no_batch};
+ghost use Rattle.goblin_pe_c_headers.specs.Places.{headers_there};
+ghost use Rattle.goblin_pe_c_headers.specs.Relocations.{relocations_begin};
+ghost use Rattle.goblin_pe_c_headers.specs.Sections.{SectionBatch, naming_of, naming_said};
+ghost use Rattle.goblin_pe_c_headers.specs.Sections.{real_name_in, row_of, row_view, section_rows};
+ghost use Rattle.goblin_pe_c_headers.specs.Sections.{section_view, unnamed_row, with_name};
+ghost use Rattle.goblin_pe_c_headers.specs.Written.{Output, SetsName, WritesOut};
+
+use crate::batch::{PeBatch, ended, goes_on};
+use crate::cursor::PeCoffRelocationCursor;
+use crate::image::PeImage;
+use crate::kind::Kind;
+use crate::options::{header_options, longest_of};
+use crate::places::section_headers;
+use goblin_base::read::{before_nul, pread_plain_str, pread_str_within};
+use goblin_base::{Endian, Result};
+use goblin_pe_head::header::adjust_section;
+use goblin_pe_sect::options::ParseOptions;
+use goblin_pe_sect::section_table::{
+    IMAGE_SCN_LNK_NRELOC_OVFL, SIZEOF_SECTION_TABLE, SectionRecords, SectionTable,
+};
+
+/// A section header. The numbers are as stored, but in a TE file, where they are moved.
+///
+/// Source: PE Format, "Section Table (Section Headers)".
+#[repr(C)]
+#[derive(Copy, Clone)]
+pub struct PeSection<'a> {
+    /// The name: from the string table if `stored_name` is a slash and a number, else the bytes of
+    /// `stored_name` before the first NUL. It need not be UTF-8.
+    pub name: &'a [u8],
+    /// The index in the section table; a symbol's `section_number` is one more.
+    pub index: usize,
+    /// Where the walk over its relocations begins.
+    pub relocations: PeCoffRelocationCursor,
+    /// The eight bytes of the name, padded with NULs.
+    pub stored_name: [u8; 8],
+    /// The size in memory. If it is above the raw size, zeros follow the raw data.
+    pub virtual_size: u32,
+    /// An RVA.
+    pub virtual_address: u32,
+    /// The size of the raw data in the file.
+    pub size_of_raw_data: u32,
+    /// The file offset of the raw data, as stored.
+    pub pointer_to_raw_data: u32,
+    /// The file offset of the relocations, 0 if there are none.
+    pub pointer_to_relocations: u32,
+    /// The file offset of the line numbers, 0 if there are none.
+    pub pointer_to_linenumbers: u32,
+    /// How many relocations the section header counts.
+    pub number_of_relocations: u16,
+    /// How many line numbers there are.
+    pub number_of_linenumbers: u16,
+    /// Bits `IMAGE_SCN_*`.
+    pub characteristics: u32,
+    /// Whether the name is from the string table.
+    pub has_long_name: bool,
+    /// Zeros.
+    pub reserved: [u8; 7],
+}
+
+/// The section of a row, without its name from the string table, which would take memory.
+pub(crate) fn section_of(section: &PeSection) -> SectionTable
+    ensures { result ≡ unnamed (section_view section.now) }
+{
+    SectionTable {
+        name: section.stored_name,
+        real_name: None,
+        virtual_size: section.virtual_size,
+        virtual_address: section.virtual_address,
+        size_of_raw_data: section.size_of_raw_data,
+        pointer_to_raw_data: section.pointer_to_raw_data,
+        pointer_to_relocations: section.pointer_to_relocations,
+        pointer_to_linenumbers: section.pointer_to_linenumbers,
+        number_of_relocations: section.number_of_relocations,
+        number_of_linenumbers: section.number_of_linenumbers,
+        characteristics: section.characteristics,
+    }
+}
+
+// What the names of sections are read by.
+#[derive(Copy, Clone)]
+struct Naming<'a> {
+    bytes: &'a [u8],
+    strings: usize, // the file offset of the string table
+    longest: Option<u32>,
+    displacement: Option<u32>, // how far the sections moved to the front, if they did
+    opts: ParseOptions,
+}
+
+// The name of a section from the string table, by the number in its eight bytes.
+#[tactic(auto, unfolding(crate::specs::Sections::real_name_in))]
+fn long_name<'a>(naming: &Naming<'a>, section: &SectionTable) -> Option<&'a str>
+    ensures { let strict = is_strict naming.now.opts.parse_mode in
+        option_map (λ s. s.now) result
+        ≡ real_name_in strict naming.now.longest naming.now.bytes.now naming.now.strings
+        section.now.name }
+{
+    let offset = section.name_offset_with_opts(&naming.opts).ok()??;
+    pread_str_within(
+        naming.bytes,
+        naming.strings.checked_add(offset)?,
+        naming.longest,
+    )
+    .ok()
+}
+
+// Where the walk over the relocations of a section begins.
+fn relocations_begin(section: &SectionTable) -> PeCoffRelocationCursor
+    ensures { result ≡ relocations_begin section.now }
+{
+    let is_full = section.number_of_relocations == 0xFFFF;
+    PeCoffRelocationCursor {
+        index: 0,
+        offset: section.pointer_to_relocations,
+        count: section.number_of_relocations,
+        is_extended: is_full && section.characteristics & IMAGE_SCN_LNK_NRELOC_OVFL != 0,
+        reserved: 0,
+    }
+}
+
+// The bytes of a stored name before its first NUL; it is at the front of the section header.
+#[inline(always)]
+#[tactic(auto, using(crate::proofs::Named::name_shorter, crate::proofs::Named::name_longer))]
+fn raw_name(header: &[u8]) -> &[u8]
+    requires { length header.now ≡ 40 }
+    ensures { result.now ≡ before_nul (take 8 header.now) }
+{
+    match pread_plain_str(header, 0) {
+        Some(name) if name.len() < 8 => name.as_bytes(),
+        Some(_) => &header[..8],
+        None => any_raw_name(header),
+    }
+}
+
+// The same of a name that need not be ASCII.
+#[inline(never)]
+fn any_raw_name(header: &[u8]) -> &[u8]
+    requires { length header.now ≡ 40 }
+    ensures { result.now ≡ before_nul (take 8 header.now) }
+{
+    before_nul(&header[..8])
+}
+
+// The row of a section with its stored name, which is at the front of its header.
+#[inline(always)]
+fn unnamed_row<'a>(header: &'a [u8], index: usize, section: &SectionTable) -> PeSection<'a>
+    requires { length header.now ≡ 40 }
+    ensures { row_view result ≡ unnamed_row header.now index (unnamed section.now) }
+{
+    PeSection {
+        name: raw_name(header),
+        index,
+        relocations: relocations_begin(section),
+        stored_name: section.name,
+        virtual_size: section.virtual_size,
+        virtual_address: section.virtual_address,
+        size_of_raw_data: section.size_of_raw_data,
+        pointer_to_raw_data: section.pointer_to_raw_data,
+        pointer_to_relocations: section.pointer_to_relocations,
+        pointer_to_linenumbers: section.pointer_to_linenumbers,
+        number_of_relocations: section.number_of_relocations,
+        number_of_linenumbers: section.number_of_linenumbers,
+        characteristics: section.characteristics,
+        has_long_name: false,
+        reserved: [0; 7],
+    }
+}
+
+// Gives a row its name from the string table, if there is one.
+#[inline(never)]
+fn give_long_name<'a>(row: &mut PeSection<'a>, naming: &Naming<'a>, section: &SectionTable)
+    requires { (row_view row.old).section ≡ unnamed section.now }
+    ensures { let strict = is_strict naming.now.opts.parse_mode in
+        row_view row.new ≡ with_name (real_name_in strict naming.now.longest naming.now.bytes.now
+        naming.now.strings section.now.name) (row_view row.old) }
+{
+    if let Some(name) = long_name(naming, section) {
+        row.name = name.as_bytes();
+        row.has_long_name = true;
+    }
+}
+
+// The same, without a call if the name begins with no slash, as most names do.
+#[inline(always)]
+#[tactic(auto, unfolding(crate::specs::Sections::real_name_in, goblin_pe_sect::specs::SectionName::name_value))]
+fn name_row<'a>(row: &mut PeSection<'a>, naming: &Naming<'a>, section: &SectionTable)
+    requires { (row_view row.old).section ≡ unnamed section.now }
+    ensures { let strict = is_strict naming.now.opts.parse_mode in
+        row_view row.new ≡ with_name (real_name_in strict naming.now.longest naming.now.bytes.now
+        naming.now.strings section.now.name) (row_view row.old) }
+{
+    if section.name[0] == b'/' {
+        give_long_name(row, naming, section);
+    }
+}
+
+// The section of a section header, where it is in the file.
+#[inline(always)]
+#[tactic(auto, using(crate::proofs::Named::section_inside, crate::proofs::Named::section_there))]
+fn stored_section(headers: &[u8], index: usize, displacement: Option<u32>) -> SectionTable
+    requires { index < length headers.now / 40 }
+    ensures { let header = slice_range headers.now (40 * index) (40 * index + 40) in
+        result ≡ section_moved displacement (section_record Little header) }
+{
+    let mut section = SectionRecords::of(headers).at(index);
+    adjust_section(&mut section, displacement);
+    section
+}
+
+// The row of the section header at an index, which is there.
+#[inline(always)]
+fn row_at<'a>(naming: &Naming<'a>, headers: &'a [u8], index: usize) -> PeSection<'a>
+    requires { index < length headers.now / 40 }
+    ensures { let header = slice_range headers.now (40 * index) (40 * index + 40) in
+        row_view result ≡ row_of (naming_said naming.now) index header }
+{
+    let begin = SIZEOF_SECTION_TABLE * index;
+    let header = &headers[begin..begin + SIZEOF_SECTION_TABLE];
+    let section = stored_section(headers, index, naming.displacement);
+    let mut row = unnamed_row(header, index, &section);
+    name_row(&mut row, naming, &section);
+    row
+}
+
+// Fills rows with section headers from the index `position` on, as far as there is room, and moves
+// the index past them.
+fn fill_sections<'a>(
+    naming: &Naming<'a>,
+    headers: &'a [u8],
+    position: &mut usize,
+    records: &mut [PeSection<'a>],
+) -> PeBatch
+    ensures { let old : SectionBatch = record { position = position.old; records = records.old } in
+        let new : SectionBatch = record { position = position.new; records = records.new } in
+        GivesRows row_view (section_rows (naming_said naming.now) headers.now) old new result }
+{
+    let first = *position;
+    let there = headers.len() / SIZEOF_SECTION_TABLE;
+    let count = there.saturating_sub(first).min(records.len());
+    'records: for i in 0..count {
+        records[i] = row_at(naming, headers, first + i);
+    }
+    *position = first + count;
+    if count < records.len() {
+        ended(count)
+    } else {
+        goes_on(count)
+    }
+}
+
+// What the names of an image's sections are read by.
+fn naming_of<'a>(image: &PeImage<'a>) -> Naming<'a>
+    ensures { naming_said result ≡ naming_of image.now }
+{
+    Naming {
+        bytes: image.bytes,
+        strings: image.coff_header.symbols_end(),
+        longest: longest_of(&image.options),
+        displacement: if image.kind == Kind::Te as u32 {
+            Some(u32::from(image.moved_by))
+        } else {
+            None
+        },
+        opts: header_options(&image.options),
+    }
+}
+
+/// Gives the next section headers. Never faults on a name: a read of an image has tested them, and
+/// in a partial image a bad one is its eight bytes.
+///
+/// # Errors
+/// Read if the file has no room for `section_count` headers; nothing but `batch` is then changed.
+pub fn next_sections<'a>(
+    image: &PeImage<'a>,
+    position: &mut usize,
+    records: &mut [PeSection<'a>],
+    batch: &mut PeBatch,
+) -> Result<()>
+    ensures { let old : SectionBatch = record { position = position.old; records = records.old } in
+        let new : SectionBatch = record { position = position.new; records = records.new } in
+        ReadsWithout (headers_there image.now.section_count image.now.section_table)
+        image.now.bytes.now
+        (λ headers. GivesRows row_view (section_rows (naming_of image.now) headers) old new batch.new)
+        ((new ≡ old) × (batch.new ≡ no_batch)) result }
+{
+    *batch = ended(0);
+    let headers = section_headers(image.bytes, image.section_table, image.section_count)?;
+    let naming = naming_of(image);
+    *batch = fill_sections(&naming, headers, position, records);
+    Ok(())
+}
+
+// Writes a section header, and says how many bytes it takes.
+fn write_record(section: &SectionTable, out: &mut [u8], written: &mut usize) -> Result<()>
+    ensures written { let old : Output = record { out = out.old; written = written.old } in
+        let new : Output = record { out = out.new; written = written.new } in
+        WritesOut (overwritten out.old 0 (encoding Little (section_fields section.now)))
+        (λ size. size ≡ 40) (IsSliceFault out.old 0 40) old new result }
+    ensures back { SectionWritesBack }
+{
+    *written = section.try_into_ctx(out, Endian::Little)?;
+    Ok(())
+}
+
+/// Writes the 40 bytes of a section header. Writes `stored_name`, and not `name`. Sets `written` to
+/// 40.
+///
+/// # Errors
+/// Read if `out` has fewer than 40 bytes; nothing is then changed.
+pub fn write_section(section: &PeSection, out: &mut [u8], written: &mut usize) -> Result<()>
+    ensures written { let old : Output = record { out = out.old; written = written.old } in
+        let new : Output = record { out = out.new; written = written.new } in
+        WritesOut
+        (overwritten out.old 0 (encoding Little (section_fields (section_view section.now))))
+        (λ size. size ≡ 40) (IsSliceFault out.old 0 40) old new result }
+    ensures back { SectionWritesBack }
+{
+    write_record(&section_of(section), out, written)
+}
+
+/// Sets `stored_name` to a slash and a string table offset. The field `name` stays as it is.
+///
+/// # Errors
+/// An offset that eight bytes can't hold; nothing is then changed.
+pub fn set_name_offset(section: &mut PeSection, offset: usize) -> Result<()>
+    ensures { SetsName offset section.old section.new result }
+{
+    let mut table = section_of(section);
+    table.set_name_offset(offset)?;
+    section.stored_name = table.name;
+    Ok(())
+}

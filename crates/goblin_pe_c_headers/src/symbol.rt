@@ -1,0 +1,321 @@
+//! The symbols of an image or an object.
+
+ghost use Rattle.std.specs.Prelude.{◌≡◌, ◌+◌, ◌/◌, ◌<◌, ◌≤◌, IfOk, IfSome, None, length, option_map};
+ghost use Rattle.goblin_base.specs.Reading.{Reads};
+ghost use Rattle.goblin_base.specs.Strtab.{is_in_piece};
+ghost use Rattle.goblin_pe_head.specs.CoffHeader.{symbols_end};
+ghost use Rattle.goblin_pe_symbol.specs.Symbols.{name_and_symbol, named_value, record_of};
+ghost use Rattle.goblin_pe_symbol.specs.Symbols.{symbol_of};
+ghost use Rattle.goblin_pe_c_headers.specs.Calls.{ReadsWithout};
+ghost use Rattle.goblin_pe_c_headers.specs.Onward.{no_batch};
+ghost use Rattle.goblin_pe_c_headers.specs.Options.{longest_of};
+ghost use Rattle.goblin_pe_c_headers.specs.Symbols.{FindsTables, GivesSymbols, NamesOfText};
+ghost use Rattle.goblin_pe_c_headers.specs.Symbols.{SymbolBatch, auxiliary_of, found_tables, name_at_end};
+ghost use Rattle.goblin_pe_c_headers.specs.Symbols.{name_in, name_in_piece, named_symbol};
+ghost use Rattle.goblin_pe_c_headers.specs.Symbols.{named_symbol_view, string_at, strings_said};
+ghost use Rattle.goblin_pe_c_headers.specs.Symbols.{symbol_named, texts_of};
+
+use crate::batch::{PeBatch, ended, goes_on};
+use crate::image::PeImage;
+use crate::options::longest_of;
+use goblin_base::read::{no_text, pread_plain_str, pread_slice, pread_str_within, pread_u32};
+use goblin_base::{Cause, Endian, Error, Result};
+use goblin_pe_head::header::CoffHeader;
+use goblin_pe_symbol::symbol::{COFF_SYMBOL_SIZE, Symbol};
+
+// The size of the length at the front of a string table, in bytes.
+const LENGTH_FIELD_SIZE: usize = 4;
+
+/// A symbol.
+#[repr(C)]
+#[derive(Copy, Clone)]
+pub struct PeSymbol<'a> {
+    /// The name; empty, and `has_name` is false, if it can't be read or is not UTF-8.
+    pub name: &'a [u8],
+    /// Its auxiliary records, 18 bytes each.
+    pub auxiliary: &'a [u8],
+    /// The index of its record in the symbol table, where auxiliary records count.
+    pub index: usize,
+    /// The symbol record, as stored.
+    pub record: Symbol,
+    /// Whether it has a name.
+    pub has_name: bool,
+}
+
+// The bytes of a symbol table, those of the texts of a string table, and how many bytes of a name
+// are read, if there is a limit.
+#[derive(Copy, Clone)]
+struct Tables<'a> {
+    records: &'a [u8],
+    strings: &'a [u8],
+    longest: Option<u32>,
+}
+
+// Whether a piece of a string table begins at or before an offset and ends at or after it.
+fn is_in_piece(strings: &[u8], offset: usize) -> bool
+    ensures { result ≡ is_in_piece strings.now offset }
+{
+    offset < strings.len() || offset == strings.len() && 0 < offset && strings[offset - 1] != 0
+}
+
+// The name at the end of the bytes of a string table.
+fn name_at_end(strings: &[u8]) -> Option<&str>
+    ensures { option_map (λ s. s.now) result ≡ name_at_end strings.now }
+{
+    if is_in_piece(strings, strings.len()) {
+        Some(no_text(&strings[strings.len()..])) // (where it lies)
+    } else {
+        None
+    }
+}
+
+// The name at an offset of the bytes of a string table, also if it is not ASCII, ends within the
+// last bytes or has a limit.
+#[inline(never)]
+fn any_name_in_piece(strings: &[u8], offset: usize, longest: Option<u32>) -> Option<&str>
+    ensures { option_map (λ s. s.now) result ≡ name_in_piece longest strings.now offset }
+{
+    if offset == strings.len() {
+        name_at_end(strings)
+    } else {
+        pread_str_within(strings, offset, longest).ok()
+    }
+}
+
+// The same if there is no limit, of a name that is ASCII and ends before the last bytes; else `None`,
+// which says nothing about it.
+#[inline(always)]
+fn plain_name_in_piece(strings: &[u8], offset: usize, longest: Option<u32>) -> Option<&str>
+    ensures { IfSome result (λ s. name_in_piece longest strings.now offset ≡ Some s.now) }
+{
+    match longest {
+        None => pread_plain_str(strings, offset),
+        Some(_) => None,
+    }
+}
+
+// The name at an offset of the bytes of a string table.
+#[inline(always)]
+fn name_in_piece(strings: &[u8], offset: usize, longest: Option<u32>) -> Option<&str>
+    ensures { option_map (λ s. s.now) result ≡ name_in_piece longest strings.now offset }
+{
+    match plain_name_in_piece(strings, offset, longest) {
+        Some(name) => Some(name),
+        None => any_name_in_piece(strings, offset, longest),
+    }
+}
+
+// The name of a symbol: where a number stands in its place, the text of the string table there, and
+// else the one that stands in the record.
+#[inline(always)]
+fn name_in<'a>(inline_name: Option<&'a str>, symbol: &Symbol, tables: Tables<'a>) -> Option<&'a str>
+    ensures { option_map (λ s. s.now) result
+        ≡ name_in (name_in_piece tables.entry.longest tables.entry.strings.now)
+        (option_map (λ s. s.now) inline_name.entry) symbol.now }
+{
+    if symbol.name[0] == 0 {
+        let offset = symbol.name_offset()? as usize;
+        name_in_piece(tables.strings, offset, tables.longest)
+    } else {
+        inline_name
+    }
+}
+
+// The bytes of the auxiliary records of the symbol at an index.
+#[tactic(auto, using(crate::proofs::Symbols::all_left))]
+fn auxiliary_of<'a>(table: &'a [u8], index: usize, symbol: &Symbol) -> &'a [u8]
+    requires { index < length table.now / 18 }
+    ensures { result.now ≡ auxiliary_of table.now index symbol.now }
+{
+    let rest = &table[COFF_SYMBOL_SIZE * (index + 1)..];
+    let size = COFF_SYMBOL_SIZE * symbol.number_of_aux_symbols as usize;
+    if size <= rest.len() {
+        &rest[..size]
+    } else {
+        rest
+    }
+}
+
+// Fills a record with a symbol at an index of a table, and with this name.
+#[inline(always)]
+fn fill_record<'a>(
+    place: &mut PeSymbol<'a>,
+    bytes: &'a [u8],
+    table: &'a [u8],
+    index: usize,
+    name: Option<&'a str>,
+    symbol: Symbol,
+)
+    requires { index < length table.now / 18 }
+    ensures { named_symbol_view place.new
+        ≡ symbol_named table.now index (option_map (λ s. s.now) name.entry) symbol }
+{
+    place.has_name = name.is_some();
+    place.name = match name {
+        Some(name) => name.as_bytes(),
+        None => &bytes[..0],
+    };
+    place.auxiliary = auxiliary_of(table, index, &symbol);
+    place.index = index;
+    place.record = symbol;
+}
+
+// The record at an index of a table, read as a symbol, after the name in it.
+#[inline(always)]
+fn record_at(table: &[u8], index: usize) -> Option<(Option<&str>, Symbol)>
+    ensures inside { IfSome result (λ s. index < length table.now / 18) }
+    ensures some { IfSome result (λ s. named_value s ≡ name_and_symbol (record_of table.now index)) }
+    ensures none { result ≡ None → length table.now / 18 ≤ index }
+{
+    if table.len() / COFF_SYMBOL_SIZE <= index {
+        return None;
+    }
+    let begin = COFF_SYMBOL_SIZE * index;
+    Some(Symbol::named(&table[begin..begin + COFF_SYMBOL_SIZE]))
+}
+
+// Fills a record with what was found at an index of a table. (It takes the place, as a record that
+// is moved has its unused bytes copied, too.)
+#[inline(always)]
+fn fill_symbol<'a>(
+    place: &mut PeSymbol<'a>,
+    bytes: &'a [u8],
+    tables: Tables<'a>,
+    index: usize,
+    found: (Option<&'a str>, Symbol),
+)
+    requires inside { index < length tables.records.now / 18 }
+    requires found { named_value found ≡ name_and_symbol (record_of tables.records.now index) }
+    ensures { named_symbol_view place.new
+        ≡ named_symbol tables.entry.records.now
+        (name_in_piece tables.entry.longest tables.entry.strings.now)
+        (symbol_of tables.entry.records.now index) }
+{
+    let (inline_name, symbol) = found;
+    let name = name_in(inline_name, &symbol, tables);
+    fill_record(place, bytes, tables.records, index, name, symbol);
+}
+
+// Fills the records of the symbols of a table from an index on, as far as there is room, moves the
+// index past them, and answers what it did.
+fn fill_symbols_at<'a>(
+    bytes: &'a [u8],
+    tables: Tables<'a>,
+    position: &mut usize,
+    records: &mut [PeSymbol<'a>],
+) -> PeBatch
+    ensures { let old : SymbolBatch = record { position = position.old; records = records.old } in
+        let new : SymbolBatch = record { position = position.new; records = records.new } in
+        GivesSymbols tables.entry.records.now
+        (name_in_piece tables.entry.longest tables.entry.strings.now) old new result }
+{
+    let mut index = *position; // (a place behind a pointer is stored for each symbol)
+    'symbols: for count in 0..records.len() {
+        let Some(found) = record_at(tables.records, index) else {
+            *position = index;
+            return ended(count);
+        };
+        fill_symbol(&mut records[count], bytes, tables, index, found);
+        index += 1 + found.1.number_of_aux_symbols as usize;
+    }
+    *position = index;
+    goes_on(records.len())
+}
+
+// The texts of a string table: so many bytes at an offset; there may be none.
+fn strings_said(bytes: &[u8], offset: usize, length: usize) -> Result<&[u8]>
+    ensures { Reads (λ s. s.now) result (strings_said offset length) bytes.now }
+{
+    if bytes.len() < offset || bytes.len() - offset < length {
+        return Err(Error::Malformed(Cause::StringTable(offset, length)));
+    }
+    Ok(&bytes[offset..offset + length])
+}
+
+// Where the texts of the string table that follows a symbol table begin: after its length.
+fn texts_begin(header: &CoffHeader) -> usize
+    ensures { result ≡ symbols_end header.now + 4 }
+{
+    let symbols = header.number_of_symbol_table as usize;
+    header.pointer_to_symbol_table as usize + COFF_SYMBOL_SIZE * symbols + LENGTH_FIELD_SIZE
+}
+
+// How many bytes the texts of the string table that a header leads to have, if there is one.
+#[tactic(auto, unfolding(crate::specs::Symbols::texts_of))]
+fn texts_of(bytes: &[u8], header: &CoffHeader) -> Result<Option<usize>>
+    ensures { Reads (λ n. n) result (texts_of header.now) bytes.now }
+{
+    let Some(offset) = header.string_table_offset() else {
+        return Ok(None);
+    };
+    let length = pread_u32(bytes, offset, Endian::Little)? as usize;
+    if length < LENGTH_FIELD_SIZE {
+        return Err(Error::Malformed(Cause::CoffLength));
+    }
+    Ok(Some(length - LENGTH_FIELD_SIZE))
+}
+
+// The tables that a header leads to, whatever their bytes are; no bytes if there are none.
+#[tactic(auto, unfolding(crate::specs::Symbols::found_tables))]
+fn find_tables<'a>(bytes: &'a [u8], header: &CoffHeader, longest: Option<u32>) -> Result<Tables<'a>>
+    ensures read { Reads (λ t. (t.records.now, t.strings.now)) result (found_tables header.now)
+        bytes.now }
+    ensures limit { IfOk result (λ t. t.longest ≡ longest) }
+{
+    let Some(length) = texts_of(bytes, header)? else {
+        let (records, strings) = (&bytes[..0], &bytes[..0]);
+        return Ok(Tables {
+            records,
+            strings,
+            longest,
+        });
+    };
+    let size = COFF_SYMBOL_SIZE * header.number_of_symbol_table as usize;
+    let records = pread_slice(bytes, header.pointer_to_symbol_table as usize, size)?;
+    let strings = strings_said(bytes, texts_begin(header), length)?;
+    Ok(Tables {
+        records,
+        strings,
+        longest,
+    })
+}
+
+/// Gives the next symbols of an image or an object, and steps over their auxiliary records.
+///
+/// # Errors
+/// A file that is too short for the symbol table or the string table, and a string table that says
+/// a length below 4; nothing but `batch` is then changed.
+#[tactic(auto, using(crate::proofs::SymbolTables::finds_tables, crate::proofs::Names::names_of_text))]
+pub fn next_symbols<'a>(
+    image: &PeImage<'a>,
+    position: &mut usize,
+    records: &mut [PeSymbol<'a>],
+    batch: &mut PeBatch,
+) -> Result<()>
+    ensures given { let old : SymbolBatch =
+        record { position = position.old; records = records.old } in
+        let new : SymbolBatch = record { position = position.new; records = records.new } in
+        ReadsWithout (found_tables image.now.coff_header) image.now.bytes.now
+        (λ t. GivesSymbols t.0 (name_in_piece (longest_of image.now.options) t.1) old new batch.new)
+        ((new ≡ old) × (batch.new ≡ no_batch)) result }
+    ensures same { FindsTables }
+    ensures names { NamesOfText }
+{
+    *batch = ended(0);
+    let tables = find_tables(image.bytes, &image.coff_header, longest_of(&image.options))?;
+    *batch = fill_symbols_at(image.bytes, tables, position, records);
+    Ok(())
+}
+
+/// The text at an offset of the string table, up to a NUL or `longest_name`, if there is one, and
+/// it is UTF-8. The offset counts from the table's length field, as stored offsets do.
+#[tactic(auto, unfolding(crate::specs::Symbols::string_bytes))]
+pub fn string_at<'a>(image: &PeImage<'a>, offset: usize) -> Option<&'a str>
+    ensures { option_map (λ s. s.now) result ≡ string_at image.now offset }
+{
+    let header = &image.coff_header;
+    let length = texts_of(image.bytes, header).ok()??;
+    let strings = strings_said(image.bytes, texts_begin(header), length).ok()?;
+    let offset = offset.checked_sub(LENGTH_FIELD_SIZE)?;
+    name_in_piece(strings, offset, longest_of(&image.options))
+}

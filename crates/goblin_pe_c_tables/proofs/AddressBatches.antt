@@ -1,0 +1,91 @@
+-- The entries of the export address table of a file, from an index on.
+use Rattle.std.proofs.Common.{◌≡◌, ◌∙◌, ◌+◌, ◌≤◌, ◌⊎◌, ℕ, List, [], Option, Some, None, ap, arith, drop, drop_of_length-le, inl, inr, length, slice_get, subst, sym, true, IsSomeAnd, option_map}
+use Rattle.std.specs.List.{enumerate_from}
+use Rattle.std.proofs.lemmas.List.{length-map}
+use Rattle.std.proofs.lemmas.List.FromFn.{get_or-enumerate_from, length-enumerate_from}
+use Rattle.std.proofs.lemmas.Option.{slice_get-get_or, slice_get-map, slice_get_cases, slice_get_past}
+use Rattle.goblin_pe_sect.specs.Addresses.{Addressing}
+use Rattle.goblin_pe_export.specs.declared.export.tables.ExportAddressTableEntry.{ExportAddressTableEntry}
+use Rattle.goblin_pe_c_tables.specs.declared.export_directory.PeExportAddress.{PeExportAddress}
+use Rattle.goblin_pe_export.specs.declared.export.exports.Exports.{Exports}
+use Rattle.goblin_pe.specs.Addresses.{MapOfAddresses}
+use Rattle.goblin_pe.specs.ExportRecords.{ExportTables}
+use Rattle.goblin_pe.specs.ExportWalks.{walked_tables}
+use Rattle.goblin_pe.specs.Layouts.{address_part}
+use Rattle.goblin_pe.specs.Whole.{TablePlaces, part_map}
+use Rattle.goblin_pe.specs.declared.whole.Part.{Part}
+use Rattle.goblin_pe.specs.declared.whole.Part.TheVariants.{Absent, Refused}
+use Rattle.goblin_pe.specs.declared.whole.Part.TheVariants as part
+use Rattle.goblin_pe_c_headers.specs.Onward.{GivesOnward, unrefused}
+use Rattle.goblin_pe_c_headers.specs.declared.batch.PeBatch.{PeBatch}
+use Rattle.goblin_pe_c_headers.proofs.Batches.{items-end, items-stay, told-none}
+use Rattle.goblin_pe_c_headers.proofs.GivenOnward.{onward-start}
+use Rattle.goblin_pe_c_tables.specs.Batches.{AddressBatch, GivesAddresses, addresses_in, at_room}
+use Rattle.goblin_pe_c_tables.specs.ExportDirectories.{address_said, addresses_said}
+
+-- ---- items with their indexes
+
+numbered : {A : Type 0} (xs : List A) (i : ℕ) → slice_get (enumerate_from 0 xs) i ≡ option_map (λ x. (i, x)) (slice_get xs i)
+numbered {A} xs i = elim (slice_get_cases xs i).1 [
+  | inl there ↦
+      let x = there.0 in
+      slice_get-get_or (enumerate_from 0 xs) i (i, x) (let within = there.1 in omega (arith, within, length-enumerate_from 0 xs))
+      ∙ ap (λ (y : ℕ × A). Some y) (get_or-enumerate_from 0 xs i (i, x) there.1 ∙ ap (λ (y : A). (0 + i, y)) there.3)
+      ∙ ap (λ (j : ℕ). Some (j, x)) (let same : 0 + i ≡ i = omega arith in same)
+      ∙ ap (option_map (λ (y : A). (i, y))) (sym there.2)
+  | inr past ↦
+      slice_get_past (enumerate_from 0 xs) i (let after = past.0 in omega (arith, after, length-enumerate_from 0 xs))
+      ∙ ap (option_map (λ (y : A). (i, y))) (sym past.1)
+]
+
+module _ (addressing : Addressing) (tables : ExportTables) where
+  abbrev one : ℕ × ExportAddressTableEntry → PeExportAddress
+  one x = address_said addressing (tables.export_directory_table.ordinal_base + x.0) x.1
+
+  -- the record at an index
+  pub address-some : (i : ℕ) (entry : ExportAddressTableEntry) → Some entry ≡ slice_get tables.export_address_table i
+      → Some (address_said addressing (tables.export_directory_table.ordinal_base + i) entry) ≡ slice_get (addresses_said addressing tables) i
+  address-some i entry is =
+      ap (λ (o : Option ExportAddressTableEntry). option_map one (option_map (λ x. (i, x)) o)) is
+      ∙ ap (option_map one) (sym (numbered tables.export_address_table i))
+      ∙ sym (slice_get-map one (enumerate_from 0 tables.export_address_table) i)
+
+  pub address-none : (i : ℕ) → None ≡ slice_get tables.export_address_table i → None ≡ slice_get (addresses_said addressing tables) i
+  address-none i is =
+      ap (λ (o : Option ExportAddressTableEntry). option_map one (option_map (λ x. (i, x)) o)) is
+      ∙ ap (option_map one) (sym (numbered tables.export_address_table i))
+      ∙ sym (slice_get-map one (enumerate_from 0 tables.export_address_table) i)
+
+  pub length-addresses : length (addresses_said addressing tables) ≡ length tables.export_address_table
+  length-addresses =
+      length-map (enumerate_from 0 tables.export_address_table) one ∙ length-enumerate_from 0 tables.export_address_table
+
+-- where no item is left
+pub onward-none : {W : Type 0} (items : List W) (from : ℕ) (old : List W) → length items ≤ from
+    → GivesOnward items (record { position = from; records = old }) (record { position = from; records = old }) (at_room (length old) 0 true)
+onward-none {W} items from old past =
+    let start = onward-start (λ (w : W). w) items from old in
+    let none : drop from items ≡ [] = drop_of_length-le items past in (
+      items-end start.at from (ap unrefused none) (ap (λ (xs : List W). Some (unrefused xs)) none) (items-stay start.at),
+      (told-none start.at (ap unrefused none), start.moved),
+    )
+
+-- ---- in a file
+
+module _ (m : MapOfAddresses) (places : TablePlaces) (bytes : List ℕ) (found : Part Exports)
+    (read : (address_part m.opts m.addressing places).value bytes ≡ Some (part_map walked_tables found)) (old : AddressBatch) where
+  given : (p : Part ExportTables) → part_map walked_tables found ≡ p → (batch : PeBatch) (new : AddressBatch) → GivesOnward (addresses_in m.addressing p) old new batch
+      → GivesAddresses m places bytes old new batch
+  given p is batch new gives =
+      subst (λ (v : Option (Part ExportTables)). IsSomeAnd v (λ p. GivesOnward (addresses_in m.addressing p) old new batch))
+      (sym (read ∙ ap (λ (p : Part ExportTables). Some p) is)) gives
+
+  -- where the directory was read
+  pub addresses-given : (walk : Exports) → found ≡ part.Read walk → (batch : PeBatch) (new : AddressBatch)
+      → GivesOnward (addresses_said m.addressing (walked_tables walk)) old new batch → GivesAddresses m places bytes old new batch
+  addresses-given walk is batch new gives = given (part.Read (walked_tables walk)) (ap (part_map walked_tables) is) batch new gives
+
+  -- where there are none
+  pub addresses-none : (found ≡ Absent) ⊎ (found ≡ Refused) → GivesAddresses m places bytes old old (at_room (length old.records) 0 true)
+  addresses-none (inl none) = given Absent (ap (part_map walked_tables) none) (at_room (length old.records) 0 true) old (onward-none [] old.position old.records (omega arith))
+  addresses-none (inr none) = given Refused (ap (part_map walked_tables) none) (at_room (length old.records) 0 true) old (onward-none [] old.position old.records (omega arith))

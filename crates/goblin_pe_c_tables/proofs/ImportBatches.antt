@@ -1,0 +1,247 @@
+-- A loop that fills records with the imports of a file from a position on.
+use Rattle.std.proofs.Common.{◌≡◌, ◌≢◌, append-nil, ℕ, ◌+◌, ◌-◌, ◌<◌, ◌≤◌, List, [], ◌∷◌, ◌++◌, length, drop, set, ap, subst, sym, refl, arith, ◌∙◌, inl, inr, is_none, is_some, Bool, true, false, ◌&&◌, Option, None, Some, Ok, Err, option_map, unwrap_or}
+use Rattle.std.proofs.lemmas.List.{append_assoc, length-append}
+use Rattle.goblin_base.specs.declared.error.ErrorOf.{ErrorOf}
+use Rattle.goblin_pe_import.specs.declared.import.imports.ImportCursor.{ImportCursor}
+use Rattle.goblin_pe_import.specs.declared.import.imports.WalkedImport.{WalkedImport}
+use Rattle.goblin_pe.specs.Addresses.{MapOfAddresses}
+use Rattle.goblin_pe.specs.Imports.{NumberedImport}
+use Rattle.goblin_pe.specs.ImportWalks.{entries_from, imports_next, walked_value}
+use Rattle.goblin_pe.specs.LayoutCursors.{GivesFileWithin, IsImportWalk, IsImportWalkAt, file_ahead}
+use Rattle.goblin_pe.specs.LayoutCursors.{file_bytes, file_cursor, file_cursor_ahead, file_cursor_left}
+use Rattle.goblin_pe.specs.LeftOut.{amount_of}
+use Rattle.goblin_pe.specs.StepsAhead.{AreCounted, AtSteps, HaveRunOut}
+use Rattle.goblin_pe.proofs.ImportStarts.{walk-ahead, walk-left}
+use Rattle.goblin_pe.specs.Layouts.{IsFileImportsCause, file_imports_left}
+use Rattle.goblin_pe.specs.Whole.{TablePlaces}
+use Rattle.goblin_pe.specs.declared.whole.imports.FileImports.{FileImports}
+use Rattle.goblin_pe.specs.declared.whole.imports.FileImports.TheVariants.{Narrow, Wide}
+use Rattle.goblin_pe_c_tables.specs.declared.import.PeImport.{PeImport}
+use Rattle.goblin_pe_c_tables.specs.declared.next.PeImportCursor.{PeImportCursor}
+use Rattle.goblin_pe_c_tables.specs.Batches.{Fills, GivesImports, GivesInFile, GoesOn, ImportBatch, cursor_numbers, cursor_said, import_cursor}
+use Rattle.goblin_pe_c_tables.specs.Batches.{import_table, is_over, option_said, position_ahead}
+use Rattle.goblin_pe_c_tables.specs.Imports.{import_said, import_view}
+use Rattle.goblin_pe_c_headers.specs.Onward.{AtBatch, IsRefusedNext, TellsEnd, unrefused}
+use Rattle.goblin_pe_c_headers.proofs.Batches.{AtItems, batch-more, items-cut, items-end, items-fault, items-full, items-gives, items-refused, items-start, items-then, told-cut, told-end, told-full, told-refused}
+
+-- ---- the numbers of a cursor
+
+number-said : (o : Option ℕ) → option_said (is_some o) (unwrap_or o 0) ≡ o
+number-said None = refl
+number-said (Some n) = refl
+
+pub said-again : (c : ImportCursor) → cursor_said (cursor_numbers c) ≡ c
+said-again c = rw (number-said c.next_record, number-said c.place, number-said c.untested) refl
+
+-- ---- a walk goes on
+
+module _ (m : MapOfAddresses) (places : TablePlaces) (bytes : List ℕ) where
+  -- at the numbers of its cursor
+  pub goes-at : (p : PeImportCursor) (c : ImportCursor) (imports : FileImports) → IsImportWalk m places.magic bytes imports
+      → file_imports_left imports ≡ file_cursor_left m places.magic bytes c → file_cursor imports ≡ c → p ≡ cursor_numbers c
+      → GoesOn m places bytes p imports
+  goes-at p c imports walk left at numbers = record {
+    walk = walk;
+    ahead = ap (position_ahead m places bytes) numbers
+        ∙ ap (λ (at : ImportCursor). file_cursor_ahead m places.magic bytes at) (said-again c)
+        ∙ sym (walk-ahead m places.magic bytes c imports (walk, at));
+    left = ap ((import_table m places bytes).from) numbers
+        ∙ ap (λ (at : ImportCursor). Some (file_cursor_left m places.magic bytes at)) (said-again c)
+        ∙ ap (λ (items : List (Option NumberedImport)). Some items) (sym left);
+  }
+
+  -- nothing is left at a cursor that is over
+  pub over-left : (c : ImportCursor) (place next untested : Option ℕ) → c.place ≡ place → c.next_record ≡ next → c.untested ≡ untested
+      → (is_none place && is_none next && is_none untested) ≡ true → file_cursor_left m places.magic bytes c ≡ []
+  unfolding entries_from imports_next
+  over-left c None None None is1 is2 is3 over = rw (is1, is2, is3) refl
+  over-left c (Some x) next untested is1 is2 is3 over = absurd (cc over)
+  over-left c None (Some x) untested is1 is2 is3 over = absurd (cc over)
+  over-left c None None (Some x) is1 is2 is3 over = absurd (cc over)
+
+  -- where a batch begins
+  pub goes-start : (p : PeImportCursor) (c : ImportCursor) (imports : FileImports) → (import_cursor m places p).value bytes ≡ Some c
+      → IsImportWalkAt m places.magic bytes c imports → file_imports_left imports ≡ file_cursor_left m places.magic bytes c
+      → GoesOn m places bytes p imports
+  goes-start p c imports at walk left = record {
+    walk = walk.0;
+    ahead = ap (amount_of (file_cursor_ahead m places.magic bytes)) at ∙ sym (walk-ahead m places.magic bytes c imports walk);
+    left = ap (option_map (file_cursor_left m places.magic bytes)) at ∙ ap (λ (items : List (Option NumberedImport)). Some items) (sym left);
+  }
+
+-- ---- the imports of a library
+
+-- it gave the values that the records hold
+record AreGivenIn (s t : FileImports) (Holds : List NumberedImport → Type 0) : Type 0 where
+  values : List NumberedImport
+  held : Holds values
+  ahead : file_ahead s ≡ length values + file_ahead t
+  yielded : file_imports_left s ≡ unrefused values ++ file_imports_left t
+
+library-given : (s t : FileImports) (Holds : List NumberedImport → Type 0) → GivesInFile s t Holds → AreGivenIn s t Holds
+library-given (Narrow s) (Narrow t) Holds gives =
+    record { values = gives.values; held = gives.held; ahead = gives.ahead; yielded = gives.yielded }
+library-given (Wide s) (Wide t) Holds gives =
+    record { values = gives.values; held = gives.held; ahead = gives.ahead; yielded = gives.yielded }
+library-given (Narrow s) (Wide t) Holds gives = absurd gives
+library-given (Wide s) (Narrow t) Holds gives = absurd gives
+
+-- it keeps what is walked over
+pub library-kept : (m : MapOfAddresses) (magic : ℕ) (bytes : List ℕ) (s t : FileImports) (Holds : List NumberedImport → Type 0)
+    → GivesInFile s t Holds → IsImportWalk m magic bytes s → IsImportWalk m magic bytes t
+library-kept m magic bytes (Narrow s) (Narrow t) Holds gives walk =
+    (walk.0, (gives.over.0 ∙ walk.1.0, gives.over.1 ∙ walk.1.1), gives.kept walk.2)
+library-kept m magic bytes (Wide s) (Wide t) Holds gives walk =
+    (walk.0, (gives.over.0 ∙ walk.1.0, gives.over.1 ∙ walk.1.1), gives.kept walk.2)
+library-kept m magic bytes (Narrow s) (Wide t) Holds gives walk = absurd gives
+library-kept m magic bytes (Wide s) (Narrow t) Holds gives walk = absurd gives
+
+-- nothing was filled, and one record more
+pub filled-none : (records : List PeImport) (first : ℕ) → Fills records records first first []
+filled-none records first = (
+  omega arith,
+  λ base before at.
+      subst (λ (values : List NumberedImport). AtBatch import_view import_said base values records first) (sym (append-nil before)) at,
+)
+
+pub filled-more : (old records : List PeImport) (first count : ℕ) (x : WalkedImport) (r : PeImport) → count < length records
+    → import_view r ≡ import_said (walked_value x) → (values : List NumberedImport) → Fills old records first count values
+    → Fills old (set records count r) first (count + 1) (values ++ walked_value x ∷ [])
+filled-more old records first count x r within says values h = (
+  (let so_far = h.0 in omega (arith, so_far, length-append values (walked_value x ∷ []))),
+  λ base before at.
+      subst (λ (values : List NumberedImport). AtBatch import_view import_said base values (set records count r) (count + 1))
+      (append_assoc before values (walked_value x ∷ []))
+      (batch-more import_view import_said base (before ++ values) records count (walked_value x) r (h.1 base before at) within says),
+)
+
+-- ---- steps
+
+-- what a limit has left
+limit-left : (left : ℕ) (limit : Option ℕ) (before after : ℕ) → AreCounted (Some left) limit before after
+    → before + unwrap_or limit 0 ≡ after + left
+limit-left left None before after h = absurd h
+limit-left left (Some b) before after h = h
+
+limit-out : (n left : ℕ) (limit : Option ℕ) (before after : ℕ) → HaveRunOut n (Some left) limit before after
+    → unwrap_or limit 0 ≡ 0
+limit-out n left None before after out = absurd out
+limit-out n left (Some b) before after out = out.0
+
+steps-then : (n steps left : ℕ) (limit : Option ℕ) (before ahead after : ℕ) → before + left ≡ ahead + steps
+    → AtSteps n (Some left) limit ahead after → AtSteps n (Some steps) (Some (unwrap_or limit 0)) before after
+steps-then n steps left None before ahead after h (inl counted) = absurd counted
+steps-then n steps left None before ahead after h (inr out) = absurd out
+steps-then n steps left (Some b) before ahead after h (inl counted) = inl (omega (arith, h, counted))
+steps-then n steps left (Some b) before ahead after h (inr out) =
+    inr (out.0, omega (arith, h, out.1), omega (arith, h, out.2))
+
+-- the bytes that a walk is over
+pub over-bytes : (m : MapOfAddresses) (magic : ℕ) (bytes : List ℕ) (imports : FileImports) → IsImportWalk m magic bytes imports
+    → file_bytes imports ≡ bytes
+over-bytes m magic bytes (Narrow imports) walk = walk.1.0
+over-bytes m magic bytes (Wide imports) walk = walk.1.0
+
+-- ---- the loop
+
+-- the records hold what has come so far, and the walk goes on
+pub record AtImports (m : MapOfAddresses) (places : TablePlaces) (bytes : List ℕ) (steps : ℕ) (start : FileImports) (from : PeImportCursor) (old : List PeImport)
+    (now : FileImports) (p : PeImportCursor) (left : ℕ) (records : List PeImport) (count : ℕ) : Type 0 where
+  pub at : AtItems (import_table m places bytes) file_imports_left start from old now p records count
+  pub goes : GoesOn m places bytes p now
+  pub counted : position_ahead m places bytes from + left ≡ file_ahead now + steps
+
+pub imports-start : (m : MapOfAddresses) (places : TablePlaces) (bytes : List ℕ) (steps : ℕ) (start : FileImports) (from : PeImportCursor) (old : List PeImport)
+    → GoesOn m places bytes from start → AtImports m places bytes steps start from old start from steps old 0
+imports-start m places bytes steps start from old goes = record {
+  at = items-start (import_table m places bytes) file_imports_left start from old goes.left;
+  goes = goes;
+  counted = ap (λ (n : ℕ). n + steps) goes.ahead;
+}
+
+module _ {m : MapOfAddresses} {places : TablePlaces} {bytes : List ℕ} {steps : ℕ} {start : FileImports} {from : PeImportCursor} {old : List PeImport}
+    {now : FileImports} {p : PeImportCursor} {left : ℕ} {records : List PeImport} {count : ℕ}
+    (h : AtImports m places bytes steps start from old now p left records count) where
+  -- an import has come, and those of its library that there is room for
+  pub library-more : (x : WalkedImport) (next last : FileImports) (q : PeImportCursor) (limit : Option ℕ) (left1 left2 : ℕ) (r : PeImport) (new : List PeImport) (end : ℕ)
+      → GivesFileWithin now (Some left) (Some (Ok x)) next limit → left1 ≡ unwrap_or limit 0 → count < length records → import_view r ≡ import_said (walked_value x)
+      → GivesInFile next last (Fills (set records count r) new (count + 1) end)
+      → file_ahead next + left2 ≡ file_ahead last + left1 → GoesOn m places bytes q last
+      → AtImports m places bytes steps start from old last q left2 new end
+  library-more x next last q limit left1 left2 r new end gives is within says fills spent goes =
+      let at = batch-more import_view import_said old h.at.values records count (walked_value x) r h.at.held within says in
+      let filled = library-given next last (Fills (set records count r) new (count + 1) end) fills in
+      let one = limit-left left limit (file_ahead now) (file_ahead next) gives.looked in
+      let counted = h.counted in
+      let last_is = filled.held.0 in
+      record {
+        at = items-then h.at (walked_value x ∷ filled.values) last q new end
+            (gives.steps.0 ∙ ap (λ (items : List (Option NumberedImport)). Some (walked_value x) ∷ items) filled.yielded)
+            (subst (λ (values : List NumberedImport). AtBatch import_view import_said old values new end) (append_assoc h.at.values (walked_value x ∷ []) filled.values)
+            (filled.held.1 old (h.at.values ++ walked_value x ∷ []) at))
+            (omega (arith, last_is)) goes.left;
+        goes = goes;
+        counted = omega (arith, counted, one, is, spent);
+      }
+
+  -- what a batch has given that ends at these numbers
+  abbrev AreGiven : PeImportCursor → ℕ → Bool → Type 0
+  AreGiven q rest is_done =
+      GivesImports m places bytes steps rest (record { position = from; records = old }) (record { position = q; records = records }) (record { count = count; is_done = is_done })
+
+  abbrev Says : PeImportCursor → ℕ → Bool → List (Option NumberedImport) → Type 0
+  Says q rest is_done items =
+      TellsEnd (rest ≡ 0) (drop count items) (length old) count is_done
+      × AtSteps (length bytes) (Some steps) (Some rest) (position_ahead m places bytes from) (position_ahead m places bytes q)
+
+  -- what was looked at up to the last import
+  kept : AtSteps (length bytes) (Some steps) (Some left) (position_ahead m places bytes from) (position_ahead m places bytes p)
+  kept = inl (h.counted ∙ ap (λ (n : ℕ). n + steps) (sym h.goes.ahead))
+
+  -- there is no more room
+  pub imports-full : length records ≤ count → AreGiven p left false
+  imports-full full = items-gives h.at (Says p left false) p (items-full h.at full) (told-full h.at full, kept)
+
+  module _ (next : FileImports) (limit : Option ℕ) (given : GivesFileWithin now (Some left) None next limit) (q : PeImportCursor)
+      (goes : GoesOn m places bytes q next) (within : count < length records) (rest : ℕ) (is : rest ≡ unwrap_or limit 0) where
+    over : file_bytes now ≡ bytes
+    over = over-bytes m places.magic bytes now h.goes.walk
+
+    looked : AtSteps (length bytes) (Some steps) (Some rest) (position_ahead m places bytes from) (position_ahead m places bytes q)
+    looked =
+        rw (is, goes.ahead) (steps-then (length bytes) steps left limit (position_ahead m places bytes from) (file_ahead now) (file_ahead next) h.counted
+        (subst (λ (b : List ℕ). AtSteps (length b) (Some left) limit (file_ahead now) (file_ahead next)) over given.looked))
+
+    stays : length old ≡ 0 → q ≡ from
+    stays none = absurd (let same = h.at.held.same in omega (arith, none, same, within))
+
+    -- nothing more comes, or the steps have run out
+    pub imports-end : (ends : Bool) → ends ≡ is_over (file_cursor next) → AreGiven q rest ends
+    imports-end true ends =
+        let none : file_imports_left next ≡ [] =
+        walk-left m places.magic bytes (file_cursor next) next (goes.walk, refl)
+        ∙ over-left m places bytes (file_cursor next) (file_cursor next).place (file_cursor next).next_record (file_cursor next).untested refl refl refl (sym ends) in
+        items-gives h.at (Says q rest true) q
+        (items-end h.at q (given.steps.0 ∙ none) (goes.left ∙ ap (λ (items : List (Option NumberedImport)). Some items) none) stays)
+        (told-end h.at (given.steps.0 ∙ none) within, looked)
+    imports-end false ends = elim given.ended [
+      | inl ended ↦ absurd (cc (ends ∙ ap is_over ended))
+      | inr run ↦
+          let out : rest ≡ 0 = is ∙ limit-out (length (file_bytes now)) left limit (file_ahead now) (file_ahead next) run in
+          items-gives h.at (Says q rest false) q
+          (items-cut h.at q out (goes.left ∙ ap (λ (items : List (Option NumberedImport)). Some items) (sym given.steps.0)) stays)
+          (told-cut h.at out, looked)
+    ]
+
+  module _ (e : ErrorOf) (next : FileImports) (limit : Option ℕ) (given : GivesFileWithin now (Some left) (Some (Err e)) next limit) where
+    -- a refusal comes after something
+    pub imports-refused : count ≢ 0 → AreGiven p left false
+    imports-refused some = items-gives h.at (Says p left false) p (items-refused h.at given.steps.0 some) (told-refused h.at given.steps.0, kept)
+
+    -- or at once
+    pub imports-fault : count ≡ 0 → count < length records
+        → IsRefusedNext (file_imports_left start) × IsFileImportsCause start e × (0 < length old)
+        × (◌≡◌ {A = ImportBatch} (record { position = p; records = records }) (record { position = from; records = old }))
+    imports-fault none within =
+        let fault = items-fault h.at given.steps.0 none within in
+        (fault.0, subst (λ (w : FileImports). IsFileImportsCause w e) fault.2 given.steps.2, fault.1, rw (fault.3, fault.4) refl)

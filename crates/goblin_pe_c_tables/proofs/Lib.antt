@@ -1,0 +1,14 @@
+pub mod AddressBatches
+pub mod BlockBatches
+pub mod DamageSteps
+pub mod ExportBatches
+pub mod ImportBatches
+pub mod Here
+pub mod InPlaces
+pub mod LibraryBatches
+pub mod LibraryEnds
+pub mod Named
+pub mod Placed
+pub mod SoundImages
+pub mod WalkedItems
+pub mod WrittenBack

@@ -1,0 +1,147 @@
+-- A loop that fills records with the libraries of a file from a position on.
+use Rattle.std.proofs.Common.{◌≡◌, ◌≢◌, ℕ, ◌+◌, List, [], ◌∷◌, ◌++◌, ap, arith, sym, subst, refl, ◌∙◌, ◌<◌, ◌≤◌, length, drop, take, set, Bool, true, false, Option, None, Some, Ok, Err, option_map}
+use Rattle.goblin_pe_import.specs.declared.import.imports.ImportCursor.{ImportCursor}
+use Rattle.goblin_pe_import.specs.declared.import.library_walk.Libraries.{Libraries}
+use Rattle.goblin_pe_import.specs.ImportEntries.{EntryValue}
+use Rattle.goblin_base.specs.Tables.{Format}
+use Rattle.goblin_base.specs.declared.error.ErrorOf.{ErrorOf}
+use Rattle.goblin_pe.specs.Addresses.{MapOfAddresses}
+use Rattle.goblin_pe.specs.ImportWalks.{no_imports}
+use Rattle.goblin_pe.specs.Libraries.{AreLibrariesOver, GivesNextLibrary, IsCursorEndCause, IsLibrariesCause, LibraryValue, after_library, cursor_libraries, libraries_bytes, libraries_cursor, libraries_format, libraries_left, libraries_map, libraries_next, library_value}
+use Rattle.goblin_pe.specs.Whole.{TablePlaces, entry_format}
+use Rattle.goblin_pe_c_tables.specs.declared.next.PeImportCursor.{PeImportCursor}
+use Rattle.goblin_pe_c_tables.specs.Batches.{cursor_numbers, import_cursor}
+use Rattle.goblin_pe_c_tables.specs.Libraries.{GivesLibraries, LibraryBatch, library_said, library_table, library_view, position_after, position_by}
+use Rattle.goblin_pe_c_headers.specs.Onward.{IsRefusedNext, TellsEnd, values_before}
+use Rattle.goblin_pe_import.specs.declared.import.library_walk.WalkedLibrary.{WalkedLibrary}
+use Rattle.goblin_pe_c_tables.specs.declared.library.PeLibrary.{PeLibrary}
+use Rattle.goblin_pe_c_headers.proofs.Batches.{AtItems, items-end, items-fault, items-full, items-gives, items-more, items-refused, items-start, items-taken, items-then, told-end, told-full, told-refused}
+use Rattle.goblin_pe_c_tables.proofs.ImportBatches.{said-again}
+
+module _ (m : MapOfAddresses) (places : TablePlaces) (bytes : List ℕ) where
+  abbrev comes : ImportCursor → List (Option LibraryValue)
+  comes c = cursor_libraries m (entry_format places.magic) bytes c
+
+  -- what is left of a walk over these bytes comes at its cursor
+  pub left-at : (it : Libraries) (c : ImportCursor) → AreLibrariesOver m (entry_format places.magic) bytes it
+      → libraries_cursor it ≡ c → libraries_left it ≡ comes c
+  left-at it c over at =
+      ap (λ (k : MapOfAddresses). cursor_libraries k (libraries_format it) (libraries_bytes it) (libraries_cursor it)) over.map_is
+      ∙ ap (λ (f : Format EntryValue). cursor_libraries m f (libraries_bytes it) (libraries_cursor it)) over.format_is
+      ∙ ap (λ (b : List ℕ). cursor_libraries m (entry_format places.magic) b (libraries_cursor it)) over.bytes_are
+      ∙ ap comes at
+
+  -- at the numbers of a cursor
+  at-numbers : (p : PeImportCursor) (c : ImportCursor) → p ≡ cursor_numbers c
+      → (library_table m places bytes).from p ≡ Some (comes c)
+  at-numbers p c numbers =
+      ap (library_table m places bytes).from numbers
+      ∙ ap (λ (at : ImportCursor). Some (comes at)) (said-again c)
+
+  pub goes-on : (p : PeImportCursor) (it : Libraries) → AreLibrariesOver m (entry_format places.magic) bytes it
+      → p ≡ cursor_numbers (libraries_cursor it) → (library_table m places bytes).from p ≡ Some (libraries_left it)
+  goes-on p it over numbers =
+      at-numbers p (libraries_cursor it) numbers
+      ∙ ap (λ (items : List (Option LibraryValue)). Some items) (sym (left-at it (libraries_cursor it) over refl))
+
+  -- nothing comes at the end
+  pub none-at_end : (p : PeImportCursor) → p ≡ cursor_numbers no_imports → (library_table m places bytes).from p ≡ Some []
+  unfolding libraries_next
+  none-at_end p numbers = at-numbers p no_imports numbers
+
+  -- where a batch begins
+  pub begins-at : (p : PeImportCursor) (c : ImportCursor) (it : Libraries) → (import_cursor m places p).value bytes ≡ Some c
+      → AreLibrariesOver m (entry_format places.magic) bytes it → libraries_cursor it ≡ c
+      → (library_table m places bytes).from p ≡ Some (libraries_left it)
+  begins-at p c it is over at =
+      ap (option_map comes) is ∙ ap (λ (items : List (Option LibraryValue)). Some items) (sym (left-at it c over at))
+
+-- ---- the loop
+
+-- a call of `next` keeps what is walked over
+pub over-next : (m : MapOfAddresses) (format : Format EntryValue) (bytes : List ℕ) (s t : Libraries)
+    → AreLibrariesOver m format bytes s
+    → AreLibrariesOver (libraries_map s) (libraries_format s) (libraries_bytes s) t → AreLibrariesOver m format bytes t
+over-next m format bytes s t over again = record {
+  bytes_are = again.bytes_are ∙ over.bytes_are;
+  map_is = again.map_is ∙ over.map_is;
+  format_is = again.format_is ∙ over.format_is;
+}
+
+-- the records hold the libraries that have come so far
+pub record AtLibraries (m : MapOfAddresses) (places : TablePlaces) (bytes : List ℕ) (start : Libraries) (from : PeImportCursor) (old : List PeLibrary)
+    (now : Libraries) (p : PeImportCursor) (records : List PeLibrary) (count : ℕ) : Type 0 where
+  pub at : AtItems (library_table m places bytes) libraries_left start from old now p records count
+  pub over : AreLibrariesOver m (entry_format places.magic) bytes now
+  pub moved : p ≡ position_after from at.values
+
+pub libraries-start : (m : MapOfAddresses) (places : TablePlaces) (bytes : List ℕ) (start : Libraries) (from : PeImportCursor) (old : List PeLibrary)
+    → (library_table m places bytes).from from ≡ Some (libraries_left start) → AreLibrariesOver m (entry_format places.magic) bytes start
+    → AtLibraries m places bytes start from old start from old 0
+unfolding items-start position_after
+libraries-start m places bytes start from old begins over = record {
+  at = items-start (library_table m places bytes) libraries_left start from old begins;
+  over = over;
+  moved = refl;
+}
+
+-- after one more
+after-more : (p : PeImportCursor) (libraries : List LibraryValue) (x : LibraryValue)
+    → position_after p (libraries ++ x ∷ []) ≡ cursor_numbers (after_library x)
+unfolding position_after
+after-more p [] x = refl
+after-more p (y ∷ libraries) x = after-more (cursor_numbers (after_library y)) libraries x
+
+module _ {m : MapOfAddresses} {places : TablePlaces} {bytes : List ℕ} {start : Libraries} {from : PeImportCursor} {old : List PeLibrary}
+    {now : Libraries} {p : PeImportCursor} {records : List PeLibrary} {count : ℕ} (h : AtLibraries m places bytes start from old now p records count) where
+  abbrev Given : PeImportCursor → Bool → Type 0
+  Given q is_done =
+      GivesLibraries m places bytes (record { position = from; records = old }) (record { position = q; records = records }) (record { count = count; is_done = is_done })
+
+  abbrev Says : PeImportCursor → Bool → List (Option LibraryValue) → Type 0
+  Says q is_done left =
+      TellsEnd ⊥ (drop count left) (length old) count is_done × (q ≡ position_by is_done from (take count (values_before left)))
+
+  -- where it goes on
+  moves : p ≡ position_after from (take count (values_before (libraries_left start)))
+  moves = h.moved ∙ ap (position_after from) (sym (items-taken h.at))
+
+  pub libraries-more : (x : WalkedLibrary) (next : Libraries) (q : PeImportCursor) (r : PeLibrary) → GivesNextLibrary now (Some (Ok x)) next
+      → q ≡ cursor_numbers (libraries_cursor next) → count < length records → library_view r ≡ library_said m (library_value x)
+      → AtLibraries m places bytes start from old next q (set records count r) (count + 1)
+  unfolding items-more items-then
+  libraries-more x next q r given numbers within says =
+      let over = over-next m (entry_format places.magic) bytes now next h.over given.2 in
+      record {
+        at = items-more h.at (library_value x) next q r given.0.0 within says (goes-on m places bytes q next over numbers);
+        over = over;
+        moved = numbers ∙ ap cursor_numbers given.3 ∙ sym (after-more from h.at.values (library_value x));
+      }
+
+  pub libraries-full : length records ≤ count → Given p false
+  libraries-full full = items-gives h.at (Says p false) p (items-full h.at full) (told-full h.at full, moves)
+
+  pub libraries-end : (next : Libraries) (q : PeImportCursor) → GivesNextLibrary now None next → q ≡ cursor_numbers no_imports → count < length records → Given q true
+  libraries-end next q given numbers within =
+      let stays : length old ≡ 0 → q ≡ from = λ none. absurd (let same = h.at.held.same in omega (arith, none, same, within)) in
+      items-gives h.at (Says q true) q (items-end h.at q given.0.0 (none-at_end m places bytes q numbers) stays) (told-end h.at given.0.0 within, numbers)
+
+  module _ (e : ErrorOf) (next : Libraries) (given : GivesNextLibrary now (Some (Err e)) next) where
+    pub libraries-refused : count ≢ 0 → Given p false
+    libraries-refused some =
+        items-gives h.at (Says p false) p (items-refused h.at given.0.0 some) (told-refused h.at given.0.0, moves)
+
+    pub libraries-fault : count ≡ 0 → count < length records
+        → IsRefusedNext (libraries_left start) × IsLibrariesCause start e × (0 < length old)
+        × (◌≡◌ {A = LibraryBatch} (record { position = p; records = records }) (record { position = from; records = old }))
+    libraries-fault none within =
+        let fault = items-fault h.at given.0.0 none within in
+        (fault.0, subst (λ (w : Libraries). IsLibrariesCause w e) fault.2 given.0.2, fault.1, rw (fault.3, fault.4) refl)
+
+-- a cause of the walk is one of what comes at its cursor
+pub end-cause : (m : MapOfAddresses) (format : Format EntryValue) (bytes : List ℕ) (start : Libraries) (c : ImportCursor) → AreLibrariesOver m format bytes start
+    → libraries_cursor start ≡ c → (e : ErrorOf) → IsLibrariesCause start e → IsCursorEndCause m bytes c e
+end-cause m format bytes start c over there e fault =
+    subst (λ (k : MapOfAddresses). IsCursorEndCause k bytes c e) over.map_is
+    (subst (λ (b : List ℕ). IsCursorEndCause (libraries_map start) b c e) over.bytes_are
+    (subst (λ (c : ImportCursor). IsCursorEndCause (libraries_map start) (libraries_bytes start) c e) there fault))

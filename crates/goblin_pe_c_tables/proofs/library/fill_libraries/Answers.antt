@@ -1,0 +1,42 @@
+use Rattle.std.proofs.Common.{◌∙◌, Result, Some, ap, subst}
+use Rattle.goblin_base.specs.declared.error.ErrorOf.{ErrorOf}
+use Rattle.goblin_pe_import.specs.declared.import.library_walk.WalkedLibrary.{WalkedLibrary}
+use Rattle.goblin_pe.specs.Layouts.{layout_map, layout_places}
+use Rattle.goblin_pe.specs.Libraries.{GivesNextLibrary, library_value}
+use Rattle.goblin_pe_sect.specs.Addresses.{MapOfAddresses, map_of}
+use Rattle.goblin_pe_c_tables.specs.Libraries.{library_said}
+use Rattle.goblin_pe_c_tables.specs.Batches.{cursor_numbers}
+use Rattle.goblin_pe_c_tables.proofs.LibraryBatches.{libraries-end, libraries-fault, libraries-full, libraries-more, libraries-refused, libraries-start}
+use Rattle.goblin_pe_c_tables.proofs.library.fill_libraries.Goals as goal
+
+pub libraries-init : goal.libraries-init
+libraries-init c =
+    let l = c.args.layout.now in
+    (libraries-start (layout_map l) (layout_places l) l.bytes.now c.args.libraries c.args.position.now c.args.records.now c.requires.left c.requires.over, c.finder-finder.ensures)
+
+pub libraries-preserved : goal.libraries-preserved
+libraries-preserved c =
+    let is = subst (λ (r : Result WalkedLibrary ErrorOf). GivesNextLibrary c.libraries.libraries (Some r) c.next.new.self) c.in-Some-Ok.field-0-is c.in-Some-Ok.ensures.steps in
+    let map_is = c.libraries.invariant.1 in
+    let said = c.library_record.ensures.said ∙ ap (λ (m : MapOfAddresses). library_said m (library_value c.in-Some-Ok.library)) map_is in (
+      libraries-more c.libraries.invariant.0 c.in-Some-Ok.library c.next.new.self c.cursor_numbers.result c.library_record.result is (c.cursor_numbers.ensures ∙ ap cursor_numbers c.cursor.ensures.is) c.libraries-test.true said,
+      ap map_of c.library_record.ensures.same ∙ map_is,
+    )
+
+pub returns-in-Some-Err-clause-filled : goal.returns-in-Some-Err-clause-filled
+returns-in-Some-Err-clause-filled c =
+    let is = subst (λ (r : Result WalkedLibrary ErrorOf). GivesNextLibrary c.libraries.libraries (Some r) c.next.new.self) c.in-Some-Err.field-0-is c.in-Some-Err.ensures.steps in
+    libraries-fault c.libraries.invariant.0 c.in-Some-Err.error c.next.new.self is c.if-count-eq0.true c.libraries-test.true
+
+pub returns-in-Some-Err-2-clause-filled : goal.returns-in-Some-Err-2-clause-filled
+returns-in-Some-Err-2-clause-filled c =
+    let is = subst (λ (r : Result WalkedLibrary ErrorOf). GivesNextLibrary c.libraries.libraries (Some r) c.next.new.self) c.in-Some-Err.field-0-is c.in-Some-Err.ensures.steps in
+    rw c.goes_on.ensures (libraries-refused c.libraries.invariant.0 c.in-Some-Err.error c.next.new.self is c.if-count-eq0.false)
+
+pub returns-in-None-clause-filled : goal.returns-in-None-clause-filled
+returns-in-None-clause-filled c =
+    rw c.ended.ensures (libraries-end c.libraries.invariant.0 c.next.new.self c.cursor_numbers-in-None.result c.in-None.ensures.steps (c.cursor_numbers-in-None.ensures ∙ ap cursor_numbers c.end.ensures) c.libraries-test.true)
+
+pub returns-clause-filled : goal.returns-clause-filled
+returns-clause-filled c =
+    rw c.goes_on-2.ensures (libraries-full c.libraries.invariant.0 c.libraries-test.false)

@@ -1,0 +1,57 @@
+use Rattle.std.proofs.Common.{arith, subst, sym}
+use Rattle.std.proofs.lemmas.List.{length-set}
+use Rattle.goblin_pe_export.specs.declared.export.exports.Exports.{Exports}
+use Rattle.goblin_pe_c_tables.proofs.ExportBatches.{AtExports, exports-ended, exports-filled, exports-full, exports-more, exports-start, exports-through}
+use Rattle.goblin_pe_c_tables.proofs.next.fill_exports.Goals as goal
+
+pub exports-init : goal.exports-init
+exports-init c = exports-start c.args.exports.now c.args.records.now c.args.end
+
+pub plain-init : goal.plain-init
+plain-init c =
+    let before = c.exports.invariant in
+    let given = c.in-Some.ensures in
+    let r = c.put_export.new.place in (
+      exports-more before c.in-Some.export c.next_before.new.self r given.0.0 given.0.1 (omega (arith, given.1)) (omega (arith, given.2)) c.exports-test.true c.put_export.ensures,
+      omega arith,
+      λ below. omega (arith, below, c.end_within-stop.ensures.steps, c.pointers_before-left.ensures),
+      c.end_within-stop.ensures.room,
+    )
+
+pub plain-preserved : goal.plain-preserved
+plain-preserved c =
+    let before = c.plain.invariant in
+    let given = c.in-Some-next_plain.ensures in
+    let r = c.plain_record.result in
+    let long = length-set c.plain.records c.plain.count r in
+    let room = before.2 c.plain-test.true in (
+      exports-more before.0 c.in-Some-next_plain.export c.next_plain.new.self r given.steps.0 given.steps.1 (omega (arith, given.further)) (omega (arith, given.further, room, c.plain-test.true))
+          (omega (arith, c.plain-test.true, before.3)) (c.plain_record.ensures.plain given.plain),
+      omega (arith, before.1),
+      λ below. omega (arith, below, room, given.further),
+      omega (arith, before.3, long),
+    )
+
+pub exports-preserved : goal.exports-preserved
+exports-preserved c =
+    subst (λ (w : Exports). AtExports c.args.exports.now c.args.records.now c.args.end w c.plain.records c.plain.count)
+    (sym c.in_default-next_plain.ensures.steps) c.plain.invariant.0
+
+pub returns-in_default-clause-filled : goal.returns-in_default-clause-filled
+returns-in_default-clause-filled c =
+    exports-ended c.exports.invariant c.next_before.new.self c.exports-test.true c.in_default.ensures
+
+pub returns-in_default-clause-through : goal.returns-in_default-clause-through
+returns-in_default-clause-through c =
+    exports-through c.exports.invariant c.next_before.new.self c.in_default.ensures
+
+pub returns : goal.returns
+returns c =
+    let before = c.exports.invariant in
+    record {
+      filled = exports-full before c.exports-test.false;
+      over = before.over;
+      further = before.further;
+      within = before.within;
+      through = exports-filled before c.exports-test.false;
+    }

@@ -1,0 +1,357 @@
+-- Batches of the tables of a file: imports, exports, export addresses and blocks; and a call.
+use Rattle.std.specs.Prelude.{◌≡◌, ℕ, ◌≤◌, true, if◌then◌else◌, List}
+use Rattle.std.specs.Prelude.{[], ◌∷◌, ◌&&◌, ◌==◌, is_none, not}
+use Rattle.std.specs.Prelude.{◌+◌, ◌++◌, take, length, max, Option, Some, None}
+use Rattle.std.specs.Prelude.{Bool, is_some, option_map, Result, Ok, Err, IsSomeAnd, sum_by, unwrap_or}
+use Rattle.goblin_base.specs.declared.error.ErrorOf.{ErrorOf}
+use Rattle.goblin_base.specs.Answers.{FirstFault, IsMemory}
+use Rattle.goblin_base.specs.Reading.{IsRefused, Reading}
+use Rattle.goblin_pe_sect.specs.BaseRelocations.{Block, block_at, block_items}
+use Rattle.goblin_pe_import.specs.ImportLookup.{entries_32, entries_64}
+use Rattle.goblin_pe_import.specs.declared.import.imports.ImportCursor.{ImportCursor}
+use Rattle.goblin_pe.specs.Addresses.{MapOfAddresses}
+use Rattle.goblin_pe.specs.ExportRecords.{ExportTables}
+use Rattle.goblin_pe.specs.ExportWalks.{NumberedExport, exports_left, numbered_from}
+use Rattle.goblin_pe_export.specs.declared.export.exports.Exports.{Exports}
+use Rattle.goblin_pe.specs.Imports.{NumberedImport}
+use Rattle.goblin_pe.specs.LayoutCursors.{IsFileCursorCause, IsImportWalk, file_cursor_left}
+use Rattle.goblin_pe.specs.LayoutCursors.{file_ahead, file_cursor_ahead, import_begin}
+use Rattle.goblin_pe.specs.LeftOut.{amount_of}
+use Rattle.goblin_pe.specs.Reads.{given, pick}
+use Rattle.goblin_pe.specs.Layouts.{address_part, file_imports_left}
+use Rattle.goblin_pe.specs.StepsAhead.{AtSteps}
+use Rattle.goblin_pe.specs.Whole.{TablePlaces, export_part, relocation_part}
+use Rattle.goblin_pe_sect.specs.Addresses.{Addressing}
+use Rattle.goblin_pe.specs.declared.whole.Part.{Part}
+use Rattle.goblin_pe.specs.declared.whole.Part.TheVariants.{Absent, Refused}
+use Rattle.goblin_pe.specs.declared.whole.Part.TheVariants as part
+use Rattle.goblin_pe.specs.declared.whole.imports.FileImports.{FileImports}
+use Rattle.goblin_pe.specs.declared.whole.imports.FileImports.TheVariants.{Narrow, Wide}
+use Rattle.goblin_pe_c_tables.specs.declared.block.PeRelocationBlock.{PeRelocationBlock}
+use Rattle.goblin_pe_c_tables.specs.declared.export.PeExport.{PeExport}
+use Rattle.goblin_pe_c_tables.specs.declared.export_directory.PeExportAddress.{PeExportAddress}
+use Rattle.goblin_pe_c_tables.specs.declared.import.PeImport.{PeImport}
+use Rattle.goblin_pe_c_tables.specs.declared.next.PeImportCursor.{PeImportCursor}
+use Rattle.goblin_pe_c_tables.specs.ExportDirectories.{DirectorySaid, addresses_said, directory_said}
+use Rattle.goblin_pe_c_tables.specs.ExportDirectories.{no_export_directory}
+use Rattle.goblin_pe_c_tables.specs.Exports.{ExportSaid, export_said, export_view}
+use Rattle.goblin_pe_c_tables.specs.Imports.{GivesHere, ImportSaid, import_said, import_view}
+use Rattle.goblin_pe_c_tables.specs.Places.{TakesIndexAt, directory_offset, map_at, places_said}
+use Rattle.goblin_pe_c_headers.specs.Places.{placed_sections}
+use Rattle.goblin_pe_c_headers.specs.Items.{without_causes}
+use Rattle.goblin_pe_c_headers.specs.Onward.{AtBatch, Batch, FillsNext, GivesOnward}
+use Rattle.goblin_pe_c_headers.specs.Onward.{IsNextFault, Table, no_batch, unrefused, values_before}
+use Rattle.goblin_pe_c_headers.specs.declared.batch.PeBatch.{PeBatch}
+use Rattle.goblin_pe_c_headers.specs.declared.fault.PeFault.{PeFault}
+use Rattle.goblin_pe_c_headers.specs.declared.image.PeImage.{PeImage}
+use Rattle.goblin_pe_c_headers.specs.Calls.{ReportedAfter}
+use Rattle.goblin_pe_c_headers.specs.Places.{image_places, placed_sections}
+
+-- what a call says that gave so many records: without room the end is not told
+abbrev pub at_room : ℕ → ℕ → Bool → PeBatch
+at_room room count is_done = record { count = count; is_done = is_done && not (room == 0) }
+
+-- ---- imports
+
+-- a number that is there
+abbrev pub option_said : Bool → ℕ → Option ℕ
+option_said is n = if is then Some n else None
+
+-- the cursor that these numbers say
+abbrev pub cursor_said : PeImportCursor → ImportCursor
+cursor_said p = record {
+  first_record = p.first_record;
+  next_record = option_said p.has_next p.next_record;
+  library = p.library;
+  name_rva = p.name_rva;
+  rva = p.rva;
+  table_offset = p.table_offset;
+  place = option_said p.has_place p.place;
+  untested = option_said p.has_address_table p.address_table;
+}
+
+-- the numbers of a cursor
+abbrev pub cursor_numbers : ImportCursor → PeImportCursor
+cursor_numbers c = record {
+  first_record = c.first_record;
+  next_record = unwrap_or c.next_record 0;
+  library = c.library;
+  table_offset = c.table_offset;
+  place = unwrap_or c.place 0;
+  name_rva = c.name_rva;
+  rva = c.rva;
+  address_table = unwrap_or c.untested 0;
+  is_begun = true;
+  has_next = is_some c.next_record;
+  has_place = is_some c.place;
+  has_address_table = is_some c.untested;
+}
+
+-- the cursor at a position: the one that it says, or else where the imports begin
+abbrev pub import_cursor : MapOfAddresses → TablePlaces → PeImportCursor → Reading ImportCursor
+import_cursor m places p =
+    pick p.is_begun (given (cursor_said p)) (import_begin m.opts m.addressing places)
+
+-- the imports of a file
+abbrev pub import_table : MapOfAddresses → TablePlaces → List ℕ
+    → Table PeImportCursor PeImport NumberedImport ImportSaid
+import_table m places bytes = record {
+  view = import_view;
+  said = import_said;
+  from = λ p. option_map (file_cursor_left m places.magic bytes) ((import_cursor m places p).value bytes);
+}
+
+abbrev pub ImportBatch : Type 0
+ImportBatch = Batch PeImportCursor PeImport
+
+-- how many slots and records are still to be looked at from a position on
+abbrev pub position_ahead : MapOfAddresses → TablePlaces → List ℕ → PeImportCursor → ℕ
+position_ahead m places bytes p =
+    amount_of (file_cursor_ahead m places.magic bytes) ((import_cursor m places p).value bytes)
+
+-- nothing comes at a cursor: it is in no library, and no record and no address table are left
+abbrev pub is_over : ImportCursor → Bool
+is_over c = is_none c.place && is_none c.next_record && is_none c.untested
+
+-- A step looks at a slot or a record. Of the steps are gone as many as are no longer ahead; or all, and
+-- at most n more, as the slots of an address table are looked at in one go.
+abbrev pub GivesImports : MapOfAddresses → TablePlaces → List ℕ → ℕ → ℕ → ImportBatch
+    → ImportBatch → PeBatch → Type 0
+GivesImports m places bytes before after old new batch =
+    FillsNext (import_table m places bytes) (after ≡ 0)
+    (λ left. AtSteps (length bytes) (Some before) (Some after)
+    (position_ahead m places bytes old.position) (position_ahead m places bytes new.position)) old
+    new batch
+
+-- Where the imports begin is refused, or else the very next import, and there is room for it.
+abbrev pub IsImportsFault : MapOfAddresses → TablePlaces → List ℕ → ImportBatch → ErrorOf → Type 0
+IsImportsFault m places bytes old e =
+    IsNextFault (import_cursor m places old.position) bytes (file_cursor_left m places.magic bytes)
+    (IsFileCursorCause m places.magic bytes) old e
+
+-- Whatever the records held up to `first`, they hold these imports after it, up to `last`.
+abbrev pub Fills : List PeImport → List PeImport → ℕ → ℕ → List NumberedImport → Type 0
+Fills old new first last values =
+    (last ≡ first + length values)
+    × ((base : List PeImport) (before : List NumberedImport)
+    → AtBatch import_view import_said base before old first
+    → AtBatch import_view import_said base (before ++ values) new last)
+
+-- `GivesHere` of the imports of a file
+abbrev pub GivesInFile : FileImports → FileImports → (List NumberedImport → Type 0) → Type 0
+GivesInFile (Narrow s) (Narrow t) Holds = GivesHere entries_32 s t Holds
+GivesInFile (Wide s) (Wide t) Holds = GivesHere entries_64 s t Holds
+GivesInFile s t Holds = ⊥
+
+-- The walk gives the imports of a file from a position on.
+pub record GoesOn (m : MapOfAddresses) (places : TablePlaces) (bytes : List ℕ)
+    (p : PeImportCursor) (imports : FileImports) : Type 0 where
+  pub walk : IsImportWalk m places.magic bytes imports
+  pub left : (import_table m places bytes).from p ≡ Some (file_imports_left imports)
+  pub ahead : position_ahead m places bytes p ≡ file_ahead imports
+
+-- ---- exports
+
+-- the exports of tables from a name pointer on
+abbrev pub exports_in : MapOfAddresses → List ℕ → ℕ → Part (ExportTables × List NumberedExport)
+    → List NumberedExport
+exports_in m bytes x Absent = []
+exports_in m bytes x (part.Read read) = numbered_from m.addressing bytes read.0 x
+exports_in m bytes x Refused = []
+
+-- how many name pointers tables have
+abbrev pub pointers_in : Part (ExportTables × List NumberedExport) → ℕ
+pointers_in Absent = 0
+pointers_in (part.Read read) = length read.0.export_name_pointer_table
+pointers_in Refused = 0
+
+-- the exports of tables
+abbrev pub export_table : MapOfAddresses → List ℕ → Part (ExportTables × List NumberedExport)
+    → Table ℕ PeExport NumberedExport ExportSaid
+export_table m bytes p = record {
+  view = export_view;
+  said = export_said;
+  from = λ x. Some (unrefused (exports_in m bytes x p));
+}
+
+abbrev pub ExportBatch : Type 0
+ExportBatch = Batch ℕ PeExport
+
+-- A step looks at one of so many name pointers, from the old position up to the new one.
+pub record LooksAtPointers (steps left pointers old new : ℕ) : Type 0 where
+  pub further : old ≤ new
+  pub within : new ≤ max old pointers
+  pub looked : new + left ≡ old + steps
+
+abbrev pub GivesExports : MapOfAddresses → TablePlaces → List ℕ → ℕ → ℕ → ExportBatch
+    → ExportBatch → PeBatch → Type 0
+GivesExports m places bytes before after old new batch =
+    IsSomeAnd ((export_part m.opts m.addressing places).value bytes) (λ p.
+    FillsNext (export_table m bytes p) (after ≡ 0)
+    (λ left. LooksAtPointers before after (pointers_in p) old.position new.position) old new batch)
+
+-- the exports that a walk gives; the walk is the position
+abbrev pub export_walk : Table Exports PeExport NumberedExport ExportSaid
+export_walk = record {
+  view = export_view;
+  said = export_said;
+  from = λ walk. Some (unrefused (exports_left walk));
+}
+
+abbrev pub ExportWalkBatch : Type 0
+ExportWalkBatch = Batch Exports PeExport
+
+-- the export directory is refused
+abbrev pub IsExportsFault : MapOfAddresses → TablePlaces → List ℕ → ErrorOf → Type 0
+IsExportsFault m places bytes e =
+    let read = export_part m.opts m.addressing places in
+    IsRefused read bytes e
+
+-- why a batch of exports is refused, wherever it begins
+abbrev pub IsExportBatchFault : {R : Type 0} → MapOfAddresses → TablePlaces → List ℕ → Batch ℕ R
+    → ErrorOf → Type 0
+IsExportBatchFault m places bytes old e = IsExportsFault m places bytes e
+
+-- ---- what the export directory says
+
+-- its record, zeros where it is not read; the names of exports have no say in that
+abbrev pub directory_record_in : Part ExportTables → DirectorySaid
+directory_record_in Absent = no_export_directory
+directory_record_in (part.Read tables) = directory_said tables
+directory_record_in Refused = no_export_directory
+
+abbrev pub SaysDirectory : MapOfAddresses → TablePlaces → List ℕ → DirectorySaid → Type 0
+SaysDirectory m places bytes said =
+    IsSomeAnd ((address_part m.opts m.addressing places).value bytes) (λ p. said ≡ directory_record_in p)
+
+-- it is refused, for another reason than the number of its name pointers
+abbrev pub IsAddressesFault : MapOfAddresses → TablePlaces → List ℕ → ErrorOf → Type 0
+IsAddressesFault m places bytes e = IsRefused (address_part m.opts m.addressing places) bytes e
+
+-- why a batch of entries is refused, wherever it begins
+abbrev pub IsAddressBatchFault : {R : Type 0} → MapOfAddresses → TablePlaces → List ℕ → Batch ℕ R
+    → ErrorOf → Type 0
+IsAddressBatchFault m places bytes old e = IsAddressesFault m places bytes e
+
+-- ---- entries of the export address table
+
+-- their records, none if the directory is not read
+abbrev pub addresses_in : Addressing → Part ExportTables → List PeExportAddress
+addresses_in addressing Absent = []
+addresses_in addressing (part.Read tables) = addresses_said addressing tables
+addresses_in addressing Refused = []
+
+abbrev pub AddressBatch : Type 0
+AddressBatch = Batch ℕ PeExportAddress
+
+-- The records hold the entries from the old index on, and from the new one on come the others.
+abbrev pub GivesAddresses : MapOfAddresses → TablePlaces → List ℕ → AddressBatch → AddressBatch
+    → PeBatch → Type 0
+GivesAddresses m places bytes old new batch =
+    IsSomeAnd ((address_part m.opts m.addressing places).value bytes) (λ p.
+    GivesOnward (addresses_in m.addressing p) old new batch)
+
+-- ---- blocks of base relocations
+
+-- the file offset of the base relocation directory; 0 if it has none
+abbrev pub relocations_begin : Addressing → TablePlaces → ℕ
+relocations_begin addressing places = unwrap_or (directory_offset addressing places 5) 0
+
+-- blocks that follow one another from a file offset on, each with its offset
+unfoldable pub placed : ℕ → List (Option Block) → List (Option (ℕ × Block))
+placed p [] = []
+placed p (Some b ∷ items) = Some (p, b) ∷ placed (p + b.size) items
+placed p (None ∷ items) = None ∷ placed p items
+
+-- what a directory that begins at a file offset has from an offset in it on: blocks, and at last
+-- perhaps a refusal
+abbrev pub blocks_from : ℕ → Part (List ℕ) → ℕ → List (Option (ℕ × Block))
+blocks_from begin Absent x = []
+blocks_from begin (part.Read directory) x =
+    placed (begin + x) (without_causes (block_items directory x))
+blocks_from begin Refused x = []
+
+-- the record of a block at a file offset
+abbrev pub block_said : ℕ × Block → PeRelocationBlock
+block_said x = record {
+  rva = x.1.rva;
+  size = x.1.size;
+  reserved = 0;
+  relocations = record { offset = x.0 + 8; end = x.0 + x.1.size; page_rva = x.1.rva };
+}
+
+-- which refusal comes at an offset, if one does
+abbrev pub IsBlockCause : ℕ → Part (List ℕ) → ErrorOf → Type 0
+IsBlockCause x Absent e = ⊥
+IsBlockCause x (part.Read directory) e = block_at directory x ≡ Err e
+IsBlockCause x Refused e = ⊥
+
+-- the blocks of a directory
+abbrev pub block_table : ℕ → Part (List ℕ)
+    → Table ℕ PeRelocationBlock (ℕ × Block) PeRelocationBlock
+block_table begin p =
+    record { view = λ r. r; said = block_said; from = λ x. Some (blocks_from begin p x) }
+
+abbrev pub BlockBatch : Type 0
+BlockBatch = Batch ℕ PeRelocationBlock
+
+-- Of a directory that was read, or not. The position moves by the sizes of the blocks that are given.
+abbrev pub GivesBlocksIn : ℕ → Part (List ℕ) → BlockBatch → BlockBatch → PeBatch → Type 0
+GivesBlocksIn begin p old new batch =
+    FillsNext (block_table begin p) ⊥
+    (λ left. new.position
+    ≡ old.position
+    + sum_by (λ (x : ℕ × Block). x.1.size) (take batch.count (values_before left))) old new batch
+
+abbrev pub GivesBlocks : MapOfAddresses → TablePlaces → List ℕ → BlockBatch → BlockBatch
+    → PeBatch → Type 0
+GivesBlocks m places bytes old new batch =
+    IsSomeAnd ((relocation_part m.opts m.addressing places).value bytes)
+    (λ p. GivesBlocksIn (relocations_begin m.addressing places) p old new batch)
+
+-- The directory is refused, or else what comes next of it, and there is room for a block.
+abbrev pub IsBlocksFault : MapOfAddresses → TablePlaces → List ℕ → BlockBatch → ErrorOf → Type 0
+IsBlocksFault m places bytes old e =
+    IsNextFault (relocation_part m.opts m.addressing places) bytes
+    (λ p. blocks_from (relocations_begin m.addressing places) p old.position)
+    (IsBlockCause old.position) old e
+
+-- ---- a call
+
+-- A call has given what comes next of an image; or its section headers are not there, or what comes
+-- next is refused, or memory for an index of many sections, and everything is unchanged.
+abbrev pub GivesBatch : PeImage
+    → (MapOfAddresses → TablePlaces → Type 0)
+    → (MapOfAddresses → TablePlaces → ErrorOf → Type 0) → Type 0 → Result Unit ErrorOf → Type 0
+GivesBatch image Gives IsFault Left (Ok x) =
+    let p = image_places image in
+    IsSomeAnd ((placed_sections p).value image.bytes.now)
+    (λ sections. Gives (map_at image.options p sections) (places_said p))
+GivesBatch image Gives IsFault Left (Err e) =
+    let p = image_places image in
+    let sections = placed_sections p in
+    (¬ IsMemory e
+    → FirstFault (sections.value image.bytes.now) (sections.IsCause image.bytes.now)
+    (λ sections. IsFault (map_at image.options p sections) (places_said p)) e)
+    × (IsMemory e → TakesIndexAt p image.bytes.now)
+    × Left
+
+-- A call has given the records of a table that come next, and said how many; or it is refused, and
+-- nothing else is changed than what is said.
+abbrev pub GivesRecords : {P R : Type 0} → PeImage
+    → (MapOfAddresses → TablePlaces → List ℕ → Batch P R → Batch P R → PeBatch → Type 0)
+    → (MapOfAddresses → TablePlaces → List ℕ → Batch P R → ErrorOf → Type 0)
+    → Batch P R → Batch P R → PeBatch → Result Unit ErrorOf → Type 0
+GivesRecords image Gives IsFault old new batch result =
+    GivesBatch image
+    (λ m places. Gives m places image.bytes.now old new batch)
+    (λ m places. IsFault m places image.bytes.now old) ((new ≡ old) × (batch ≡ no_batch)) result
+
+-- The same of a call that may be refused before it begins, by this fault.
+abbrev pub WalksOver : {P R : Type 0} → PeFault → PeFault → PeImage
+    → (MapOfAddresses → TablePlaces → List ℕ → Batch P R → Batch P R → PeBatch → Type 0)
+    → (MapOfAddresses → TablePlaces → List ℕ → Batch P R → ErrorOf → Type 0)
+    → Batch P R → Batch P R → PeBatch → Type 0
+WalksOver refusal fault image Gives IsFault old new batch =
+    ReportedAfter refusal fault ((new ≡ old) × (batch ≡ no_batch))
+    (GivesRecords image Gives IsFault old new batch)

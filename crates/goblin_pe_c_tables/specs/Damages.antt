@@ -1,0 +1,182 @@
+-- The record of an image's damage.
+use Rattle.std.specs.Prelude.{◌≡◌, ◌≢◌, ◌≤◌, ◌⊎◌, ℕ, ◌+◌, ◌-◌, ◌==◌, ◌&&◌, Bool, true, false, List, [], ◌∷◌, length, min}
+use Rattle.std.specs.Prelude.{Option, None, Some, is_none, Result, Ok, Err, IsSomeAnd}
+use Rattle.goblin_base.specs.Answers.{IsMemory}
+use Rattle.goblin_base.specs.Reading.{IsRefused, Reading}
+use Rattle.goblin_base.specs.declared.error.ErrorOf.{ErrorOf}
+use Rattle.goblin_pe_sect.specs.Addresses.{MapOfAddresses}
+use Rattle.goblin_pe_sect.specs.SectionTable.{Section}
+use Rattle.goblin_pe_head.specs.CoffHeader.{symbols_end}
+use Rattle.goblin_pe_head.specs.HeaderReadings.{stub_at}
+use Rattle.goblin_pe_head.specs.CoffReadings.{sections_at}
+use Rattle.goblin_pe_import.specs.ImportCursors.{before_record}
+use Rattle.goblin_pe_import.specs.LeftOut.{amount_of}
+use Rattle.goblin_pe_import.specs.StepsAhead.{AtSteps}
+use Rattle.goblin_pe.specs.Damages.{AreDamaged, IsDamage, exports_left_out}
+use Rattle.goblin_pe.specs.LayoutCursors.{file_cursor_ahead}
+use Rattle.goblin_pe.specs.Whole.{TablePlaces, export_part}
+use Rattle.goblin_pe.specs.declared.whole.damage.Damage.{Damage}
+use Rattle.goblin_pe_c_headers.specs.Faults.{fault, fault_of, image_fault, no_fault}
+use Rattle.goblin_pe_c_headers.specs.Places.{image_places, placed_sections}
+use Rattle.goblin_pe_c_headers.specs.declared.fault.PeFault.{PeFault}
+use Rattle.goblin_pe_c_headers.specs.declared.image.PeImage.{PeImage}
+use Rattle.goblin_pe_c_tables.specs.Batches.{pointers_in}
+use Rattle.goblin_pe_c_tables.specs.Places.{TakesIndexAt, directory_offset, map_at, places_said}
+use Rattle.goblin_pe_c_tables.specs.Steps.{or_fault, section_steps, steps_fault}
+use Rattle.goblin_pe_c_tables.specs.declared.damage.PeDamage.{PeDamage}
+
+-- ---- the record
+
+-- the numbers of a part's damage
+abbrev pub part_fault : Option ErrorOf → PeFault
+part_fault None = no_fault
+part_fault (Some e) = fault_of e
+
+-- the first fault of the tables, and of all parts
+abbrev pub tables_fault : Damage → PeFault
+tables_fault d =
+    or_fault (part_fault d.imports) (or_fault (part_fault d.exports) (part_fault d.relocations))
+
+abbrev pub first_fault : Damage → PeFault
+first_fault d =
+    or_fault (part_fault d.dos_stub) (or_fault (part_fault d.section_names) (tables_fault d))
+
+-- whether nothing is damaged, and no library is left out
+abbrev pub is_sound : Damage → Bool
+is_sound d =
+    is_none d.dos_stub
+    && (is_none d.section_names
+    && (is_none d.imports
+    && (is_none d.exports && (is_none d.relocations && d.left_out.libraries == 0))))
+
+-- the record of a damage
+abbrev pub damage_record : Damage → PeDamage
+damage_record d = record {
+  first_fault = first_fault d;
+  dos_stub = part_fault d.dos_stub;
+  section_names = part_fault d.section_names;
+  imports = part_fault d.imports;
+  exports = part_fault d.exports;
+  relocations = part_fault d.relocations;
+  skipped_libraries = d.left_out.libraries;
+  skipped_entries = d.left_out.entries;
+  unmapped_entries = d.left_out.unmapped_entries;
+  skipped_exports = d.left_out_exports;
+  is_sound = is_sound d;
+  reserved = 0 ∷ 0 ∷ 0 ∷ 0 ∷ 0 ∷ 0 ∷ 0 ∷ [];
+}
+
+-- ---- the damage of an image
+
+-- the sections of an image, with their names from the string table, in strict mode
+abbrev pub image_names : PeImage → Reading (List Section)
+image_names image =
+    sections_at true (symbols_end image.coff_header) (min image.section_count 65535)
+    image.section_table
+
+-- What strict mode would refuse of an image whose tables lie at these places.
+pub record IsDamagedBy (image : PeImage) (m : MapOfAddresses) (places : TablePlaces)
+    (bytes : List ℕ) (d : Damage) : Type 0 where
+  pub dos_stub : IsDamage (stub_at image.dos_header.pe_pointer) bytes d.dos_stub
+  pub section_names : IsDamage (image_names image) bytes d.section_names
+  pub tables : AreDamaged m.opts m.addressing places bytes d.imports d.exports d.relocations d.left_out
+  pub left_out_exports : d.left_out_exports ≡ exports_left_out m.addressing places bytes
+
+-- ---- the steps that it takes
+
+-- how many steps a walk over all imports takes, also over a directory at file offset 0, which
+-- permissive mode skips; and how many name pointers there are
+abbrev pub all_imports : MapOfAddresses → TablePlaces → List ℕ → ℕ
+all_imports m places bytes =
+    amount_of (λ o. file_cursor_ahead m places.magic bytes (before_record o))
+    (directory_offset m.addressing places 1)
+
+abbrev pub all_pointers : MapOfAddresses → TablePlaces → List ℕ → ℕ
+all_pointers m places bytes =
+    amount_of pointers_in ((export_part m.opts m.addressing places).value bytes)
+
+-- So many steps are left after as many as are ahead, or they are too few. In a file of n bytes the
+-- last address table may take n more.
+abbrev pub ImportSteps : ℕ → ℕ → ℕ → Option ℕ → Type 0
+ImportSteps n ahead steps None = steps ≤ ahead
+ImportSteps n ahead steps (Some left) = AtSteps n (Some steps) (Some left) ahead 0
+
+-- the same of a look at all imports and exports
+abbrev pub DamageSteps : MapOfAddresses → TablePlaces → List ℕ → ℕ → Option ℕ → Type 0
+DamageSteps m places bytes steps None =
+    steps ≤ all_imports m places bytes + all_pointers m places bytes
+DamageSteps m places bytes steps (Some left) =
+    AtSteps (length bytes) (Some steps) (Some (left + all_pointers m places bytes))
+    (all_imports m places bytes) 0
+
+-- ---- a call
+
+-- how addresses of an image are mapped in a mode, permissive or strict
+abbrev pub mode_map : Bool → PeImage → List Section → MapOfAddresses
+mode_map is_permissive image sections =
+    map_at (record image.options { is_permissive = is_permissive }) (image_places image) sections
+
+abbrev pub damage_map : PeImage → List Section → MapOfAddresses
+damage_map image sections = mode_map true image sections
+
+-- So many steps are too few for a strict walk over all imports, which also looks at the entries of
+-- libraries that permissive mode skips.
+abbrev pub AreTooFew : PeImage → ℕ → List Section → Type 0
+AreTooFew image steps sections =
+    let m = mode_map false image sections in
+    steps ≤ all_imports m (places_said (image_places image)) image.bytes.now
+
+-- the damage with these sections, and the steps that were taken
+abbrev pub FindsDamage : PeImage → ℕ → List Section → Option (PeDamage × ℕ) → Type 0
+FindsDamage image steps sections None =
+    DamageSteps (damage_map image sections) (places_said (image_places image)) image.bytes.now steps None
+    ⊎ AreTooFew image steps sections
+FindsDamage image steps sections (Some found) =
+    let m = damage_map image sections in
+    let places = places_said (image_places image) in
+    DamageSteps m places image.bytes.now steps (Some found.1)
+    × (d : Damage) × IsDamagedBy image m places image.bytes.now d × (found.0 ≡ damage_record d)
+
+-- The section headers are not there, or memory for an index of many sections is refused.
+abbrev pub HasNoSections : PeImage → ErrorOf → Type 0
+HasNoSections image e =
+    (¬ IsMemory e → IsRefused (placed_sections (image_places image)) image.bytes.now e)
+    × (IsMemory e → TakesIndexAt (image_places image) image.bytes.now)
+
+-- A strict walk takes more than so many steps, if the call says so.
+abbrev pub AnswersRunsOut : PeImage → ℕ → Result Bool ErrorOf → Type 0
+AnswersRunsOut image steps (Ok is_out) =
+    is_out ≡ true
+    → IsSomeAnd ((placed_sections (image_places image)).value image.bytes.now) (AreTooFew image steps)
+AnswersRunsOut image steps (Err e) = HasNoSections image e
+
+-- A call finds the damage within so many steps, or these are too few.
+abbrev pub AnswersDamage : PeImage → ℕ → Result (Option (PeDamage × ℕ)) ErrorOf → Type 0
+AnswersDamage image steps (Ok found) =
+    IsSomeAnd ((placed_sections (image_places image)).value image.bytes.now)
+    (λ sections. FindsDamage image steps sections found)
+AnswersDamage image steps (Err e) = HasNoSections image e
+
+-- its fault, and what it leaves
+abbrev pub damage_fault : Result (Option (PeDamage × ℕ)) ErrorOf → PeFault
+damage_fault (Ok (Some x)) = no_fault
+damage_fault (Ok None) = fault 7 0 0 0
+damage_fault (Err e) = fault_of e
+
+abbrev pub damage_left : Result (Option (PeDamage × ℕ)) ErrorOf → PeDamage × ℕ → PeDamage × ℕ
+damage_left (Ok (Some x)) old = x
+damage_left (Ok None) old = old
+damage_left (Err e) old = old
+
+-- why it is refused before it begins
+abbrev pub damage_refusal : PeImage → ℕ → PeFault
+damage_refusal image steps =
+    or_fault (image_fault image.kind image.options) (steps_fault image 1 steps)
+
+abbrev pub ReadsDamage : PeImage → PeDamage × ℕ → PeDamage × ℕ → PeFault → Type 0
+ReadsDamage image old new fault =
+    let refusal = damage_refusal image old.1 in
+    (refusal.status ≢ 0 → (fault ≡ refusal) × (new ≡ old))
+    × (refusal.status ≡ 0 → (r : Result (Option (PeDamage × ℕ)) ErrorOf)
+    × (fault ≡ damage_fault r) × (new ≡ damage_left r old)
+    × AnswersDamage image (old.1 - section_steps image 1) r)

@@ -1,0 +1,81 @@
+-- The records of what an export directory says, and of the export address table, as definitions.
+use Rattle.std.specs.Prelude.{ℕ, ◌+◌, Bool, true, false, List, [], ◌∷◌, map, unwrap_or, is_some}
+use Rattle.std.specs.List.{enumerate_from}
+use Rattle.goblin_pe_export.specs.declared.export.tables.ExportAddressTableEntry.{ExportAddressTableEntry}
+use Rattle.goblin_pe_export.specs.declared.export.tables.ExportAddressTableEntry.TheVariants as variant
+use Rattle.goblin_pe_export.specs.declared.export.tables.ExportDirectoryTable.{ExportDirectoryTable}
+use Rattle.goblin_pe_export.specs.ExportRecords.{ExportTables, rva_of}
+use Rattle.goblin_pe_sect.specs.Addresses.{Addressing}
+use Rattle.goblin_pe_c_tables.specs.declared.export_directory.PeExportAddress.{PeExportAddress}
+use Rattle.goblin_pe_c_tables.specs.declared.export_directory.PeExportDirectory.{PeExportDirectory}
+
+-- whether an entry of the export address table is forwarded
+abbrev pub is_forwarder : ExportAddressTableEntry → Bool
+is_forwarder (variant.ExportRVA rva) = false
+is_forwarder (variant.ForwarderRVA rva) = true
+
+-- the record of an entry with an ordinal
+abbrev pub address_said : Addressing → ℕ → ExportAddressTableEntry → PeExportAddress
+address_said addressing ordinal entry = record {
+  ordinal = ordinal;
+  rva = rva_of entry;
+  offset = unwrap_or (addressing.offset (rva_of entry)) 0;
+  is_forwarder = is_forwarder entry;
+  has_offset = is_some (addressing.offset (rva_of entry));
+  reserved = 0 ∷ 0 ∷ 0 ∷ 0 ∷ 0 ∷ 0 ∷ [];
+}
+
+-- the records of all entries; an ordinal is the ordinal base and an index
+abbrev pub addresses_said : Addressing → ExportTables → List PeExportAddress
+addresses_said addressing tables =
+    map (λ x. address_said addressing (tables.export_directory_table.ordinal_base + x.0) x.1)
+    (enumerate_from 0 tables.export_address_table)
+
+-- a record of what an export directory says, its slice as a list
+pub record DirectorySaid : Type 0 where
+  pub name : List ℕ
+  pub table : ExportDirectoryTable
+  pub has_name : Bool
+  pub is_present : Bool
+  pub reserved : List ℕ
+
+abbrev pub directory_said : ExportTables → DirectorySaid
+directory_said tables = record {
+  name = unwrap_or tables.name [];
+  table = tables.export_directory_table;
+  has_name = is_some tables.name;
+  is_present = true;
+  reserved = 0 ∷ 0 ∷ 0 ∷ 0 ∷ 0 ∷ 0 ∷ [];
+}
+
+-- zeros, if the exports are not read
+abbrev pub no_export_directory : DirectorySaid
+no_export_directory = record {
+  name = [];
+  table = record {
+    export_flags = 0;
+    time_date_stamp = 0;
+    major_version = 0;
+    minor_version = 0;
+    name_rva = 0;
+    ordinal_base = 0;
+    address_table_entries = 0;
+    number_of_name_pointers = 0;
+    export_address_table_rva = 0;
+    name_pointer_rva = 0;
+    ordinal_table_rva = 0;
+  };
+  has_name = false;
+  is_present = false;
+  reserved = 0 ∷ 0 ∷ 0 ∷ 0 ∷ 0 ∷ 0 ∷ [];
+}
+
+-- what a record holds
+abbrev pub directory_view : PeExportDirectory → DirectorySaid
+directory_view d = record {
+  name = d.name.now;
+  table = d.«record»;
+  has_name = d.has_name;
+  is_present = d.is_present;
+  reserved = d.reserved;
+}

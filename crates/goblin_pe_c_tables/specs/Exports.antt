@@ -1,0 +1,92 @@
+-- The records of exports, as definitions.
+use Rattle.std.specs.Prelude.{ℕ, Bool, List, [], ◌∷◌, Option, Some, None, unwrap_or, is_some}
+use Rattle.goblin_pe.specs.ExportWalks.{NumberedExport}
+use Rattle.goblin_pe.specs.Forwarders.{Forwarder}
+use Rattle.goblin_pe.specs.Forwarders.Forwarder.{ByName, ByOrdinal}
+use Rattle.goblin_pe_c_tables.specs.declared.export.PeExport.{PeExport}
+use Rattle.goblin_pe_c_tables.specs.declared.forwarder.ForwarderKind.{ForwarderKind}
+use Rattle.goblin_pe_c_tables.specs.declared.forwarder.ForwarderKind.TheVariants as kind
+use Rattle.goblin_pe_c_tables.specs.declared.forwarder.PeForwarder.{PeForwarder}
+
+-- a record of a forwarder, its slices as lists
+pub record ForwarderSaid : Type 0 where
+  pub dll : List ℕ
+  pub name : List ℕ
+  pub ordinal : ℕ
+  pub kind : ℕ
+  pub reserved : ℕ
+
+-- a record of an export, its slices as lists
+pub record ExportSaid : Type 0 where
+  pub name : List ℕ
+  pub forwarder : ForwarderSaid
+  pub ordinal : ℕ
+  pub hint : ℕ
+  pub rva : ℕ
+  pub name_rva : ℕ
+  pub offset : ℕ
+  pub has_name : Bool
+  pub has_offset : Bool
+  pub reserved : List ℕ
+
+-- the number of a kind
+abbrev pub kind_number : ForwarderKind → ℕ
+kind_number kind.None = 0
+kind_number kind.Name = 1
+kind_number kind.Ordinal = 2
+
+-- the record of a forwarder; zeros without one
+abbrev pub forwarder_said : Option Forwarder → ForwarderSaid
+forwarder_said None =
+    record { dll = []; name = []; ordinal = 0; kind = kind_number kind.None; reserved = 0 }
+forwarder_said (Some (ByName name lib)) =
+    record { dll = lib; name = name; ordinal = 0; kind = kind_number kind.Name; reserved = 0 }
+forwarder_said (Some (ByOrdinal ordinal lib)) =
+    record { dll = lib; name = []; ordinal = ordinal; kind = kind_number kind.Ordinal; reserved = 0 }
+
+-- the record of an export with this forwarder; what the export does not have is nothing, or 0
+abbrev pub said_with : NumberedExport → ForwarderSaid → ExportSaid
+said_with x forwarder = record {
+  name = unwrap_or x.row.name [];
+  forwarder = forwarder;
+  ordinal = x.ordinal;
+  hint = x.hint;
+  rva = x.row.rva;
+  name_rva = x.name_rva;
+  offset = unwrap_or x.row.offset 0;
+  has_name = is_some x.row.name;
+  has_offset = is_some x.row.offset;
+  reserved = 0 ∷ 0 ∷ 0 ∷ 0 ∷ 0 ∷ 0 ∷ [];
+}
+
+-- the record of an export
+abbrev pub export_said : NumberedExport → ExportSaid
+export_said x = said_with x (forwarder_said x.row.reexport)
+
+-- the same as if it were no forwarder
+abbrev pub said_without_forwarder : NumberedExport → ExportSaid
+said_without_forwarder x = said_with x (forwarder_said None)
+
+-- what the records hold
+abbrev pub forwarder_view : PeForwarder → ForwarderSaid
+forwarder_view f = record {
+  dll = f.dll.now;
+  name = f.name.now;
+  ordinal = f.ordinal;
+  kind = f.kind;
+  reserved = f.reserved;
+}
+
+abbrev pub export_view : PeExport → ExportSaid
+export_view x = record {
+  name = x.name.now;
+  forwarder = forwarder_view x.forwarder;
+  ordinal = x.ordinal;
+  hint = x.hint;
+  rva = x.rva;
+  name_rva = x.name_rva;
+  offset = x.offset;
+  has_name = x.has_name;
+  has_offset = x.has_offset;
+  reserved = x.reserved;
+}

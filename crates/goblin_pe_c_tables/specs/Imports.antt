@@ -1,0 +1,70 @@
+-- The records of imports, as definitions.
+use Rattle.std.specs.Prelude.{◌≡◌, ℕ, Bool, List, [], ◌++◌, Some, if◌then◌else◌}
+use Rattle.std.specs.Prelude.{◌+◌, ◌==◌, length, map, not}
+use Rattle.goblin_base.specs.declared.error.ErrorOf.{ErrorOf}
+use Rattle.goblin_base.specs.Tables.{Format}
+use Rattle.goblin_pe_import.specs.ImportEntries.{EntryValue}
+use Rattle.goblin_pe_import.specs.ImportWalks.{AreImportsOver, HasName, IsImportsCause}
+use Rattle.goblin_pe_import.specs.ImportWalks.{imports_bytes, imports_left, imports_map}
+use Rattle.goblin_pe_import.specs.StepsAhead.{imports_ahead}
+use Rattle.goblin_pe_import.specs.declared.import.imports.Imports.{Imports}
+use Rattle.goblin_pe_import.specs.Imports.{NumberedImport}
+use Rattle.goblin_pe_c_tables.specs.declared.import.PeImport.{PeImport}
+
+-- a record of an import, its slices as lists
+pub record ImportSaid : Type 0 where
+  pub name : List ℕ
+  pub dll : List ℕ
+  pub iat_rva : ℕ
+  pub hint_name_rva : ℕ
+  pub library_index : ℕ
+  pub thunk_index : ℕ
+  pub hint_or_ordinal : ℕ
+  pub is_by_name : Bool
+  pub has_name : Bool
+  pub reserved : ℕ
+
+-- the record of an import of this name; one by ordinal has none
+abbrev pub import_named : NumberedImport → List ℕ → ImportSaid
+import_named x name = record {
+  name = name;
+  dll = x.import.dll;
+  iat_rva = x.import.offset;
+  hint_name_rva = x.import.rva;
+  library_index = x.library;
+  thunk_index = x.import.slot;
+  hint_or_ordinal = x.import.ordinal;
+  is_by_name = x.import.is_borrowed;
+  has_name = not (length name == 0);
+  reserved = 0;
+}
+
+-- the record of an import, which is by name if its name is in the file
+abbrev pub import_said : NumberedImport → ImportSaid
+import_said x = import_named x (if x.import.is_borrowed then x.import.name else [])
+
+-- what a record holds
+abbrev pub import_view : PeImport → ImportSaid
+import_view x = record {
+  name = x.name.now;
+  dll = x.dll.now;
+  iat_rva = x.iat_rva;
+  hint_name_rva = x.hint_name_rva;
+  library_index = x.library_index;
+  thunk_index = x.thunk_index;
+  hint_or_ordinal = x.hint_or_ordinal;
+  is_by_name = x.is_by_name;
+  has_name = x.has_name;
+  reserved = x.reserved;
+}
+
+-- A walk has given some imports, of which this holds, and goes on after them.
+pub record GivesHere {T : Type 0} (format : Format EntryValue) (s t : Imports T)
+    (Holds : List NumberedImport → Type 0) : Type 0 where
+  pub values : List NumberedImport
+  pub held : Holds values
+  pub yielded : imports_left format s ≡ map (λ x. Some x) values ++ imports_left format t
+  pub cause : (e : ErrorOf) → IsImportsCause format t e → IsImportsCause format s e
+  pub ahead : imports_ahead format s ≡ length values + imports_ahead format t
+  pub kept : HasName s → HasName t
+  pub over : AreImportsOver (imports_bytes s) (imports_map s) t

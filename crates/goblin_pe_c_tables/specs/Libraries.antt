@@ -1,0 +1,112 @@
+-- The records of libraries, and batches of them.
+use Rattle.std.specs.Prelude.{◌≡◌, ◌==◌, if◌then◌else◌, IsSome, Some, ℕ, Bool, false, List, [], ◌∷◌, option_map, take, Result}
+use Rattle.std.specs.Prelude.{Ok, Err}
+use Rattle.goblin_base.specs.declared.error.ErrorOf.{ErrorOf}
+use Rattle.goblin_pe_import.specs.declared.import.directory_entry.ImportDirectoryEntry.{ImportDirectoryEntry}
+use Rattle.goblin_pe.specs.Addresses.{MapOfAddresses, reads_strictly}
+use Rattle.goblin_pe.specs.ImportWalks.{library_items, library_name, no_imports}
+use Rattle.readings.specs.Walks.{until_refused}
+use Rattle.goblin_pe.specs.Libraries.{IsCursorEndCause, LibraryValue, after_library}
+use Rattle.goblin_pe.specs.Libraries.{cursor_libraries, inside_library, library_at}
+use Rattle.goblin_pe.specs.Whole.{TablePlaces, entry_format}
+use Rattle.goblin_pe_c_tables.specs.declared.library.PeLibrary.{PeLibrary}
+use Rattle.goblin_pe_c_tables.specs.declared.next.PeImportCursor.{PeImportCursor}
+use Rattle.goblin_pe_c_tables.specs.Batches.{cursor_numbers, import_cursor, import_table}
+use Rattle.goblin_pe_c_headers.specs.Onward.{Batch, FillsNext, IsNextFault, Table, values_before}
+use Rattle.goblin_pe_c_headers.specs.declared.batch.PeBatch.{PeBatch}
+use Rattle.goblin_pe_c_headers.specs.Faults.{status_of}
+use Rattle.goblin_pe_c_headers.specs.declared.fault.PeFault.{PeFault}
+
+-- a record of a library, its slice as a list
+pub record LibrarySaid : Type 0 where
+  pub name : List ℕ
+  pub name_fault : PeFault
+  pub index : ℕ
+  pub offset : ℕ
+  pub imports : PeImportCursor
+  pub entry : ImportDirectoryEntry
+  pub is_skipped : Bool
+  pub reserved : List ℕ
+
+-- a name, no bytes where it can't be read
+abbrev pub name_said : Result (List ℕ) ErrorOf → List ℕ
+name_said (Ok name) = name
+name_said (Err e) = []
+
+-- the record of a library, by a map of addresses
+abbrev pub library_said : MapOfAddresses → LibraryValue → LibrarySaid
+library_said m x = record {
+  name = name_said x.name;
+  name_fault = status_of x.name;
+  index = x.index;
+  offset = x.offset;
+  imports = cursor_numbers (inside_library (reads_strictly m) m.addressing x);
+  entry = x.entry;
+  is_skipped = x.is_left_out;
+  reserved = 0 ∷ 0 ∷ 0 ∷ [];
+}
+
+-- what a record holds
+abbrev pub library_view : PeLibrary → LibrarySaid
+library_view x = record {
+  name = x.name.now;
+  name_fault = x.name_fault;
+  index = x.index;
+  offset = x.offset;
+  imports = x.imports;
+  entry = x.«record»;
+  is_skipped = x.is_skipped;
+  reserved = x.reserved;
+}
+
+-- the libraries of a file, from any cursor of its imports on
+abbrev pub library_table : MapOfAddresses → TablePlaces → List ℕ
+    → Table PeImportCursor PeLibrary LibraryValue LibrarySaid
+library_table m places bytes = record {
+  view = library_view;
+  said = library_said m;
+  from = λ p. option_map (cursor_libraries m (entry_format places.magic) bytes)
+      ((import_cursor m places p).value bytes);
+}
+
+abbrev pub LibraryBatch : Type 0
+LibraryBatch = Batch PeImportCursor PeLibrary
+
+-- the position after libraries: before the record that follows the last one's
+unfoldable pub position_after : PeImportCursor → List LibraryValue → PeImportCursor
+position_after p [] = p
+position_after p (library ∷ libraries) =
+    position_after (cursor_numbers (after_library library)) libraries
+
+-- The new position is the end where that is told, else after the libraries that are given.
+abbrev pub position_by : Bool → PeImportCursor → List LibraryValue → PeImportCursor
+position_by is_done p libraries =
+    if is_done then cursor_numbers no_imports else position_after p libraries
+
+abbrev pub GivesLibraries : MapOfAddresses → TablePlaces → List ℕ → LibraryBatch → LibraryBatch
+    → PeBatch → Type 0
+GivesLibraries m places bytes old new batch =
+    FillsNext (library_table m places bytes) ⊥
+    (λ left. new.position
+    ≡ position_by batch.is_done old.position (take batch.count (values_before left))) old new batch
+
+-- Where the imports begin is refused, or else no library comes next, since the directory reaches the
+-- end of the file, and there is room for one.
+abbrev pub IsLibrariesFault : MapOfAddresses → TablePlaces → List ℕ → LibraryBatch → ErrorOf → Type 0
+IsLibrariesFault m places bytes old e =
+    IsNextFault (import_cursor m places old.position) bytes
+    (cursor_libraries m (entry_format places.magic) bytes) (IsCursorEndCause m bytes) old e
+
+-- From the cursor of a library come its imports, and nothing else: what a walk over all imports gives
+-- of its entry. Where that needs the name of the library and can't read it, this one does not need it.
+-- (Of a directory at the front of the file permissive mode gives none.)
+unfoldable pub LibrariesEnd : Type 0
+LibrariesEnd =
+    (m : MapOfAddresses) (places : TablePlaces) (bytes : List ℕ) (first p : ℕ)
+    (r : ImportDirectoryEntry)
+    → let strict = reads_strictly m in
+    let format = entry_format places.magic in
+    let library = library_at format m.addressing bytes first p r in
+    (first == 0) ≡ false → IsSome ((library_name strict m.addressing r).value bytes)
+    → (import_table m places bytes).from (library_said m library).imports
+    ≡ Some (until_refused (library_items strict format m.addressing bytes library.index r))

@@ -1,0 +1,177 @@
+-- The record of an image as far as its header goes.
+use Rattle.std.specs.Prelude.{◌≡◌, ◌&&◌, ℕ, Bool, false, true, if◌then◌else◌, List, [], length, map, min}
+use Rattle.std.specs.Prelude.{option_map, Option, Some, None, Result, Ok, Err, IsSome, MatchResult, is_err, is_ok}
+use Rattle.std.specs.Option.{unwrap_or}
+use Rattle.goblin_base.specs.declared.error.ErrorOf.{ErrorOf}
+use Rattle.goblin_base.specs.Reading.{IsRefused, Reading, Reads}
+use Rattle.readings.specs.Reads.{◌>>=◌}
+use Rattle.goblin_pe_sect.specs.declared.section_table.records.SectionRecords.{SectionRecords}
+use Rattle.goblin_pe_sect.specs.Options.{is_strict}
+use Rattle.goblin_pe_sect.specs.SectionTable.{Section, recorded_sections, unnamed}
+use Rattle.goblin_pe_head.specs.declared.header.coff.CoffHeader.{CoffHeader}
+use Rattle.goblin_pe_head.specs.declared.header.parts.HeaderParts.{HeaderParts}
+use Rattle.goblin_pe_head.specs.declared.header.rich.RichHeader.{RichHeader}
+use Rattle.goblin_pe_head.specs.declared.header.stub.DosStub.{DosStub}
+use Rattle.goblin_pe_head.specs.CoffHeader.{symbols_end}
+use Rattle.goblin_pe_head.specs.CoffReadings.{sections_at}
+use Rattle.goblin_pe_head.specs.DosStub.{default_stub, stub_bytes}
+use Rattle.goblin_pe_head.specs.HeaderParts.{AreOfWhole, ArePartsOf, known_optional, unnamed_sections}
+use Rattle.goblin_pe_head.specs.HeaderReadings.{dos_header, pe_header, rich_header, stub_at}
+use Rattle.goblin_pe_head.specs.PeHeader.{PeHeader, zero_dos_header}
+use Rattle.goblin_pe_head.specs.RichHeader.{rich_value}
+use Rattle.goblin_pe.specs.Whole.{layout, places_in, sections_after}
+use Rattle.goblin_pe_c_headers.specs.declared.fault.PeFault.{PeFault}
+use Rattle.goblin_pe_c_headers.specs.declared.image.PeImage.{PeImage}
+use Rattle.goblin_pe_c_headers.specs.declared.options.PeOptions.{PeOptions}
+use Rattle.goblin_pe_c_headers.specs.Faults.{status_of}
+use Rattle.goblin_pe_c_headers.specs.Headers.{optional_record}
+use Rattle.goblin_pe_c_headers.specs.ImageRecords.{IsImage, zero_coff_header}
+use Rattle.goblin_pe_c_headers.specs.Options.{header_options}
+use Rattle.goblin_pe_c_headers.specs.Places.{image_places, placed_sections}
+use Rattle.goblin_pe_c_headers.specs.RichHeaders.{rich_of}
+use Rattle.goblin_pe_c_tables.specs.declared.partial.PeHeaderFaults.{PeHeaderFaults}
+
+-- ---- the parts
+
+-- a part that is given, or what stands in place of a refused one
+abbrev pub given_or : {A : Type 0} → A → Result A ErrorOf → A
+given_or other (Ok part) = part
+given_or other (Err e) = other
+
+-- the sections that are given
+abbrev pub sections_of : Result SectionRecords ErrorOf → List Section
+sections_of (Ok records) = recorded_sections records
+sections_of (Err e) = []
+
+abbrev pub given_sections : HeaderParts → List Section
+given_sections parts = sections_of parts.section_records
+
+-- how many of the sections that the COFF header says are given
+abbrev pub given_count : HeaderParts → ℕ
+given_count parts =
+    min (given_or zero_coff_header parts.coff_header).number_of_sections
+    (length (given_sections parts))
+
+-- a part is given, and there
+abbrev pub is_given : {A : Type 0} → Result (Option A) ErrorOf → Bool
+is_given (Ok (Some part)) = true
+is_given (Ok None) = false
+is_given (Err e) = false
+
+-- all fields of the optional header before its directories are given
+abbrev pub has_fields : HeaderParts → Bool
+has_fields parts = is_given parts.standard_fields && is_given parts.windows_fields
+
+-- the DOS stub of a file
+abbrev pub file_stub : Reading (List ℕ)
+file_stub = dos_header >>= λ h. stub_at h.pe_pointer
+
+-- how many bytes the stub has; the built-in one's if that stands in for it
+abbrev pub stub_size : Result DosStub ErrorOf → Bool → ℕ
+stub_size (Ok stub) is_replaced = length (stub_bytes stub)
+stub_size (Err e) is_replaced = if is_replaced then length default_stub else 0
+
+-- all section headers that a COFF header counts
+abbrev pub table_there : CoffHeader → ℕ → Reading (List Section)
+table_there h table = unnamed_sections h.number_of_sections table
+
+-- so many of them, with their names
+abbrev pub names_there : Bool → CoffHeader → ℕ → ℕ → Reading (List Section)
+names_there strict h table count = sections_at strict (symbols_end h) count table
+
+-- the fault is that of a read
+abbrev pub Tells : {A : Type 0} → Reading A → List ℕ → PeFault → Type 0
+Tells reading bytes fault =
+    (r : Result Unit ErrorOf) × (fault ≡ status_of r)
+    × MatchResult r (λ _. IsSome (reading.value bytes)) (IsRefused reading bytes)
+
+-- The faults are those of the section table and of the names in it; of the COFF header, if that is
+-- refused.
+abbrev pub AreTableFaultsBy : Result CoffHeader ErrorOf → List ℕ → ℕ → ℕ → Bool
+    → PeFault × PeFault → Type 0
+AreTableFaultsBy (Ok h) bytes table count strict faults =
+    Tells (table_there h table) bytes faults.0
+    × Tells (names_there strict h table count) bytes faults.1
+AreTableFaultsBy (Err e) bytes table count strict faults =
+    (faults.0 ≡ status_of {A = Unit} (Err e)) × (faults.1 ≡ status_of {A = Unit} (Err e))
+
+abbrev pub AreTableFaults : List ℕ → HeaderParts → ℕ → Bool → PeFault × PeFault → Type 0
+AreTableFaults bytes parts count strict faults =
+    AreTableFaultsBy parts.coff_header bytes (unwrap_or parts.section_table 0) count strict faults
+
+-- Where the header and the sections are read, these are the sections, without their names from the
+-- string table.
+abbrev pub AreOfLayout : List ℕ → HeaderParts → Type 0
+AreOfLayout bytes parts =
+    (strict : Bool) (h : PeHeader) (sections : List Section)
+    → (pe_header strict).value bytes ≡ Some h
+    → (sections_after strict h).value bytes ≡ Some sections
+    → given_sections parts ≡ map unnamed sections
+
+-- ---- the record
+
+-- permissive mode replaces the stub: the DOS header is there, and the stub is not
+abbrev pub is_replaced : PeOptions → HeaderParts → Result DosStub ErrorOf → Bool
+is_replaced o parts stub = o.is_permissive && (is_ok parts.dos_header && is_err stub)
+
+-- the record of these parts
+abbrev pub partial_image : PeOptions → HeaderParts → Result DosStub ErrorOf
+    → Result (Option RichHeader) ErrorOf → PeImage → PeImage
+partial_image o parts stub rich image =
+    record image {
+      options = o;
+      kind = 1;
+      section_table = unwrap_or parts.section_table 0;
+      section_count = given_count parts;
+      dos_header = given_or zero_dos_header parts.dos_header;
+      coff_header = given_or zero_coff_header parts.coff_header;
+      has_optional_header = has_fields parts;
+      is_dos_stub_replaced = is_replaced o parts stub;
+      moved_by = 0;
+      optional_header = optional_record (known_optional parts);
+      directories = (places_in (known_optional parts)).directories;
+      dos_stub_size = stub_size stub (is_replaced o parts stub);
+      rich_header = rich_of (option_map rich_value (given_or None rich));
+      reserved = 0;
+    }
+
+-- what a call fills
+pub record PartialRecords : Type 0 where
+  pub image : PeImage
+  pub faults : PeHeaderFaults
+
+-- the faults of these parts
+abbrev pub faults_of : HeaderParts → Result DosStub ErrorOf → Result (Option RichHeader) ErrorOf
+    → PeFault × PeFault → PeHeaderFaults
+faults_of parts stub rich table = record {
+  dos_header = status_of parts.dos_header;
+  dos_stub = status_of stub;
+  rich_header = status_of rich;
+  coff_header = status_of parts.coff_header;
+  standard_fields = status_of parts.standard_fields;
+  windows_fields = status_of parts.windows_fields;
+  directories = status_of parts.data_directories;
+  section_table = table.0;
+  section_names = table.1;
+}
+
+-- The records hold the parts of the header of a file, and why others are refused. Walks by the
+-- record's places are refused for no section. The answer is that of a read of the image.
+pub record SaysPartial (o : PeOptions) (bytes : List ℕ) (new : PartialRecords)
+    (answer : Result Unit ErrorOf) : Type 0 where
+  pub parts : HeaderParts
+  pub stub : Result DosStub ErrorOf
+  pub rich : Result (Option RichHeader) ErrorOf
+  pub table : PeFault × PeFault
+  pub are : ArePartsOf bytes parts
+  pub whole : AreOfWhole bytes parts
+  pub sections : AreOfLayout bytes parts
+  pub stub_read : Reads stub_bytes stub file_stub bytes
+  pub rich_read : Reads (option_map rich_value) rich rich_header bytes
+  pub table_read : AreTableFaults bytes parts (given_count parts)
+      (is_strict (header_options o).parse_mode) table
+  pub image : IsImage bytes new.image (partial_image o parts stub rich)
+  pub faults : new.faults ≡ faults_of parts stub rich table
+  pub led : (placed_sections (image_places new.image)).value bytes ≡ Some (given_sections parts)
+  pub answered : MatchResult answer (λ _. IsSome ((layout (header_options o)).value bytes))
+      (IsRefused (layout (header_options o)) bytes)

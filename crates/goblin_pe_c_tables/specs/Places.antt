@@ -1,0 +1,76 @@
+-- Where the sections and the tables of a file lie, as the record that a caller keeps.
+use Rattle.std.specs.Prelude.{◌≡◌, ℕ, Bool, List, length}
+use Rattle.std.specs.Prelude.{Option, Some, None, IsSomeAnd}
+use Rattle.goblin_pe_sect.specs.Addresses.{Addressing, AreMany, MapOfAddresses, map_in, with_longest}
+use Rattle.goblin_pe_sect.specs.declared.data_directories.DataDirectory.{DataDirectory}
+use Rattle.goblin_pe_sect.specs.Options.{front_of}
+use Rattle.goblin_pe_sect.specs.SectionTable.{Section}
+use Rattle.goblin_pe.specs.PeHeader.{PeHeader}
+use Rattle.goblin_pe.specs.Whole.{TablePlaces, directory_at, mapped_in, places_in, section_table_offset, sections_after}
+use Rattle.goblin_pe.specs.Whole.{size_of_headers}
+use Rattle.goblin_pe_c_headers.specs.declared.options.PeOptions.{PeOptions}
+use Rattle.goblin_pe_c_headers.specs.declared.places.PePlaces.{PePlaces}
+use Rattle.goblin_pe_c_headers.specs.Options.{longest_of, options_at, view_of}
+use Rattle.goblin_pe_c_headers.specs.Places.{placed_sections}
+
+-- ---- the record of a header
+
+-- where the tables lie, as numbers, with the offset of the section table, the size of the headers and
+-- the number of the table's records
+abbrev pub places_numbers : ℕ → ℕ → ℕ → TablePlaces → PePlaces
+places_numbers section_table headers number_of_sections t = record {
+  section_table = section_table;
+  directories = t.directories;
+  file_alignment = t.file_alignment;
+  size_of_headers = headers;
+  number_of_sections = number_of_sections;
+  magic = t.magic;
+}
+
+abbrev pub places_record : PeHeader → PePlaces
+places_record h =
+    places_numbers (section_table_offset h) (size_of_headers h.optional_header)
+    h.coff_header.number_of_sections (places_in h.optional_header)
+
+-- ---- what a record says
+
+-- where the tables lie
+abbrev pub places_said : PePlaces → TablePlaces
+places_said p = record {
+  magic = p.magic;
+  file_alignment = p.file_alignment;
+  directories = p.directories;
+}
+
+-- how addresses are mapped by these sections, and in the loader's view by the file's front; names
+-- are read up to the limit that the options say
+abbrev pub map_at : PeOptions → PePlaces → List Section → MapOfAddresses
+map_at o p sections =
+    with_longest (longest_of o)
+    (map_in (options_at o p.file_alignment)
+    (record { sections = sections; front = front_of (view_of o) p.size_of_headers }) p.file_alignment)
+
+-- the file offset of a data directory, if it has one
+abbrev pub offset_in : Addressing → Option DataDirectory → Option ℕ
+offset_in addressing None = None
+offset_in addressing (Some d) = addressing.offset d.virtual_address
+
+abbrev pub directory_offset : Addressing → TablePlaces → ℕ → Option ℕ
+directory_offset addressing places index = offset_in addressing (directory_at places index)
+
+-- memory is taken for an index: there are more than 96 sections
+abbrev pub TakesIndexAt : PePlaces → List ℕ → Type 0
+TakesIndexAt p bytes =
+    IsSomeAnd ((placed_sections p).value bytes) (λ sections. AreMany (length sections))
+
+-- The places of a header lead back to its file: its tables lie there, and addresses are mapped by
+-- the sections after it, and in the loader's view by its front. Names are read up to the limit.
+pub record LeadsBack (h : PeHeader) : Type 0 where
+  pub tables : places_said (places_record h) ≡ places_in h.optional_header
+  pub sections : (strict : Bool) (bytes : List ℕ) (sections : List Section)
+      → (sections_after strict h).value bytes ≡ Some sections → (o : PeOptions)
+      → IsSomeAnd ((placed_sections (places_record h)).value bytes) (λ found.
+      let alignment = (places_in h.optional_header).file_alignment in
+      map_at o (places_record h) found
+      ≡ with_longest (longest_of o)
+      (map_in (options_at o alignment) (mapped_in (view_of o) h sections) alignment))

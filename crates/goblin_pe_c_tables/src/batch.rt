@@ -1,0 +1,139 @@
+//! A table in batches: as many of its records as there is room for, from where a caller left off.
+
+ghost use Rattle.std.specs.Prelude.{◌≡◌, ◌≢◌, ◌-◌, IfErr, List, MatchResult, OnErr, ℕ, length};
+ghost use Rattle.goblin_base.specs.declared.error.ErrorOf.{ErrorOf};
+ghost use Rattle.goblin_base.specs.Answers.{IsMemory};
+ghost use Rattle.goblin_pe.specs.Addresses.{MapOfAddresses};
+ghost use Rattle.goblin_pe.specs.Layouts.{layout_bytes, layout_map, layout_places};
+ghost use Rattle.goblin_pe.specs.Whole.{TablePlaces};
+ghost use Rattle.goblin_pe_c_tables.specs.Batches.{GivesRecords, WalksOver, at_room};
+ghost use Rattle.goblin_pe_c_tables.specs.Steps.{section_steps};
+ghost use Rattle.goblin_pe_c_headers.specs.Onward.{Batch};
+ghost use Rattle.goblin_pe_c_headers.specs.declared.batch.PeBatch.{PeBatch};
+
+use crate::places::layout_of;
+use crate::steps::section_steps;
+use goblin_pe::{Layout, ResultOf};
+use goblin_pe_c_headers::batch::{PeBatch, ended};
+use goblin_pe_c_headers::fault::{PeFault, fault_of, no_fault};
+use goblin_pe_c_headers::image::PeImage;
+use std::alloc::Global;
+
+/// A record of a table that comes in batches.
+pub trait Batched<'a>: Sized {
+    /// Where the next batch begins.
+    type Position;
+
+    /// What a batch holds, as its caller passes it and as it is filled, where the next one begins,
+    /// how many steps there were and are left, and what is said of it.
+    ghost gives: { MapOfAddresses → TablePlaces → List ℕ → ℕ → ℕ → Batch Self.Position Self
+        → Batch Self.Position Self → PeBatch → Type 0 };
+
+    /// Why a batch is refused.
+    ghost is_fault: { MapOfAddresses → TablePlaces → List ℕ → Batch Self.Position Self
+        → ErrorOf → Type 0 };
+
+    /// Fills records with those of a file that come next, as far as there is room, leaves in
+    /// `position` where the others come, and answers what it did. A table whose entries may give no
+    /// record takes steps. If it is refused, all stays.
+    fn next<'e>(
+        layout: &Layout<'a>,
+        position: &mut Self::Position,
+        steps: &mut usize,
+        records: &mut [Self],
+    ) -> ResultOf<'e, PeBatch>
+        ensures filled { let m = layout_map layout.now in
+            let places = layout_places layout.now in
+            let bytes = layout_bytes layout.now in
+            let old : Batch Self.Position Self = record {
+              position = position.old;
+              records = records.old;
+            } in
+            let new : Batch Self.Position Self = record {
+              position = position.new;
+              records = records.new;
+            } in
+            MatchResult result (gives m places bytes steps.old steps.new old new)
+            (λ e. is_fault m places bytes old e × (new ≡ old)) }
+        ensures kept { OnErr result (steps.new ≡ steps.old) }
+        ensures refused { IfErr result (λ e. ¬ IsMemory e) };
+}
+
+// What a call says that gave so many records: without room the end is not told.
+#[inline(always)]
+pub(crate) fn at_room(room: usize, count: usize, is_done: bool) -> PeBatch
+    ensures { result ≡ at_room room count is_done }
+{
+    let is_done = is_done && room != 0;
+    PeBatch { count, is_done }
+}
+
+// Fills `records` with those of an image that come next, as many as there is room for, says in
+// `batch` what it did, and leaves in `position` where the next call goes on.
+fn give<'a, 'e, T: Batched<'a>>(
+    alloc: Global,
+    image: &PeImage<'a>,
+    position: &mut T::Position,
+    records: &mut [T],
+    steps: &mut usize,
+    batch: &mut PeBatch,
+) -> ResultOf<'e, ()>
+    ensures given { let old : Batch T.Position T = record {
+      position = position.old;
+      records = records.old;
+    } in
+        let new : Batch T.Position T = record {
+          position = position.new;
+          records = records.new;
+        } in
+        GivesRecords image.now (λ m places b. T.gives m places b steps.old steps.new) T.is_fault
+        old new batch.new result }
+    ensures kept { OnErr result (steps.new ≡ steps.old) }
+{
+    *batch = ended(0);
+    let layout = layout_of(alloc, image)?;
+    *batch = T::next(&layout, position, steps, records)?;
+    Ok(())
+}
+
+/// Fills `records` with those of an image that come next, as many as there is room for, says in
+/// `batch` what it did, and leaves in `position` where the next call goes on. A table that takes
+/// steps looks at no more slots and records than there are steps, and of an address table at all.
+/// With a fault for `refusal` the call is refused by that.
+///
+/// After a fault only `batch` is changed.
+pub fn walk<'a, T: Batched<'a>>(
+    alloc: Global,
+    image: &PeImage<'a>,
+    refusal: PeFault,
+    position: &mut T::Position,
+    records: &mut [T],
+    steps: &mut usize,
+    batch: &mut PeBatch,
+) -> PeFault
+    ensures given { let old : Batch T.Position T = record {
+      position = position.old;
+      records = records.old;
+    } in
+        let new : Batch T.Position T = record {
+          position = position.new;
+          records = records.new;
+        } in
+        let allowed = steps.old - section_steps image.now (length records.old) in
+        WalksOver refusal result image.now (λ m places b. T.gives m places b allowed steps.new)
+        T.is_fault old new batch.new }
+    ensures kept { result.status ≢ 0 → steps.new ≡ steps.old }
+{
+    *batch = ended(0);
+    if refusal.status != 0 {
+        return refusal;
+    }
+    let mut left = steps.saturating_sub(section_steps(image, records.len()));
+    match give(alloc, image, position, records, &mut left, batch) {
+        Ok(()) => {
+            *steps = left;
+            no_fault()
+        }
+        Err(error) => fault_of(&error),
+    }
+}

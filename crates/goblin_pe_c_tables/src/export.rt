@@ -1,0 +1,88 @@
+//! The records of exports.
+
+ghost use Rattle.std.specs.Prelude.{◌≡◌, None, Some};
+ghost use Rattle.goblin_pe_export.specs.ExportWalks.{walked_export};
+ghost use Rattle.goblin_pe_export.specs.Forwarders.{forwarder_value};
+ghost use Rattle.goblin_pe_c_tables.specs.Exports.{export_said, export_view, said_without_forwarder};
+
+use crate::forwarder::{PeForwarder, forwarder_record, no_forwarder};
+use goblin_pe::export::{Reexport, WalkedExport};
+
+/// An export that has a name pointer.
+#[repr(C)]
+#[derive(Copy, Clone)]
+pub struct PeExport<'a> {
+    /// The name.
+    pub name: &'a [u8],
+    /// Where it is forwarded to.
+    pub forwarder: PeForwarder<'a>,
+    /// The ordinal.
+    pub ordinal: usize,
+    /// The index of its name pointer, which imports give as a hint.
+    pub hint: usize,
+    /// The RVA; of a forwarder, that of its text.
+    pub rva: usize,
+    /// The RVA of the name.
+    pub name_rva: usize,
+    /// The file offset of `rva`, if it has one; else 0.
+    pub offset: usize,
+    /// Whether the name can be read.
+    pub has_name: bool,
+    /// Whether `rva` has a file offset.
+    pub has_offset: bool,
+    /// Zeros.
+    pub reserved: [u8; 6],
+}
+
+// The record of an export that is no forwarder.
+#[inline(always)]
+pub(crate) fn plain_record<'a>(bytes: &'a [u8], walked: &WalkedExport<'a>) -> PeExport<'a>
+    ensures value { export_view result ≡ said_without_forwarder (walked_export walked.now) }
+    ensures plain { (walked_export walked.now).row.reexport ≡ None
+        → export_view result ≡ export_said (walked_export walked.now) }
+{
+    let export = &walked.export;
+    PeExport {
+        name: match export.name {
+            Some(name) => name.as_bytes(),
+            None => &bytes[..0],
+        },
+        forwarder: no_forwarder(bytes),
+        ordinal: walked.ordinal,
+        hint: walked.hint,
+        rva: export.rva,
+        name_rva: walked.name_rva as usize,
+        offset: export.offset.unwrap_or(0),
+        has_name: export.name.is_some(),
+        has_offset: export.offset.is_some(),
+        reserved: [0; 6],
+    }
+}
+
+// The record of an export that is this forwarder.
+#[inline(always)]
+fn forwarded_record<'a>(
+    bytes: &'a [u8],
+    walked: &WalkedExport<'a>,
+    reexport: &Reexport<'a>,
+) -> PeExport<'a>
+    requires { (walked_export walked.now).row.reexport ≡ Some (forwarder_value reexport.now) }
+    ensures { export_view result ≡ export_said (walked_export walked.now) }
+{
+    PeExport {
+        forwarder: forwarder_record(bytes, reexport),
+        ..plain_record(bytes, walked)
+    }
+}
+
+/// Puts the record of an export of these bytes into its place. (A record that is made for both
+/// kinds at once would be cleared first for every export.)
+#[inline(always)]
+pub fn put_export<'a>(place: &mut PeExport<'a>, bytes: &'a [u8], walked: &WalkedExport<'a>)
+    ensures { export_view place.new ≡ export_said (walked_export walked.now) }
+{
+    match &walked.export.reexport {
+        None => *place = plain_record(bytes, walked),
+        Some(reexport) => *place = forwarded_record(bytes, walked, reexport),
+    }
+}

@@ -1,0 +1,214 @@
+//! The records of what an export directory says, and of the export address table, in batches.
+
+ghost use Rattle.std.specs.Prelude.{◌≡◌, MatchResult};
+ghost use Rattle.std.specs.Prelude.{slice_get};
+ghost use Rattle.goblin_pe_sect.specs.Addresses.{map_of};
+ghost use Rattle.goblin_pe_export.specs.ExportRecords.{rva_of};
+ghost use Rattle.goblin_pe_export.specs.ExportWalks.{walked_tables};
+ghost use Rattle.goblin_pe.specs.Layouts.{layout_bytes, layout_map, layout_places};
+ghost use Rattle.goblin_pe_c_tables.specs.Batches.{AddressBatch, GivesAddresses, GivesBatch};
+ghost use Rattle.goblin_pe_c_tables.specs.Batches.{IsAddressBatchFault, IsAddressesFault, SaysDirectory};
+ghost use Rattle.goblin_pe_c_headers.specs.Onward.{GivesOnward};
+ghost use Rattle.goblin_pe_c_tables.specs.ExportDirectories.{address_said, addresses_said};
+ghost use Rattle.goblin_pe_c_tables.specs.ExportDirectories.{directory_said, directory_view};
+ghost use Rattle.goblin_pe_c_tables.specs.ExportDirectories.{is_forwarder, no_export_directory};
+
+use crate::batch::{Batched, at_room};
+use crate::places::layout_of;
+use goblin_pe::export::{ExportAddressTableEntry, ExportDirectoryTable, Exports};
+use goblin_pe::{Layout, Part, Result, ResultOf};
+use goblin_pe_c_headers::batch::PeBatch;
+use goblin_pe_c_headers::image::PeImage;
+use goblin_pe_c_headers::onward::fill_onward;
+use goblin_pe_sect::address_map::{AddressMap, Finder};
+use std::alloc::Global;
+
+/// An entry of the export address table.
+#[repr(C)]
+#[derive(Copy, Clone)]
+pub struct PeExportAddress {
+    /// The ordinal.
+    pub ordinal: usize,
+    /// The RVA; of a forwarder, that of its text; 0 if the ordinal is unused.
+    pub rva: usize,
+    /// The file offset of `rva`, if it has one; else 0.
+    pub offset: usize,
+    /// Whether it is forwarded: its text can be read at `rva`.
+    pub is_forwarder: bool,
+    /// Whether `rva` has a file offset.
+    pub has_offset: bool,
+    /// Zeros.
+    pub reserved: [u8; 6],
+}
+
+/// What the export directory says.
+#[repr(C)]
+#[derive(Copy, Clone)]
+pub struct PeExportDirectory<'a> {
+    /// The image's own name as a DLL.
+    pub name: &'a [u8],
+    /// The export directory table, as stored.
+    pub record: ExportDirectoryTable,
+    /// Whether the name can be read.
+    pub has_name: bool,
+    /// Whether the image has an export directory that is read. If not, all else is zeros.
+    pub is_present: bool,
+    /// Zeros.
+    pub reserved: [u8; 6],
+}
+
+// The RVA of an entry, and whether it is forwarded.
+fn address_of(entry: ExportAddressTableEntry) -> (u32, bool)
+    ensures { result ≡ (rva_of entry, is_forwarder entry) }
+{
+    match entry {
+        ExportAddressTableEntry::ExportRVA(rva) => (rva, false),
+        ExportAddressTableEntry::ForwarderRVA(rva) => (rva, true),
+    }
+}
+
+// The record of an entry with an ordinal.
+fn address_record(
+    entry: ExportAddressTableEntry,
+    ordinal: usize,
+    address_map: &AddressMap,
+) -> PeExportAddress
+    ensures { result ≡ address_said (map_of address_map.now).addressing ordinal entry }
+{
+    let (rva, is_forwarder) = address_of(entry);
+    let offset = address_map.offset_of(rva);
+    PeExportAddress {
+        ordinal,
+        rva: rva as usize,
+        offset: offset.unwrap_or(0),
+        is_forwarder,
+        has_offset: offset.is_some(),
+        reserved: [0; 6],
+    }
+}
+
+// The record of an export directory.
+fn directory_record<'a>(bytes: &'a [u8], exports: &Exports<'a, '_>) -> PeExportDirectory<'a>
+    ensures { directory_view result ≡ directory_said (walked_tables exports.now) }
+{
+    let name = exports.name();
+    PeExportDirectory {
+        name: match name {
+            Some(name) => name.as_bytes(),
+            None => &bytes[..0],
+        },
+        record: *exports.directory_table(),
+        has_name: name.is_some(),
+        is_present: true,
+        reserved: [0; 6],
+    }
+}
+
+// The record if none is read.
+fn no_export_directory<'a>(bytes: &'a [u8]) -> PeExportDirectory<'a>
+    ensures { directory_view result ≡ no_export_directory }
+{
+    PeExportDirectory {
+        name: &bytes[..0],
+        record: ExportDirectoryTable::default(),
+        has_name: false,
+        is_present: false,
+        reserved: [0; 6],
+    }
+}
+
+// The record of what the export directory of a file says.
+fn directory_of<'a>(layout: &Layout<'a>) -> Result<PeExportDirectory<'a>>
+    ensures { let m = layout_map layout.now in
+        let places = layout_places layout.now in
+        let bytes = layout_bytes layout.now in
+        MatchResult result (λ d. SaysDirectory m places bytes (directory_view d))
+        (λ e. IsAddressesFault m places bytes e) }
+{
+    match layout.export_addresses()? {
+        Part::Read(exports) => Ok(directory_record(layout.bytes(), &exports)),
+        Part::Absent | Part::Refused => Ok(no_export_directory(layout.bytes())),
+    }
+}
+
+/// Puts into `directory` the export directory of an image; zeros if none is read. How many name
+/// pointers it counts does not matter.
+///
+/// # Errors
+/// As [`layout_of`]; in strict mode the export directory. Nothing is then changed.
+pub fn give_directory<'a>(
+    alloc: Global,
+    image: &PeImage<'a>,
+    directory: &mut PeExportDirectory<'a>,
+) -> Result<()>
+    ensures { GivesBatch image.now
+        (λ m places. SaysDirectory m places image.now.bytes.now (directory_view directory.new))
+        (λ m places. IsAddressesFault m places image.now.bytes.now)
+        (directory.new ≡ directory.old) result }
+{
+    let layout = layout_of(alloc, image)?;
+    *directory = directory_of(&layout)?;
+    Ok(())
+}
+
+// The record of the entry at an index, if there is one.
+fn address_at(exports: &Exports, index: usize, address_map: &AddressMap) -> Option<PeExportAddress>
+    ensures { result
+        ≡ slice_get (addresses_said (map_of address_map.now).addressing (walked_tables exports.now))
+        index }
+{
+    if exports.address_count() <= index {
+        return None;
+    }
+    let Some(entry) = exports.address(index) else {
+        return None;
+    };
+    let base = exports.directory_table().ordinal_base;
+    Some(address_record(entry, base as usize + index, address_map))
+}
+
+// Fills records with the entries from the index `position` on, as far as there is room, moves the
+// index past them, and answers what it did.
+fn fill_addresses(
+    exports: &Exports,
+    finder: &Finder,
+    position: &mut usize,
+    records: &mut [PeExportAddress],
+) -> PeBatch
+    ensures { let m = map_of finder.now in
+        let old : AddressBatch = record { position = position.old; records = records.old } in
+        let new : AddressBatch = record { position = position.new; records = records.new } in
+        GivesOnward (addresses_said m.addressing (walked_tables exports.now)) old new result }
+{
+    if exports.address_count() <= *position {
+        return at_room(records.len(), 0, true);
+    }
+    let address_map = finder.address_map();
+    fill_onward(
+        |index| address_at(exports, index, address_map),
+        position,
+        records,
+    )
+}
+
+impl<'a> Batched<'a> for PeExportAddress {
+    type Position = usize;
+
+    ghost gives = { λ m places bytes before after. GivesAddresses m places bytes };
+
+    ghost is_fault = { IsAddressBatchFault };
+
+    fn next<'e>(
+        layout: &Layout<'a>,
+        position: &mut usize,
+        _steps: &mut usize,
+        records: &mut [PeExportAddress],
+    ) -> ResultOf<'e, PeBatch> {
+        match layout.export_addresses()? {
+            Part::Read(exports) => {
+                Ok(fill_addresses(&exports, &layout.finder(), position, records))
+            }
+            Part::Absent | Part::Refused => Ok(at_room(records.len(), 0, true)),
+        }
+    }
+}

@@ -1,0 +1,88 @@
+//! The records of imports.
+
+ghost use Rattle.std.specs.Prelude.{◌≡◌, ◌==◌, length, not};
+ghost use Rattle.goblin_pe_import.specs.ImportWalks.{walked_value};
+ghost use Rattle.goblin_pe_c_tables.specs.Imports.{import_said, import_view};
+
+use goblin_pe::import::{SyntheticImportLookupTableEntry, WalkedImport};
+
+/// An import.
+#[repr(C)]
+#[derive(Copy, Clone)]
+pub struct PeImport<'a> {
+    /// The name; empty if it is imported by ordinal, or permissive mode could not read the name.
+    /// To see the bytes of such a name, look up the file offset of `hint_name_rva` + 2.
+    pub name: &'a [u8],
+    /// The name of the DLL; empty if permissive mode could not read it.
+    pub dll: &'a [u8],
+    /// The RVA of its thunk in the import address table, where the loader puts the address.
+    pub iat_rva: usize,
+    /// The RVA of its hint and name; 0 if it is imported by ordinal.
+    pub hint_name_rva: usize,
+    /// The index of the DLL's entry in the import directory. Skipped entries count.
+    pub library_index: usize,
+    /// The index of its entry in the lookup table. Skipped entries count.
+    pub thunk_index: usize,
+    /// The hint if it is imported by name, else the ordinal.
+    pub hint_or_ordinal: u16,
+    /// Whether it is imported by name.
+    pub is_by_name: bool,
+    /// Whether it has a name: it is imported by name, and the name can be read and is not empty.
+    pub has_name: bool,
+    /// Zero.
+    pub reserved: u32,
+}
+
+// The record of an import, with what its entry says: its name, the address of this, its ordinal or
+// its hint, and whether it is by name.
+#[inline(always)]
+fn record_by<'a>(
+    import: &WalkedImport<'a>,
+    name: &'a [u8],
+    rva: u32,
+    hint_or_ordinal: u16,
+    is_by_name: bool,
+) -> PeImport<'a>
+    ensures { import_view result ≡ record {
+      name = name.now;
+      dll = import.now.dll.now;
+      iat_rva = import.now.slot_rva;
+      hint_name_rva = rva;
+      library_index = import.now.library;
+      thunk_index = import.now.slot;
+      hint_or_ordinal = hint_or_ordinal;
+      is_by_name = is_by_name;
+      has_name = not (length name.now == 0);
+      reserved = 0;
+    } }
+{
+    PeImport {
+        name,
+        dll: import.dll.as_bytes(),
+        iat_rva: import.slot_rva,
+        hint_name_rva: rva as usize,
+        library_index: import.library,
+        thunk_index: import.slot,
+        hint_or_ordinal,
+        is_by_name,
+        has_name: !name.is_empty(),
+        reserved: 0,
+    }
+}
+
+/// Puts the record of an import of these bytes into its place. (Each kind has a record of its own:
+/// one that is made for both would be put together by conditions for every import.)
+#[inline(always)]
+pub fn put_import<'a>(place: &mut PeImport<'a>, bytes: &'a [u8], import: &WalkedImport<'a>)
+    ensures { import_view place.new ≡ import_said (walked_value import.now) }
+{
+    match &import.entry {
+        SyntheticImportLookupTableEntry::OrdinalNumber(ordinal) => {
+            *place = record_by(import, &bytes[..0], 0, *ordinal, false);
+        }
+        SyntheticImportLookupTableEntry::HintNameTableRVA((rva, named)) => {
+            let name = named.name.as_bytes();
+            *place = record_by(import, name, *rva, named.hint, true);
+        }
+    }
+}

@@ -1,0 +1,152 @@
+//! The records of libraries, in batches.
+
+ghost use Rattle.std.specs.Prelude.{◌≡◌, ◌<◌, IfErr, MatchResult, Some, length};
+ghost use Rattle.goblin_base.specs.Answers.{IsMemory};
+ghost use Rattle.goblin_pe_sect.specs.Addresses.{map_of};
+ghost use Rattle.goblin_pe.specs.Layouts.{layout_bytes, layout_map, layout_places};
+ghost use Rattle.goblin_pe.specs.Libraries.{AreLibrariesOver, IsLibrariesCause, libraries_left};
+ghost use Rattle.goblin_pe.specs.Libraries.{library_value};
+ghost use Rattle.goblin_pe.specs.Whole.{entry_format};
+ghost use Rattle.goblin_pe_c_tables.specs.Libraries.{GivesLibraries};
+ghost use Rattle.goblin_pe_c_tables.specs.Libraries.{IsLibrariesFault, LibraryBatch};
+ghost use Rattle.goblin_pe_c_tables.specs.Libraries.{library_said, library_table, library_view};
+ghost use Rattle.goblin_pe_c_headers.specs.Onward.{IsRefusedNext};
+
+use crate::batch::Batched;
+use crate::next::{PeImportCursor, cursor_at, cursor_numbers};
+use goblin_base::answer_for;
+use goblin_pe::import::{ImportCursor, ImportDirectoryEntry, Libraries, WalkedLibrary};
+use goblin_pe::{Layout, Result, ResultOf};
+use goblin_pe_c_headers::batch::{PeBatch, ended, goes_on};
+use goblin_pe_c_headers::fault::{PeFault, fault_of, no_fault};
+use goblin_pe_sect::address_map::Finder;
+
+/// A DLL that the image imports from: an entry of the import directory. A DLL may have several.
+#[repr(C)]
+#[derive(Copy, Clone)]
+pub struct PeLibrary<'a> {
+    /// The name; empty if `name_fault` says why it can't be read.
+    pub name: &'a [u8],
+    /// Why the name can't be read.
+    pub name_fault: PeFault,
+    /// The index of the entry in the import directory.
+    pub index: usize,
+    /// The file offset of the entry.
+    pub offset: usize,
+    /// Where its imports begin. From here a walk over imports gives only these. It does not need
+    /// the name: if it can't be read, the imports have an empty one, also in strict mode.
+    pub imports: PeImportCursor,
+    /// The entry, as stored.
+    pub record: ImportDirectoryEntry,
+    /// Whether permissive mode skips it, as it has no address table. Strict mode refuses the
+    /// imports.
+    pub is_skipped: bool,
+    /// Zeros.
+    pub reserved: [u8; 3],
+}
+
+// The record of a library of these bytes.
+fn library_record<'a>(
+    bytes: &'a [u8],
+    library: &WalkedLibrary<'a>,
+    finder: &mut Finder<'_>,
+) -> PeLibrary<'a>
+    ensures said { library_view result
+        ≡ library_said (map_of finder.old) (library_value library.now) }
+    ensures same { finder.new ≡ finder.old }
+{
+    let (name, name_fault) = match &library.name {
+        Ok(name) => (name.as_bytes(), no_fault()),
+        Err(error) => (&bytes[..0], fault_of(error)),
+    };
+    PeLibrary {
+        name,
+        name_fault,
+        index: library.index,
+        offset: library.offset,
+        imports: cursor_numbers(library.inside(finder)),
+        record: library.import_directory_entry,
+        is_skipped: library.is_left_out,
+        reserved: [0; 3],
+    }
+}
+
+// Fills records with the libraries that come next, as far as there is room, and answers what it did.
+fn fill_libraries<'a>(
+    layout: &Layout<'a>,
+    mut libraries: Libraries<'a, '_>,
+    position: &mut PeImportCursor,
+    records: &mut [PeLibrary<'a>],
+) -> Result<PeBatch>
+    requires over { let m = layout_map layout.now in
+        AreLibrariesOver m (entry_format (layout_places layout.now).magic) (layout_bytes layout.now)
+        libraries }
+    requires left { let m = layout_map layout.now in
+        (library_table m (layout_places layout.now) (layout_bytes layout.now)).from position.old
+        ≡ Some (libraries_left libraries) }
+    ensures filled { let m = layout_map layout.now in
+        let old : LibraryBatch = record { position = position.old; records = records.old } in
+        let new : LibraryBatch = record { position = position.new; records = records.new } in
+        MatchResult result
+        (GivesLibraries m (layout_places layout.now) (layout_bytes layout.now) old new)
+        (λ e. IsRefusedNext (libraries_left libraries.entry) × IsLibrariesCause libraries.entry e
+        × (0 < length old.records) × (new ≡ old)) }
+    ensures refused { IfErr result (λ e. ¬ IsMemory e) }
+{
+    let mut finder = layout.finder();
+    let mut count = 0;
+    'libraries: while count < records.len() {
+        match libraries.next() {
+            Some(Ok(library)) => {
+                records[count] = library_record(layout.bytes(), &library, &mut finder);
+                *position = cursor_numbers(libraries.cursor());
+                count += 1;
+            }
+            Some(Err(error)) if count == 0 => return Err(error),
+            Some(Err(_)) => {
+                return Ok(goes_on(count));
+            }
+            None => {
+                *position = cursor_numbers(ImportCursor::end());
+                return Ok(ended(count));
+            }
+        }
+    }
+    Ok(goes_on(count))
+}
+
+// Fills records with the libraries of a file that come next, and answers what it did.
+fn next_libraries<'a>(
+    layout: &Layout<'a>,
+    position: &mut PeImportCursor,
+    records: &mut [PeLibrary<'a>],
+) -> Result<PeBatch>
+    ensures filled { let m = layout_map layout.now in
+        let places = layout_places layout.now in
+        let bytes = layout_bytes layout.now in
+        let old : LibraryBatch = record { position = position.old; records = records.old } in
+        let new : LibraryBatch = record { position = position.new; records = records.new } in
+        MatchResult result (GivesLibraries m places bytes old new)
+        (λ e. IsLibrariesFault m places bytes old e × (new ≡ old)) }
+    ensures refused { IfErr result (λ e. ¬ IsMemory e) }
+{
+    let at = cursor_at(layout, position)?;
+    fill_libraries(layout, layout.libraries_at(at), position, records)
+}
+
+impl<'a> Batched<'a> for PeLibrary<'a> {
+    type Position = PeImportCursor;
+
+    ghost gives = { λ m places bytes before after. GivesLibraries m places bytes };
+
+    ghost is_fault = { IsLibrariesFault };
+
+    fn next<'e>(
+        layout: &Layout<'a>,
+        position: &mut PeImportCursor,
+        _steps: &mut usize,
+        records: &mut [PeLibrary<'a>],
+    ) -> ResultOf<'e, PeBatch> {
+        answer_for(next_libraries(layout, position, records))
+    }
+}

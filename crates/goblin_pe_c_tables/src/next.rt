@@ -1,0 +1,373 @@
+//! Imports and exports in batches.
+
+ghost use Rattle.std.specs.Prelude.{◌≡◌, ◌⊎◌, ◌+◌, ◌<◌, ◌≤◌, IfErr, MatchResult};
+ghost use Rattle.std.specs.Prelude.{◌-◌, length, max, min};
+ghost use Rattle.goblin_base.specs.Answers.{IsMemory};
+ghost use Rattle.goblin_base.specs.Reading.{Reads};
+ghost use Rattle.goblin_pe.specs.LayoutCursors.{file_ahead};
+ghost use Rattle.goblin_pe_export.specs.ExportWalks.{KeepsOver, exports_left, exports_position};
+ghost use Rattle.goblin_pe_export.specs.ExportWalks.{pointer_count};
+ghost use Rattle.goblin_pe.specs.Layouts.{IsFileImportsCause, file_imports_left, layout_map};
+ghost use Rattle.goblin_pe.specs.Layouts.{layout_bytes, layout_places};
+ghost use Rattle.goblin_pe_c_tables.specs.Batches.{ExportWalkBatch, Fills, GivesExports, GivesImports};
+ghost use Rattle.goblin_pe_c_tables.specs.Batches.{GivesInFile, GoesOn, ImportBatch, export_walk};
+ghost use Rattle.goblin_pe_c_tables.specs.Batches.{IsExportBatchFault, IsImportsFault};
+ghost use Rattle.goblin_pe_c_tables.specs.Batches.{cursor_numbers, cursor_said, import_cursor};
+ghost use Rattle.goblin_pe_c_tables.specs.Batches.{is_over};
+ghost use Rattle.goblin_pe_c_tables.specs.Imports.{GivesHere};
+ghost use Rattle.goblin_pe_c_headers.specs.Onward.{FillsFrom, IsRefusedNext, unrefused};
+
+use crate::batch::{Batched, at_room};
+use crate::export::{PeExport, plain_record, put_export};
+use crate::import::{PeImport, put_import};
+use goblin_base::answer_for;
+use goblin_pe::export::Exports;
+use goblin_pe::import::{Bitfield, ImportCursor, Imports};
+use goblin_pe::{FileImports, Layout, Part, Result, ResultOf};
+use goblin_pe_c_headers::batch::{PeBatch, goes_on};
+
+/// Where a walk over imports or libraries is. Zeros begin it. The other numbers are internal: copy
+/// and compare them, but make none.
+#[repr(C)]
+#[derive(Copy, Clone)]
+pub struct PeImportCursor {
+    /// The file offset of the directory's first entry, from which entries are counted.
+    pub first_record: usize,
+    /// The file offset of the entry that comes after the library, if there is one.
+    pub next_record: usize,
+    /// The index of the library's entry.
+    pub library: usize,
+    /// The file offset of its lookup table.
+    pub table_offset: usize,
+    /// The file offset of the next entry of that table, in a library.
+    pub place: usize,
+    /// The RVA of the library's name.
+    pub name_rva: u32,
+    /// The RVA of its address table.
+    pub rva: u32,
+    /// The RVA of its address table, if that is to be tested after its entries.
+    pub address_table: u32,
+    /// Whether the walk has begun; else the other fields are not looked at.
+    pub is_begun: bool,
+    /// Whether an entry comes after the library.
+    pub has_next: bool,
+    /// Whether it is in a library.
+    pub has_place: bool,
+    /// Whether the address table is to be tested.
+    pub has_address_table: bool,
+}
+
+// The cursor that these numbers say.
+fn cursor_said(position: &PeImportCursor) -> ImportCursor
+    ensures { result ≡ cursor_said position.now }
+{
+    let at = *position;
+    ImportCursor {
+        first_record: at.first_record,
+        next_record: if at.has_next {
+            Some(at.next_record)
+        } else {
+            None
+        },
+        library: at.library,
+        name_rva: at.name_rva,
+        rva: at.rva,
+        table_offset: at.table_offset,
+        place: if at.has_place { Some(at.place) } else { None },
+        untested: if at.has_address_table {
+            Some(at.address_table)
+        } else {
+            None
+        },
+    }
+}
+
+// The numbers of a cursor.
+pub(crate) fn cursor_numbers(at: ImportCursor) -> PeImportCursor
+    ensures { result ≡ cursor_numbers at }
+{
+    PeImportCursor {
+        first_record: at.first_record,
+        next_record: at.next_record.unwrap_or(0),
+        library: at.library,
+        table_offset: at.table_offset,
+        place: at.place.unwrap_or(0),
+        name_rva: at.name_rva,
+        rva: at.rva,
+        address_table: at.untested.unwrap_or(0),
+        is_begun: true,
+        has_next: at.next_record.is_some(),
+        has_place: at.place.is_some(),
+        has_address_table: at.untested.is_some(),
+    }
+}
+
+// The cursor at a position.
+pub(crate) fn cursor_at<'e>(
+    layout: &Layout,
+    position: &PeImportCursor,
+) -> ResultOf<'e, ImportCursor>
+    ensures { let m = layout_map layout.now in
+        Reads (λ c. c) result (import_cursor m (layout_places layout.now) position.now)
+        (layout_bytes layout.now) }
+{
+    if position.is_begun {
+        return Ok(cursor_said(position));
+    }
+    layout.imports_begin()
+}
+
+// Whether nothing comes at a cursor.
+pub(crate) fn is_over(at: &ImportCursor) -> bool
+    ensures { result ≡ is_over at.now }
+{
+    at.place.is_none() && at.next_record.is_none() && at.untested.is_none()
+}
+
+// Up to which record there is room from `first` on, as each is a step.
+fn end_within(room: usize, first: usize, left: usize) -> usize
+    ensures room { result ≤ room }
+    ensures steps { result ≤ first + left }
+    ensures least { first ≤ room → first ≤ result }
+{
+    room.min(first.saturating_add(left))
+}
+
+// Fills records from `first` on with the plain imports that come next in the library of the walk,
+// up to `end`, and returns the index after the last one filled. It is not inlined, so that its loop
+// shares no registers with its caller's.
+#[inline(never)]
+fn fill_here<'a, 'm, 'e, T: Bitfield<'a>>(
+    bytes: &'a [u8],
+    imports: &mut Imports<'a, 'm, 'e, T>,
+    records: &mut [PeImport<'a>],
+    first: usize,
+    end: usize,
+) -> usize
+    requires { end ≤ length records.old }
+    ensures filled { GivesHere T.format imports.old imports.new
+        (Fills records.old records.new first result) }
+    ensures further { first ≤ result }
+    ensures within { first ≤ end → result ≤ end }
+{
+    let Some(mut plain) = imports.plain() else {
+        return first;
+    };
+    let mut count = first;
+    'plain: while count < end {
+        let Some(import) = plain.next_import() else {
+            break 'plain;
+        };
+        put_import(&mut records[count], bytes, &import);
+        count += 1;
+    }
+    imports.go_on(&plain);
+    count
+}
+
+// As `fill_here`, by the width of the file's entries, within the steps that are left. Where there is
+// no room, nothing is made ready for what comes next.
+#[inline(always)]
+fn fill_library<'a, 'm, 'e>(
+    bytes: &'a [u8],
+    imports: &mut FileImports<'a, 'm, 'e>,
+    records: &mut [PeImport<'a>],
+    first: usize,
+    left: &mut usize,
+) -> usize
+    ensures filled { GivesInFile imports.old imports.new
+        (Fills records.old records.new first result) }
+    ensures further { first ≤ result }
+    ensures counted { file_ahead imports.old + left.new ≡ file_ahead imports.new + left.old }
+{
+    if records.len() <= first {
+        return first;
+    }
+    let end = end_within(records.len(), first, *left);
+    let count = match imports {
+        FileImports::Narrow(imports) => fill_here(bytes, imports, records, first, end),
+        FileImports::Wide(imports) => fill_here(bytes, imports, records, first, end),
+    };
+    *left -= count - first;
+    count
+}
+
+// Fills records with the imports that come next, as far as there is room and within so many steps,
+// and answers what it did and how many steps are left. What was looked at before a refusal does not
+// count.
+fn fill_imports<'a, 'm, 'e>(
+    layout: &Layout<'a>,
+    mut imports: FileImports<'a, 'm, 'e>,
+    position: &mut PeImportCursor,
+    steps: usize,
+    records: &mut [PeImport<'a>],
+) -> ResultOf<'e, (PeBatch, usize)>
+    requires { let m = layout_map layout.now in
+        GoesOn m (layout_places layout.now) (layout_bytes layout.now) position.old imports }
+    ensures filled { let m = layout_map layout.now in
+        let places = layout_places layout.now in
+        let bytes = layout_bytes layout.now in
+        let old : ImportBatch = record { position = position.old; records = records.old } in
+        let new : ImportBatch = record { position = position.new; records = records.new } in
+        MatchResult result (λ r. GivesImports m places bytes steps r.1 old new r.0)
+        (λ e. IsRefusedNext (file_imports_left imports.entry)
+        × IsFileImportsCause imports.entry e × (0 < length old.records) × (new ≡ old)) }
+    ensures refused { IfErr result (λ e. ¬ IsMemory e) }
+{
+    let mut left = steps;
+    let mut count = 0;
+    'imports: while count < records.len() {
+        let mut limit = Some(left);
+        match imports.next_within(&mut limit) {
+            Some(Ok(import)) => {
+                put_import(&mut records[count], layout.bytes(), &import);
+                left = limit.unwrap_or(0);
+                count = fill_library(layout.bytes(), &mut imports, records, count + 1, &mut left);
+                *position = cursor_numbers(imports.cursor());
+            }
+            Some(Err(error)) if count == 0 => return Err(error),
+            Some(Err(_)) => {
+                return Ok((goes_on(count), left));
+            }
+            None => {
+                let at = imports.cursor();
+                *position = cursor_numbers(at);
+                let is_done = is_over(&at);
+                return Ok((PeBatch { count, is_done }, limit.unwrap_or(0)));
+            }
+        }
+    }
+    Ok((goes_on(count), left))
+}
+
+// Fills records with the imports of a file that come next, and answers what it did and how many
+// steps are left.
+fn next_imports<'a>(
+    layout: &Layout<'a>,
+    position: &mut PeImportCursor,
+    steps: usize,
+    records: &mut [PeImport<'a>],
+) -> Result<(PeBatch, usize)>
+    ensures filled { let m = layout_map layout.now in
+        let places = layout_places layout.now in
+        let bytes = layout_bytes layout.now in
+        let old : ImportBatch = record { position = position.old; records = records.old } in
+        let new : ImportBatch = record { position = position.new; records = records.new } in
+        MatchResult result (λ r. GivesImports m places bytes steps r.1 old new r.0)
+        (λ e. IsImportsFault m places bytes old e × (new ≡ old)) }
+    ensures refused { IfErr result (λ e. ¬ IsMemory e) }
+{
+    let at = cursor_at(layout, position)?;
+    fill_imports(layout, layout.imports_at(at), position, steps, records)
+}
+
+impl<'a> Batched<'a> for PeImport<'a> {
+    type Position = PeImportCursor;
+
+    ghost gives = { GivesImports };
+
+    ghost is_fault = { IsImportsFault };
+
+    fn next<'e>(
+        layout: &Layout<'a>,
+        position: &mut PeImportCursor,
+        steps: &mut usize,
+        records: &mut [PeImport<'a>],
+    ) -> ResultOf<'e, PeBatch> {
+        match answer_for(next_imports(layout, position, *steps, records)) {
+            Ok((batch, left)) => {
+                *steps = left;
+                Ok(batch)
+            }
+            Err(error) => Err(error),
+        }
+    }
+}
+
+// The index of a name pointer, of so many, before which a batch ends that begins at a position.
+fn end_after(pointers: usize, position: usize, steps: usize) -> usize
+    ensures within { result ≤ pointers }
+    ensures limit { result ≤ position + steps }
+    ensures whole { (result ≡ pointers) ⊎ (result ≡ position + steps) }
+{
+    pointers.min(position.saturating_add(steps))
+}
+
+// How many name pointers before `end` are still to be looked at.
+fn pointers_before(end: usize, exports: &Exports) -> usize
+    ensures { result ≡ end - exports_position exports.now }
+{
+    end.saturating_sub(exports.position())
+}
+
+// Fills records with the exports that come next of the name pointers before `end`, as far as there
+// is room, and answers how many. Those that are plain come by a loop of their own, in which all goes
+// in line.
+fn fill_exports<'a, 'm>(
+    bytes: &'a [u8],
+    exports: &mut Exports<'a, 'm>,
+    end: usize,
+    records: &mut [PeExport<'a>],
+) -> usize
+    ensures filled { let old : ExportWalkBatch =
+        record { position = exports.old; records = records.old } in
+        let new : ExportWalkBatch = record { position = exports.new; records = records.new } in
+        FillsFrom export_walk
+        ((end < pointer_count exports.old) × (end ≤ exports_position exports.new))
+        (unrefused (exports_left exports.old)) old new result }
+    ensures over { KeepsOver exports.old exports.new }
+    ensures further { exports_position exports.old ≤ exports_position exports.new }
+    ensures within { exports_position exports.new ≤ max (exports_position exports.old) end }
+    ensures through { (length records.old ≤ result)
+        ⊎ (min end (pointer_count exports.old) ≤ exports_position exports.new) }
+{
+    let mut count = 0;
+    'exports: while count < records.len() {
+        let Some(export) = exports.next_before(end) else {
+            return count;
+        };
+        put_export(&mut records[count], bytes, &export);
+        count += 1;
+        let left = pointers_before(end, exports);
+        let stop = end_within(records.len(), count, left);
+        'plain: while count < stop {
+            let Some(export) = exports.next_plain() else {
+                break;
+            };
+            records[count] = plain_record(bytes, &export);
+            count += 1;
+        }
+    }
+    count
+}
+
+impl<'a> Batched<'a> for PeExport<'a> {
+    type Position = usize;
+
+    ghost gives = { GivesExports };
+
+    ghost is_fault = { IsExportBatchFault };
+
+    fn next<'e>(
+        layout: &Layout<'a>,
+        position: &mut usize,
+        steps: &mut usize,
+        records: &mut [PeExport<'a>],
+    ) -> ResultOf<'e, PeBatch> {
+        match layout.exports()? {
+            Part::Read(exports) => {
+                let room = records.len();
+                let mut exports = exports.from_position(*position);
+                let pointers = exports.pointer_count();
+                let allowed = *steps;
+                let end = end_after(pointers, *position, allowed);
+                let count = fill_exports(layout.bytes(), &mut exports, end, records);
+                let next = exports.position();
+                *steps = allowed.saturating_sub(next.saturating_sub(*position));
+                *position = next;
+                Ok(at_room(room, count, pointers <= next))
+            }
+            Part::Absent | Part::Refused => Ok(at_room(records.len(), 0, true)),
+        }
+    }
+}

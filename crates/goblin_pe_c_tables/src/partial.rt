@@ -1,0 +1,302 @@
+//! The header of an image as far as it goes.
+
+ghost use Rattle.std.specs.Prelude.{◌≡◌, IsSome, MatchResult};
+ghost use Rattle.goblin_base.specs.Reading.{IsRefused, Reads};
+ghost use Rattle.goblin_pe_sect.specs.Options.{is_strict};
+ghost use Rattle.goblin_pe_sect.specs.SectionTable.{recorded_sections};
+ghost use Rattle.goblin_pe_head.specs.DosStub.{stub_bytes};
+ghost use Rattle.goblin_pe_head.specs.PeHeader.{zero_dos_header};
+ghost use Rattle.goblin_pe.specs.Whole.{layout as file_layout};
+ghost use Rattle.goblin_pe_c_headers.specs.Faults.{status_of};
+ghost use Rattle.goblin_pe_c_headers.specs.Headers.{optional_record};
+ghost use Rattle.goblin_pe_c_headers.specs.ImageRecords.{IsImage, zero_coff_header};
+ghost use Rattle.goblin_pe_c_tables.specs.PartialImages.{AreTableFaults, PartialRecords, SaysPartial, file_stub};
+ghost use Rattle.goblin_pe_c_tables.specs.PartialImages.{faults_of, given_count, given_or};
+ghost use Rattle.goblin_pe_c_tables.specs.PartialImages.{has_fields, is_replaced, names_there};
+ghost use Rattle.goblin_pe_c_tables.specs.PartialImages.{sections_of};
+ghost use Rattle.goblin_pe_c_tables.specs.PartialImages.{partial_image, stub_size, table_there};
+
+use crate::read::rich_record;
+use goblin_pe::header::{
+    CoffHeader, DosHeader, DosStub, Header, HeaderParts, RichHeader, unnamed_records,
+};
+use goblin_pe::optional_header::{OptionalHeader, StandardFields, WindowsFields};
+use goblin_pe::options::ParseOptions;
+use goblin_pe::section_table::SectionRecords;
+use goblin_pe::{Places, Result, section_records_of};
+use goblin_pe_c_headers::fault::{PeFault, fault_of, no_fault};
+use goblin_pe_c_headers::headers::{PeOptionalHeader, fill_optional};
+use goblin_pe_c_headers::image::PeImage;
+use goblin_pe_c_headers::kind::Kind;
+use goblin_pe_c_headers::options::{PeOptions, header_options};
+
+/// Which parts of a header a partial read could not read. A part that is there, or that the file
+/// does not have, has the status 0. A part whose place only another part tells has that part's
+/// fault.
+#[repr(C)]
+#[derive(Copy, Clone)]
+pub struct PeHeaderFaults {
+    /// With the PE signature.
+    pub dos_header: PeFault,
+    /// The DOS stub.
+    pub dos_stub: PeFault,
+    /// The Rich header.
+    pub rich_header: PeFault,
+    /// The COFF header.
+    pub coff_header: PeFault,
+    /// The standard fields of the optional header.
+    pub standard_fields: PeFault,
+    /// The Windows fields of the optional header.
+    pub windows_fields: PeFault,
+    /// The data directories. The first sixteen are given, if there are more.
+    pub directories: PeFault,
+    /// The section table. The complete section headers are given.
+    pub section_table: PeFault,
+    /// The section names. A section whose name is bad keeps its eight bytes.
+    pub section_names: PeFault,
+}
+
+// The fault of a part.
+fn fault_in<T>(part: &Result<T>) -> PeFault
+    ensures { result ≡ status_of part.now }
+{
+    match part {
+        Ok(_) => no_fault(),
+        Err(error) => fault_of(error),
+    }
+}
+
+// A header that is given, or zeros.
+fn given_or_zeros<T: Copy>(header: &Result<T>, zeros: T) -> T
+    ensures { result ≡ given_or zeros header.now }
+{
+    match header {
+        Ok(header) => *header,
+        Err(_) => zeros,
+    }
+}
+
+// A DOS header of zeros.
+fn zero_dos_header() -> DosHeader
+    ensures { result ≡ zero_dos_header }
+{
+    DosHeader::default()
+}
+
+// A COFF header of zeros.
+fn zero_coff_header() -> CoffHeader
+    ensures { result ≡ zero_coff_header }
+{
+    CoffHeader::default()
+}
+
+// Whether these options read the header and the sections.
+#[tactic(auto, unfolding(goblin_pe::specs::Whole::layout))]
+fn test_layout(bytes: &[u8], opts: &ParseOptions) -> Result<()>
+    ensures { MatchResult result (λ _. IsSome ((file_layout opts.now).value bytes.now))
+        (IsRefused (file_layout opts.now) bytes.now) }
+{
+    let header = Header::parse_with_opts(bytes, opts)?;
+    section_records_of(bytes, &header, opts)?;
+    Ok(())
+}
+
+// The DOS stub of a file.
+fn file_stub(bytes: &[u8]) -> Result<DosStub<'_>>
+    ensures { Reads stub_bytes result file_stub bytes.now }
+{
+    let header = DosHeader::parse(bytes)?;
+    DosStub::parse(bytes, header.pe_pointer)
+}
+
+// How many bytes the stub has; the built-in one's if that stands in for it.
+fn stub_size(stub: &Result<DosStub>, is_replaced: bool) -> usize
+    ensures { result ≡ stub_size stub.now is_replaced }
+{
+    match stub {
+        Ok(stub) => stub.bytes.len(),
+        Err(_) if is_replaced => DosStub::default().bytes.len(),
+        Err(_) => 0,
+    }
+}
+
+// The section headers that are given.
+#[tactic(auto, using(goblin_pe_sect::proofs::SectionRecords::sections_none))]
+fn records_or_none<'a>(records: &Result<SectionRecords<'a>>) -> SectionRecords<'a>
+    ensures { recorded_sections result ≡ sections_of records.now }
+{
+    match records {
+        Ok(records) => *records,
+        Err(_) => SectionRecords::of(&[]),
+    }
+}
+
+// How many sections are given.
+fn count_given(parts: &HeaderParts) -> u16
+    ensures { result ≡ given_count parts.now }
+{
+    let said = given_or_zeros(&parts.coff_header, zero_coff_header()).number_of_sections;
+    let there = records_or_none(&parts.section_records).len();
+    if there < said as usize {
+        there as u16
+    } else {
+        said
+    }
+}
+
+// Tests that the file has all section headers that its COFF header counts.
+fn test_table(bytes: &[u8], coff_header: CoffHeader, section_table: usize) -> Result<()>
+    ensures { MatchResult result
+        (λ _. IsSome ((table_there coff_header section_table).value bytes.now))
+        (IsRefused (table_there coff_header section_table) bytes.now) }
+{
+    unnamed_records(bytes, section_table, coff_header.number_of_sections)?;
+    Ok(())
+}
+
+// Tests the names of so many section headers, which the file has.
+fn test_names(
+    bytes: &[u8],
+    coff_header: CoffHeader,
+    section_table: usize,
+    count: u16,
+    opts: &ParseOptions,
+) -> Result<()>
+    ensures { let names =
+        names_there (is_strict opts.now.parse_mode) coff_header section_table count in
+        MatchResult result (λ _. IsSome (names.value bytes.now)) (IsRefused names bytes.now) }
+{
+    let header = CoffHeader {
+        number_of_sections: count,
+        ..coff_header
+    };
+    header.section_records_with_opts(bytes, &mut { section_table }, opts)?;
+    Ok(())
+}
+
+// The faults of the section table and of the names in it.
+fn table_faults(
+    bytes: &[u8],
+    parts: &HeaderParts,
+    count: u16,
+    opts: &ParseOptions,
+) -> (PeFault, PeFault)
+    ensures { AreTableFaults bytes.now parts.now count (is_strict opts.now.parse_mode) result }
+{
+    let Ok(coff_header) = parts.coff_header else {
+        let fault = fault_in(&parts.coff_header);
+        return (fault, fault);
+    };
+    let table = parts.section_table.unwrap_or(0);
+    (
+        fault_in(&test_table(bytes, coff_header, table)),
+        fault_in(&test_names(bytes, coff_header, table, count, opts)),
+    )
+}
+
+// Whether all fields of the optional header before its directories are given.
+fn has_fields(parts: &HeaderParts) -> bool
+    ensures { result ≡ has_fields parts.now }
+{
+    matches!(
+        (&parts.standard_fields, &parts.windows_fields),
+        (Ok(Some(_)), Ok(Some(_)))
+    )
+}
+
+// The fields of an optional header, or zeros.
+fn optional_record(header: &Option<OptionalHeader>) -> PeOptionalHeader
+    ensures { result ≡ optional_record header.now }
+{
+    let mut fields = PeOptionalHeader {
+        standard_fields: StandardFields::default(),
+        windows_fields: WindowsFields::default(),
+    };
+    fill_optional(&mut fields, header);
+    fields
+}
+
+// Whether permissive mode replaces the stub: the DOS header is there, and the stub is not.
+fn is_replaced(options: &PeOptions, parts: &HeaderParts, stub: &Result<DosStub>) -> bool
+    ensures { result ≡ is_replaced options.now parts.now stub.now }
+{
+    options.is_permissive && parts.dos_header.is_ok() && stub.is_err()
+}
+
+// The record of these parts.
+fn partial_image<'a>(
+    bytes: &'a [u8],
+    options: &PeOptions,
+    parts: &HeaderParts,
+    stub: &Result<DosStub>,
+    rich: &Result<Option<RichHeader>>,
+) -> PeImage<'a>
+    ensures { IsImage bytes.now result (partial_image options.now parts.now stub.now rich.now) }
+{
+    let optional = parts.optional_header();
+    let directories = Places::of(&optional).directories;
+    let is_replaced = is_replaced(options, parts, stub);
+    PeImage {
+        bytes,
+        options: *options,
+        kind: Kind::Image as u32,
+        section_table: parts.section_table.unwrap_or(0),
+        section_count: count_given(parts) as usize,
+        dos_header: given_or_zeros(&parts.dos_header, zero_dos_header()),
+        coff_header: given_or_zeros(&parts.coff_header, zero_coff_header()),
+        has_optional_header: has_fields(parts),
+        is_dos_stub_replaced: is_replaced,
+        moved_by: 0,
+        optional_header: optional_record(&optional),
+        directories,
+        dos_stub_size: stub_size(stub, is_replaced),
+        rich_header: rich_record(&given_or_zeros(rich, None)),
+        reserved: 0,
+    }
+}
+
+// The faults of these parts.
+fn faults_of(
+    parts: &HeaderParts,
+    stub: &Result<DosStub>,
+    rich: &Result<Option<RichHeader>>,
+    table: (PeFault, PeFault),
+) -> PeHeaderFaults
+    ensures { result ≡ faults_of parts.now stub.now rich.now table }
+{
+    PeHeaderFaults {
+        dos_header: fault_in(&parts.dos_header),
+        dos_stub: fault_in(stub),
+        rich_header: fault_in(rich),
+        coff_header: fault_in(&parts.coff_header),
+        standard_fields: fault_in(&parts.standard_fields),
+        windows_fields: fault_in(&parts.windows_fields),
+        directories: fault_in(&parts.data_directories),
+        section_table: table.0,
+        section_names: table.1,
+    }
+}
+
+/// Reads the header of an image as far as it goes. Fills `image` whatever the file holds, with zeros
+/// where a part can't be read, and says in `faults` why.
+///
+/// # Errors
+/// What a read of the image refuses; both records are filled all the same.
+pub fn read<'a>(
+    bytes: &'a [u8],
+    options: &PeOptions,
+    image: &mut PeImage<'a>,
+    faults: &mut PeHeaderFaults,
+) -> Result<()>
+    ensures { let new : PartialRecords = record { image = image.new; faults = faults.new } in
+        SaysPartial options.now bytes.now new result }
+{
+    let opts = header_options(options);
+    let parts = HeaderParts::read(bytes);
+    let stub = file_stub(bytes);
+    let rich = RichHeader::parse(bytes);
+    let table = table_faults(bytes, &parts, count_given(&parts), &opts);
+    *image = partial_image(bytes, options, &parts, &stub, &rich);
+    *faults = faults_of(&parts, &stub, &rich, table);
+    test_layout(bytes, &opts)
+}

@@ -1,0 +1,131 @@
+//! The calls that walk over exports and the export address table, and read the export directory and
+//! forwarders.
+
+ghost use Rattle.std.specs.Prelude.{◌≡◌, ◌≢◌, ◌-◌, Some, length};
+ghost use Rattle.goblin_pe_c_headers.specs.Calls.{ReadsWithout, ReportedAfter};
+ghost use Rattle.goblin_pe_c_headers.specs.Faults.{options_fault};
+ghost use Rattle.goblin_pe_c_tables.specs.Batches.{AddressBatch, ExportBatch, GivesAddresses};
+ghost use Rattle.goblin_pe_c_tables.specs.Batches.{GivesBatch, GivesExports, IsAddressBatchFault};
+ghost use Rattle.goblin_pe_c_tables.specs.Batches.{IsAddressesFault, IsExportBatchFault};
+ghost use Rattle.goblin_pe_c_tables.specs.Batches.{SaysDirectory, WalksOver};
+ghost use Rattle.goblin_pe_c_tables.specs.ExportDirectories.{directory_view};
+ghost use Rattle.goblin_pe_c_tables.specs.Exports.{forwarder_said, forwarder_view};
+ghost use Rattle.goblin_pe_c_tables.specs.ForwardersAt.{forwarder_at_address};
+ghost use Rattle.goblin_pe_c_tables.specs.Steps.{section_steps, walk_fault};
+
+use goblin_pe_c_headers::batch::PeBatch;
+use goblin_pe_c_headers::cursor::{PeExportAddressCursor, PeExportCursor};
+use goblin_pe_c_headers::fault::{PeFault, refused_call, status_of};
+use goblin_pe_c_headers::image::PeImage;
+use goblin_pe_c_tables::batch::walk;
+use goblin_pe_c_tables::export::PeExport;
+use goblin_pe_c_tables::export_directory::{PeExportAddress, PeExportDirectory, give_directory};
+use goblin_pe_c_tables::forwarder::{PeForwarder, read_forwarder};
+use goblin_pe_c_tables::steps::refused_walk;
+use std::alloc::Global;
+
+/// Gives the next exports that have a name pointer, in the order of these. Counts steps: one for
+/// each name pointer. A name pointer without an ordinal, with an ordinal past the address table, or
+/// with a forwarder that can't be read gives no export, in either mode; `goblin_pe_read_damage`
+/// counts them.
+///
+/// Faults: STEPS; in strict mode a damaged export directory; else as `goblin_pe_next_imports`.
+#[unsafe(no_mangle)]
+pub extern "C" fn goblin_pe_raw_next_exports<'a>(
+    alloc: Global,
+    image: &PeImage<'a>,
+    cursor: &mut PeExportCursor,
+    exports: &mut [PeExport<'a>],
+    steps: &mut usize,
+    batch: &mut PeBatch,
+) -> PeFault
+    ensures given { let old : ExportBatch =
+        record { position = cursor.old.index; records = exports.old } in
+        let new : ExportBatch = record { position = cursor.new.index; records = exports.new } in
+        let room = length exports.old in
+        let allowed = steps.old - section_steps image.now room in
+        WalksOver (walk_fault image.now room steps.old) result image.now
+        (λ m places b. GivesExports m places b allowed steps.new) IsExportBatchFault old new
+        batch.new }
+    ensures kept { result.status ≢ 0 → steps.new ≡ steps.old }
+{
+    let refusal = refused_walk(image, exports.len(), *steps);
+    walk::<PeExport>(
+        alloc,
+        image,
+        refusal,
+        &mut cursor.index,
+        exports,
+        steps,
+        batch,
+    )
+}
+
+/// Reads the export directory table. It is not present if the image has none, or if permissive mode
+/// skips a damaged one.
+///
+/// Faults: in strict mode a damaged export directory; else as `goblin_pe_next_imports`, but no
+/// STEPS.
+#[unsafe(no_mangle)]
+pub extern "C" fn goblin_pe_raw_read_export_directory<'a>(
+    alloc: Global,
+    image: &PeImage<'a>,
+    directory: &mut PeExportDirectory<'a>,
+) -> PeFault
+    ensures { ReportedAfter (options_fault image.now.options) result
+        (directory.new ≡ directory.old)
+        (GivesBatch image.now
+        (λ m places. SaysDirectory m places image.now.bytes.now (directory_view directory.new))
+        (λ m places. IsAddressesFault m places image.now.bytes.now)
+        (directory.new ≡ directory.old)) }
+{
+    let refusal = refused_call(&image.options);
+    if refusal.status != 0 {
+        return refusal;
+    }
+    status_of(give_directory(alloc, image, directory))
+}
+
+/// Gives the next entries of the export address table: all ordinals, also those without a name.
+///
+/// Faults: as `goblin_pe_read_export_directory`.
+#[unsafe(no_mangle)]
+pub extern "C" fn goblin_pe_raw_next_export_addresses<'a>(
+    alloc: Global,
+    image: &PeImage<'a>,
+    cursor: &mut PeExportAddressCursor,
+    addresses: &mut [PeExportAddress],
+    batch: &mut PeBatch,
+) -> PeFault
+    ensures { let old : AddressBatch =
+        record { position = cursor.old.index; records = addresses.old } in
+        let new : AddressBatch = record { position = cursor.new.index; records = addresses.new } in
+        WalksOver (options_fault image.now.options) result image.now GivesAddresses
+        IsAddressBatchFault old new batch.new }
+{
+    let refusal = refused_call(&image.options);
+    let position = &mut cursor.index;
+    walk::<PeExportAddress>(alloc, image, refusal, position, addresses, &mut 0, batch)
+}
+
+/// Reads the forwarder whose text is at an RVA.
+///
+/// Faults: UNMAPPED; READ if there is no text; FORWARDER and FORWARDER_ORDINAL; OPTIONS.
+#[unsafe(no_mangle)]
+pub extern "C" fn goblin_pe_raw_forwarder_at<'a>(
+    image: &PeImage<'a>,
+    rva: usize,
+    forwarder: &mut PeForwarder<'a>,
+) -> PeFault
+    ensures { ReportedAfter (options_fault image.now.options) result
+        (forwarder.new ≡ forwarder.old)
+        (ReadsWithout (forwarder_at_address image.now rva) image.now.bytes.now
+        (λ f. forwarder_view forwarder.new ≡ forwarder_said (Some f))
+        (forwarder.new ≡ forwarder.old)) }
+{
+    let refusal = refused_call(&image.options);
+    if refusal.status != 0 {
+        return refusal;
+    }
+    status_of(read_forwarder(image, rva, forwarder))
+}

@@ -1,0 +1,72 @@
+//! The calls that walk over imports and libraries.
+
+ghost use Rattle.std.specs.Prelude.{◌≡◌, ◌≢◌, ◌-◌, length};
+ghost use Rattle.goblin_pe_c_headers.specs.Faults.{options_fault};
+ghost use Rattle.goblin_pe_c_tables.specs.Batches.{GivesImports, ImportBatch, IsImportsFault, WalksOver};
+ghost use Rattle.goblin_pe_c_tables.specs.Libraries.{GivesLibraries, IsLibrariesFault, LibrariesEnd};
+ghost use Rattle.goblin_pe_c_tables.specs.Libraries.{LibraryBatch};
+ghost use Rattle.goblin_pe_c_tables.specs.Steps.{section_steps, walk_fault};
+
+use goblin_pe_c_headers::batch::PeBatch;
+use goblin_pe_c_headers::fault::{PeFault, refused_call};
+use goblin_pe_c_headers::image::PeImage;
+use goblin_pe_c_tables::batch::walk;
+use goblin_pe_c_tables::import::PeImport;
+use goblin_pe_c_tables::library::PeLibrary;
+use goblin_pe_c_tables::next::PeImportCursor;
+use goblin_pe_c_tables::steps::refused_walk;
+use std::alloc::Global;
+
+/// Gives the next imports, in the order of the import directory. Counts steps.
+///
+/// Entries that lead nowhere give no import, in either mode. Permissive mode also skips libraries
+/// without an address table and entries whose hint is cut. `goblin_pe_read_damage` counts all of
+/// these.
+///
+/// Faults: STEPS; in strict mode damage, after the imports that come before it; READ if the file
+/// has no room for the section headers; OPTIONS; MEMORY if there are more than 96 sections.
+#[unsafe(no_mangle)]
+pub extern "C" fn goblin_pe_raw_next_imports<'a>(
+    alloc: Global,
+    image: &PeImage<'a>,
+    cursor: &mut PeImportCursor,
+    imports: &mut [PeImport<'a>],
+    steps: &mut usize,
+    batch: &mut PeBatch,
+) -> PeFault
+    ensures given { let old : ImportBatch =
+        record { position = cursor.old; records = imports.old } in
+        let new : ImportBatch = record { position = cursor.new; records = imports.new } in
+        let room = length imports.old in
+        let allowed = steps.old - section_steps image.now room in
+        WalksOver (walk_fault image.now room steps.old) result image.now
+        (λ m places b. GivesImports m places b allowed steps.new) IsImportsFault old new batch.new }
+    ensures kept { result.status ≢ 0 → steps.new ≡ steps.old }
+{
+    let refusal = refused_walk(image, imports.len(), *steps);
+    walk::<PeImport>(alloc, image, refusal, cursor, imports, steps, batch)
+}
+
+/// Gives the next libraries: one for each entry of the import directory, also the skipped ones.
+///
+/// Faults: as `goblin_pe_next_imports`, but no STEPS. In strict mode the walk ends with a fault
+/// where the file ends before the import directory does.
+#[unsafe(no_mangle)]
+#[tactic(auto, using(goblin_pe_c_tables::proofs::LibraryEnds::libraries_end))]
+pub extern "C" fn goblin_pe_raw_next_libraries<'a>(
+    alloc: Global,
+    image: &PeImage<'a>,
+    cursor: &mut PeImportCursor,
+    libraries: &mut [PeLibrary<'a>],
+    batch: &mut PeBatch,
+) -> PeFault
+    ensures given { let old : LibraryBatch =
+        record { position = cursor.old; records = libraries.old } in
+        let new : LibraryBatch = record { position = cursor.new; records = libraries.new } in
+        WalksOver (options_fault image.now.options) result image.now GivesLibraries IsLibrariesFault
+        old new batch.new }
+    ensures ends { LibrariesEnd }
+{
+    let refusal = refused_call(&image.options);
+    walk::<PeLibrary>(alloc, image, refusal, cursor, libraries, &mut 0, batch)
+}

@@ -1,0 +1,130 @@
+//! The calls that look up an RVA or a file offset of an image, or give the contents of a section.
+//!
+//! They look the sections up in the file, and take no memory. If the options have an unknown mapping,
+//! or the file has no room for the section headers, no address has an offset or a region. With
+//! `Identity` each RVA is its own offset, whatever the header says.
+
+ghost use Rattle.std.specs.Prelude.{◌≡◌, ◌==◌};
+ghost use Rattle.goblin_pe_c_headers.specs.Addresses.{image_address, image_map, text_at};
+ghost use Rattle.goblin_pe_c_headers.specs.Calls.{ReadsWithout, ReportedAfter};
+ghost use Rattle.goblin_pe_c_headers.specs.Faults.{options_fault};
+ghost use Rattle.goblin_pe_c_headers.specs.Found.{Puts};
+ghost use Rattle.goblin_pe_c_headers.specs.Images.{slice_view};
+ghost use Rattle.goblin_pe_c_headers.specs.Memory.{SeesFile, memory_at, memory_view};
+ghost use Rattle.goblin_pe_c_headers.specs.Memory.{section_data};
+ghost use Rattle.goblin_pe_c_headers.specs.Places.{image_places};
+ghost use Rattle.goblin_pe_c_headers.specs.Sections.{section_view};
+
+use goblin_pe_c_headers::address::{offset_of, read_text, rva_of};
+use goblin_pe_c_headers::fault::{PeFault, refused_call, status_of};
+use goblin_pe_c_headers::found::put_found;
+use goblin_pe_c_headers::image::{PeImage, PeSlice, places_of};
+use goblin_pe_c_headers::memory::{self, PeMemory};
+use goblin_pe_c_headers::section::PeSection;
+
+/// Sets `*offset` to the file offset of an RVA, as `image->options.mapping` says. If several
+/// sections hold it, the first one counts. The offset may lie past the end of the file.
+///
+/// Returns whether the RVA has an offset. It has none outside of sections and mapped headers, in
+/// the zeros after raw data, from 2^32 on, and if the file alignment is no power of two.
+#[unsafe(no_mangle)]
+pub extern "C" fn goblin_pe_raw_find_offset(image: &PeImage, rva: usize, offset: &mut usize) -> bool
+    ensures { let i = image.now in
+        Puts (λ o. o) result (image_map i.options (image_places i) i.bytes.now rva) offset.old
+        offset.new }
+{
+    let places = places_of(image);
+    put_found(offset, offset_of(image.bytes, &image.options, &places, rva))
+}
+
+/// Sets `*rva` to an RVA that `goblin_pe_find_offset` maps to this offset: that in the first section
+/// whose raw data holds the offset, or else in the headers.
+///
+/// Returns whether there is one. There is none if an earlier section hides it at that RVA; later
+/// sections are not tried.
+#[unsafe(no_mangle)]
+pub extern "C" fn goblin_pe_raw_find_rva(image: &PeImage, offset: usize, rva: &mut usize) -> bool
+    ensures { let i = image.now in
+        Puts (λ a. a) result (image_address i.options (image_places i) i.bytes.now offset) rva.old
+        rva.new }
+{
+    let places = places_of(image);
+    put_found(rva, rva_of(image.bytes, &image.options, &places, offset))
+}
+
+/// Tells what a loader puts at an RVA: the region and section, and the first `size` bytes as far as
+/// they are known. Fills `*memory` in any case. With `size` 0 it only looks up the region and the
+/// section; with `SIZE_MAX` it gives all bytes up to the section's end.
+///
+///     if (goblin_pe_memory_at(&image, rva, 16, &memory) && memory.bytes.length == 16)
+///         use(memory.bytes.bytes);
+///
+/// A section whose raw data holds the RVA comes first, then the mapped headers, then a section whose
+/// virtual size reaches it. So where `goblin_pe_find_offset` finds an offset inside the file, the
+/// first byte is the byte there, but for uninitialized data without a raw pointer, which is zeros.
+///
+/// Returns whether nothing is missing; with `size` 0 so always true.
+#[unsafe(no_mangle)]
+pub extern "C" fn goblin_pe_raw_memory_at<'a>(
+    image: &PeImage<'a>,
+    rva: usize,
+    size: usize,
+    memory: &mut PeMemory<'a>,
+) -> bool
+    ensures value { let i = image.now in
+        memory_view memory.new ≡ memory_at i.options (image_places i) i.bytes.now rva size }
+    ensures file { let i = image.now in SeesFile i.options (image_places i) i.bytes.now }
+    ensures all { result ≡ (memory.new.missing == 0) }
+{
+    *memory = memory::memory_at(image.bytes, &image.options, &places_of(image), rva, size);
+    memory.missing == 0
+}
+
+/// Gives the contents of a section: its raw data, and the zeros that the loader adds up to the
+/// virtual size. Raw data that is longer than the virtual size is given whole. Uninitialized data
+/// without a raw pointer (an object's .bss) has no bytes, and is zeros. If the file ends too early,
+/// `missing` says how many bytes it lacks, and no zeros follow.
+///
+/// The raw data begins as `image->options.mapping` says. `section` may be made by hand. With an
+/// unknown mapping all is missing. Fills `*memory` in any case.
+///
+/// Returns whether nothing is missing.
+#[unsafe(no_mangle)]
+pub extern "C" fn goblin_pe_raw_section_data<'a>(
+    image: &PeImage<'a>,
+    section: &PeSection,
+    memory: &mut PeMemory<'a>,
+) -> bool
+    ensures value { let i = image.now in
+        memory_view memory.new
+        ≡ section_data i.options (image_places i).file_alignment i.bytes.now section.now.index
+        (section_view section.now) }
+    ensures all { result ≡ (memory.new.missing == 0) }
+{
+    let alignment = places_of(image).file_alignment;
+    *memory = memory::section_data(image.bytes, &image.options, alignment, section);
+    memory.missing == 0
+}
+
+/// Gives the text at an RVA, up to a NUL, the end of the file or `options.longest_name`. The
+/// section's end is not looked at. To read bytes that may not be UTF-8, use
+/// `goblin_pe_find_offset`.
+///
+/// Faults: UNMAPPED; READ if the offset is past the end, or the text is not UTF-8; OPTIONS.
+#[unsafe(no_mangle)]
+pub extern "C" fn goblin_pe_raw_text_at<'a>(
+    image: &PeImage<'a>,
+    rva: usize,
+    text: &mut PeSlice<'a>,
+) -> PeFault
+    ensures { let i = image.now in
+        ReportedAfter (options_fault i.options) result (text.new ≡ text.old)
+        (ReadsWithout (text_at i.options (image_places i) i.bytes.now rva) i.bytes.now
+        (λ whole. slice_view text.new ≡ whole) (text.new ≡ text.old)) }
+{
+    let refusal = refused_call(&image.options);
+    if refusal.status != 0 {
+        return refusal;
+    }
+    status_of(read_text(image.bytes, &image.options, &places_of(image), rva, text))
+}

@@ -1,0 +1,44 @@
+//! The calls for texts of the string table, and for auxiliary records.
+
+ghost use Rattle.std.specs.Prelude.{◌≡◌};
+ghost use Rattle.goblin_pe_c_headers.specs.Auxiliary.{AuxiliarySaid, kind_number, kind_of};
+ghost use Rattle.goblin_pe_c_headers.specs.Found.{Puts};
+ghost use Rattle.goblin_pe_c_headers.specs.Images.{slice_view};
+ghost use Rattle.goblin_pe_c_headers.specs.Symbols.{string_at};
+
+use goblin_pe_c_headers::auxiliary::{PeAuxiliary, read_auxiliary};
+use goblin_pe_c_headers::found::put_found;
+use goblin_pe_c_headers::image::{PeImage, PeSlice, slice_record};
+use goblin_pe_c_headers::symbol::{PeSymbol, string_at};
+
+/// Sets `text` to the text at an offset of the string table, up to a NUL or `options.longest_name`.
+/// The offset counts from the table's length field, as stored offsets do.
+///
+/// Returns whether there is one, and it is UTF-8.
+#[unsafe(no_mangle)]
+#[tactic(auto, using(goblin_pe_c_headers::proofs::Puts::puts_view))]
+pub extern "C" fn goblin_pe_raw_string_at<'a>(
+    image: &PeImage<'a>,
+    offset: usize,
+    text: &mut PeSlice<'a>,
+) -> bool
+    ensures { Puts slice_view result (string_at image.now offset) text.old text.new }
+{
+    put_found(text, slice_record(string_at(image, offset)))
+}
+
+/// Reads the auxiliary records of a symbol, and returns their kind, an
+/// [`AuxiliaryKind`](goblin_pe_c_headers::auxiliary::AuxiliaryKind). The kind is NONE if the symbol
+/// has none, or they are cut, or its class and type name no kind. The raw bytes are in
+/// `symbol.auxiliary`.
+#[unsafe(no_mangle)]
+pub extern "C" fn goblin_pe_raw_read_auxiliary<'a>(
+    symbol: &PeSymbol<'a>,
+    auxiliary: &mut PeAuxiliary<'a>,
+) -> u32
+    ensures kind { result ≡ kind_number (kind_of symbol.now.record symbol.now.auxiliary.now) }
+    ensures said { AuxiliarySaid (kind_of symbol.now.record symbol.now.auxiliary.now)
+        symbol.now.auxiliary.now auxiliary.new }
+{
+    read_auxiliary(symbol, auxiliary) as u32
+}

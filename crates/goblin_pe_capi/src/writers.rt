@@ -1,0 +1,81 @@
+//! The calls that write a header and section headers. Numbers are little-endian.
+
+ghost use Rattle.std.specs.Prelude.{◌≡◌};
+ghost use Rattle.goblin_base.specs.declared.endian.Endian.TheVariants.{Little};
+ghost use Rattle.goblin_base.specs.Answers.{IsSliceFault};
+ghost use Rattle.goblin_base.specs.Bytes.{overwritten};
+ghost use Rattle.goblin_base.specs.Record.{encoding};
+ghost use Rattle.goblin_pe_sect.specs.SectionReadings.{SectionWritesBack};
+ghost use Rattle.goblin_pe_sect.specs.SectionTable.{section_fields};
+ghost use Rattle.goblin_pe_c_headers.specs.Calls.{Reported, ReportedAfter};
+ghost use Rattle.goblin_pe_c_headers.specs.Faults.{kind_fault};
+ghost use Rattle.goblin_pe_c_headers.specs.Sections.{section_view};
+ghost use Rattle.goblin_pe_c_headers.specs.Written.{Output, SetsName, WritesHeader, WritesOut};
+ghost use Rattle.goblin_pe_c_tables.specs.Written.{ImageWritesBack};
+
+use goblin_pe_c_headers::fault::{PeFault, refused_kind, status_of};
+use goblin_pe_c_headers::image::PeImage;
+use goblin_pe_c_headers::section::{PeSection, set_name_offset, write_section};
+use goblin_pe_c_tables::write_header::write_header;
+
+/// Writes the header that the record says: DOS header, stub, PE signature, COFF header, and an
+/// optional header with sixteen directories, if it has one. Sets `written` to the size. With room
+/// 0 it writes nothing, and sets `written` to the size that is needed.
+///
+/// The bytes of a header that strict mode read are those of the file, up to the last of its
+/// directories. If the file has fewer than sixteen, zeros follow, where the file may have its
+/// section table. So write elsewhere, and copy at most `image.section_table` bytes into the file.
+/// The PE signature follows the stub, whatever `pe_pointer` says.
+///
+/// Faults: BAD_MAGIC; FIELD_TOO_WIDE; KIND; READ if room is not 0 and too little, or the file has
+/// no stub of `dos_stub_size` bytes. Nothing is written then.
+#[unsafe(no_mangle)]
+#[tactic(auto, using(goblin_pe_c_tables::proofs::WrittenBack::image_back))]
+pub extern "C" fn goblin_pe_raw_write_header(
+    image: &PeImage,
+    out: &mut [u8],
+    written: &mut usize,
+) -> PeFault
+    ensures written { let old : Output = record { out = out.old; written = written.old } in
+        let new : Output = record { out = out.new; written = written.new } in
+        ReportedAfter (kind_fault image.now.kind) result (new ≡ old)
+        (WritesHeader image.now old new) }
+    ensures back { ImageWritesBack }
+{
+    let refusal = refused_kind(image.kind);
+    if refusal.status != 0 {
+        return refusal;
+    }
+    status_of(write_header(image, out, written))
+}
+
+/// Writes the 40 bytes of a section header. Writes `stored_name`, and not `name`. Sets `written` to
+/// 40.
+///
+/// Faults: READ if room is below 40, and nothing is written.
+#[unsafe(no_mangle)]
+pub extern "C" fn goblin_pe_raw_write_section(
+    section: &PeSection,
+    out: &mut [u8],
+    written: &mut usize,
+) -> PeFault
+    ensures written { let old : Output = record { out = out.old; written = written.old } in
+        let new : Output = record { out = out.new; written = written.new } in
+        Reported result
+        (WritesOut
+        (overwritten out.old 0 (encoding Little (section_fields (section_view section.now))))
+        (λ size. size ≡ 40) (IsSliceFault out.old 0 40) old new) }
+    ensures back { SectionWritesBack }
+{
+    status_of(write_section(section, out, written))
+}
+
+/// Sets `stored_name` to a slash and a string table offset. The field `name` stays as it is.
+///
+/// Faults: NAME_OFFSET if eight bytes can't hold the offset.
+#[unsafe(no_mangle)]
+pub extern "C" fn goblin_pe_raw_set_name_offset(section: &mut PeSection, offset: usize) -> PeFault
+    ensures { Reported result (SetsName offset section.old section.new) }
+{
+    status_of(set_name_offset(section, offset))
+}

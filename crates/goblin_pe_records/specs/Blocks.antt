@@ -1,7 +1,0 @@
--- The record of a base relocation block, as a definition.
-use Rattle.goblin_pe_sect.specs.BaseRelocations.{Block}
-use Rattle.goblin_pe_records.specs.declared.block.PeBlock.{PeBlock}
-
--- what a record holds of a block
-abbrev pub block_view : PeBlock → Block
-block_view b = record { rva = b.rva; size = b.size; words = b.words.now }

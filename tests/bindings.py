@@ -1,0 +1,132 @@
+"""The library for C, Rust and Python, its package for Python, and its walks at the level of C."""
+import ctypes as c
+import functools
+import importlib.util
+import os
+import pathlib
+import sys
+
+from tests.programs import TOP, run, shared_folder
+
+BINDINGS = TOP / "bindings"
+
+
+@functools.cache
+def built_library():
+    """Builds the library over what is proved: its folder, what came of it, and what was said."""
+    status, _, said = run([BINDINGS / "build", shared_folder() / "bindings"])
+    return shared_folder() / "bindings", status, said
+
+
+def library():
+    """The folder with the library: one that GOBLIN_PE_LIB names, or else it is built over what is proved."""
+    if "GOBLIN_PE_LIB" in os.environ:
+        return pathlib.Path(os.environ["GOBLIN_PE_LIB"]).resolve()
+    made, status, said = built_library()
+    if status:
+        raise AssertionError(f"bindings/build: {said.decode()}")
+    return made
+
+
+@functools.cache
+def package():
+    """The package for Python."""
+    os.environ["GOBLIN_PE_SO"] = str(library() / "libgoblin_pe.so")
+    place = BINDINGS / "python/goblin_pe"
+    spec = importlib.util.spec_from_file_location("goblin_pe_of_bindings", place / "__init__.py", submodule_search_locations=[str(place)])
+    module = importlib.util.module_from_spec(spec)
+    sys.modules[spec.name] = module
+    spec.loader.exec_module(module)
+    return module
+
+
+def records():
+    """The records of C."""
+    package()
+    return sys.modules["goblin_pe_of_bindings._records"]
+
+
+def calls():
+    """The calls of C."""
+    package()
+    return sys.modules["goblin_pe_of_bindings._library"].LIB
+
+
+def value(it):
+    """What is in a record, with the bytes that a slice leads to."""
+    if isinstance(it, c.Array):
+        return tuple(map(value, it))
+    if not isinstance(it, c.Structure):
+        return it
+    if type(it).__name__ == "Slice":
+        return c.string_at(it.bytes, it.length)
+    return tuple(value(getattr(it, name)) for name, _ in it._fields_)
+
+
+# The walks over an image, by the word that their calls and records have: the record of a row, and that of the cursor.
+WALKS = {"sections": ("Section", "SectionCursor"), "rich_entries": ("RichEntry", "RichCursor"), "imports": ("Import", "ImportCursor"),
+         "libraries": ("Library", "ImportCursor"), "exports": ("Export", "ExportCursor"),
+         "export_addresses": ("ExportAddress", "ExportAddressCursor"),
+         "relocation_blocks": ("RelocationBlock", "RelocationBlockCursor"), "symbols": ("Symbol", "SymbolCursor")}
+COUNTED = ("imports", "exports")
+
+
+class Walk:
+    """A walk over a table of an image, by calls of C."""
+
+    def __init__(self, image, word, cursor=None):
+        row, kind = WALKS[word]
+        self.image, self.row, self.word = image, getattr(records(), row), word
+        self.cursor = cursor or getattr(records(), kind)()
+        self.batch, self.rows = records().Batch(), []
+
+    def call(self, room, steps=None):
+        """One call, with so many steps by reference: its fault. The rows that it gives are kept."""
+        rows = (self.row * max(room, 1))()
+        counted = [steps and c.byref(steps)] if self.word in COUNTED else []
+        fault = getattr(calls(), f"goblin_pe_next_{self.word}")(
+            c.byref(self.image), c.byref(self.cursor), rows, room, *counted, c.byref(self.batch))
+        self.rows += map(value, rows[: self.batch.count])
+        return fault
+
+    def walk(self, room, most=1 << 20):
+        """All rows, and why they end: the status and the cause."""
+        for _ in range(most):
+            fault = self.call(room)
+            if self.batch.is_done:
+                return self.rows, (fault.status, fault.cause)
+        raise AssertionError(f"{self.word} have no end")
+
+
+def options(permissive=False, longest=0, mapping=0):
+    return records().Options(mapping, longest, permissive)
+
+
+def image_of(data, how=None, call="read_image"):
+    """The image in bytes, and its fault; the bytes have to stay."""
+    image = records().Image()
+    also = {"read_partial_image": [records().HeaderFaults()], "read_te": [records().TeHeader()]}.get(call, [])
+    buffer = c.create_string_buffer(bytes(data), len(data) or 1)
+    image.kept = buffer
+    fault = getattr(calls(), f"goblin_pe_{call}")(
+        buffer, len(data), c.byref(how or options()), c.byref(image), *map(c.byref, also))
+    return image, fault
+
+
+def error_of(error):
+    """An error as rows have it: the names of its kind and its cause, and its two numbers. None stays None."""
+    return error and (error.kind.name, error.cause and error.cause.name, *error.numbers)
+
+
+def refusal(call, *arguments):
+    """The error of a call of the package; None if it has none."""
+    try:
+        call(*arguments)
+    except package().PeError as error:
+        return error_of(error)
+    return None
+
+
+def test(fault):
+    """Raises the error of a call of C."""
+    sys.modules["goblin_pe_of_bindings._errors"].test(fault, None)

@@ -1,0 +1,205 @@
+"""The examples that map, change and look further into a file: what they tell of images that are known, and that they end on any."""
+import importlib.util
+import os
+import re
+import struct
+import sys
+import unittest
+
+from tests import hostile, images
+from tests.bindings import BINDINGS, library, package
+from tests.programs import BY_NAME, CC, FLAGS, IMAGES, SAMPLES, TERSE, TOP, Case, environment, folder, need, run, succeed
+
+IN_PYTHON = ("delayed_imports", "pdb_path", "resources")
+
+
+def setUpModule():
+    need(CC)
+    library()
+
+
+def built(name):
+    """An example in C."""
+    made = folder() / name
+    if not made.exists():
+        succeed([CC, "-std=c99", *FLAGS, "-I", library(), "-o", made, BINDINGS / f"c/examples/{name}.c", library() / "libgoblin_pe.a"])
+    return made
+
+
+class Loader(Case):
+    """An image that imports from a library by name and by ordinal."""
+
+    def setUp(self):
+        super().setUp()
+        exports = [(b"Apple", 0x3010), (None, 0x3020), (b"Cherry", b"other.Pear"), (None, b"other.#7"), (b"Elder", 0x3050)]
+        self.library = self.written("Fruit.dll", images.library(b"fruit.dll", exports, base=10))
+
+    def assert_resolves(self, imports, status, wanted, *others):
+        image = self.written("image.exe", images.importer(imports, relocated=3))
+        found, out, said = run([built("loader"), image, self.library, *others])
+        told = out.decode().splitlines()
+        self.assertEqual((found, said, told[told.index("3 base relocations") + 1:]), (status, b"", wanted))
+
+    def test_imports_by_name_and_by_ordinal(self):
+        self.assert_resolves([(b"FRUIT.DLL", [b"Elder", 10, 11]), (b"fruit", [b"Apple"])], 0, [
+            "FRUIT.DLL Elder: 0x180013050", "FRUIT.DLL #10: 0x180013010", "FRUIT.DLL #11: 0x180013020", "fruit Apple: 0x180013010"])
+
+    def test_what_is_not_there_is_told(self):
+        self.assert_resolves([(b"fruit.dll", [9, 15, b"Banana"]), (b"nuts.dll", [1])], 1, [
+            "fruit.dll #9: not exported", "fruit.dll #15: not exported", "fruit.dll Banana: not exported", "nuts.dll #1: no such library"])
+
+    def test_forwarders_lead_to_other_libraries(self):
+        other = self.written("other.dll", images.library(b"other.dll", [(b"Pear", b"THIRD.#2"), (None, b"third.Quince")], base=6))
+        third = self.written("Third.DLL", images.library(b"third.dll", [(b"Quince", 0x4010), (b"Rowan", 0x4020)]))
+        self.assert_resolves([(b"fruit.dll", [b"Cherry", 13])], 0, [
+            "fruit.dll Cherry -> other Pear -> THIRD #2: 0x180014020", "fruit.dll #13 -> other #7 -> third Quince: 0x180014010"], other, third)
+        other.write_bytes(images.library(b"other.dll", [(b"Pear", b"fruit.Cherry")]))
+        self.assert_resolves([(b"fruit.dll", [b"Cherry"])], 1, ["fruit.dll Cherry" + " -> other Pear -> fruit Cherry" * 4 + " -> too many forwarders"], other)
+
+    def test_imports_of_samples(self):
+        """Of 64 and of 32 bits."""
+        exports = [(b"GetTickCount", 0x3010), (b"GetTickCount@0", 0x3020)]
+        kernel = self.written("Kernel32.dll", images.library(b"KERNEL32.dll", exports, base=901))
+        for name, wanted in (("imports_by_name_x64.dll", "GetTickCount: 0x180013010"), ("imports_by_ordinal_x64.dll", "#901: 0x180013010"),
+                             ("imports_by_name_x86.dll", "GetTickCount@0: 0x80013020"), ("imports_by_ordinal_x86.dll", "#901: 0x80013010")):
+            with self.subTest(name):
+                self.assertEqual(succeed([built("loader"), SAMPLES / name, kernel]).splitlines()[-1], f"KERNEL32.dll {wanted}")
+
+
+class Changes(Case):
+    def test_a_header_and_a_section(self):
+        to = self.folder / "patched.dll"
+        for sample in IMAGES:
+            with self.subTest(sample=sample.name):
+                before, first = package().Image(sample.read_bytes()), package().Image(sample.read_bytes()).sections[0]
+                self.assertEqual(run([built("patch"), sample, "0x12345678", first.name, ".code", to]), (0, b"0x12345678\n", b""))
+                after = package().Image(to.read_bytes())
+                self.assertEqual(after.coff_header, before.coff_header._replace(time_date_stamp=0x12345678))
+                self.assertEqual([it.name for it in after.sections], [b".code", *(it.name for it in before.sections[1:])])
+                self.assertEqual(after.optional_header.windows_fields.check_sum, after.checksum())
+                # (the stamp, the name and the checksum)
+                self.assertLessEqual(sum(a != b for a, b in zip(before.data, after.data)), 16)
+
+    def test_what_can_not_be_changed(self):
+        self.assertEqual(run([built("patch"), BY_NAME, "7", ".none", ".code", self.folder / "to"]), (1, b"", b"no section .none\n"))
+        self.assertEqual(run([built("patch"), BY_NAME, "7", ".text", "ninebytes", self.folder / "to"])[0], 2)
+        self.assertEqual(run([built("patch"), TERSE[0], "7", ".text", ".code", self.folder / "to"])[0], 1)
+
+    def test_an_object(self):
+        told = succeed([built("object"), SAMPLES / "object_x64.obj"])
+        self.assertIn(".text 0x3 of type 0x4: keep_it\n", told)
+        self.assertRegex(told, r"(?m)^symbol \d+ in section 1 at 0x0: .text \(\d+ bytes\)$")
+
+    def test_damage_is_told(self):
+        sound = b"skipped: 0 libraries, 0 imports and 0 exports\nimports that lead nowhere: 0\nsound\nimports as Windows maps: 1\nimports as goblin maps: 1\n"
+        self.assertEqual(run([built("damage"), BY_NAME]), (0, sound, b""))
+        told = run([built("damage"), self.written("cut.dll", BY_NAME.read_bytes()[:0x1E0])])[1].decode().splitlines()
+        self.assertEqual(told[0], "refused: there are not enough bytes, or not enough room")
+        self.assertTrue(told[1].startswith("section table: "), told)
+
+
+class InPython(Case):
+    """The examples that read what the library leaves to others."""
+
+    def setUp(self):
+        super().setUp()
+        sys.modules["goblin_pe"] = package()
+        self.addCleanup(sys.modules.pop, "goblin_pe")
+        self.examples = {}
+        for name in IN_PYTHON:
+            spec = importlib.util.spec_from_file_location(name, BINDINGS / f"python/examples/{name}.py")
+            self.examples[name] = importlib.util.module_from_spec(spec)
+            spec.loader.exec_module(self.examples[name])
+
+    def test_what_an_image_has(self):
+        for is_wide in True, False:
+            image = package().Image(images.with_others(is_wide))
+            imports = list(self.examples["delayed_imports"].delayed(image))
+            self.assertEqual([it[:3] for it in imports], [(b"late.dll", b"Later", 7), (b"late.dll", None, 12), (b"never.dll", b"Never", 7)])
+            self.assertEqual(list(self.examples["pdb_path"].pdbs(image)), [(b"c:\\work\\some.pdb", "030201000504070608090A0B0C0D0E0F3")])
+            found = list(self.examples["resources"].resources(image))
+            self.assertEqual([(it.path, it.size) for it in found], [(("TEXT", "README", 0), 7), ((16, 1, 0x407), 6), ((16, 1, 0x409), 6)])
+            self.assertEqual([image.memory_at(it.rva, it.size).whole() for it in found], [b"content", b"ontent", b"ontent"])
+
+
+class Readme(Case):
+    """The programs of the first page, which stand in a program that reads some.dll."""
+
+    C = """#include "goblin_pe.h"
+#include <stdio.h>
+static void use(const struct goblin_pe_import *it) { printf("%%.*s\\n", (int)it->name.length, (const char *)it->name.bytes); }
+int main(void)
+{
+    static uint8_t bytes[1 << 24];
+    size_t length = fread(bytes, 1, sizeof bytes, stdin);
+%s    return (int)fault.status;
+}
+"""
+    RUST = "fn main() -> Result<(), Box<dyn std::error::Error>> {\nlet bytes = std::fs::read(\"some.dll\")?;\n%sOk(())\n}\n"
+
+    def program(self, language):
+        return re.search(rf"(?s)```{language}\n(.*?)```", (TOP / "README.md").read_text("utf-8"))[1]
+
+    def test_in_python(self):
+        env = environment(GOBLIN_PE_SO=str(library() / "libgoblin_pe.so"), PYTHONPATH=str(BINDINGS / "python"), PYTHONDONTWRITEBYTECODE="1")
+        for index, data in enumerate([BY_NAME.read_bytes(), *hostile.files(1)]):
+            self.written("some.dll", data)
+            status, out, said = run([sys.executable, "-c", self.program("python")], env=env, cwd=self.folder)
+            with self.subTest(index=index):
+                self.assertEqual((status, said), (0, b""))
+                if not index:
+                    self.assertRegex(out, rb"\AKERNEL32.dll GetTickCount\n[0-9a-f]{64}\n\Z")
+
+    def test_in_c(self):
+        source = self.written("readme.c", (self.C % self.program("c")).encode())
+        succeed([CC, "-std=c11", *FLAGS, "-I", library(), "-o", self.folder / "readme", source, library() / "libgoblin_pe.a"])
+        self.assert_runs([self.folder / "readme"], (0, b"GetTickCount\n", b""), BY_NAME)
+        for data in hostile.files(1):
+            self.assertIn(run([self.folder / "readme"], data)[0], range(9))
+
+    def test_in_rust(self):
+        need("cargo")
+        self.written("some.dll", BY_NAME.read_bytes())
+        (self.folder / "src").mkdir()
+        self.written("src/main.rs", (self.RUST % self.program("rust")).encode())
+        self.written("Cargo.toml", b'[package]\nname = "readme"\nedition = "2024"\n[dependencies]\ngoblin_pe.path = "%s"\n[workspace]\n' % str(BINDINGS / "rust").encode())
+        told = succeed(["cargo", "-q", "--offline", "run"], cwd=self.folder, env=environment(GOBLIN_PE_LIB=str(library()), CARGO_TARGET_DIR=str(folder() / "rust")))
+        self.assertEqual(told, "GetTickCount from KERNEL32.dll\n")
+
+
+class Ends(Case):
+    """Within a second of the processor and ten megabytes, on each hostile file."""
+
+    def files(self):
+        wide = images.with_others()
+        yield wide
+        yield images.with_parts(wide, (0x200 + 12, struct.pack("<2H4I", 0, 2, 1, 1 << 31, 2, 1 << 31)))  # (a tree that leads in a circle)
+        yield images.with_parts(wide, (0x200 + 12, struct.pack("<2H", 0xFFFF, 0xFFFF)), (0x210, struct.pack("<2I", 1, 1 << 31) * 20000))
+        entries = struct.pack("<2I2H4I", 0, 0, 0, 0, 2, 0xFFFFFFFF, 0, 0x10000) * 2000  # (that lead to one long path)
+        shared = images.with_parts(wide, (0x150, struct.pack("<4I", 0x20000, 0x1000, 0x20000, 0x200)), (0x400, entries), (0x10000, b"RSDS" + b"x" * 0x20000))
+        yield images.with_directory(shared, 6, 0x1200, len(entries))
+        yield from (images.shared_image(3000, 50000), images.own_tables(1609), images.hostile_image(1 << 22), images.large_image())
+        yield from hostile.files(1)
+
+    def test_each_example(self):
+        env = environment(GOBLIN_PE_SO=str(library() / "libgoblin_pe.so"), PYTHONPATH=str(BINDINGS / "python"), PYTHONDONTWRITEBYTECODE="1")
+        to, file = self.folder / "to.dll", self.folder / "some.dll"
+        commands = [*([built(it), file] for it in ("damage", "libraries", "object")), [built("walk"), "1000", file], [built("loader"), file, file],
+                    [built("patch"), file, "7", ".text", ".code", to],
+                    *([sys.executable, BINDINGS / f"python/examples/{it}.py", file] for it in IN_PYTHON)]
+        for index, data in enumerate(self.files()):
+            file.write_bytes(data)
+            for command in commands:
+                with self.subTest(index=index, command=os.path.basename(command[1] if command[0] == sys.executable else command[0])):
+                    before = os.times()
+                    status, out, said = run(command, env=env)
+                    after = os.times()
+                    self.assertIn(status, (0, 1, 2), said)
+                    self.assertNotIn(b"Traceback", said)
+                    self.assertRegex(out, rb"\A[ -~\n]*\Z")
+                    self.assertLess(len(out), 10 << 20)
+                    self.assertLess(sum(after[2:4]) - sum(before[2:4]), 1)
+
+
+if __name__ == "__main__":
+    unittest.main()

@@ -1,0 +1,243 @@
+"""Walks over one image: however the calls cut them, by room or by steps, they give the same rows and take the same steps."""
+import ctypes as c
+import itertools
+import os
+import pathlib
+import random
+import unittest
+
+from tests import hostile, images
+from tests.bindings import COUNTED, WALKS, Walk, calls, image_of, library, options, records
+from tests.programs import BY_NAME, CC, IMAGES, OBJECTS, TERSE, need
+
+STEPS, KIND = 7, 8  # (the status of a walk without steps, and of a call for another kind of file)
+READS = ("read_image", "read_partial_image", "read_object", "read_te")
+
+
+def setUpModule():
+    need(CC)
+    library()
+
+
+def files():
+    """Files of all kinds, most of them damaged."""
+    return [*(it.read_bytes() for it in IMAGES), *hostile.files(2)]
+
+
+def real_files(most=200):
+    """Images that the machine has, of at most two megabytes, each once: those of its Pythons, Wine, Mono and the like."""
+    found = set()
+    for top in (pathlib.Path.home(), "/usr/lib", "/usr/share", "/boot", "/opt"):
+        for at, folders, names in os.walk(top):
+            folders[:] = [it for it in folders if it not in ("samples", "target", "node_modules")]
+            for name in names:
+                path = os.path.join(at, name)
+                if name.lower().endswith((".exe", ".dll", ".sys", ".efi")) and os.path.isfile(path) and os.path.getsize(path) < 1 << 21:
+                    found.add(pathlib.Path(path).read_bytes())
+                    if len(found) == most:
+                        return found
+    return found
+
+
+def opened(data):
+    """The image of a file in each mode, where it is read."""
+    for permissive in (False, True):
+        image, fault = image_of(data, options(permissive))
+        if not fault.status:
+            yield permissive, image
+
+
+def slots(image):
+    """More than a look at one address table takes: all of the file may be one."""
+    return image.bytes.length // 4 + 1
+
+
+class Walks(unittest.TestCase):
+    def test_rows_by_any_room_are_those_of_one_call(self):
+        for index, data in enumerate(files()):
+            for permissive, image in opened(data):
+                for word in WALKS:
+                    wanted = Walk(image, word).walk(1 << 12)
+                    for room in (1, 2, 3, 7):
+                        with self.subTest(file=index, permissive=permissive, word=word, room=room):
+                            self.assertEqual(Walk(image, word).walk(room), wanted)
+
+    def test_rows_and_steps_by_any_limit_are_those_of_one_call(self):
+        """Steps in sum, but what is looked at of an address table after them; and one limit is passed by no more than that."""
+        for index, data in enumerate(files()):
+            for permissive, image in opened(data):
+                for word, each in itertools.product(COUNTED, (1, 2, 3, 10, 1000)):
+                    with self.subTest(file=index, permissive=permissive, word=word, steps=each):
+                        rows, why, taken = self.cut(image, word, 1 << 40)
+                        cut_rows, cut_why, cut_taken = self.cut(image, word, each)
+                        self.assertEqual((cut_rows, cut_why), (rows, why))
+                        self.assertTrue(cut_taken == taken or word == "imports" and cut_taken < taken)
+
+    def cut(self, image, word, each):
+        """A walk by calls of so many steps: its rows, why they end, and how many steps were taken."""
+        walk, steps, taken = Walk(image, word), c.c_size_t(0), 0
+        for _ in range(1 << 20):
+            before = bytes(walk.cursor), len(walk.rows)
+            steps.value = each
+            fault = walk.call(5, steps)
+            self.assertLessEqual(steps.value, each)
+            taken += each - steps.value
+            if fault.status == STEPS:
+                self.assertEqual((bytes(walk.cursor), len(walk.rows)), before)
+                each += slots(image)  # (an address table is looked at in one go)
+            elif walk.batch.is_done:
+                return walk.rows, (fault.status, fault.cause), taken
+        raise AssertionError(f"{word} have no end")
+
+    def test_a_limit_is_passed_by_no_more_than_an_address_table(self):
+        """A call without a limit, which gives the same rows, takes no more steps than that."""
+        for index, data in enumerate(files()):
+            for permissive, image in opened(data):
+                for word, limit in itertools.product(COUNTED, (1, 2, 5, 20, 100)):
+                    walk, left = Walk(image, word), c.c_size_t(limit)
+                    walk.call(1 << 10, left)
+                    again, more = Walk(image, word), c.c_size_t(1 << 40)
+                    again.call(len(walk.rows), more)
+                    with self.subTest(file=index, permissive=permissive, word=word, steps=limit):
+                        self.assertEqual(again.rows, walk.rows)
+                        self.assertLessEqual((1 << 40) - more.value, limit + slots(image))
+
+    def test_without_steps_a_call_is_a_fault_and_changes_nothing(self):
+        image, _ = image_of(BY_NAME.read_bytes())
+        for word in COUNTED:
+            walk, steps = Walk(image, word), c.c_size_t(0)
+            self.assertEqual((walk.call(1, steps).status, walk.rows, walk.batch.is_done), (STEPS, [], True))
+            self.assertFalse(any(bytes(walk.cursor)))
+            self.assertEqual((walk.call(0, steps).status, walk.batch.is_done), (0, False))
+
+    def test_a_call_without_room_gives_nothing_and_goes_on(self):
+        for data in files()[:40]:
+            for _, image in opened(data):
+                for word in WALKS:
+                    walk = Walk(image, word)
+                    fault = walk.call(0)
+                    with self.subTest(word=word):
+                        self.assertEqual((walk.rows, walk.batch.is_done, any(bytes(walk.cursor))), ([], bool(fault.status), False))
+
+    def test_a_fault_ends_the_loop_and_leaves_the_cursor(self):
+        image, _ = image_of(images.own_tables(30))
+        for word in WALKS:
+            walk = Walk(image, word)
+            for _ in range(1 << 12):
+                before = bytes(walk.cursor)
+                fault = walk.call(3)
+                if fault.status:
+                    self.assertEqual((walk.batch.count, walk.batch.is_done, bytes(walk.cursor)), (0, True, before))
+                if walk.batch.is_done:
+                    break
+
+    def test_libraries_and_their_imports_give_each_import_once(self):
+        """With steps that both walks share. Also of real files, if the machine has any."""
+        for index, data in enumerate((*files(), *real_files())):
+            for permissive, image in opened(data):
+                wanted, why = Walk(image, "imports").walk(1 << 12)
+                with self.subTest(file=index, permissive=permissive):
+                    found, steps = [], c.c_size_t(1 << 40)
+                    libraries = Walk(image, "libraries")
+                    while True:
+                        rows = (records().Library * 4)()
+                        fault = calls().goblin_pe_next_libraries(
+                            c.byref(image), c.byref(libraries.cursor), rows, 4, c.byref(libraries.batch))
+                        for row in rows[: libraries.batch.count]:
+                            walk = Walk(image, "imports", records().ImportCursor.from_buffer_copy(row.imports))
+                            walk.call(3, steps)
+                            while not walk.batch.is_done:
+                                walk.call(3, steps)
+                            found += walk.rows
+                        if libraries.batch.is_done:
+                            break
+                    if not why[0]:
+                        self.assertEqual(found, wanted)
+
+    def test_a_cursor_of_zeros_is_the_beginning_and_others_harm_nothing(self):
+        digits, image = random.Random(1), image_of(BY_NAME.read_bytes())[0]
+        for word, (_, kind) in WALKS.items():
+            for _ in range(300):
+                forged = getattr(records(), kind).from_buffer_copy(bytes(
+                    digits.choice([0, 0, 1, digits.randrange(256)]) for _ in range(c.sizeof(getattr(records(), kind)))))
+                for name, field in forged._fields_:
+                    if field is c.c_bool:
+                        setattr(forged, name, digits.random() < 0.5)
+                walk = Walk(image, word, forged)
+                for _ in range(3):
+                    walk.call(3)
+
+    def test_a_cursor_of_another_image_harms_nothing(self):
+        """It gives rows or a fault, by any room."""
+        opened_files = [image for data in files()[:30] for _, image in opened(data)]
+        for (one, other), word in itertools.product(itertools.permutations(opened_files[::4], 2), WALKS):
+            walk = Walk(one, word)
+            for _ in range(2):
+                walk.call(1)
+            elsewhere = Walk(other, word, walk.cursor)
+            for room in (0, 1, 3):
+                elsewhere.call(room)
+
+    def test_forged_images_harm_nothing(self):
+        digits = random.Random(2)
+        for data in (BY_NAME.read_bytes(), OBJECTS[0].read_bytes(), images.own_tables(30)):
+            for _ in range(200):
+                image, _ = image_of(data, None, "read_partial_image")
+                forged = bytearray(image)
+                for _ in range(6):
+                    at = digits.randrange(16, len(forged))
+                    forged[at] = digits.choice([0, 0x7F, 0xFF, digits.randrange(256)])
+                made = records().Image.from_buffer_copy(forged)
+                made.options, made.kept = image.options, image.kept
+                for name in ("has_optional_header", "is_dos_stub_replaced"):
+                    setattr(made, name, digits.random() < 0.7)
+                made.rich_header.is_present = digits.random() < 0.5
+                for word in WALKS:
+                    Walk(made, word).call(3)
+                self.look_up(made, digits)
+
+    def look_up(self, image, digits):
+        """The look-ups by some addresses."""
+        found, text, memory = c.c_size_t(), records().Slice(), records().Memory()
+        for rva in (0, 0x1000, 0x2000, digits.randrange(1 << 33), (1 << 64) - 1):
+            calls().goblin_pe_find_offset(c.byref(image), rva, c.byref(found))
+            calls().goblin_pe_find_rva(c.byref(image), rva, c.byref(found))
+            calls().goblin_pe_text_at(c.byref(image), rva, c.byref(text))
+            calls().goblin_pe_memory_at(c.byref(image), rva, 16, c.byref(memory))
+            self.assertLessEqual(memory.bytes.length + memory.zeros + memory.missing, 16)
+
+    def test_each_call_takes_an_image_of_any_kind(self):
+        """Also one that is filled in part: each answers, and the calls whose answer says so refuse a wrong kind."""
+        for data in [*(it.read_bytes() for it in (*OBJECTS, *TERSE, BY_NAME)), b"", b"MZ", bytes(64)]:
+            for read in READS:
+                image, _ = image_of(data, options(True), read)
+                for word in WALKS:
+                    Walk(image, word).call(3)
+                self.look_up(image, random.Random(3))
+                self.call_others(image)
+
+    def call_others(self, image):
+        """The calls that are no walk and no look-up."""
+        r, lib, at = records(), calls(), c.byref(image)
+        damage, footprint, steps = r.Damage(), r.Footprint(), c.c_size_t(1000)
+        is_image = image.kind == 1
+        self.assertEqual(lib.goblin_pe_read_damage(at, c.byref(damage), c.byref(steps)).status == KIND, not is_image)
+        self.assertEqual(lib.goblin_pe_read_footprint(at, c.byref(footprint)).status == KIND, not is_image)
+        lib.goblin_pe_free_footprint(c.byref(footprint))
+        out, written, section, number = (c.c_uint8 * (1 << 12))(), c.c_size_t(), r.Section(), c.c_uint32()
+        lib.goblin_pe_write_header(at, out, len(out), c.byref(written))
+        lib.goblin_pe_checksum(at, c.byref(number))
+        lib.goblin_pe_read_export_directory(at, c.byref(r.ExportDirectory()))
+        lib.goblin_pe_forwarder_at(at, 0x1000, c.byref(r.Forwarder()))
+        lib.goblin_pe_string_at(at, 4, c.byref(r.Slice()))
+        Walk(image, "sections").call(1)
+        cursor, batch = r.SectionCursor(), r.Batch()
+        lib.goblin_pe_next_sections(at, c.byref(cursor), c.byref(section), 1, c.byref(batch))
+        if batch.count:
+            lib.goblin_pe_section_data(at, c.byref(section), c.byref(r.Memory()))
+            lib.goblin_pe_next_coff_relocations(at, c.byref(section.relocations), (r.CoffRelocation * 3)(), 3, c.byref(batch))
+        lib.goblin_pe_next_base_relocations(at, c.byref(r.BaseRelocationCursor()), (r.BaseRelocation * 3)(), 3, c.byref(batch))
+
+
+if __name__ == "__main__":
+    unittest.main()
