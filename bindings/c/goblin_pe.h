@@ -263,7 +263,7 @@ struct goblin_pe_slice {
 struct goblin_pe_batch {
     /* How many records the call gave. */
     size_t count;
-    /* Whether to stop: nothing is left, or the call returned a fault. Where it is not, there was no
+    /* Whether to stop: nothing is left, or the call returned a fault. If it is false, there is no
        more room, or no steps are left, or what comes next is refused. */
     bool is_done;
 };
@@ -344,7 +344,7 @@ enum goblin_pe_cause {
     GOBLIN_PE_CAUSE_NO_PE_POINTER = 4,
     /* The file has no four bytes at offset `first`, where the PE signature is placed. */
     GOBLIN_PE_CAUSE_NO_PE_SIGNATURE = 5,
-    /* `first` stands where the PE signature is placed. */
+    /* The four bytes at the place of the PE signature are `first`. */
     GOBLIN_PE_CAUSE_PE_MAGIC = 6,
     /* The PE signature is placed at offset `first`, before 0x40, where the DOS stub begins. */
     GOBLIN_PE_CAUSE_STUB_BEFORE_START = 7,
@@ -372,8 +372,8 @@ enum goblin_pe_cause {
     GOBLIN_PE_CAUSE_NAME_DECIMAL = 17,
     /* No section name can hold `first`, an offset in a string table. */
     GOBLIN_PE_CAUSE_NAME_OFFSET = 18,
-    /* A symbol's name: no text stands at offset `first` of the string table, or the stored number
-       is `first`, below 4. */
+    /* A symbol has no name: there is no text at offset `first` of the string table, or the stored
+       offset is `first`, below 4. */
     GOBLIN_PE_CAUSE_SYMBOL_NAME = 19,
     /* A string table at offset `first`, of `second` bytes, would pass the file. */
     GOBLIN_PE_CAUSE_STRING_TABLE = 20,
@@ -381,7 +381,7 @@ enum goblin_pe_cause {
     GOBLIN_PE_CAUSE_FIELD_TOO_WIDE = 21,
     /* The address `first` has no file offset. */
     GOBLIN_PE_CAUSE_UNMAPPED = 22,
-    /* No text stands at offset `first`, to which the address of a name is mapped. */
+    /* There is no text at offset `first`, to which the address of a name is mapped. */
     GOBLIN_PE_CAUSE_NAME_READ = 23,
     /* The two bytes of a hint would pass the file at offset `first`. */
     GOBLIN_PE_CAUSE_HINT_ENTRY = 24,
@@ -1000,8 +1000,8 @@ bool goblin_pe_find_rva(const struct goblin_pe_image *image, size_t offset, size
            use(memory.bytes.bytes);
 
    A section whose raw data holds the RVA comes first, then the mapped headers, then a section whose
-   virtual size reaches it. So where `goblin_pe_find_offset` finds an offset inside the file, the
-   first byte is the byte there, but for uninitialized data without a raw pointer, which is zeros.
+   virtual size reaches it. So if `goblin_pe_find_offset` finds an offset inside the file, the first
+   byte is the byte there, except in uninitialized data without a raw pointer, which is zeros.
 
    Returns whether nothing is missing; with `size` 0 so always true. */
 bool goblin_pe_memory_at(
@@ -1445,7 +1445,7 @@ enum goblin_pe_auxiliary_kind {
     GOBLIN_PE_AUXILIARY_KIND_FUNCTION_DEFINITION = 1,
     /* The beginning or the end of a function. */
     GOBLIN_PE_AUXILIARY_KIND_BEGIN_AND_END_FUNCTION = 2,
-    /* A symbol that another may stand in for. */
+    /* A symbol that another one may replace. */
     GOBLIN_PE_AUXILIARY_KIND_WEAK_EXTERNAL = 3,
     /* The name of a source file. */
     GOBLIN_PE_AUXILIARY_KIND_FILE = 4,
@@ -1455,7 +1455,7 @@ enum goblin_pe_auxiliary_kind {
 
 /* The first auxiliary record of a symbol: the fields of its kind; all others are zeros. */
 struct goblin_pe_auxiliary {
-    /* `FunctionDefinition`, and `WeakExternal`: the index of the symbol that stands in. */
+    /* `FunctionDefinition`, and `WeakExternal`: the index of the symbol that replaces it. */
     uint32_t tag_index;
     /* `FunctionDefinition`. */
     uint32_t total_size;

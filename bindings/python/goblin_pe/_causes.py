@@ -17,7 +17,7 @@ class Cause(Number):
     NO_PE_SIGNATURE = 5
     """The file has no four bytes at offset `first`, where the PE signature is placed."""
     PE_MAGIC = 6
-    """`first` stands where the PE signature is placed."""
+    """The four bytes at the place of the PE signature are `first`."""
     STUB_BEFORE_START = 7
     """The PE signature is placed at offset `first`, before 0x40, where the DOS stub begins."""
     STUB_PAST_END = 8
@@ -44,8 +44,8 @@ class Cause(Number):
     NAME_OFFSET = 18
     """No section name can hold `first`, an offset in a string table."""
     SYMBOL_NAME = 19
-    """A symbol's name: no text stands at offset `first` of the string table, or the stored number is
-    `first`, below 4."""
+    """A symbol has no name: there is no text at offset `first` of the string table, or the stored offset
+    is `first`, below 4."""
     STRING_TABLE = 20
     """A string table at offset `first`, of `second` bytes, would pass the file."""
     FIELD_TOO_WIDE = 21
@@ -53,7 +53,7 @@ class Cause(Number):
     UNMAPPED = 22
     """The address `first` has no file offset."""
     NAME_READ = 23
-    """No text stands at offset `first`, to which the address of a name is mapped."""
+    """There is no text at offset `first`, to which the address of a name is mapped."""
     HINT_ENTRY = 24
     """The two bytes of a hint would pass the file at offset `first`."""
     LOOKUP_END = 25

@@ -12,7 +12,7 @@ IsPlain byte = (0 < byte) × (byte < 128)
 abbrev pub ArePlain : List ℕ → ℕ → Type 0
 ArePlain bytes n = (k : ℕ) → k < n → IsPlain (slice_index bytes k)
 
--- a byte of what is left stands so far after those before it
+-- the index of a byte in the rest, and in the whole
 pub byte_after : (bytes : List ℕ) (at run : ℕ) → slice_index (slice_range bytes at (length bytes)) run ≡ slice_index bytes (at + run)
 byte_after bytes at run = ap (λ (s : List ℕ). slice_index s run) (rest_is_drop bytes at) ∙ get_or-drop at bytes run 0
 

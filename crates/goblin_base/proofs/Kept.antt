@@ -52,7 +52,7 @@ kept_same : {A : Type 0} (first second : Option (List A)) → Keeps first second
 kept_same None second kept there = absurd (there refl)
 kept_same (Some xs) second kept there = ap is_kept (sym (kept xs refl))
 
--- and the slots of which something is kept, where the table has a value
+-- and the slots that keep something, if the table has a value
 pub kept_slots-kept : {V A : Type 0} (slots : SlotFormat V) (piece again : V → Option (List A)) (bytes : List ℕ) (o : ℕ) (xs : List A) → ((v : V) → Keeps (piece v) (again v)) → slot_table slots true piece bytes o ≡ Some xs → kept_slots slots piece bytes o ≡ kept_slots slots again bytes o
 unfolding slot_table kept_slots
 kept_slots-kept {V} {A} slots piece again bytes o xs kept e =

@@ -23,7 +23,7 @@ use Rattle.goblin_base.proofs.Footprints.{same-slice_range, same-within}
 use Rattle.goblin_base.proofs.Inside.{AreInside, positions-in}
 use Rattle.goblin_base.proofs.Readings.{by_cases-not_memory}
 
--- ---- reads of a part, as of bytes of their own
+-- ---- reads of a part, as if it were the whole
 
 pub covers-moved : (p i : ℕ) (ranges : List Range) → Covers ranges i
     → Covers (moved_by p ranges) (p + i)
@@ -77,7 +77,7 @@ agree-moved_slice begin end ranges a b h =
       ];
     }
 
--- what is reached of bytes that stand from p on lies in the file
+-- what is reached in bytes that begin at p lies in the file
 moved_in : (p : ℕ) (part bytes : List ℕ) (ranges : List Range)
     → length part ≤ length bytes - p → AreInside part ranges
     → AreInside bytes (moved_by p ranges)

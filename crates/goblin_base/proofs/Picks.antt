@@ -1,4 +1,4 @@
--- The laws of readings of which one is picked by a test, and of a value that is checked.
+-- The laws of a choice between two readings by a test, and of a value that is checked.
 use Rattle.std.proofs.Common.{◌≡◌, Bool, true, false, cond, List, ℕ}
 use Rattle.goblin_base.specs.declared.error.ErrorOf.{ErrorOf}
 use Rattle.goblin_base.specs.Answers.{FirstFault, IsMemory}

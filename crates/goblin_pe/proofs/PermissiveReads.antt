@@ -104,7 +104,7 @@ repeats-numbered_data format addressing rva = record {
       front_or_not _ _ (numbered_libraries_at-repeats addressing format) bytes (addressing.offset rva);
 }
 
--- ---- import data of which no library is left out
+-- ---- import data from which no library is left out
 
 -- a list is not of the front, or has nothing, so that permissive mode has it, too
 abbrev IsUnhidden : {A : Type 0} → Option ℕ → List A → Type 0
@@ -172,7 +172,7 @@ pub map-mode : (mode : ParseMode) (opts : ParseOptions) (sections : List Section
 unfolding file_offset
 map-mode mode opts sections alignment = refl
 
--- where the import directory stands, by a map of addresses to file offsets
+-- where the import directory is, by a map of addresses to file offsets
 abbrev place_by : Addressing → Option DataDirectory → Option ℕ
 place_by addressing imports = imports >>= λ directory. addressing.offset directory.virtual_address
 
@@ -216,7 +216,7 @@ unless_made {A} {B} made none place (part.Read xs) =
     by false = refl
 unless_made made none place Refused = refl
 
--- ---- imports of which no library is left out
+-- ---- imports from which no library is left out
 
 part_unhidden : {A : Type 0} (place : Option ℕ) (p : Part (List A)) → IfRead (IsUnhidden place) p
     → part_map (unless_front place) p ≡ p
@@ -339,8 +339,8 @@ module _ (opts : ParseOptions) (header : PeHeader) where
       (repeats-table_parts opts m places) (lists_again opts m places))
       (λ t. refl)
 
--- What strict mode has of a file, permissive mode has, too, but for imports from the front of the
--- file.
+-- Permissive mode gives what strict mode gives, except imports whose directory is at the front of
+-- the file.
 pub repeats-whole_file : (opts : ParseOptions)
     → RepeatsAs (in_permissive_mode opts) (whole_file (in_mode Strict opts))
     (whole_file (in_mode Permissive opts))

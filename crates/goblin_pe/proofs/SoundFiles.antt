@@ -1,5 +1,4 @@
--- A file of which nothing is damaged is one that strict mode reads, and where no library is left out,
--- permissive mode reads the same.
+-- Strict mode reads a file without damage. If no library is left out, permissive mode reads the same.
 use Rattle.std.proofs.Common.{◌≡◌, ℕ, List, Bool, true, false, Option, Some, None, IsSome, refl, sym, ap, subst, ◌∙◌, IfOk, IsSomeAnd, Result, Ok, Err, option_map}
 use Rattle.goblin_base.specs.declared.error.ErrorOf.{ErrorOf}
 use Rattle.goblin_base.specs.declared.permissive.ParseMode.TheVariants.{Permissive, Strict}
@@ -165,6 +164,6 @@ module _ {A : Type 0} (make : PeHeader → List Section → NumberedTables → A
       tables-value o (λ h s. reads.mapped (make h s) (tables_with view o h s)) bytes h read.header s read.sections
       ∙ ap (option_map (make h s)) read.tables
 
-  -- both modes make the same of a file without damage, of which no library is left out
+  -- both modes read the same from a file without damage, if no library is left out
   pub sound_made : (l : PeHeader × List Section) (d : Damage) → (layout opts).value bytes ≡ Some l → IsDamaged view opts l.0 l.1 bytes d → IsSound d → IsReadByBoth made_in opts bytes
   sound_made l d found damaged sound = told view opts bytes made_in make made (Some l) d found damaged sound

@@ -209,7 +209,7 @@ module _ {P R A B S : Type 0} {table : Table P R A B} {left : S → List (Option
       own [] counted filled = filled.1
       own (x ∷ xs) counted filled = absurd (omega (arith, counted, none))
 
-  -- the end is told
+  -- the batch says that this is the end
   abbrev pub Told : Type 0 → Bool → Type 0
   Told IsCut is_done = TellsEnd IsCut (drop count (left start)) (length old) count is_done
 

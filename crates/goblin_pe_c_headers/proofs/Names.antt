@@ -24,7 +24,7 @@ rest_is_text table o rest text is =
     subst (λ (xs : List ℕ). is_utf8 xs ≡ true) (sym piece.is)
     (is_utf8-from_IsUtf8 (slice_range table o piece.end) (IsUtf8-between table o piece.end whole piece.after piece.border (cut_at_end table piece.end piece.piece.ends)))
 
--- a byte that is no NUL stands before what follows it up to a NUL
+-- a byte that is no NUL comes before what follows it up to a NUL
 first_kept : (b : ℕ) (rest : List ℕ) → (b == 0) ≡ false → before_nul (b ∷ rest) ≡ b ∷ before_nul rest
 first_kept b rest other =
     let n = prefix_len (λ x. not (x == 0)) rest in

@@ -34,8 +34,8 @@ no_rich_header = record {
 abbrev pub zero_directory : DataDirectory
 zero_directory = record { virtual_address = 0; size = 0 }
 
--- An image with zeros, but for its bytes, its options and its kind. (Its bytes are those of the record
--- that is given.)
+-- An image of zeros, except its bytes, its options and its kind. (Its bytes are those of the given
+-- record.)
 abbrev pub zero_image : PeOptions → ℕ → PeImage → PeImage
 zero_image options kind image = record image {
   options = options;

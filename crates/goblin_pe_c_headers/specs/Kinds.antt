@@ -17,7 +17,7 @@ kind_number kind.Archive = 4
 kind_number kind.ImportObject = 5
 kind_number kind.BigObject = 6
 
--- The machines that a COFF header names, but for 0, any machine.
+-- The machines that a COFF header names, except 0, any machine.
 -- Source: PE Format, "Machine Types", and of some the Windows headers.
 abbrev pub machines : List ℕ
 machines =

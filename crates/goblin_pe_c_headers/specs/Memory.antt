@@ -63,7 +63,7 @@ known found missing index where_from = record {
 abbrev pub unknown : ℕ → ℕ → Memory
 unknown missing index = known ([], 0) missing index region.Unmapped
 
--- ---- bytes of which the file may lack some
+-- ---- bytes that may be missing in the file
 
 -- the first n bytes from p on, as far as the file has them
 abbrev pub front_at : List ℕ → ℕ → ℕ → List ℕ
@@ -121,7 +121,7 @@ section_data o alignment bytes index s =
 abbrev pub window_size : ℕ → Section → ℕ
 window_size alignment s = if is_power_of_two alignment then read_size s alignment else 0
 
--- the address is one of so many from the section's address on
+-- the address is one of the `length` addresses from the section's on
 abbrev pub is_among : ℕ → ℕ → Section → Bool
 is_among size rva s = nat_le s.virtual_address rva && nat_lt rva (s.virtual_address + size)
 
@@ -154,14 +154,14 @@ holder_index m rva =
     option_or (position (λ s. is_among (window_size m.alignment s) rva s) m.sections)
     (position (λ s. is_among (memory_length m.alignment s) rva s) m.sections)
 
--- ---- so many bytes
+-- ---- `size` bytes
 
--- how many of so many bytes of a section's memory, from a distance on, are the file's
+-- how many of `size` bytes of a section's memory, from a distance on, are the file's
 abbrev pub stored_of : ParseOptions → ℕ → ℕ → Section → ℕ → ℕ → ℕ
 stored_of opts alignment end s distance size =
     min size (stored_in_memory opts alignment end s - distance)
 
--- the first bytes of a section's memory, at most so many, from an address in it on
+-- at most `size` bytes of a section's memory, from an address in it on
 abbrev pub memory_of : MappedImage → List ℕ → ℕ → ℕ → Section → List ℕ × ℕ
 memory_of m bytes rva size s =
     let distance = rva - s.virtual_address in
@@ -176,8 +176,8 @@ region_in m bytes rva s =
     then region.RawData
     else region.Zeros
 
--- So many bytes from an address on, by what holds it. The file's front has the index after those of
--- all sections.
+-- `size` bytes from an address on, by the section that holds it. The index of the file's front comes
+-- after those of all sections.
 abbrev pub memory_by : MappedImage → List ℕ → ℕ → ℕ → ℕ → ℕ → Option Section → Memory
 memory_by m bytes outside rva size index None = unknown size outside
 memory_by m bytes outside rva size index (Some s) =
@@ -185,14 +185,14 @@ memory_by m bytes outside rva size index (Some s) =
     known found (size - (length found.0 + found.1)) index
     (if index == outside then region.Headers else region_in m bytes rva s)
 
--- so many bytes from an offset on, where addresses are offsets
+-- `size` bytes from an offset on, if addresses are offsets
 abbrev pub memory_in_file : List ℕ → ℕ → ℕ → ℕ → Memory
 memory_in_file bytes outside rva size =
     let found = front_at bytes rva size in
     known (found, 0) (size - length found) outside
     (if nat_lt rva (length bytes) then region.RawData else region.Unmapped)
 
--- so many bytes from an address on, by what maps the addresses, if anything does
+-- `size` bytes from an address on, by the image that maps the addresses, if there is one
 abbrev pub memory_mapped : List ℕ → ℕ → ℕ → ℕ → Option MappedImage → Memory
 memory_mapped bytes outside rva size None = unknown size outside
 memory_mapped bytes outside rva size (Some m) =

@@ -77,15 +77,15 @@ GivesFrom table IsCut Holds old new count =
     IsSomeAnd (table.from old.position)
     (λ left. FillsFrom table IsCut left old new count × Holds left)
 
--- The end is told only where nothing is left, and there is room. Where it is not told, there is no
--- more room, or the batch was cut, or what comes next is a refusal.
+-- `is_done` is true only if nothing is left, and there is room. If it is false, there is no more room,
+-- or the batch was cut, or what comes next is a refusal.
 pub record TellsEnd {A : Type 0} (IsCut : Type 0) (rest : List (Option A)) (room count : ℕ)
     (is_done : Bool) : Type 0 where
   pub ended : is_done ≡ true → rest ≡ []
   pub without_room : room ≡ 0 → is_done ≡ false
   pub goes_on : is_done ≡ false → (room ≤ count) ⊎ IsCut ⊎ IsRefusedNext rest
 
--- What every batch gives, and what is said of it.
+-- What every batch gives, and what it says.
 abbrev pub FillsNext : {P R A B : Type 0} → Table P R A B → Type 0
     → (List (Option A) → Type 0) → Batch P R → Batch P R → PeBatch → Type 0
 FillsNext table IsCut Holds old new batch =
@@ -93,12 +93,12 @@ FillsNext table IsCut Holds old new batch =
     (λ left. TellsEnd IsCut (drop batch.count left) (length old.records) batch.count batch.is_done
     × Holds left) old new batch.count
 
--- What is said where a call is refused: no record, and to stop.
+-- What a refused call says: no record, and to stop.
 abbrev pub no_batch : PeBatch
 no_batch = record { count = 0; is_done = true }
 
--- Why a batch is refused where items may be: what leads to them is, or else the very next, and there
--- is room for it.
+-- Why a batch is refused if items may be refused: because what leads to them is, or because the very
+-- next item is and there is room for it.
 abbrev pub IsNextFault : {P R S A : Type 0} → Reading S → List ℕ → (S → List (Option A))
     → (S → ErrorOf → Type 0) → Batch P R → ErrorOf → Type 0
 IsNextFault read bytes left IsCause old e =
@@ -107,7 +107,7 @@ IsNextFault read bytes left IsCause old e =
 
 -- ---- lists
 
--- a list, of which an item has its index as its position; contracts see of a row what a view tells
+-- a list, in which the position of an item is its index; contracts see a row through its view
 abbrev pub row_table : {W B : Type 0} → (W → B) → List B → Table ℕ W B B
 row_table view items =
     record { view = view; said = λ b. b; from = λ i. Some (unrefused (drop i items)) }

@@ -23,7 +23,7 @@ image_places i = record {
   magic = number_if i.has_optional_header i.optional_header.standard_fields.magic;
 }
 
--- the bytes of so many section headers at p; of none, whatever p is
+-- the bytes of `count` section headers at p; if there are none, p does not matter
 abbrev pub headers_there : ℕ → ℕ → Reading (List ℕ)
 headers_there count p = pick (count == 0) (given []) (slice_at p (40 * count))
 

@@ -96,7 +96,7 @@ symbols_onward table i = symbols_from (length table / 18 - i) 0 table i
 abbrev pub next_index : List ℕ → ℕ → ℕ
 next_index table i = i + 1 + aux table i
 
--- the index after n symbols, of which the first is at index i
+-- the index after n symbols, if the first is at index i
 unfoldable pub index_after : List ℕ → ℕ → ℕ → ℕ
 index_after table zero i = i
 index_after table (suc n) i = next_index table (index_after table n i)
@@ -129,7 +129,7 @@ symbol_tables header =
     reads.◌>>=◌ (symbols_of header)
     (λ symbols. mapped (λ strings. (symbols, strings)) (strings_of header))
 
--- the n bytes at p, of which there may be none
+-- the n bytes at p; n may be 0
 abbrev pub strings_said : ℕ → ℕ → Reading (List ℕ)
 strings_said p n = because (StringTable p n) (bytes_between p (p + n))
 

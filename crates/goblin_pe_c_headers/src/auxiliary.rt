@@ -24,7 +24,7 @@ pub enum AuxiliaryKind {
     FunctionDefinition = 1,
     /// The beginning or the end of a function.
     BeginAndEndFunction = 2,
-    /// A symbol that another may stand in for.
+    /// A symbol that another one may replace.
     WeakExternal = 3,
     /// The name of a source file.
     File = 4,
@@ -45,7 +45,7 @@ const _: () = prove!(
 #[repr(C)]
 #[derive(Copy, Clone)]
 pub struct PeAuxiliary<'a> {
-    /// `FunctionDefinition`, and `WeakExternal`: the index of the symbol that stands in.
+    /// `FunctionDefinition`, and `WeakExternal`: the index of the symbol that replaces it.
     pub tag_index: u32,
     /// `FunctionDefinition`.
     pub total_size: u32,

@@ -8,12 +8,12 @@ ghost use Rattle.std.specs.Prelude.{◌≡◌, false, true};
 pub struct PeBatch {
     /// How many records the call gave.
     pub count: usize,
-    /// Whether to stop: nothing is left, or the call returned a fault. Where it is not, there was no
+    /// Whether to stop: nothing is left, or the call returned a fault. If it is false, there is no
     /// more room, or no steps are left, or what comes next is refused.
     pub is_done: bool,
 }
 
-/// The batch of so many records where the end is not told.
+/// A batch of `count` records that is not the last.
 #[inline(always)]
 pub fn goes_on(count: usize) -> PeBatch
     ensures { result ≡ record { count = count; is_done = false } }

@@ -23,7 +23,7 @@ const FIRST_CAUSE: u32 = 2;
 // How many causes there are from it on.
 const CAUSES: usize = 33;
 
-// There is room for so many bytes of a text; of a longer one the last three are dots.
+// How many bytes of a text there is room for. A longer text is cut, and ends in three dots.
 const TEXT_ROOM: usize = 160;
 
 const _: () = prove!(TEXT_ROOM == 160);
@@ -159,7 +159,7 @@ enum CauseNumber {
     NoPePointer = 4,
     /// The file has no four bytes at offset `first`, where the PE signature is placed.
     NoPeSignature = 5,
-    /// `first` stands where the PE signature is placed.
+    /// The four bytes at the place of the PE signature are `first`.
     PeMagic = 6,
     /// The PE signature is placed at offset `first`, before 0x40, where the DOS stub begins.
     StubBeforeStart = 7,
@@ -187,8 +187,8 @@ enum CauseNumber {
     NameDecimal = 17,
     /// No section name can hold `first`, an offset in a string table.
     NameOffset = 18,
-    /// A symbol's name: no text stands at offset `first` of the string table, or the stored
-    /// number is `first`, below 4.
+    /// A symbol has no name: there is no text at offset `first` of the string table, or the stored
+    /// offset is `first`, below 4.
     SymbolName = 19,
     /// A string table at offset `first`, of `second` bytes, would pass the file.
     StringTable = 20,
@@ -196,7 +196,7 @@ enum CauseNumber {
     FieldTooWide = 21,
     /// The address `first` has no file offset.
     Unmapped = 22,
-    /// No text stands at offset `first`, to which the address of a name is mapped.
+    /// There is no text at offset `first`, to which the address of a name is mapped.
     NameRead = 23,
     /// The two bytes of a hint would pass the file at offset `first`.
     HintEntry = 24,

@@ -92,7 +92,7 @@ pub struct PeImage<'a> {
     pub reserved: u32,
 }
 
-/// An image of zeros, but for its bytes, its options and its kind.
+/// An image of zeros, except its bytes, its options and its kind.
 pub fn zero_image<'a>(bytes: &'a [u8], options: &PeOptions, kind: u32) -> PeImage<'a>
     ensures bytes { result.bytes.now ≡ bytes.now }
     ensures zeros { result ≡ zero_image options.now kind result }

@@ -1,7 +1,7 @@
-//! What callers that are not written in Rattle see of the parts of a file, but for its imports and
+//! What callers that are not written in Rattle see of the parts of a file, except its imports and
 //! exports: the records of headers, sections, symbols, relocations and refusals, and the functions
-//! that fill them, or write what they say. So are objects and Terse Executables, which have neither
-//! imports nor exports.
+//! that fill or write them. Objects and Terse Executables are here too: they have neither imports
+//! nor exports.
 //!
 //! Each text in a record is a slice of the caller's bytes, as tests check, so no text is copied.
 //! The crate `goblin_pe_c_tables` reads images as a whole into these records and its own. It needs the

@@ -105,8 +105,8 @@ fn name_in_piece(strings: &[u8], offset: usize, longest: Option<u32>) -> Option<
     }
 }
 
-// The name of a symbol: where a number stands in its place, the text of the string table there, and
-// else the one that stands in the record.
+// The name of a symbol: the text of the string table, if the record has an offset in place of a
+// name, or else the name in the record.
 #[inline(always)]
 fn name_in<'a>(inline_name: Option<&'a str>, symbol: &Symbol, tables: Tables<'a>) -> Option<&'a str>
     ensures { option_map (λ s. s.now) result
@@ -222,7 +222,7 @@ fn fill_symbols_at<'a>(
     goes_on(records.len())
 }
 
-// The texts of a string table: so many bytes at an offset; there may be none.
+// The texts of a string table: its bytes at an offset; there may be none.
 fn strings_said(bytes: &[u8], offset: usize, length: usize) -> Result<&[u8]>
     ensures { Reads (λ s. s.now) result (strings_said offset length) bytes.now }
 {

@@ -1,4 +1,4 @@
--- A walk over all imports within so many steps.
+-- A walk over all imports within a number of steps.
 use Rattle.std.proofs.Common.{◌≡◌, ◌⊎◌, ℕ, ◌≤◌, Bool, true, false, ◌&&◌, List, Option, None, Some, ap, arith, inl, inr, is_none, refl}
 use Rattle.goblin_pe_import.specs.declared.import.imports.ImportCursor.{ImportCursor}
 use Rattle.goblin_pe_import.specs.ImportWalks.{no_imports}

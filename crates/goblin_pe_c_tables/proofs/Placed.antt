@@ -56,7 +56,7 @@ whole_given bytes parts are strict h all header read =
 
 -- ---- the sections that are given
 
--- so many records that are read are so many sections
+-- there are as many sections as records that are read
 length-there : (bytes : List ℕ) (count p : ℕ) (xs : List Section) → (sections_there count p).value bytes ≡ Some xs → length xs ≡ count
 length-there bytes zero p xs read = ap length (sym (same_value [] xs read))
 length-there bytes (suc n) p xs read =

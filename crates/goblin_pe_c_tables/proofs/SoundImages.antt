@@ -37,7 +37,7 @@ places-by o h image (Some y) is = rw is refl
 image-places : (o : PeOptions) (h : PeHeader) (image : PeImage) → image_places (image_of o h image) ≡ places_record h
 image-places o h image = places-by o h image h.optional_header refl
 
--- a damage that is told as sound
+-- a damage that says that the image is sound
 none-is : {A : Type 0} (o : Option A) → is_none o ≡ true → o ≡ None
 none-is None is = refl
 none-is (Some x) is = absurd (cc is)

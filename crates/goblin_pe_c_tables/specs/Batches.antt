@@ -47,7 +47,7 @@ use Rattle.goblin_pe_c_headers.specs.declared.image.PeImage.{PeImage}
 use Rattle.goblin_pe_c_headers.specs.Calls.{ReportedAfter}
 use Rattle.goblin_pe_c_headers.specs.Places.{image_places, placed_sections}
 
--- what a call says that gave so many records: without room the end is not told
+-- what a call says that gave `count` records: without room it does not say that it is done
 abbrev pub at_room : ℕ → ℕ → Bool → PeBatch
 at_room room count is_done = record { count = count; is_done = is_done && not (room == 0) }
 
@@ -177,7 +177,7 @@ export_table m bytes p = record {
 abbrev pub ExportBatch : Type 0
 ExportBatch = Batch ℕ PeExport
 
--- A step looks at one of so many name pointers, from the old position up to the new one.
+-- A step looks at one of the name pointers from the old position up to the new one.
 pub record LooksAtPointers (steps left pointers old new : ℕ) : Type 0 where
   pub further : old ≤ new
   pub within : new ≤ max old pointers
@@ -295,7 +295,7 @@ block_table begin p =
 abbrev pub BlockBatch : Type 0
 BlockBatch = Batch ℕ PeRelocationBlock
 
--- Of a directory that was read, or not. The position moves by the sizes of the blocks that are given.
+-- The directory was read, or not. The position moves by the sizes of the blocks that are given.
 abbrev pub GivesBlocksIn : ℕ → Part (List ℕ) → BlockBatch → BlockBatch → PeBatch → Type 0
 GivesBlocksIn begin p old new batch =
     FillsNext (block_table begin p) ⊥

@@ -143,14 +143,14 @@ HasNoSections image e =
     (¬ IsMemory e → IsRefused (placed_sections (image_places image)) image.bytes.now e)
     × (IsMemory e → TakesIndexAt (image_places image) image.bytes.now)
 
--- A strict walk takes more than so many steps, if the call says so.
+-- A strict walk takes more than `steps`, if the call says so.
 abbrev pub AnswersRunsOut : PeImage → ℕ → Result Bool ErrorOf → Type 0
 AnswersRunsOut image steps (Ok is_out) =
     is_out ≡ true
     → IsSomeAnd ((placed_sections (image_places image)).value image.bytes.now) (AreTooFew image steps)
 AnswersRunsOut image steps (Err e) = HasNoSections image e
 
--- A call finds the damage within so many steps, or these are too few.
+-- A call finds the damage within `steps`, or these are too few.
 abbrev pub AnswersDamage : PeImage → ℕ → Result (Option (PeDamage × ℕ)) ErrorOf → Type 0
 AnswersDamage image steps (Ok found) =
     IsSomeAnd ((placed_sections (image_places image)).value image.bytes.now)

@@ -58,7 +58,7 @@ import_view x = record {
   reserved = x.reserved;
 }
 
--- A walk has given some imports, of which this holds, and goes on after them.
+-- A walk has given some imports, this holds of them, and it goes on after them.
 pub record GivesHere {T : Type 0} (format : Format EntryValue) (s t : Imports T)
     (Holds : List NumberedImport → Type 0) : Type 0 where
   pub values : List NumberedImport

@@ -78,7 +78,7 @@ position_after p [] = p
 position_after p (library ∷ libraries) =
     position_after (cursor_numbers (after_library library)) libraries
 
--- The new position is the end where that is told, else after the libraries that are given.
+-- The new position is the end if the call is done, or else after the libraries that are given.
 abbrev pub position_by : Bool → PeImportCursor → List LibraryValue → PeImportCursor
 position_by is_done p libraries =
     if is_done then cursor_numbers no_imports else position_after p libraries

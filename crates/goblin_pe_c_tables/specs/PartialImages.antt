@@ -33,7 +33,7 @@ use Rattle.goblin_pe_c_tables.specs.declared.partial.PeHeaderFaults.{PeHeaderFau
 
 -- ---- the parts
 
--- a part that is given, or what stands in place of a refused one
+-- a part that is given, or what replaces a refused one
 abbrev pub given_or : {A : Type 0} → A → Result A ErrorOf → A
 given_or other (Ok part) = part
 given_or other (Err e) = other
@@ -66,7 +66,7 @@ has_fields parts = is_given parts.standard_fields && is_given parts.windows_fiel
 abbrev pub file_stub : Reading (List ℕ)
 file_stub = dos_header >>= λ h. stub_at h.pe_pointer
 
--- how many bytes the stub has; the built-in one's if that stands in for it
+-- how many bytes the stub has; those of the built-in one if that replaces it
 abbrev pub stub_size : Result DosStub ErrorOf → Bool → ℕ
 stub_size (Ok stub) is_replaced = length (stub_bytes stub)
 stub_size (Err e) is_replaced = if is_replaced then length default_stub else 0
@@ -75,7 +75,7 @@ stub_size (Err e) is_replaced = if is_replaced then length default_stub else 0
 abbrev pub table_there : CoffHeader → ℕ → Reading (List Section)
 table_there h table = unnamed_sections h.number_of_sections table
 
--- so many of them, with their names
+-- the first `count` of them, with their names
 abbrev pub names_there : Bool → CoffHeader → ℕ → ℕ → Reading (List Section)
 names_there strict h table count = sections_at strict (symbols_end h) count table
 

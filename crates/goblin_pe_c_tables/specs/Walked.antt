@@ -78,8 +78,8 @@ same-options o a b agree =
     ap (λ (h : Option PeHeader). options_at o (alignment_of h))
     (header.is_local a b (agree-left (header.reaches a) _ a b agree))
 
--- what is read by these options, of which the file's own alignment may decide one, and in the view
--- that they say
+-- what is read by these options, in the view that they say (the file's own alignment may decide one
+-- of the options)
 abbrev pub walked_in : PeOptions → Reading WalkedFile
 walked_in o = record {
   value = λ bytes. (walked_file (view_of o) (options_in o bytes)).value bytes;
@@ -128,9 +128,9 @@ WalksGive =
 
 -- ---- in both modes
 
--- Of an image without damage, of which no library is left out, walks that read names whole give the
--- same in both modes, which both read its header and its sections. (The number of sections has 16 bits
--- in each header.)
+-- If an image has no damage, and no library is left out, both modes read its header and its sections,
+-- and walks that read names whole give the same in both. (The number of sections has 16 bits in each
+-- header.)
 unfoldable pub SoundIsWalkedAlike : Type 0
 SoundIsWalkedAlike =
     (image : PeImage) (l : PeHeader × List Section) (d : Damage) → longest_of image.options ≡ None

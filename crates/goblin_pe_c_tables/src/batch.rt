@@ -59,7 +59,7 @@ pub trait Batched<'a>: Sized {
         ensures refused { IfErr result (λ e. ¬ IsMemory e) };
 }
 
-// What a call says that gave so many records: without room the end is not told.
+// What a call says that gave `count` records: without room it does not say that it is done.
 #[inline(always)]
 pub(crate) fn at_room(room: usize, count: usize, is_done: bool) -> PeBatch
     ensures { result ≡ at_room room count is_done }

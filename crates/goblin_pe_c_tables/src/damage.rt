@@ -213,7 +213,7 @@ fn runs_out(alloc: Global, image: &PeImage, steps: usize) -> Result<bool>
     Ok(steps_after(&layout, steps).is_none())
 }
 
-// The damage of an image within so many steps, and how many are left; `None` if they run out.
+// The damage of an image within a number of steps, and how many are left; `None` if they run out.
 fn damage_within(alloc: Global, image: &PeImage, steps: usize) -> Result<Option<(PeDamage, usize)>>
     ensures { AnswersDamage image.now steps result }
 {

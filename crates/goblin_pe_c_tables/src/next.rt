@@ -192,9 +192,8 @@ fn fill_library<'a, 'm, 'e>(
     count
 }
 
-// Fills records with the imports that come next, as far as there is room and within so many steps,
-// and answers what it did and how many steps are left. What was looked at before a refusal does not
-// count.
+// Fills records with the imports that come next, as far as room and steps reach, and answers what
+// it did and how many steps are left. What was looked at before a refusal does not count.
 fn fill_imports<'a, 'm, 'e>(
     layout: &Layout<'a>,
     mut imports: FileImports<'a, 'm, 'e>,
@@ -284,7 +283,7 @@ impl<'a> Batched<'a> for PeImport<'a> {
     }
 }
 
-// The index of a name pointer, of so many, before which a batch ends that begins at a position.
+// The index of the name pointer before which a batch ends that begins at a position.
 fn end_after(pointers: usize, position: usize, steps: usize) -> usize
     ensures within { result ≤ pointers }
     ensures limit { result ≤ position + steps }

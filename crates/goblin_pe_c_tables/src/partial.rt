@@ -109,7 +109,7 @@ fn file_stub(bytes: &[u8]) -> Result<DosStub<'_>>
     DosStub::parse(bytes, header.pe_pointer)
 }
 
-// How many bytes the stub has; the built-in one's if that stands in for it.
+// How many bytes the stub has; those of the built-in one if that replaces it.
 fn stub_size(stub: &Result<DosStub>, is_replaced: bool) -> usize
     ensures { result ≡ stub_size stub.now is_replaced }
 {
@@ -154,7 +154,7 @@ fn test_table(bytes: &[u8], coff_header: CoffHeader, section_table: usize) -> Re
     Ok(())
 }
 
-// Tests the names of so many section headers, which the file has.
+// Tests the names of the first section headers, as many as the file has.
 fn test_names(
     bytes: &[u8],
     coff_header: CoffHeader,

@@ -60,8 +60,8 @@ pub extern "C" fn goblin_pe_raw_find_rva(image: &PeImage, offset: usize, rva: &m
 ///         use(memory.bytes.bytes);
 ///
 /// A section whose raw data holds the RVA comes first, then the mapped headers, then a section whose
-/// virtual size reaches it. So where `goblin_pe_find_offset` finds an offset inside the file, the
-/// first byte is the byte there, but for uninitialized data without a raw pointer, which is zeros.
+/// virtual size reaches it. So if `goblin_pe_find_offset` finds an offset inside the file, the first
+/// byte is the byte there, except in uninitialized data without a raw pointer, which is zeros.
 ///
 /// Returns whether nothing is missing; with `size` 0 so always true.
 #[unsafe(no_mangle)]

@@ -22,7 +22,7 @@ use Rattle.goblin_pe_export.specs.ExportRecords.{entries_in, name_pointers, ordi
 next-entry : (w i : ℕ) → w * suc i ≡ w * i + w
 next-entry w i = grind arith
 
--- so many whole entries are there
+-- this many whole entries are there
 pub entry_inside : (w n i : ℕ) → 0 < w → i < n / w → w * i + w ≤ n
 entry_inside w n i wide h =
     let below : w * suc i ≤ w * (n / w) = mul-le-mul_left w (omega arith) in
@@ -66,7 +66,7 @@ entry_read {V} w value bytes i wide =
           ∙ sym (ap (option_map value) none)
     ]
 
--- so many entries are there
+-- this many entries are there
 pub entry_count : {V : Type 0} (w : ℕ) (value : List ℕ → V) (bytes : List ℕ)
     → length (records_in w value bytes) ≡ length bytes / w
 entry_count w value bytes = length-records_in w value bytes

@@ -257,8 +257,8 @@ impl<'a> Model for Export<'a> {
 const FEW: usize = 32;
 
 // For how many exports to make room first. If there are few name pointers, it is their number. Else
-// it is the number of exports that are not forwarders, each of which will be in the list, but at
-// least `FEW`.
+// it is the number of exports that are not forwarders, because all of these will be in the list, but
+// at least `FEW`.
 fn expected_count(tables: &ExportData) -> usize {
     let pointers = tables.pointers();
     if pointers <= FEW {

@@ -1,4 +1,4 @@
--- Values that stand beside each other.
+-- Pairs of values.
 use Rattle.std.proofs.Common.{◌≡◌, true, Option, Some, None, refl, subst}
 use Rattle.goblin_base.proofs.Steps.{same_value}
 use Rattle.readings.specs.Reads.{in_its_place, pair_of}

@@ -41,9 +41,9 @@ use Rattle.goblin_pe_head.proofs.OptionalHeaderRoundTrip.{bytes_after}
 use Rattle.goblin_pe_head.proofs.OptionalParts.{IsOptionalOf, magic_32, magic_64, of_optional, optional_of, pick, same_magic}
 use Rattle.goblin_pe_head.proofs.PeHeaderRoundTrip.{dos_of, of_dos, of_parts, parts_of, strict_stub}
 
--- ---- what stands at a place
+-- ---- what is at a place
 
--- these bytes stand at p, and others after them
+-- these bytes are at p, and others after them
 record StandAt (bytes : List ℕ) (p : ℕ) (own : List ℕ) : Type 0 where
   rest : List ℕ
   is : drop p bytes ≡ own ++ rest
@@ -92,7 +92,7 @@ encoding-cons : (e : Option (ℕ × DataDirectory)) (entries : List (Option (ℕ
     → encoding Little (entries_fields (e ∷ entries)) ≡ encoding Little (directory_fields (directory_or_zeros e)) ++ encoding Little (entries_fields entries)
 encoding-cons e entries = encoding_append Little (directory_fields (directory_or_zeros e)) (entries_fields entries)
 
--- each directory stands at its place
+-- each directory is at its place
 entry-stands : (bytes : List ℕ) (p : ℕ) (entries : List (Option (ℕ × DataDirectory))) (rest : List ℕ) (i : ℕ) → drop p bytes ≡ encoding Little (entries_fields entries) ++ rest → i < length entries
     → StandAt bytes (p + 8 * i) (encoding Little (directory_fields (directory_or_zeros (get_or entries i None))))
 entry-stands bytes p [] rest i is lt = absurd (omega (arith, lt))

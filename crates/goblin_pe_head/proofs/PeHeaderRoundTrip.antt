@@ -1,4 +1,4 @@
--- A header that was read is written as its bytes stand, with the missing directories after them, and is read again.
+-- A header that was read is written as its bytes, with the missing directories after them, and is read again.
 use Rattle.std.proofs.Common.{◌≡◌, ℕ, ◌+◌, ◌-◌, ◌<◌, ◌≤◌, ◌&&◌, Bool, true, false, cond, nat_le, List, [], ◌∷◌, ◌++◌, take, drop, length, Option, Some, None, refl, sym, ap, ◌∙◌, subst, arith, ◌*◌, nat_lt, append_assoc, inl, inr, ◌==◌, IsSomeAnd, option_map, slice_range, option_and_then, append-nil, length-drop}
 use Rattle.std.proofs.lemmas.Bool.{and_parts, eqb-true, leb-true, le-leb}
 use Rattle.std.proofs.lemmas.Option.{cond_some}
@@ -115,7 +115,7 @@ pub of_dos : (bytes : List ℕ) (h : DosHeader) → IsDosOf bytes h → dos_head
 unfolding dos_header
 of_dos bytes h is = rw (is.magic, is.own, is.signature) refl
 
--- an optional header that is there ends within the file, and is written as it stands
+-- an optional header that is there ends within the file, and is written as its bytes
 record IsOptionalPart (bytes : List ℕ) (p : ℕ) (optional : Option OptionalHeader) : Type 0 where
   pub end : end_after p optional ≤ length bytes
   pub written : IsSomeAnd (written_part Little optional) (λ xs. take (p + 24) bytes ++ (xs ++ []) ≡ take (end_after p optional) bytes ++ filling_after optional)

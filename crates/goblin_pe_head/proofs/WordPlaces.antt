@@ -38,7 +38,7 @@ another_word bytes p word typed other =
     false_from_ne_true (number Little 4 bytes p == word)
     (λ same. other (sym (first_byte bytes p typed) ∙ ap (λ w. w % 256) (eqb-true (number Little 4 bytes p) word same)))
 
--- no word stands where its first byte does not
+-- no word is where its first byte is not
 pub passed_over : (bytes : List ℕ) (at count run word : ℕ) → ((k : ℕ) → Fits w8 (slice_index bytes k)) → count ≤ length bytes
     → ((k : ℕ) → k < run → slice_index (slice_range bytes at count) k ≢ word % 256) → run ≤ length (slice_range bytes at count)
     → ((k : ℕ) → k < at → k < count → (number Little 4 bytes k == word) ≡ false)

@@ -8,7 +8,7 @@ pub record_there : {R : Type 0} (size : ℕ) (value : List ℕ → R) (bytes : L
 record_there size value bytes p wide room =
     ap (option_map value) (slice_at-inside bytes p size (omega (arith, wide, room)) room)
 
--- so is an entry that was read of so many bytes
+-- so is an entry of that many bytes that was read
 pub entry_there : {R T : Type 0} (size width : ℕ) (value : List ℕ → R) (view : T → R) (bytes : List ℕ) (p : ℕ) (entry : T) → width ≡ size → 1 ≤ width → width ≤ length bytes - p → p ≤ length bytes → view entry ≡ value (slice_range bytes p (p + width)) → record_at size value bytes p ≡ Some (view entry)
 entry_there size width value view bytes p entry same wide room within read =
     let there = record_there size value bytes p (omega (arith, same, wide)) (omega (arith, same, room, within)) in

@@ -49,7 +49,7 @@ slots_fit slots bytes o (suc n) going =
     let is = record_at-some slots.entry.width slots.entry.value_of bytes (slot_place slots o n) last.0 last.1 in
     omega (arith, is.end)
 
--- no more slots stand before the stop than fit the file
+-- there are no more slots before the stop than fit the file
 stop_fits : {V : Type 0} (slots : SlotFormat V) (bytes : List ℕ) (o : ℕ) → 0 < slots.entry.width → stop slots bytes o ≤ length bytes / slots.entry.width
 unfolding stop
 stop_fits slots bytes o some =

@@ -16,7 +16,7 @@ use Rattle.goblin_pe_import.specs.declared.import.directory_entry.ImportDirector
 use Rattle.goblin_pe_import.proofs.ImportsValue.{table-there}
 use Rattle.goblin_pe_import.proofs.SlotSums.{sum-none}
 
--- three parts of which the first two are there lack what the third lacks
+-- three parts whose first two are there lack what the third lacks
 last_part : {A B C D : Type 0} (f : (A × B) × C → D) (a : Option A) (b : Option B) (c : Option C)
     → IsSome a → IsSome b → is_none (option_map f (pair_of (pair_of a b) c)) ≡ is_none c
 last_part f None b c there also = absurd cc

@@ -24,7 +24,7 @@ use Rattle.goblin_base.proofs.Kept.{without_test}
 use Rattle.goblin_pe_import.proofs.ImportBound.{left_out-or, with_slots-kept, with_slots-value}
 use Rattle.goblin_pe_import.proofs.ListedImports.{pieces-counted}
 
--- one more record, of which at most one library is kept
+-- one more record, which keeps at most one library
 numbered-append : (xs ys : List ImportedLibrary) (indexes : List ℕ) (n : ℕ)
     → length indexes ≡ length xs → length ys ≤ 1
     → numbered (xs ++ ys) (indexes ++ cond (is_kept (Some ys)) (n ∷ []) [])

@@ -50,7 +50,7 @@ module _ {A : Type 0} (P : A → Type 0) where
       let before = each_below-each piece n own parts.0 parts.2 in
       subst Each (sym parts.4) (each-append parts.0 parts.1 before (own n parts.1 parts.3))
 
--- ---- values, each of which is there
+-- ---- values that are all there
 
 first-there : {A : Type 0} (value : Option A) (rest : Option (List A)) → IsSome value → IsSome rest → IsSome (value >>= λ first. rest >>= λ others. Some (first ∷ others))
 first-there None rest h k = absurd cc

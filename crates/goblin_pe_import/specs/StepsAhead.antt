@@ -76,7 +76,7 @@ imports_ahead format it = walk_ahead format it.walk
 
 -- ---- a budget of steps, if there is one
 
--- what is left of a budget after so many steps
+-- what is left of a budget after a number of steps
 abbrev pub spent : Option ℕ → ℕ → Option ℕ
 spent steps n = option_map (λ left. left - n) steps
 

@@ -38,7 +38,7 @@ zeros_by_tests true true end d address size = ap (λ (x : ℕ). directory x 0) (
 zeros_by_tests true false end d address size = refl
 zeros_by_tests false c end d address size = refl
 
--- an entry stands for its directory, also for one of zeros
+-- an entry gives its directory, also one of zeros
 directory_or_zeros-entry_ending : (end : ℕ) (d : DataDirectory) → directory_or_zeros (entry_ending end d) ≡ d
 directory_or_zeros-entry_ending end d = zeros_by_tests (d.virtual_address == 0) (d.size == 0) end d (eqb-true d.virtual_address 0) (eqb-true d.size 0)
 
@@ -58,7 +58,7 @@ bytes_of-more : (count : ℕ) (bytes : List ℕ) (p a n : ℕ) → bytes_of coun
 bytes_of-more count bytes p a n =
     encoding_append Little (directory_fields (directory_or_zeros (directory_entry_at count bytes p a))) (entries_fields (map (directory_entry_at count bytes p) (range_with_len (a + 1) n)))
 
--- those below the count are written as they stand
+-- those below the count are written as their bytes
 bytes_of-below : (count : ℕ) (bytes : List ℕ) (p a n : ℕ) → IsBytes bytes → a + n ≤ count → p + 8 * (a + n) ≤ length bytes → bytes_of count bytes p a n ≡ take (8 * n) (drop (p + 8 * a) bytes)
 bytes_of-below count bytes p a zero h most room = refl
 bytes_of-below count bytes p a (suc n) h most room =

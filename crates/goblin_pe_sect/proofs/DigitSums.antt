@@ -68,7 +68,7 @@ number-more s bytes i n d r inside er ed en =
 pub all-more : (test : ℕ → Bool) (bytes : List ℕ) (i : ℕ) → i < length bytes → list_all test (take i bytes) ≡ true → test (slice_index bytes i) ≡ true → list_all test (take (i + 1) bytes) ≡ true
 all-more test bytes i inside so_far here = list_all_more test bytes i 0 inside ∙ ap (λ (b : Bool). b && test (slice_index bytes i)) so_far ∙ here
 
--- the bytes once the digits of the rest stand before `at`
+-- the bytes once the digits of the rest are before `at`
 abbrev pub finished : Digits → ℕ → ℕ → ℕ → List ℕ → List ℕ
 finished s from at rest name = take from name ++ map (digit_byte s) (last_digits (radix s) (at - from) rest) ++ drop at name
 

@@ -24,7 +24,7 @@ use Rattle.goblin_pe_sect.specs.declared.data_directories.DataDirectoryType.{Dat
 use Rattle.goblin_pe_sect.specs.declared.data_directories.DataDirectoryType.TheVariants.{ExportTable}
 use Rattle.goblin_pe_sect.specs.DataDirectories.{directory_fields, directory_or_zeros, directory_record, entries_fields, entry_ending, kinds, present_from, with_kind}
 
--- the entry at index i of `count` that stand one after the other from p on, with the offset just
+-- the entry at index i of `count` that lie one after the other from p on, with the offset just
 -- past it; one past the count is none
 abbrev pub directory_entry_at : ℕ → List ℕ → ℕ → ℕ → Option (ℕ × DataDirectory)
 directory_entry_at count bytes p i =
@@ -33,8 +33,8 @@ directory_entry_at count bytes p i =
     (directory_record Little (slice_range bytes (p + 8 * i) (p + 8 * i + 8)))
     else None
 
--- the sixteen entries of which `count` stand one after the other from p on, by the length of the
--- file: where these are no more than sixteen, and the file has room for them
+-- the sixteen entries: the first `count` lie one after the other from p on, if `count` is no more
+-- than sixteen, and the file has room for them
 unfoldable pub entries_in_room : ℕ → List ℕ → ℕ → Option (List (Option (ℕ × DataDirectory)))
 entries_in_room count bytes p =
     if nat_le count 16 && (count == 0 || nat_le (p + 8 * count) (length bytes))

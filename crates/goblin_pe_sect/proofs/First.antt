@@ -18,7 +18,7 @@ find_same p q (x ∷ xs) h =
     cc
 
 module _ {X : Type 0} (p : X → Bool) (xs : List X) where
-  -- what is found stands at the first place that passes
+  -- what is found is at the first place that passes
   pub found_at_first : (x : X) → find p xs ≡ Some x → slice_get xs (position_or_len p xs) ≡ Some x
   found_at_first x e = sym (find_at p xs) ∙ e
 

@@ -113,7 +113,7 @@ fewer d probes s t positive half h =
     let exponent : 2 ^ (d - (probes + 1)) ≡ 2 ^ (d - probes - 1) = ap (λ (k : ℕ). 2 ^ k) (omega arith) in
     (omega (arith, halved.0, h.0), omega (arith, halved.1, exponent))
 
--- a part of at least half the size, but for the number in the middle, costs at most one probe of those that are needed
+-- a part of at least half the size, without the number in the middle, costs at most one probe of those that are needed
 no_fewer : (d probes s t : ℕ) → 0 < s → s ≤ 2 * t + 2 → 2 ^ (d - probes) ≤ s + 1 → 2 ^ (d - (probes + 1)) ≤ t + 1
 no_fewer d probes s t positive half h =
     elim (cases_lt probes d) [

@@ -1,4 +1,4 @@
--- The pieces of windows that stand apart and in rising order.
+-- The pieces of windows that are apart and in rising order.
 use Rattle.std.proofs.Common.{◌≡◌, ℕ, ◌+◌, ◌^◌, ◌<◌, ◌≤◌, true, false, List, [], ◌∷◌, ◌++◌, length, get_or, slice_get, take, map, Option, Some, None, find, refl, ap, sym, ◌∙◌, inl, inr, arith}
 use Rattle.std.specs.List.Sorted.{IsStrictlyIncreasing}
 use Rattle.std.specs.Option.{option_or, option_map}
@@ -75,7 +75,7 @@ below_last xs x up k within =
 
 -- ---- the pieces so far
 
--- The pieces of the first n sections' windows, but for the last: that one begins at `end`, which no window passes.
+-- The pieces of the first n sections' windows, without the last: that one begins at `end`, which no window passes.
 pub record AreInOrder (opts : ParseOptions) (alignment : ℕ) (sections : List Section) (begins : List ℕ) (owners : List (Option Owner)) (end n : ℕ) : Type 0 where
   pub cuts : HasCuts sections alignment (begins ++ end ∷ []) n
   pub rising : IsStrictlyIncreasing (begins ++ end ∷ [])

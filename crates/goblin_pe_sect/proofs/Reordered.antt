@@ -12,7 +12,7 @@ use Rattle.goblin_pe_sect.specs.WindowOrder.{HaveDisjointWindows, IsReordering}
 use Rattle.goblin_pe_sect.proofs.First.{first_is_found, found_at_first, found_passes, none_passes}
 use Rattle.goblin_pe_sect.proofs.Mapped.{in_window}
 
--- where an element of one list stands in the other
+-- where an element of one list is in the other
 record IsMovedTo {X : Type 0} (ys : List X) (x : X) : Type 0 where
   place : ℕ
   is : slice_get ys place ≡ Some x

@@ -1,4 +1,4 @@
--- A section that was read is written as its record stands, and one that was written is read again.
+-- A section that was read is written as its record, and one that was written is read again.
 use Rattle.std.proofs.Common.{◌≡◌, ℕ, List, ap, refl, sym, ◌∙◌, length, arith, Option, Some, None}
 use Rattle.goblin_base.specs.declared.endian.Endian.TheVariants.{Little}
 use Rattle.goblin_base.specs.Record.{FieldValue, FieldsFit, ReadsBack, WritesBack, encoding, record_at}

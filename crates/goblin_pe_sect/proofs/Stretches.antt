@@ -31,7 +31,7 @@ front_by : {X : Type 0} (x : X) (b : Bool) (few all : Option X) → few ≡ all 
 front_by x true few all same = refl
 front_by x false few all same = same
 
--- what stands after an element that passes can be left out
+-- what comes after an element that passes can be left out
 find-take : {X : Type 0} (p : X → Bool) (xs : List X) (k : ℕ) (d : X) → k < length xs → p (get_or xs k d) ≡ true → find p (take (suc k) xs) ≡ find p xs
 find-take p [] k d within passes = absurd (omega arith)
 find-take p (x ∷ xs) zero d within passes = rw passes refl

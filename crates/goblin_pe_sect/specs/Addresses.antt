@@ -64,7 +64,7 @@ AreIndexed (Walked records file_alignment) = ⊥
 AreIndexed (Indexed index) = ⊤
 AreIndexed (IndexedWithFront index) = ⊤
 
--- there are so many sections that they get an index: more than the 96 of the specification
+-- sections get an index if there are more of them than the 96 of the specification
 abbrev pub AreMany : ℕ → Type 0
 AreMany count = 96 < count
 

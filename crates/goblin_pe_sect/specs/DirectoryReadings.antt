@@ -18,7 +18,7 @@ sixteen p directories =
     map (λ i. option_and_then (entry_ending (p + 8 * i + 8)) (slice_get directories i))
     (range_with_len 0 16)
 
--- the sixteen entries, of which the file has `count` from p on; a count above sixteen is refused
+-- the sixteen entries; the file has the first `count` from p on; a count above sixteen is refused
 unfoldable pub directories_at : ℕ → ℕ → Reading (List (Option (ℕ × DataDirectory)))
 directories_at count p =
     pick (nat_le count 16)

@@ -66,7 +66,7 @@ head_contained table n h head =
 abbrev IsSymbolOf : List ℕ → ℕ → SymbolItem → Type 0
 IsSymbolOf table n item = IsHead table n item.0 × (item ≡ symbol_of table item.0)
 
--- from a head on, each is a head, stands at that place or after it, and they rise
+-- from a head on, each is a head, is at that place or after it, and they rise
 record Rise (table : List ℕ) (n h : ℕ) (items : List SymbolItem) : Type 0 where
   each : All (IsSymbolOf table n) items
   past : All (λ item. h ≤ item.0) items

@@ -20,7 +20,7 @@ symbol_lies endian own h =
 pub symbol_back : WritesBack 18 symbol_record symbol_fields
 symbol_back = writes_back 18 symbol_record symbol_fields refl symbol_lies
 
--- the bytes of two numbers, of which the first is 0
+-- the bytes of two numbers, if the first is 0
 pub offset_name_bytes : (n : ℕ) → encoding Little (uint 4 0 ∷ uint 4 n ∷ []) ≡ offset_name n
 unfolding number_bytes
 offset_name_bytes n = refl

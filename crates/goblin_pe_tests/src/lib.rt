@@ -1,5 +1,5 @@
-//! The tests of goblin_pe: what only a caller in Rattle asks, footprints, and readers of which two
-//! answers are told.
+//! The tests of goblin_pe: what only a caller in Rattle can ask, footprints, and readers that have
+//! two answers.
 #![tactic(auto)]
 
 #[cfg(test)]

@@ -3,7 +3,7 @@ use Rattle.std.specs.Prelude.{ℕ, List, [], ◌∷◌, Option, None, Some, code
 use Rattle.goblin_pe.specs.declared.options.ParseMode.{ParseMode}
 use Rattle.goblin_pe.specs.declared.options.ParseMode.TheVariants.{Strict, Permissive}
 
--- the mode that the words ask for, of which the first is the program's name; none after a wrong use
+-- the mode that the words ask for (the first word is the program's name); none after a wrong use
 abbrev pub mode_of_words : List (List ℕ) → Option ParseMode
 mode_of_words [] = Some Strict
 mode_of_words (program ∷ []) = Some Strict

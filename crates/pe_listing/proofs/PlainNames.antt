@@ -1,9 +1,9 @@
--- A name of which nothing is escaped.
+-- A name in which nothing is escaped.
 use Rattle.std.proofs.Common.{◌≡◌, ℕ, Bool, true, false, List, [], ◌∷◌, ◌++◌, ap, ◌∙◌, refl, ◌&&◌}
 use Rattle.std.specs.List.{list_all}
 use Rattle.pe_listing.specs.Text.{escaped, escaped_byte, is_plain}
 
--- a plain byte stands for itself
+-- a plain byte is written as itself
 plain_byte : (b : ℕ) → is_plain b ≡ true → escaped_byte b ≡ b ∷ []
 unfolding escaped_byte
 plain_byte b h = rw h refl

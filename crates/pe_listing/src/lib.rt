@@ -21,7 +21,7 @@
 //! - Without an optional header, the line of the header ends after `sections=D`.
 //! - The name of a section is the one from the string table, or else the eight bytes of the section
 //!   header up to a NUL.
-//! - `imports 0` also stands for a directory that permissive mode treats as empty.
+//! - `imports 0` is also printed for a directory that permissive mode treats as empty.
 //! - Only permissive mode prints `exports refused` and `relocations refused`, since strict mode
 //!   refuses the file.
 //! - The line of an export leaves out the fields that the export lacks. A forwarder is

@@ -22,7 +22,7 @@ pub fn show_answers<A: Amount + Drop>(rt: &HostRuntime, answers: (A, A)) -> io::
     first.and(second)
 }
 
-/// Shows an answer, and then what stands after it.
+/// Shows an answer, and then what is there after it.
 ///
 /// # Errors
 /// Of the kind `OutOfMemory` if the call was refused memory.

@@ -95,7 +95,7 @@ fn key_of(alloc: Global, file: &[u8], opts: &ParseOptions) -> goblin_base::Resul
     }
 }
 
-// The index of two sections, of which the second lies around the first.
+// The index of two sections; the second lies around the first.
 fn show_index(rt: &HostRuntime, alignment: u32, opts: &ParseOptions) -> io::Result<()> {
     let inner = section(0x1200, 0x200, 0x200, 0x400);
     let outer = section(0x1000, 0x800, 0x800, 0x800);

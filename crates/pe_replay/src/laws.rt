@@ -1,4 +1,4 @@
-//! Laws, each of which has two answers.
+//! Laws about two answers.
 
 use crate::answer::show_answers;
 use crate::sample::{other_section, put_other};
@@ -48,7 +48,7 @@ pub fn show_call(
     }
 }
 
-// Those of two files, of which the second has less; where import data is read, it has no bytes.
+// The laws about two files. The second has fewer bytes, and none for the law about import data.
 fn show_twins(
     rt: &HostRuntime,
     law: &str,

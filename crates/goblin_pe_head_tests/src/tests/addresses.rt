@@ -56,7 +56,7 @@ fn raw_pointers_are_rounded_to_512_at_any_alignment(rt: HostRuntime) {
 /// How many pieces an index has, an offset, and the most probes to find it.
 type Found = (usize, Option<usize>, usize);
 
-/// Whether an index of so many pieces finds an offset in at most so many probes.
+/// Whether an index of `pieces` finds the offset `want` in at most `most` probes.
 fn is_within(index: &WindowIndex, rva: usize, (pieces, want, most): Found) -> bool {
     let (offset, probes) = index.find_counted(rva);
     index.pieces() == pieces && offset == want && probes <= most

@@ -52,8 +52,8 @@ fn numbers_of_each_width_are_read_and_written_in_both_orders(rt: HostRuntime) {
     }
 }
 
-/// Whether so many bytes at an offset are refused for this fault, read and written, and nothing
-/// moves or changes.
+/// Whether `len` bytes at an offset are refused for this fault, read and written, and nothing moves
+/// or changes.
 fn are_refused(begin: usize, len: usize, want: &Error) -> bool {
     let (mut offset, mut room) = (begin, BYTES);
     let bytes = IN_TURN.get(..len).unwrap_or(&IN_TURN);
@@ -79,7 +79,7 @@ fn what_passes_the_end_is_refused_and_so_is_nothing_at_the_end(rt: HostRuntime) 
     }
 }
 
-/// Two texts, of which the second has no NUL after it.
+/// Two texts; the second has no NUL after it.
 const TEXTS: &[u8; 4] = b"ab\0c";
 
 /// Whether the text at an offset is this, and the offset moves to `end`.
@@ -97,7 +97,7 @@ fn a_text_ends_at_a_nul_or_with_the_bytes(rt: HostRuntime) {
     assert!(rt; is_text(3, "c", 4));
 }
 
-/// Whether the text within so many bytes at the front is this, and the offset moves to `end`.
+/// Whether the text within `len` bytes at the front is this, and the offset moves to `end`.
 fn is_bounded_text(len: usize, want: &str, end: usize) -> bool {
     let mut offset = 0;
     is_ok(pread_str_until(TEXTS, 0, len), &want)

@@ -5,7 +5,7 @@ use goblin_base::{Cause, Error, Strtab};
 use goblin_pe_symbol::symbol::{Symbol, SymbolTable};
 use std::alloc::Global;
 
-/// The record of a symbol whose name stands in it.
+/// The record of a symbol that holds its name.
 const ODD: &[u8; 18] = b"odd\0\0\0\0\00\0\0\0\x01\0 \0\x02\0";
 
 #[test]
@@ -65,7 +65,7 @@ fn a_string_table_with_a_text_that_is_not_utf_8_is_refused_whole(rt: HostRuntime
     assert!(rt; is_refused_whole(rt.alloc()));
 }
 
-/// The name that stands in the first record of a file, whose table is gone when it is read.
+/// The name in the first record of a file, whose table is gone when it is read.
 fn first_name(file: &[u8]) -> Option<&str> {
     let mut symbols = SymbolTable::parse(file, 0, 1).ok()?.iter();
     match symbols.next() {

@@ -53,7 +53,7 @@ pub(super) fn next_kept<'a, 'e, T: Bitfield<'a>>(
     next_kept_within::<T>(bytes, offset, &mut place, finder, &mut None)
 }
 
-// The same within a budget of steps, each of which looks at one slot. `place` moves on. `None`
+// The same within a budget of steps: each step looks at one slot. `place` moves on. `None`
 // means the end if no place is left, or else that the budget has run out.
 #[inline(always)]
 #[tactic(auto, using(crate::proofs::StepsAhead::grown_none, crate::proofs::StepsAhead::grown_spent))]

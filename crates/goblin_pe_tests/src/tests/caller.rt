@@ -63,7 +63,7 @@ const WITH_RICH: &[(usize, &[u8])] = &[(0x3C, b"\x80"), (0x40, RICH), (0x80, b"P
 #[test]
 fn the_entries_of_a_rich_header_are_counted(rt: HostRuntime) {
     let mut file = sample();
-    // The sample file's PE signature stands right after its DOS header.
+    // The sample file's PE signature comes right after its DOS header.
     assert!(rt; is_ok(count_entries(&file), &None));
     put_all(&mut file, WITH_RICH);
     assert!(rt; is_ok(count_entries(&file), &Some(1)));

@@ -214,7 +214,7 @@ const CHANGES: &[(&str, usize, &[u8], &[Span])] = &[
     ),
 ];
 
-/// Of these the whole file is reached but for other entries of the lookup table and other texts.
+/// The whole file is reached, except other entries of the lookup table and other texts.
 const OF_ANOTHER_LOOKUP: &[Span] = &[
     (0x000, 0x160),
     (0x200, 0x228),
@@ -232,7 +232,7 @@ const OF_CUT: &[Span] = &[(0x000, 0x160), (0x200, 0x228), (0x240, 0x248)];
 
 const OF_CUT_ENTRY: &[Span] = &[(0x000, 0x160), (0x200, 0x228), (0x240, 0x244)];
 
-/// Of a file whose bytes from 0x292 on are the letter A, 0x400 in all.
+/// What is reached of a file of 0x400 bytes, whose bytes from 0x292 on are the letter A.
 const OF_LETTERS: &[Span] = &[
     (0x000, 0x160),
     (0x200, 0x228),

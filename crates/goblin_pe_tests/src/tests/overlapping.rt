@@ -13,7 +13,7 @@ use goblin_pe_sect::utils::find_offset;
 use goblin_pe_sect::{ParseOptions, SectionTable};
 use std::alloc::Global;
 
-/// What stands in the file: in the wide section alone an import record at the address 0x1000 and an
+/// What is in the file: in the wide section alone an import record at the address 0x1000 and an
 /// export record at 0x1100, which lead to addresses that lie in both; then what the narrow section
 /// has there, and what the wide one has.
 const BYTES: &[(usize, &[u8])] = &[

@@ -123,7 +123,7 @@ pub fn is_seven_alone(table: &ImportLookupTable) -> bool {
     matches!(table.as_slice(), [entry] if is_seven(entry))
 }
 
-/// Whether a library is the sample file's, but for the record that it comes from.
+/// Whether a library is the sample file's, with this record in place of its own.
 pub fn is_sample_library(
     library: &SyntheticImportDirectoryEntry,
     from: &ImportDirectoryEntry,
@@ -135,7 +135,7 @@ pub fn is_sample_library(
         && library.name == "a.dll"
 }
 
-/// An export by its name, file offset, address, and what it stands for.
+/// An export by its name, file offset, address, and what it is forwarded to.
 pub type ExportRow<'a> = (Option<&'a str>, Option<usize>, usize, Option<Reexport<'a>>);
 
 /// The first of the sample file's exports.

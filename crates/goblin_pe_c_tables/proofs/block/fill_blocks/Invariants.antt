@@ -1,4 +1,4 @@
--- The records hold the blocks that have come so far; where the caller is told of them, only at last.
+-- The records hold the blocks that have come so far; the caller's position moves only at the end.
 use Rattle.std.proofs.Common.{◌-◌, ◌≡◌, length}
 use Rattle.goblin_pe_sect.specs.BaseRelocations.{relocation_bytes}
 use Rattle.goblin_pe_c_tables.proofs.BlockBatches.{AtBlocks}

@@ -1,4 +1,4 @@
--- The entries so far are those that stand there.
+-- The entries so far are those of the file.
 use Rattle.std.proofs.Common.{◌≡◌, Some}
 use Rattle.goblin_pe_sect.specs.DirectoryReadings.{directories_at}
 use Rattle.goblin_pe_sect.proofs.data_directories.fill.Given as goal

@@ -1,4 +1,4 @@
--- The sections so far are those that stand there, each in the file.
+-- The sections so far are those of the table, each in the file.
 use Rattle.std.proofs.Common.{◌≡◌, ◌+◌, ◌*◌, ◌<◌, ◌≤◌, ℕ, length, Some}
 use Rattle.goblin_pe_sect.specs.Options.{is_strict}
 use Rattle.goblin_pe_head.proofs.SectionRecords.{sections_from, unnamed_from}
