@@ -288,7 +288,8 @@ enum goblin_pe_mapping {
 /* How an image is read. Zeros are the defaults. */
 struct goblin_pe_options {
     /* A `goblin_pe_mapping`. The calls that read a header or look up an address refuse another
-       number: `Status::Options`, or false. */
+       number: `GOBLIN_PE_STATUS_OPTIONS`, or false. The other walks look at no address, and do not
+       test it. */
     uint32_t mapping;
     /* How many bytes of a name are read; 0 is no limit. A longer name is cut after the character
        that reaches past the limit. So a name that is longer than the limit was cut. The rest is not
@@ -296,13 +297,13 @@ struct goblin_pe_options {
        symbols, for section names in a string table, for forwarders and for texts at an RVA. A
        forwarder is cut as one text; its export name may then be empty. */
     uint32_t longest_name;
-    /* Whether damaged parts are skipped, and not refused. The damage of an image tells what was
+    /* Whether damaged parts are skipped, and not refused. The damage of an image says what was
        skipped. Neither mode reads a file without a complete header and section table, an optional
        header of an unknown magic, more than sixteen data directories, a section name of a slash and
        no number, or a Rich marker without DanS; a partial read does. */
     bool is_permissive;
-    /* Zeros. Calls refuse other numbers, as an unknown mapping: later versions may have options
-       here. */
+    /* Zeros, because later versions may have options here. What refuses an unknown mapping refuses
+       other bytes here, too. */
     uint8_t reserved[3];
 };
 
@@ -452,10 +453,10 @@ const char *goblin_pe_fault_string(
 
 /* ---- The image ----------------------------------------------------------------------------- */
 
-/* What a file is, by its first bytes. This does not tell whether it can be read, and no call reads
+/* What a file is, by its first bytes. This does not say whether it can be read. No call reads
    archives, import objects and big objects. */
 enum goblin_pe_kind {
-    /* None of the others. */
+    /* Another file. */
     GOBLIN_PE_KIND_UNKNOWN = 0,
     /* An image, which begins with `MZ`. */
     GOBLIN_PE_KIND_IMAGE = 1,
@@ -740,7 +741,8 @@ struct goblin_pe_image {
     /* The COFF header. */
     struct goblin_pe_coff_header coff_header;
     /* Whether there is an optional header; in a partial image, whether all its fields before the
-       directories were read. If not, no address has an offset, except with `Identity`. */
+       directories were read. If not, no address has an offset, except with
+       `GOBLIN_PE_MAPPING_IDENTITY`. */
     bool has_optional_header;
     /* Whether permissive mode replaced an unreadable stub with a built-in one of `dos_stub_size`
        bytes, which a written header has. */
@@ -928,7 +930,7 @@ enum goblin_pe_region {
     GOBLIN_PE_REGION_UNMAPPED = 0,
     /* The headers. */
     GOBLIN_PE_REGION_HEADERS = 1,
-    /* The raw data of a section, in whole file blocks. With `Identity`, the file. */
+    /* The raw data of a section, in whole file blocks. With `GOBLIN_PE_MAPPING_IDENTITY`, the file. */
     GOBLIN_PE_REGION_RAW_DATA = 2,
     /* The zeros that follow the raw data of a section. */
     GOBLIN_PE_REGION_ZEROS = 3
@@ -1184,7 +1186,7 @@ struct goblin_pe_forwarder {
     struct goblin_pe_slice name;
     /* The ordinal of the export there. */
     size_t ordinal;
-    /* A `goblin_pe_forwarder_kind`; if it is `None`, all else is zeros. */
+    /* A `goblin_pe_forwarder_kind`; if it is `GOBLIN_PE_FORWARDER_KIND_NONE`, all else is zeros. */
     uint32_t kind;
     /* Zero. */
     uint32_t reserved;
@@ -1439,7 +1441,7 @@ bool goblin_pe_string_at(
 /* Which auxiliary records a symbol has, by its class and type. An undefined external symbol of
    value 0 has those of a weak external. */
 enum goblin_pe_auxiliary_kind {
-    /* None. */
+    /* The symbol has no auxiliary record of a kind below. */
     GOBLIN_PE_AUXILIARY_KIND_NONE = 0,
     /* The definition of a function. */
     GOBLIN_PE_AUXILIARY_KIND_FUNCTION_DEFINITION = 1,
@@ -1529,7 +1531,7 @@ struct goblin_pe_damage {
     struct goblin_pe_fault first_fault;
     /* The DOS stub. */
     struct goblin_pe_fault dos_stub;
-    /* The names of the sections. */
+    /* The names of the sections; of more than 65,535, the first 65,535. */
     struct goblin_pe_fault section_names;
     /* The imports. */
     struct goblin_pe_fault imports;

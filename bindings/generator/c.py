@@ -31,7 +31,9 @@ BY_HAND = {"fault_string": "fault_text", "free_footprint": ""}
 
 
 def c_name(name: str) -> str:
-    return "goblin_pe_" + snake(name)
+    """The name in C of a type, or of a value of an enum."""
+    of, _, value = name.partition("::")
+    return ("goblin_pe_%s_%s" % (snake(of), snake(value))).upper() if value else "goblin_pe_" + snake(of)
 
 
 def comment(it: Interface, doc: str, indent: str = "") -> str:

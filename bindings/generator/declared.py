@@ -267,7 +267,7 @@ class Interface:
                 lines += [begin.rstrip() + " " * (len(begin) - len(begin.rstrip())) + line for line in paragraph.split("\n")]
                 continue
             paragraph = re.sub(r"\[(`[^`]+`)\](\([^)]*\))?", r"\1", paragraph)
-            paragraph = re.sub(r"`([A-Z]\w+)`", lambda it: "`%s`" % name_of(named(it[1])) if named(it[1]) in known else it[0], paragraph)
+            paragraph = re.sub(r"`([A-Z]\w+)((?:::\w+)?)`", lambda it: "`%s`" % name_of(named(it[1]) + it[2]) if named(it[1]) in known else it[0], paragraph)
             items = re.split(r"\n(?=- )", paragraph)
             for item in items:
                 hang = "  " if item.startswith("- ") else ""

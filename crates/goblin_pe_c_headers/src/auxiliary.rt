@@ -18,7 +18,7 @@ use goblin_pe_symbol::symbol::{
 /// value 0 has those of a weak external.
 #[derive(Copy, Clone)]
 pub enum AuxiliaryKind {
-    /// None.
+    /// The symbol has no auxiliary record of a kind below.
     None = 0,
     /// The definition of a function.
     FunctionDefinition = 1,

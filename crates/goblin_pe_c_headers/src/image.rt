@@ -73,7 +73,7 @@ pub struct PeImage<'a> {
     pub coff_header: CoffHeader,
     /// Whether there is an optional header; in a partial image, whether all its fields before the
     /// directories were read. If not, no address has an offset, except with
-    /// [`Identity`](crate::options::PeMapping).
+    /// [`PeMapping::Identity`](crate::options::PeMapping).
     pub has_optional_header: bool,
     /// Whether permissive mode replaced an unreadable stub with a built-in one of `dos_stub_size`
     /// bytes, which a written header has.

@@ -15,11 +15,11 @@ use goblin_pe_head::header::{
     COFF_MACHINE_WCEMIPSV2, COFF_MACHINE_X86, COFF_MACHINE_X86_64, DOS_MAGIC, TE_MAGIC,
 };
 
-/// What a file is, by its first bytes. This does not tell whether it can be read, and no call reads
-/// archives, import objects and big objects.
+/// What a file is, by its first bytes. This does not say whether it can be read. No call reads archives,
+/// import objects and big objects.
 #[derive(Copy, Clone)]
 pub enum Kind {
-    /// None of the others.
+    /// Another file.
     Unknown = 0,
     /// An image, which begins with `MZ`.
     Image = 1,

@@ -28,7 +28,7 @@ pub enum Region {
     /// The headers.
     Headers = 1,
     /// The raw data of a section, in whole file blocks. With
-    /// [`Identity`](crate::options::PeMapping), the file.
+    /// [`PeMapping::Identity`](crate::options::PeMapping), the file.
     RawData = 2,
     /// The zeros that follow the raw data of a section.
     Zeros = 3,

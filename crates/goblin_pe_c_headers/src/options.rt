@@ -35,7 +35,8 @@ const _: () = prove!(
 #[derive(Copy, Clone)]
 pub struct PeOptions {
     /// A [`PeMapping`]. The calls that read a header or look up an address refuse another number:
-    /// [`Status::Options`](crate::fault::Status), or false.
+    /// [`Status::Options`](crate::fault::Status), or false. The other walks look at no address, and
+    /// do not test it.
     pub mapping: u32,
     /// How many bytes of a name are read; 0 is no limit. A longer name is cut after the character
     /// that reaches past the limit. So a name that is longer than the limit was cut. The rest is
@@ -43,13 +44,13 @@ pub struct PeOptions {
     /// symbols, for section names in a string table, for forwarders and for texts at an RVA. A
     /// forwarder is cut as one text; its export name may then be empty.
     pub longest_name: u32,
-    /// Whether damaged parts are skipped, and not refused. The damage of an image tells what was
+    /// Whether damaged parts are skipped, and not refused. The damage of an image says what was
     /// skipped. Neither mode reads a file without a complete header and section table, an optional
     /// header of an unknown magic, more than sixteen data directories, a section name of a slash
     /// and no number, or a Rich marker without DanS; a partial read does.
     pub is_permissive: bool,
-    /// Zeros. Calls refuse other numbers, as an unknown mapping: later versions may have options
-    /// here.
+    /// Zeros, because later versions may have options here. What refuses an unknown mapping refuses
+    /// other bytes here, too.
     pub reserved: [u8; 3],
 }
 

@@ -32,7 +32,7 @@ pub struct PeDamage {
     pub first_fault: PeFault,
     /// The DOS stub.
     pub dos_stub: PeFault,
-    /// The names of the sections.
+    /// The names of the sections; of more than 65,535, the first 65,535.
     pub section_names: PeFault,
     /// The imports.
     pub imports: PeFault,

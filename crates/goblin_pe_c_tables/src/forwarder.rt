@@ -39,7 +39,7 @@ pub struct PeForwarder<'a> {
     pub name: &'a [u8],
     /// The ordinal of the export there.
     pub ordinal: usize,
-    /// A [`ForwarderKind`]; if it is `None`, all else is zeros.
+    /// A [`ForwarderKind`]; if it is [`ForwarderKind::None`], all else is zeros.
     pub kind: u32,
     /// Zero.
     pub reserved: u32,
