@@ -11,7 +11,7 @@ use Rattle.goblin_pe_import.specs.declared.import.imports.WalkedImport.{WalkedIm
 use Rattle.goblin_pe.specs.declared.whole.imports.FileImports.{FileImports}
 use Rattle.goblin_pe.specs.LayoutCursors.{GivesFileImport}
 use Rattle.goblin_pe.specs.Layouts.{IsFileImportsCause, file_imports_left}
-use Rattle.readings.specs.Tests.{counted}
+use Rattle.readings.specs.added.Questions.{counted}
 use Rattle.readings.specs.Walks.{GivesNext}
 use Rattle.readings.proofs.Walked.{AtWalk, walk-all, walk-fault, walk-more, walk-start}
 

@@ -10,6 +10,7 @@ pub mod TableRuns
 pub mod TakenMemory
 pub mod TwinParts
 pub mod Whole
+pub mod added
 -- The definitions of the crates below, so that a caller's clauses name only this crate.
 pub use Rattle.goblin_base.specs.Answers
 pub use Rattle.goblin_base.specs.Bytes

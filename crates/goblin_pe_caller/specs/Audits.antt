@@ -16,7 +16,7 @@ use Rattle.goblin_pe.specs.PeHeader.{PeHeader}
 use Rattle.goblin_pe.specs.Reading.{IsRefused, Reading}
 use Rattle.goblin_pe.specs.Reads.{mapped}
 use Rattle.goblin_pe.specs.SectionTable.{Section}
-use Rattle.goblin_pe.specs.Tests.{has_any}
+use Rattle.goblin_pe.specs.added.Questions.{has_any}
 use Rattle.goblin_pe.specs.Whole.{export_part, import_list, layout}
 
 -- ---- imports

@@ -8,7 +8,7 @@ ghost use Rattle.goblin_pe.specs.Layouts.{IsFileImportsCause, file_imports_left,
 ghost use Rattle.goblin_pe.specs.Reading.{Reads, ReadsOrMemory};
 ghost use Rattle.goblin_pe.specs.Reads.{mapped};
 ghost use Rattle.goblin_pe.specs.TakenMemory.{TakesIndex};
-ghost use Rattle.goblin_pe.specs.Tests.{counted, has_any};
+ghost use Rattle.goblin_pe.specs.added.Questions.{counted, has_any};
 ghost use Rattle.goblin_pe.specs.Whole.{import_list};
 ghost use Rattle.goblin_pe_caller.specs.Audits.{imports_from, is_from};
 

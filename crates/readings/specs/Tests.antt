@@ -1,16 +1,7 @@
--- What callers ask about the items of a walk: which of them pass a test.
-use Rattle.std.specs.Prelude.{◌≡◌, ◌-◌, ◌^◌, ℕ, Bool, List, count_by, min}
-use Rattle.std.specs.List.{list_any}
+-- Tests of items.
+use Rattle.std.specs.Prelude.{◌≡◌, Bool}
 
 -- a call with an item returns whether the item, as `view` sees it, passes the test
 abbrev pub IsTest : {X A : Type 0} → (X → A) → (X → Bool → Type 0) → (A → Bool) → Type 0
 IsTest {X} view Returns test =
     (x : X) (found : Bool) → Returns x found → found ≡ test (view x)
-
--- whether an item passes the test
-unfoldable pub has_any : {A : Type 0} → (A → Bool) → List A → Bool
-has_any test items = list_any test items
-
--- how many items pass the test, but at most the greatest number of 64 bits
-abbrev pub counted : {A : Type 0} → (A → Bool) → List A → ℕ
-counted test items = min (count_by test items) (2 ^ 64 - 1)

@@ -1,5 +1,5 @@
 use Rattle.std.proofs.lemmas.Result.{err_from_is_err_and}
-use Rattle.readings.proofs.Tests.{found_any_of, refused_any}
+use Rattle.readings.proofs.added.Questions.{found_any_of, refused_any}
 use Rattle.goblin_pe_import.specs.ImportWalks.{walked_value}
 use Rattle.goblin_pe.proofs.whole.imports.FileImports.any_import.Goals as goal
 

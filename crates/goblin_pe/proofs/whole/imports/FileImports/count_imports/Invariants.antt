@@ -2,7 +2,8 @@ use Rattle.std.proofs.Common.{Bool}
 use Rattle.std.specs.Fn.{FnReturnsAt}
 use Rattle.goblin_pe_import.specs.Imports.{NumberedImport}
 use Rattle.goblin_pe_import.specs.ImportWalks.{walked_value}
-use Rattle.readings.specs.Tests.{IsTest, counted}
+use Rattle.readings.specs.Tests.{IsTest}
+use Rattle.readings.specs.added.Questions.{counted}
 use Rattle.goblin_pe.proofs.Folds.{Gathers}
 use Rattle.goblin_pe.proofs.whole.imports.FileImports.count_imports.Given as goal
 

@@ -1,6 +1,6 @@
 -- One item passes a test where the first that does is found.
 use Rattle.std.proofs.Common.{◌≡◌, ◌||◌, Bool, true, false, cond, List, [], ◌∷◌, Option, Some, None, refl, sym, ap, ◌∙◌, find, option_map, is_some}
-use Rattle.readings.specs.Tests.{has_any}
+use Rattle.readings.specs.added.Questions.{has_any}
 
 one-or-later : {A : Type 0} (b : Bool) (x : A) (later : Option A) → is_some (cond b (Some x) later) ≡ (b || is_some later)
 one-or-later true x later = refl

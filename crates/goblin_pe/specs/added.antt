@@ -1,0 +1,1 @@
+pub use Rattle.readings.specs.added.Questions
