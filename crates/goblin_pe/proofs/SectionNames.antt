@@ -15,7 +15,7 @@ use Rattle.goblin_pe_sect.specs.Addresses.{MapOfAddresses, map_in}
 use Rattle.goblin_pe_sect.specs.Options.{is_strict}
 use Rattle.goblin_pe_sect.specs.SectionReadings.{named_section_at}
 use Rattle.goblin_pe_sect.specs.SectionTable.{Section, unnamed}
-use Rattle.goblin_pe_sect.proofs.AddressMaps.{unnamed_map_in}
+use Rattle.goblin_pe_sect.proofs.added.UnnamedMaps.{unnamed_map_in}
 use Rattle.goblin_pe_head.specs.declared.header.pe_header.Header.{Header}
 use Rattle.goblin_pe_head.specs.CoffHeader.{symbols_end}
 use Rattle.goblin_pe_head.specs.CoffReadings.{sections_at, with_room}

@@ -1,1 +1,2 @@
 pub use Rattle.readings.specs.added.Questions
+pub use Rattle.goblin_pe_sect.specs.added.Backward

@@ -2,6 +2,7 @@
 //! re-exports the modules of the crates below, so that users need to name only this one.
 #![tactic(auto)]
 
+pub mod added;
 mod image_checksum;
 pub mod laws;
 pub mod whole;

@@ -6,7 +6,8 @@ use Rattle.goblin_base.specs.Reading.{Reading}
 use Rattle.readings.specs.Reads.{text_within}
 use Rattle.goblin_pe_sect.specs.AddressReadings.{at_address}
 use Rattle.goblin_pe_sect.specs.declared.options.ParseOptions.{ParseOptions}
-use Rattle.goblin_pe_sect.specs.Mapping.{file_offset, is_at, rva_in}
+use Rattle.goblin_pe_sect.specs.Mapping.{file_offset}
+use Rattle.goblin_pe_sect.specs.added.Backward.{is_at, rva_in}
 use Rattle.goblin_pe_sect.specs.Options.{front_of}
 use Rattle.goblin_pe_sect.specs.SectionTable.{Section, mapped_sections, with_front}
 use Rattle.goblin_pe_c_headers.specs.declared.address.Mapped.{Mapped}

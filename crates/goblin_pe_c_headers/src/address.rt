@@ -14,9 +14,9 @@ use crate::places::{PePlaces, section_records};
 use goblin_base::read::pread_str_within;
 use goblin_base::{Cause, Error, Result};
 use goblin_pe_sect::ParseOptions;
-use goblin_pe_sect::address_map::{MappedRecords, offset_by_records};
+use goblin_pe_sect::added::{offset_by_records, rva_in};
+use goblin_pe_sect::address_map::MappedRecords;
 use goblin_pe_sect::section_table::SectionRecords;
-use goblin_pe_sect::utils::rva_in;
 
 // What maps the RVAs of an image.
 #[derive(Copy, Clone)]

@@ -10,7 +10,7 @@ use Rattle.goblin_base.proofs.RecordRoundTrip.{length-slice}
 use Rattle.goblin_base.proofs.Steps.{mapped, same_value}
 use Rattle.goblin_pe_sect.specs.declared.section_table.records.SectionRecords.{SectionRecords}
 use Rattle.goblin_pe_sect.specs.SectionTable.{Section, recorded_sections, section_record, sections_in, unnamed}
-use Rattle.goblin_pe_sect.proofs.AddressMaps.{unnamed_map_in}
+use Rattle.goblin_pe_sect.proofs.added.UnnamedMaps.{unnamed_map_in}
 use Rattle.goblin_pe_head.specs.CoffHeader.{symbols_end}
 use Rattle.goblin_pe_head.specs.CoffReadings.{sections_at}
 use Rattle.goblin_pe_head.specs.declared.header.parts.HeaderParts.{HeaderParts}

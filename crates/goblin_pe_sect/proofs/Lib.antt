@@ -1,8 +1,6 @@
 pub mod AddressMaps
-pub mod Backward
 pub mod BlockItems
 pub mod BlocksOf
-pub mod CutOffsets
 pub mod Cuts
 pub mod DataDirectoriesRoundTrip
 pub mod DigitSums
@@ -27,3 +25,4 @@ pub mod Stretches
 pub mod Walked
 pub mod WindowPieces
 pub mod WordItems
+pub mod added

@@ -17,3 +17,4 @@ pub mod WindowIndex
 pub mod WindowIndexFields
 pub mod WindowOrder
 pub mod WindowStretches
+pub mod added

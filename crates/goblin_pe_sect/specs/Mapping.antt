@@ -1,7 +1,7 @@
 -- The map from addresses in memory to file offsets.
 use Rattle.std.specs.Prelude.{IsTrue, ℕ, ◌+◌, ◌-◌, ◌==◌, ◌≡◌, ◌<◌, ◌≤◌, min, Bool, ◌&&◌, nat_le}
-use Rattle.std.specs.Prelude.{false, nat_lt, if◌then◌else◌, List, Option, Some, None, find}
-use Rattle.std.specs.Prelude.{slice_get, option_map, option_and_then}
+use Rattle.std.specs.Prelude.{nat_lt, if◌then◌else◌, List, Option, Some, None, find}
+use Rattle.std.specs.Prelude.{slice_get, option_map}
 use Rattle.std.specs.Int.{is_power_of_two}
 use Rattle.goblin_base.specs.declared.error.CauseOf.TheVariants.{Message}
 use Rattle.goblin_base.specs.declared.error.ErrorOf.{ErrorOf}
@@ -79,43 +79,6 @@ file_offset opts sections alignment rva =
 abbrev pub section_at : ℕ → ℕ → List Section → Option Section
 section_at alignment rva sections =
     if is_power_of_two alignment then find (is_in_window alignment rva) sections else None
-
--- ---- the address of a file offset
-
--- the address that a section's window has at a file offset; none if the window has no address
--- there, or if the alignment is not a power of two
-abbrev pub rva_in : ParseOptions → ℕ → ℕ → Section → Option ℕ
-rva_in opts alignment p s =
-    let begin = raw_begin opts s in
-    let end = begin + read_size s alignment in
-    if is_power_of_two alignment && (nat_le begin p && nat_lt p end)
-    then Some (s.virtual_address + (p - begin))
-    else None
-
--- an offset was found, and it is this one
-abbrev pub is_at : ℕ → Option ℕ → Bool
-is_at p None = false
-is_at p (Some found) = found == p
-
--- there is an address, and the sections map it to this file offset
-abbrev pub maps_to : ParseOptions → List Section → ℕ → ℕ → Option ℕ → Bool
-maps_to opts sections alignment p None = false
-maps_to opts sections alignment p (Some rva) =
-    is_at p (file_offset opts sections alignment rva)
-
--- The address of a file offset: the one in the first section whose window has an address there that
--- the sections map back to the offset. If addresses are not mapped, it is the offset itself.
-unfoldable pub file_address : ParseOptions → List Section → ℕ → ℕ → Option ℕ
-file_address opts sections alignment p =
-    if opts.resolve_rva
-    then option_and_then (rva_in opts alignment p)
-    (find (λ s. maps_to opts sections alignment p (rva_in opts alignment p s)) sections)
-    else Some p
-
--- no address is mapped to the file offset
-abbrev pub IsMappedFromNowhere : ParseOptions → List Section → ℕ → ℕ → Type 0
-IsMappedFromNowhere opts sections alignment p =
-    (rva : ℕ) → ¬ (file_offset opts sections alignment rva ≡ Some p)
 
 -- ---- what holds of the file offset of an address
 

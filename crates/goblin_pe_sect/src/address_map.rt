@@ -1,16 +1,13 @@
 //! The map from addresses (RVAs) to file offsets, by the windows of the sections.
 
-ghost use Rattle.std.specs.Prelude.{◌≡◌, ◌^◌, ◌<◌, ℕ, IfErr, IfOk, length};
+ghost use Rattle.std.specs.Prelude.{◌≡◌, ◌^◌, ◌<◌, ℕ, IfErr, IfOk};
 ghost use Rattle.goblin_base.specs.Answers.{GivesOrMemory, IsMemory};
-ghost use Rattle.goblin_pe_sect.specs.declared.address_map.Windows.TheVariants.{Walked};
 ghost use Rattle.goblin_pe_sect.specs.Mapping.{file_offset};
-ghost use Rattle.goblin_pe_sect.specs.Addresses.{AreMany, IsIndexed, KeepsWindowsAlone};
-ghost use Rattle.goblin_pe_sect.specs.Addresses.{WalksFew, reads_strictly};
-ghost use Rattle.goblin_pe_sect.specs.Addresses.{map_by, map_in, map_of, map_with, offset_of};
-ghost use Rattle.goblin_pe_sect.specs.Addresses.{strict_map, with_longest};
+ghost use Rattle.goblin_pe_sect.specs.Addresses.{IsIndexed, KeepsWindowsAlone};
+ghost use Rattle.goblin_pe_sect.specs.Addresses.{reads_strictly};
+ghost use Rattle.goblin_pe_sect.specs.Addresses.{map_by, map_of, offset_of};
 ghost use Rattle.std.specs.Prelude.{◌⊎◌, IfSome, Some};
 ghost use Rattle.goblin_pe_sect.specs.Runs.{IsRun, offset_in_run};
-ghost use Rattle.goblin_pe_sect.specs.SectionTable.{mapped_of, mapped_sections, recorded_sections};
 ghost use Rattle.goblin_pe_sect.specs.WindowIndex.{located};
 
 use crate::options::{ParseMode, ParseOptions};
@@ -21,20 +18,13 @@ use std::alloc::Global;
 
 mod finder;
 mod records;
-mod run;
-mod walk;
+pub(crate) mod run;
+pub(crate) mod walk;
 
 pub use finder::Finder;
 pub use records::{MappedRecords, front_section};
 use run::Run;
-use walk::{find_by_sections, find_in_records};
-
-/// The largest number of sections that are walked over for each address. For more sections an index
-/// is made, which takes memory. The specification says that the Windows loader limits the number of
-/// sections to 96; newer versions of Windows load more.
-///
-/// Source: PE Format, "COFF File Header (Object and Image)".
-pub const MOST_WITHOUT_INDEX: usize = 96;
+use walk::find_in_records;
 
 // What an address map uses to find the window that holds an address.
 #[derive(Drop)]
@@ -59,15 +49,15 @@ pub(crate) enum Windows<'s> {
 ///   say that addresses are offsets or the file alignment is not a power of two.
 #[derive(Drop)]
 pub struct AddressMap<'s> {
-    opts: ParseOptions,
-    windows: Windows<'s>,
-    longest: Option<u32>,
+    pub(crate) opts: ParseOptions,
+    pub(crate) windows: Windows<'s>,
+    pub(crate) longest: Option<u32>,
 }
 
 // The index of the sections' windows. If there are no sections, the index has no pieces and takes
 // no memory.
 #[tactic(auto, using(crate::proofs::AddressMaps::located_nowhere))]
-fn index_of<'e>(
+pub(crate) fn index_of<'e>(
     alloc: Global,
     sections: &[SectionTable],
     file_alignment: u32,
@@ -81,66 +71,6 @@ fn index_of<'e>(
         return Ok(WindowIndex::without_pieces(alloc, opts.resolve_rva));
     }
     WindowIndex::prepare(alloc, sections, file_alignment, opts)
-}
-
-// The sections of the section headers, without their names from the string table, and after them
-// the file's front, if it is mapped.
-fn listed<'e>(alloc: Global, records: MappedRecords) -> ResultOf<'e, Vec<SectionTable>>
-    ensures { GivesOrMemory (λ v. v.items) result (mapped_sections records.entry) }
-{
-    let count = records.len();
-    let mut sections = Vec::with_capacity(alloc, count)?;
-    'records: for i in 0..count {
-        sections.push(records.at(i))?;
-    }
-    Ok(sections)
-}
-
-/// The file offset of the address `rva`, by these sections and, if it is mapped, the file's front
-/// after them: that of the first section whose window holds it. The call takes no memory.
-pub fn offset_by_records(
-    records: MappedRecords,
-    file_alignment: u32,
-    opts: &ParseOptions,
-    rva: u32,
-) -> Option<usize>
-    ensures { result
-        ≡ file_offset opts.now (mapped_sections records.entry) file_alignment rva }
-{
-    find_by_sections(
-        records,
-        file_alignment,
-        opts,
-        rva as usize,
-        &mut Run::default(),
-    )
-}
-
-impl<'s> Windows<'s> {
-    // For many sections: an index of their windows, or the section headers themselves if the
-    // options or the alignment leave no window to find.
-    #[inline(never)]
-    #[tactic(auto, using(crate::proofs::AddressMaps::same_map_alone, crate::proofs::AddressMaps::same_map_with))]
-    fn of_many<'e>(
-        alloc: Global,
-        records: MappedRecords<'s>,
-        file_alignment: u32,
-        opts: &ParseOptions,
-    ) -> ResultOf<'e, Windows<'s>>
-        ensures made { GivesOrMemory (map_with opts.now) result
-            (map_in opts.now (mapped_of records.entry) file_alignment) }
-        ensures few { IfOk result (WalksFew opts.now) }
-    {
-        if !opts.resolve_rva || !file_alignment.is_power_of_two() {
-            return Ok(Windows::Walked(records, file_alignment));
-        }
-        let sections = listed(alloc, records)?;
-        let index = index_of(alloc, &sections, file_alignment, opts)?;
-        let Some(_) = records.front else {
-            return Ok(Windows::Indexed(index));
-        };
-        Ok(Windows::IndexedWithFront(index))
-    }
 }
 
 impl<'s> AddressMap<'s> {
@@ -169,64 +99,6 @@ impl<'s> AddressMap<'s> {
             windows: Windows::Indexed(index),
             longest: None,
         })
-    }
-
-    /// Prepares a map of these section headers and, if it is mapped, of the file's front after
-    /// them. With the front, address 0 has no offset, because address 0 in a table means that there
-    /// is nothing.
-    ///
-    /// With at most 96 sections the map takes no memory, and walks over their windows for each
-    /// address. With more sections it lists them and makes an index, except if `opts` says that
-    /// addresses are offsets or `file_alignment` is not a power of two.
-    ///
-    /// # Errors
-    /// Only [`Error::Memory`](goblin_base::Error::Memory).
-    #[inline(always)]
-    pub fn of_records<'e>(
-        alloc: Global,
-        records: MappedRecords<'s>,
-        file_alignment: u32,
-        opts: &ParseOptions,
-    ) -> ResultOf<'e, AddressMap<'s>>
-        ensures made { GivesOrMemory map_of result
-            (map_in opts.now (mapped_of records.entry) file_alignment) }
-        ensures few { IfOk result (λ m. WalksFew m.opts m.windows) }
-        ensures walked { let count = length (recorded_sections records.entry.records) in
-            IfOk result (λ m. ¬ AreMany count → m.windows ≡ Walked records.entry file_alignment) }
-        ensures grown { let count = length (recorded_sections records.entry.records) in
-            IfErr result (λ e. AreMany count) }
-    {
-        let windows = if MOST_WITHOUT_INDEX < records.records.len() {
-            Windows::of_many(alloc, records, file_alignment, opts)?
-        } else {
-            Windows::Walked(records, file_alignment)
-        };
-        Ok(AddressMap {
-            opts: *opts,
-            windows,
-            longest: None,
-        })
-    }
-
-    /// The same map in strict mode: damaged parts are refused, and not passed over.
-    pub fn strictly(self) -> AddressMap<'s>
-        ensures { map_of result ≡ strict_map (map_of self.entry) }
-    {
-        AddressMap {
-            opts: self.opts.with_parse_mode(ParseMode::Strict),
-            windows: self.windows,
-            longest: self.longest,
-        }
-    }
-
-    /// Sets the length, in bytes, above which names that are read by this map are cut.
-    /// [`pread_str_within`](goblin_base::pread_str_within) says how a longer name is cut. `None` is
-    /// no limit.
-    #[inline(always)]
-    pub fn set_longest_name(&mut self, longest: Option<u32>)
-        ensures { map_of self.new ≡ with_longest longest (map_of self.old) }
-    {
-        self.longest = longest;
     }
 
     /// The length, in bytes, above which names are cut, or `None` if there is no limit.

@@ -3,6 +3,7 @@
 //! `footprint`.
 #![tactic(auto)]
 
+pub mod added;
 pub mod address_map;
 pub mod data_directories;
 mod digits;

@@ -8,7 +8,6 @@ ghost use Rattle.std.specs.Int.{is_power_of_two};
 ghost use Rattle.std.specs.Option.{option_copied, option_map};
 ghost use Rattle.goblin_base.specs.Answers.{Answers};
 ghost use Rattle.goblin_base.specs.Reading.{Reads};
-ghost use Rattle.readings.specs.Reads.{text_within};
 ghost use Rattle.goblin_pe_sect.specs.Addresses.{Addressing, with_whole_names};
 ghost use Rattle.goblin_pe_sect.specs.AddressReadings.{data_at, name_or_none, text_at_address};
 ghost use Rattle.goblin_pe_sect.specs.Mapping.{read_size, window_end, window_of, raw_begin};
@@ -25,10 +24,6 @@ use goblin_base::{
     Cause, CauseOf, Endian, Error, ErrorOf, Result, ResultOf, TryFromCtx, pread_str,
     pread_str_within, pread_with,
 };
-
-mod rva;
-
-pub use rva::{find_rva, rva_in};
 
 /// Whether the address `rva` lies in the range from `r1` up to, but not including, `r2`. The range
 /// is empty if `r2` is at most `r1`.

@@ -20,7 +20,7 @@ use crate::optional_header::{
 };
 use goblin_base::footprint::{Marks, add_between, add_slice};
 use goblin_base::{Endian, ResultOf, field_u32, pread_slice, pread_u16};
-use goblin_pe_sect::footprint::add_directories;
+use goblin_pe_sect::added::add_directories;
 use std::alloc::Global;
 
 // The size of the DOS signature and of the magic of an optional header, in bytes.

@@ -8,7 +8,7 @@ ghost use Rattle.goblin_pe_head.specs.CoffReadings.{sections_at};
 
 use crate::header::{CoffHeader, SIZEOF_COFF_HEADER, SIZEOF_PE_MAGIC};
 use goblin_base::footprint::Marks;
-use goblin_pe_sect::footprint::add_section;
+use goblin_pe_sect::added::add_section;
 use goblin_pe_sect::options::ParseOptions;
 use goblin_pe_sect::section_table::SIZEOF_SECTION_TABLE;
 

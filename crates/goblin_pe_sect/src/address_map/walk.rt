@@ -75,7 +75,7 @@ fn find_window(
 // offsets, sets `run` to all addresses.
 #[inline(always)]
 #[tactic(auto, unfolding(crate::specs::Mapping::file_offset))]
-pub(super) fn find_by_sections(
+pub(crate) fn find_by_sections(
     records: MappedRecords,
     file_alignment: u32,
     opts: &ParseOptions,

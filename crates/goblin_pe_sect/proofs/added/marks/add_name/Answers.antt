@@ -1,6 +1,6 @@
 use Rattle.std.proofs.Common.{◌<◌, ◌+◌, ◌^◌, length, rules}
-use Rattle.goblin_pe_sect.proofs.CutOffsets.{stretch-cut}
-use Rattle.goblin_pe_sect.proofs.footprint.add_name.Goals as goal
+use Rattle.goblin_pe_sect.proofs.added.CutOffsets.{stretch-cut}
+use Rattle.goblin_pe_sect.proofs.added.marks.add_name.Goals as goal
 
 pub returns-in-Some : goal.returns-in-Some
 returns-in-Some c =

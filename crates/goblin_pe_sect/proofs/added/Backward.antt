@@ -3,7 +3,8 @@ use Rattle.std.proofs.Common.{◌≡◌, ℕ, ◌==◌, Bool, true, false, cond,
 use Rattle.std.specs.Int.{is_power_of_two}
 use Rattle.std.proofs.lemmas.Bool.Decides.{nat_tests}
 use Rattle.goblin_pe_sect.specs.declared.options.ParseOptions.{ParseOptions}
-use Rattle.goblin_pe_sect.specs.Mapping.{IsMappedFromNowhere, MapsTo, MapsNowhere, file_address, file_offset, is_at, maps_to, offset_in, rva_in, InWindow}
+use Rattle.goblin_pe_sect.specs.added.Backward.{IsMappedFromNowhere, file_address, is_at, maps_to, rva_in}
+use Rattle.goblin_pe_sect.specs.Mapping.{MapsTo, MapsNowhere, file_offset, offset_in, InWindow}
 use Rattle.goblin_pe_sect.specs.SectionTable.{Section}
 use Rattle.goblin_pe_sect.proofs.First.{found_passes, none_passes}
 use Rattle.goblin_pe_sect.proofs.Mapped.{file_offset_first}

@@ -3,8 +3,8 @@ use Rattle.goblin_base.specs.Footprints.{Range, slice_footprint}
 use Rattle.goblin_base.specs.Marks.{marked}
 use Rattle.goblin_base.proofs.Marks.{marked_nil}
 use Rattle.goblin_base.proofs.Ranges.{marked_below}
-use Rattle.goblin_pe_sect.proofs.CutOffsets.{slice-cut}
-use Rattle.goblin_pe_sect.proofs.footprint.add_directories.Goals as goal
+use Rattle.goblin_pe_sect.proofs.added.CutOffsets.{slice-cut}
+use Rattle.goblin_pe_sect.proofs.added.marks.add_directories.Goals as goal
 
 -- the record of the directory at an index
 entry : List ℕ → ℕ → ℕ → List Range

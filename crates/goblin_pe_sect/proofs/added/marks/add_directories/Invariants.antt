@@ -3,7 +3,7 @@ use Rattle.std.proofs.Common.{◌≡◌, ◌+◌, ◌*◌}
 use Rattle.goblin_base.specs.Footprints.{slice_footprint}
 use Rattle.goblin_base.specs.Marks.{marked}
 use Rattle.goblin_base.specs.Tables.{concat_below}
-use Rattle.goblin_pe_sect.proofs.footprint.add_directories.Given as goal
+use Rattle.goblin_pe_sect.proofs.added.marks.add_directories.Given as goal
 
 abbrev pub invariant-entries : goal.invariant-entries
 invariant-entries l =

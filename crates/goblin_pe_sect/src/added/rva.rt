@@ -2,12 +2,13 @@
 
 ghost use Rattle.std.specs.Prelude.{◌≡◌, Some, MatchOption, find};
 ghost use Rattle.std.specs.Option.{option_copied};
-ghost use Rattle.goblin_pe_sect.specs.Mapping.{IsMappedFromNowhere, file_address, file_offset};
-ghost use Rattle.goblin_pe_sect.specs.Mapping.{maps_to, rva_in};
+ghost use Rattle.goblin_pe_sect.specs.added.Backward.{IsMappedFromNowhere, file_address};
+ghost use Rattle.goblin_pe_sect.specs.Mapping.{file_offset};
+ghost use Rattle.goblin_pe_sect.specs.added.Backward.{maps_to, rva_in};
 
-use super::{find_offset, raw_begin, window};
 use crate::options::ParseOptions;
 use crate::section_table::SectionTable;
+use crate::utils::{find_offset, raw_begin, window};
 
 /// The address that the window of this section has at the file offset `offset`, whatever other
 /// sections map. `None` if the window has no address there, or if `file_alignment` is not a power
@@ -64,7 +65,7 @@ fn first_back<'s>(
 }
 
 // The address that this section has there.
-#[tactic(auto, unfolding(crate::specs::Mapping::file_address))]
+#[tactic(auto, unfolding(crate::specs::added::Backward::file_address))]
 fn address_by(
     offset: usize,
     sections: &[SectionTable],
@@ -91,7 +92,7 @@ fn address_by(
 /// has an address at the offset.
 ///
 /// Source: none, as for [`window`].
-#[tactic(auto, using(crate::proofs::Backward::file_address_back))]
+#[tactic(auto, using(crate::proofs::added::Backward::file_address_back))]
 pub fn find_rva(
     offset: usize,
     sections: &[SectionTable],

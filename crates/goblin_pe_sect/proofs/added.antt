@@ -1,0 +1,3 @@
+pub mod Backward
+pub mod CutOffsets
+pub mod UnnamedMaps
