@@ -51,7 +51,6 @@ pub use Rattle.goblin_pe_head.specs.CoffReadings
 pub use Rattle.goblin_pe_head.specs.DosHeader
 pub use Rattle.goblin_pe_head.specs.DosStub
 pub use Rattle.goblin_pe_head.specs.HeaderLaws
-pub use Rattle.goblin_pe_head.specs.HeaderParts
 pub use Rattle.goblin_pe_head.specs.HeaderReadings
 pub use Rattle.goblin_pe_head.specs.OptionalHeader
 pub use Rattle.goblin_pe_head.specs.OptionalHeaderLaws

@@ -17,7 +17,7 @@ use Rattle.goblin_pe_sect.specs.SectionReadings.{named_section_at, text_in_table
 use Rattle.goblin_pe_sect.specs.declared.section_table.records.SectionRecords.{SectionRecords}
 use Rattle.goblin_pe_sect.specs.SectionTable.{Section, recorded_sections, section_record, sections_in, unnamed}
 use Rattle.goblin_pe_head.specs.CoffHeader.{symbols_end}
-use Rattle.goblin_pe_head.specs.HeaderParts.{sections_there}
+use Rattle.goblin_pe_head.specs.added.HeaderParts.{sections_there}
 use Rattle.goblin_pe_head.specs.TeHeader.{section_adjusted, section_moved}
 use Rattle.goblin_pe_c_headers.specs.declared.image.PeImage.{PeImage}
 use Rattle.goblin_pe_c_headers.specs.Options.{header_options, longest_of}

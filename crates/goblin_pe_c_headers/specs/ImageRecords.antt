@@ -1,6 +1,6 @@
 -- The record of an image, as definitions.
 use Rattle.std.specs.Prelude.{◌≡◌, ℕ, List, [], ◌∷◌, false, replicate}
-use Rattle.goblin_pe_head.specs.HeaderParts.{no_windows_fields}
+use Rattle.goblin_pe_head.specs.added.HeaderParts.{no_windows_fields}
 use Rattle.goblin_pe_head.specs.PeHeader.{zero_dos_header}
 use Rattle.goblin_pe_head.specs.declared.header.coff.CoffHeader.{CoffHeader}
 use Rattle.goblin_pe_sect.specs.declared.data_directories.DataDirectory.{DataDirectory}

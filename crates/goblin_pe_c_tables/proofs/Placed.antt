@@ -13,7 +13,7 @@ use Rattle.goblin_pe_sect.specs.SectionTable.{Section, recorded_sections, sectio
 use Rattle.goblin_pe_sect.proofs.added.UnnamedMaps.{unnamed_map_in}
 use Rattle.goblin_pe_head.specs.CoffHeader.{symbols_end}
 use Rattle.goblin_pe_head.specs.CoffReadings.{sections_at}
-use Rattle.goblin_pe_head.specs.declared.header.parts.HeaderParts.{HeaderParts}
+use Rattle.goblin_pe_head.specs.declared.added.parts.HeaderParts.{HeaderParts}
 use Rattle.goblin_pe_head.specs.HeaderReadings.{pe_header}
 use Rattle.goblin_pe_head.specs.PeHeader.{PeHeader}
 use Rattle.goblin_pe_c_headers.proofs.PlacedSections.{placed, whole}
@@ -32,8 +32,8 @@ use Rattle.goblin_pe_c_tables.specs.ReadImages.{ImageLeadsBack}
 use Rattle.goblin_pe_c_headers.specs.ImageRecords.{zero_coff_header}
 use Rattle.goblin_pe_c_tables.specs.PartialImages.{AreOfLayout, given_count, given_or, given_sections, sections_of}
 use Rattle.goblin_pe_head.specs.declared.header.coff.CoffHeader.{CoffHeader}
-use Rattle.goblin_pe_head.specs.HeaderParts.{ArePartsOf, coff_part, placed_coff, sections_part, sections_there, table_after, whole_sections}
-use Rattle.goblin_pe_head.proofs.WholeParts.{whole_placed}
+use Rattle.goblin_pe_head.specs.added.HeaderParts.{ArePartsOf, coff_part, placed_coff, sections_part, sections_there, table_after, whole_sections}
+use Rattle.goblin_pe_head.proofs.added.WholeParts.{whole_placed}
 
 -- ---- a header
 

@@ -9,13 +9,14 @@ use Rattle.goblin_pe_sect.specs.declared.section_table.records.SectionRecords.{S
 use Rattle.goblin_pe_sect.specs.Options.{is_strict}
 use Rattle.goblin_pe_sect.specs.SectionTable.{Section, recorded_sections, unnamed}
 use Rattle.goblin_pe_head.specs.declared.header.coff.CoffHeader.{CoffHeader}
-use Rattle.goblin_pe_head.specs.declared.header.parts.HeaderParts.{HeaderParts}
+use Rattle.goblin_pe_head.specs.declared.added.parts.HeaderParts.{HeaderParts}
 use Rattle.goblin_pe_head.specs.declared.header.rich.RichHeader.{RichHeader}
 use Rattle.goblin_pe_head.specs.declared.header.stub.DosStub.{DosStub}
 use Rattle.goblin_pe_head.specs.CoffHeader.{symbols_end}
 use Rattle.goblin_pe_head.specs.CoffReadings.{sections_at}
 use Rattle.goblin_pe_head.specs.DosStub.{default_stub, stub_bytes}
-use Rattle.goblin_pe_head.specs.HeaderParts.{AreOfWhole, ArePartsOf, known_optional, unnamed_sections}
+use Rattle.goblin_pe_head.specs.added.HeaderParts.{AreOfWhole, ArePartsOf, known_optional}
+use Rattle.goblin_pe_head.specs.added.HeaderParts.{unnamed_sections}
 use Rattle.goblin_pe_head.specs.HeaderReadings.{dos_header, pe_header, rich_header, stub_at}
 use Rattle.goblin_pe_head.specs.PeHeader.{PeHeader, zero_dos_header}
 use Rattle.goblin_pe_head.specs.RichHeader.{rich_value}

@@ -2,7 +2,6 @@ pub mod Beside
 pub mod CoffHeaderRoundTrip
 pub mod ConsistentHeaders
 pub mod DosHeaderRoundTrip
-mod HeaderRanges
 pub mod OptionalFieldsRoundTrip
 pub mod OptionalHeaderRoundTrip
 pub mod OptionalParts
@@ -15,6 +14,6 @@ pub mod RichPlaces
 pub mod SectionRecords
 pub mod Sections
 pub mod TeHeaderRoundTrip
-pub mod WholeParts
 pub mod WordPlaces
 pub mod WrittenForm
+pub mod added

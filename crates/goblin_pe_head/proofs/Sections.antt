@@ -1,23 +1,20 @@
 -- Sections one after the other: where one is missing, and what is answered of those that are moved.
-use Rattle.std.proofs.Common.{◌≡◌, ◌==◌, cond, ℕ, ◌+◌, ◌*◌, ◌/◌, ◌-◌, ◌<◌, ◌≤◌, Bool, true, false, List, length, [], ◌∷◌, ◌∙◌, arith, ap, map, refl, inr, sym, Result, Ok, Err, None, Option, Some, nat_le, option_map}
+use Rattle.std.proofs.Common.{◌≡◌, ℕ, ◌+◌, ◌*◌, ◌/◌, ◌-◌, ◌<◌, ◌≤◌, Bool, true, false, List, length, [], ◌∷◌, ◌∙◌, arith, ap, map, refl, inr, sym, Result, Ok, Err, None, Option, Some, nat_le, option_map}
 use Rattle.std.specs.List.{range_with_len}
 use Rattle.std.proofs.lemmas.Simd.{map-map}
-use Rattle.std.proofs.lemmas.Bool.{eqb-true, lt-leb}
+use Rattle.std.proofs.lemmas.Bool.{lt-leb}
 use Rattle.std.proofs.Math.Bool.{and-false}
 use Rattle.goblin_base.specs.declared.error.CauseOf.TheVariants.{StrippedSize}
 use Rattle.goblin_base.specs.declared.error.ErrorOf.{ErrorOf}
-use Rattle.goblin_base.specs.Bytes.{slice_at}
 use Rattle.goblin_base.specs.Reading.{Reading, Reads, ReadsOrMemory}
 use Rattle.goblin_base.specs.Answers as answers
 use Rattle.goblin_base.specs.Answers.{all_at, all_of}
-use Rattle.goblin_base.proofs.Numbers.{slice_at-past}
 use Rattle.goblin_base.proofs.Steps.{all_at-none, unmapped}
 use Rattle.readings.specs.Reads.{◌>>=◌, each, mapped, needs}
 use Rattle.goblin_pe_sect.specs.SectionReadings.{named_section_at}
-use Rattle.goblin_pe_sect.specs.SectionTable.{Section, sections_in, unnamed}
+use Rattle.goblin_pe_sect.specs.SectionTable.{Section, unnamed}
 use Rattle.goblin_pe_head.specs.declared.header.te.TeHeader.{TeHeader}
 use Rattle.goblin_pe_head.specs.CoffReadings.{sections_at, with_room}
-use Rattle.goblin_pe_head.specs.HeaderParts.{sections_there}
 use Rattle.goblin_pe_head.specs.TeHeader.{displacement, section_adjusted, section_moved}
 use Rattle.goblin_pe_head.specs.TeReadings.{moved_section, moved_sections, te_sections_at}
 
@@ -94,25 +91,6 @@ pub in_room_made : {X A B : Type 0} (view : X → B) (r : Result X ErrorOf) (n :
     → Reads view r (mapped f reading) bytes → Reads view r (mapped f (with_room n reading)) bytes
 in_room_made view (Ok x) n f reading bytes room made = made
 in_room_made view (Err e) n f reading bytes room made = (made.0, inr (room, made.1))
-
--- the same without that
-pub in_room_read : {X A : Type 0} (view : X → A) (r : Result X ErrorOf) (n : ℕ)
-    (reading : Reading A) (bytes : List ℕ) → n ≤ length bytes / 40
-    → Reads view r reading bytes → Reads view r (with_room n reading) bytes
-in_room_read view (Ok x) n reading bytes room made = made
-in_room_read view (Err e) n reading bytes room made = (made.0, inr (room, made.1))
-
--- too many sections are not there
-none_picked : {A : Type 0} (n : ℕ) (x : A) (o : Option A) (b : Bool) → (n == 0) ≡ b → 0 < n → o ≡ None
-    → cond b (Some x) o ≡ None
-none_picked n x o true is some none = absurd (omega (arith, eqb-true n 0 is, some))
-none_picked n x o false is some none = none
-
-pub sections_there-too_short : (n : ℕ) (bytes : List ℕ) (p : ℕ) → length bytes / 40 < n
-    → (sections_there n p).value bytes ≡ None
-sections_there-too_short n bytes p short =
-    let none = ap (option_map sections_in) (slice_at-past bytes p (40 * n) (omega (arith, short))) in
-    none_picked n [] (option_map sections_in (slice_at bytes p (40 * n))) (n == 0) refl (omega (arith, short)) none
 
 -- where something was stripped, the sections are moved by that
 pub by_displacement : {X : Type 0} (view : X → List Section) (r : Result X ErrorOf)

@@ -4,7 +4,6 @@
 mod coff;
 mod dos;
 mod machine;
-mod parts;
 mod pe_header;
 mod rich;
 mod sections;
@@ -23,7 +22,6 @@ pub use machine::{
     COFF_MACHINE_SH3, COFF_MACHINE_SH3DSP, COFF_MACHINE_SH4, COFF_MACHINE_SH5, COFF_MACHINE_THUMB,
     COFF_MACHINE_UNKNOWN, COFF_MACHINE_WCEMIPSV2, COFF_MACHINE_X86, COFF_MACHINE_X86_64,
 };
-pub use parts::{HeaderParts, section_records_at, unnamed_records};
 pub use pe_header::Header;
 pub(crate) use rich::{dans_place, marker_place};
 pub use rich::{

@@ -1,10 +1,10 @@
 //! The headers of a PE file, and its section table.
 #![tactic(auto)]
 
+pub mod added;
 pub mod characteristic;
 pub mod dll_characteristic;
 pub mod header;
-pub mod laws;
 pub mod optional_header;
 pub mod subsystem;
 

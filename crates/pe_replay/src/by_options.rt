@@ -8,9 +8,8 @@ use goblin_pe::export::{Export, ExportData};
 use goblin_pe::import::{
     ImportData, SyntheticImportDirectoryEntry as Library, SyntheticImportLookupTableEntry as Lookup,
 };
-use goblin_pe::laws::{
-    FileKey, footprint_exports, footprint_header, footprint_imports, footprint_whole,
-};
+use goblin_pe::laws::{FileKey, footprint_exports, footprint_imports, footprint_whole};
+use goblin_pe::added::footprint_header;
 use goblin_pe::{Layout, Places, Whole};
 use goblin_pe_export::laws::read_exports;
 use goblin_pe_head::Header;

@@ -11,7 +11,7 @@ use crate::whole::Layout;
 use goblin_base::footprint::Marks;
 use goblin_base::{ResultOf, error_for, is_passed_over};
 use goblin_pe_head::header::Header;
-use goblin_pe_head::laws::{add_header, add_sections};
+use goblin_pe_head::added::{add_header, add_sections};
 use goblin_pe_sect::{ParseOptions, View};
 use std::alloc::Global;
 

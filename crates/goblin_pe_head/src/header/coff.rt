@@ -2,25 +2,24 @@
 //! string table.
 
 ghost use Rattle.std.specs.Prelude.{◌≡◌, ◌+◌, ◌*◌, ◌/◌, ◌<◌, length, option_map, true, OnOk};
-ghost use Rattle.std.specs.Prelude.{OnErr, IsErrAnd, map};
+ghost use Rattle.std.specs.Prelude.{OnErr, IsErrAnd};
 ghost use Rattle.goblin_base.specs.Reading.{Reads, ReadsOrMemory};
 ghost use Rattle.goblin_base.specs.Record.{WritesRecord};
-ghost use Rattle.readings.specs.Reads.{mapped, record_at};
+ghost use Rattle.readings.specs.Reads.{record_at};
 ghost use Rattle.goblin_pe_sect.specs.Options.{is_strict};
-ghost use Rattle.goblin_pe_sect.specs.SectionTable.{recorded_sections, unnamed};
 ghost use Rattle.goblin_pe_symbol.specs.Symbols.{symbol_bytes};
 ghost use Rattle.goblin_pe_head.specs.declared.header.coff.CoffHeader.{CoffHeader};
 ghost use Rattle.goblin_pe_head.specs.CoffHeader.{IsTooManySections, coff_fields, coff_header};
 ghost use Rattle.goblin_pe_head.specs.CoffHeader.{string_table_offset, symbols_end};
 ghost use Rattle.goblin_pe_head.specs.CoffReadings as reading;
 
-use crate::header::sections::{read_section_records, read_sections};
+use crate::header::sections::read_sections;
 use goblin_base::{
     Cause, Endian, Error, Field, Record, Result, Strtab, field_u16, field_u32, gread_slice,
     pread_u32, put_fields,
 };
 use goblin_pe_sect::options::ParseOptions;
-use goblin_pe_sect::section_table::{SIZEOF_SECTION_TABLE, SectionRecords, SectionTable};
+use goblin_pe_sect::section_table::{SIZEOF_SECTION_TABLE, SectionTable};
 use goblin_pe_symbol::symbol::{COFF_SYMBOL_SIZE, SymbolTable};
 use std::alloc::Global;
 
@@ -177,38 +176,6 @@ impl CoffHeader {
         }
         let table = self.symbols_end();
         read_sections(alloc, bytes, offset, count, table, opts, None)
-    }
-
-    /// Tests the section headers that follow one another from the file offset `offset` on, as
-    /// [`CoffHeader::sections_with_opts`] does, moves `offset` past them, and returns them. They
-    /// take no memory. Their sections lack the names from the string table.
-    ///
-    /// Source: PE Format, "Section Table (Section Headers)".
-    ///
-    /// # Errors
-    /// As [`CoffHeader::sections_with_opts`], but never [`Error::Memory`].
-    #[inline(always)]
-    pub fn section_records_with_opts<'a>(
-        &self,
-        bytes: &'a [u8],
-        offset: &mut usize,
-        opts: &ParseOptions,
-    ) -> Result<SectionRecords<'a>>
-        ensures value { let strict = is_strict opts.now.parse_mode in
-            let table = symbols_end self.now in
-            let count = self.now.number_of_sections in
-            Reads recorded_sections result
-            (mapped (map unnamed) (reading.sections_at strict table count offset.old)) bytes.now }
-        ensures first { length bytes.now / 40 < self.now.number_of_sections
-            → IsErrAnd result (IsTooManySections self.now.number_of_sections bytes.now) }
-        ensures ok { OnOk result (offset.new ≡ offset.old + 40 * self.now.number_of_sections) }
-        ensures err { OnErr result (offset.new ≡ offset.old) }
-    {
-        let count = self.number_of_sections as usize;
-        if bytes.len() / SIZEOF_SECTION_TABLE < count {
-            return Err(Error::BufferTooShort(count, "sections"));
-        }
-        read_section_records(bytes, offset, count, opts)
     }
 
     /// The symbol table, or `None` if the pointer to it is 0.

@@ -1,17 +1,14 @@
 //! The loops that read section tables.
 
-ghost use Rattle.std.specs.Prelude.{◌≡◌, ◌+◌, ◌*◌, ℕ, map, OnErr, OnOk};
-ghost use Rattle.goblin_base.specs.Reading.{Reads, ReadsOrMemory};
-ghost use Rattle.readings.specs.Reads.{each, mapped};
+ghost use Rattle.std.specs.Prelude.{◌≡◌, ◌+◌, ◌*◌, OnErr, OnOk};
+ghost use Rattle.goblin_base.specs.Reading.{ReadsOrMemory};
 ghost use Rattle.goblin_pe_sect.specs.Options.{is_strict};
-ghost use Rattle.goblin_pe_sect.specs.SectionReadings.{named_section_at};
-ghost use Rattle.goblin_pe_sect.specs.SectionTable.{recorded_sections, unnamed};
 ghost use Rattle.goblin_pe_head.specs.TeReadings as reading;
 
 use crate::header::te::adjust_section;
 use goblin_base::Result;
 use goblin_pe_sect::options::ParseOptions;
-use goblin_pe_sect::section_table::{SectionRecords, SectionTable};
+use goblin_pe_sect::section_table::SectionTable;
 use std::alloc::Global;
 
 // Reads `count` sections, whose section headers follow one another from `offset` on, and moves
@@ -47,31 +44,4 @@ pub(super) fn read_sections(
     }
     *offset = end;
     Ok(sections)
-}
-
-// Tests `count` section headers, which follow one another from `offset` on, and moves `offset` past
-// them. Sections are read from them later.
-#[inline(always)]
-pub(super) fn read_section_records<'a>(
-    bytes: &'a [u8],
-    offset: &mut usize,
-    count: usize,
-    opts: &ParseOptions,
-) -> Result<SectionRecords<'a>>
-    ensures value { let strict = is_strict opts.now.parse_mode in
-        (table : ℕ) → Reads recorded_sections result
-        (mapped (map unnamed)
-        (each (λ i. named_section_at strict table (offset.old + 40 * i)) count))
-        bytes.now }
-    ensures ok { OnOk result (offset.new ≡ offset.old + 40 * count) }
-    ensures err { OnErr result (offset.new ≡ offset.old) }
-{
-    let mut end = *offset;
-    'records: for _ in 0..count {
-        SectionTable::parse_unnamed(bytes, &mut end, opts)?;
-    }
-    // If there are no sections, `offset` may lie past the end.
-    let records = SectionRecords::of(bytes.get(*offset..end).unwrap_or(&[]));
-    *offset = end;
-    Ok(records)
 }

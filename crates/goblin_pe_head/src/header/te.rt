@@ -2,26 +2,24 @@
 //! stripped.
 
 ghost use Rattle.std.specs.Prelude.{◌≡◌, ◌+◌, ◌*◌, ◌/◌, ◌<◌, length, IsErrAnd, OnOk};
-ghost use Rattle.std.specs.Prelude.{OnErr, map};
+ghost use Rattle.std.specs.Prelude.{OnErr};
 ghost use Rattle.goblin_base.specs.Reading.{Reads, ReadsOrMemory};
 ghost use Rattle.goblin_base.specs.Answers.{Answers};
 ghost use Rattle.goblin_base.specs.Record.{WritesRecord};
-ghost use Rattle.readings.specs.Reads.{mapped};
-ghost use Rattle.goblin_pe_sect.specs.SectionTable.{recorded_sections, unnamed};
 ghost use Rattle.goblin_pe_head.specs.declared.header.te.TeHeader.{TeHeader};
 ghost use Rattle.goblin_pe_head.specs.CoffHeader.{IsTooManySections};
 ghost use Rattle.goblin_pe_head.specs.TeHeader.{IsStrippedFault, displacement, moved_address};
 ghost use Rattle.goblin_pe_head.specs.TeHeader.{pointer_moved, section_moved, te_fields, te_record};
 ghost use Rattle.goblin_pe_head.specs.TeReadings as reading;
 
-use crate::header::sections::{read_section_records, read_sections};
+use crate::header::sections::read_sections;
 use goblin_base::{
     Cause, Endian, Error, Field, Record, Result, field_u8, field_u16, field_u32, field_u64,
     gread_slice, put_fields,
 };
 use goblin_pe_sect::data_directories::DataDirectory;
 use goblin_pe_sect::options::ParseOptions;
-use goblin_pe_sect::section_table::{SIZEOF_SECTION_TABLE, SectionRecords, SectionTable};
+use goblin_pe_sect::section_table::{SIZEOF_SECTION_TABLE, SectionTable};
 use std::alloc::Global;
 
 /// The signature of a Terse Executable, `VZ`.
@@ -202,33 +200,6 @@ impl TeHeader {
         let displacement = self.displacement()?;
         let opts = ParseOptions::default();
         read_sections(alloc, bytes, offset, count, 0, &opts, Some(displacement))
-    }
-
-    /// Tests the section headers that follow one another from the file offset `offset` on, as
-    /// [`TeHeader::sections`] does, moves `offset` past them, and returns them. They take no
-    /// memory. Their sections are as stored, and lack the names from the string table.
-    /// [`adjust_section`] adjusts a section to the stripped file.
-    ///
-    /// # Errors
-    /// As [`TeHeader::sections`], but never [`Error::Memory`].
-    #[tactic(auto, unfolding(crate::specs::TeReadings::te_sections_at))]
-    pub fn section_records<'a>(
-        &self,
-        bytes: &'a [u8],
-        offset: &mut usize,
-    ) -> Result<SectionRecords<'a>>
-        ensures value { let moved = section_moved (displacement self.now) in
-            Reads (λ r. map moved (recorded_sections r)) result
-            (mapped (map unnamed) (reading.te_sections_at self.now offset.old)) bytes.now }
-        ensures ok { OnOk result (offset.new ≡ offset.old + 40 * self.now.number_of_sections) }
-        ensures err { OnErr result (offset.new ≡ offset.old) }
-    {
-        let count = self.number_of_sections as usize;
-        if bytes.len() / SIZEOF_SECTION_TABLE < count {
-            return Err(Error::BufferTooShort(count, "sections"));
-        }
-        self.displacement()?;
-        read_section_records(bytes, offset, count, &ParseOptions::default())
     }
 
     /// Writes the record to the front of `bytes`, its numbers as they are, and returns its size,
