@@ -16,4 +16,3 @@ pub mod Sections
 pub mod TeHeaderRoundTrip
 pub mod WordPlaces
 pub mod WrittenForm
-pub mod added

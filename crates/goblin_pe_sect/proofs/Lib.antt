@@ -25,4 +25,3 @@ pub mod Stretches
 pub mod Walked
 pub mod WindowPieces
 pub mod WordItems
-pub mod added
