@@ -5,9 +5,9 @@ use Rattle.std.proofs.lemmas.List.Folds.{find-append}
 use Rattle.std.proofs.lemmas.List.Sums.{sum_by-append}
 use Rattle.goblin_base.specs.declared.error.ErrorOf.{ErrorOf}
 use Rattle.goblin_base.specs.Answers.{all_of}
-use Rattle.goblin_pe_import.specs.ImportWalks.{walked_value}
+use Rattle.goblin_pe_import.specs.added.ImportWalks.{walked_value}
 use Rattle.goblin_pe_import.specs.Imports.{NumberedImport}
-use Rattle.goblin_pe_import.specs.declared.import.imports.WalkedImport.{WalkedImport}
+use Rattle.goblin_pe_import.specs.declared.added.imports.WalkedImport.{WalkedImport}
 use Rattle.goblin_pe.specs.declared.whole.imports.FileImports.{FileImports}
 use Rattle.goblin_pe.specs.LayoutCursors.{GivesFileImport}
 use Rattle.goblin_pe.specs.Layouts.{IsFileImportsCause, file_imports_left}

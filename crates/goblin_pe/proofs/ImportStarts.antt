@@ -10,20 +10,21 @@ use Rattle.goblin_pe_sect.specs.declared.data_directories.DataDirectory.{DataDir
 use Rattle.goblin_pe_sect.specs.Addresses.{MapOfAddresses, reads_strictly}
 use Rattle.goblin_pe_import.specs.ImportEntries.{EntryValue}
 use Rattle.goblin_pe_import.specs.ImportLookup.{entries_32, entries_64}
-use Rattle.goblin_pe_import.specs.ImportCursors.{first_import}
-use Rattle.goblin_pe_import.specs.ImportWalks.{AreImportsOver, GivesImport, HasName, cursor_left, cursor_of, imports_bytes, imports_left, imports_map, no_imports, walked_value}
-use Rattle.goblin_pe_import.specs.ImportWalks.{IsImportsCause, IsWalkFault}
-use Rattle.goblin_pe_import.specs.StepsAhead.{GivesImportWithin, GivesWithin, cursor_ahead, imports_ahead}
-use Rattle.goblin_pe_import.specs.declared.import.imports.ImportCursor.{ImportCursor}
-use Rattle.goblin_pe_import.specs.declared.import.imports.Imports.{Imports}
-use Rattle.goblin_pe_import.specs.declared.import.imports.WalkedImport.{WalkedImport}
+use Rattle.goblin_pe_import.specs.added.ImportCursors.{first_import}
+use Rattle.goblin_pe_import.specs.added.ImportWalks.{AreImportsOver, GivesImport, HasName, cursor_left, cursor_of, imports_bytes, imports_left, imports_map, no_imports, walked_value}
+use Rattle.goblin_pe_import.specs.added.ImportWalks.{IsImportsCause, IsWalkFault}
+use Rattle.goblin_pe_import.specs.added.StepsAhead.{GivesImportWithin, cursor_ahead, imports_ahead}
+use Rattle.goblin_pe_import.specs.Steps.{GivesWithin}
+use Rattle.goblin_pe_import.specs.declared.added.imports.ImportCursor.{ImportCursor}
+use Rattle.goblin_pe_import.specs.declared.added.imports.Imports.{Imports}
+use Rattle.goblin_pe_import.specs.declared.added.imports.WalkedImport.{WalkedImport}
 use Rattle.goblin_pe.specs.declared.whole.Part.TheVariants as part
 use Rattle.goblin_pe.specs.declared.whole.imports.FileImports.{FileImports}
 use Rattle.goblin_pe.specs.declared.whole.imports.FileImports.TheVariants.{Narrow, Wide}
 use Rattle.goblin_pe.specs.LayoutCursors.{file_ahead, file_cursor_ahead, GivesFileWithin, GivesFileImport, GivesFirst, IsImportWalkAt, PartBegins, StartsAt, begin_in, file_cursor_left, import_begin}
 use Rattle.goblin_pe.specs.Layouts.{IsFileImportsCause, file_imports_left}
 use Rattle.goblin_pe.specs.Whole.{TablePlaces, directory_at, entry_format}
-use Rattle.goblin_pe_import.proofs.ImportCursors.{cursor_left_of}
+use Rattle.goblin_pe_import.proofs.added.ImportCursors.{cursor_left_of}
 
 -- ---- where the imports begin
 

@@ -34,9 +34,10 @@ use Rattle.goblin_pe_import.specs.ImportReadings.{import_data, libraries_at, num
 use Rattle.goblin_pe_import.specs.ImportReadings.{read_past_front}
 use Rattle.goblin_pe_import.specs.ImportRecords.{ImportedLibrary, NumberedLibrary}
 use Rattle.goblin_pe_import.specs.Imports.{numbered_imports}
-use Rattle.goblin_pe_import.specs.LeftOut.{amount_of, libraries_of_directory}
+use Rattle.goblin_pe_import.specs.TableSums.{amount_of}
+use Rattle.goblin_pe_import.specs.added.LeftOut.{libraries_of_directory}
 use Rattle.goblin_pe_import.proofs.ImportBound.{pair_of-left}
-use Rattle.goblin_pe_import.proofs.LeftOutLibraries.{front_has_none, none_made}
+use Rattle.goblin_pe_import.proofs.added.LeftOutLibraries.{front_has_none, none_made}
 use Rattle.goblin_pe_import.proofs.LibraryIndexes.{unnumbered}
 use Rattle.goblin_pe_import.proofs.PermissiveReads.{libraries_at-repeats, numbered_libraries_at-repeats}
 use Rattle.goblin_pe.specs.Damages.{imports_left_out_at, left_out_of}

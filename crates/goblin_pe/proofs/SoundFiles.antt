@@ -16,7 +16,7 @@ use Rattle.goblin_pe_head.specs.declared.header.dos.DosHeader.{DosHeader}
 use Rattle.goblin_pe_head.specs.HeaderReadings.{dos_header, header_after, pe_header, stub_at, stub_in}
 use Rattle.goblin_pe_head.specs.PeHeader.{PeHeader}
 use Rattle.goblin_pe_head.proofs.PermissiveReads.{repeats-header}
-use Rattle.goblin_pe_import.specs.declared.import.left_out.LeftOut.{LeftOut}
+use Rattle.goblin_pe_import.specs.declared.added.left_out.LeftOut.{LeftOut}
 use Rattle.goblin_pe.specs.declared.whole.damage.Damage.{Damage}
 use Rattle.goblin_pe.specs.Damages.{AreDamaged, IsDamage, IsDamaged, IsReadByBoth, IsSound, TellsDamage, left_out_of}
 use Rattle.goblin_pe.specs.Modes.{in_mode}

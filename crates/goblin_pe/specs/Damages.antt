@@ -13,9 +13,10 @@ use Rattle.goblin_pe_sect.specs.SectionTable.{Section}
 use Rattle.goblin_pe_sect.specs.Addresses.{Addressing}
 use Rattle.goblin_pe_head.specs.HeaderReadings.{stub_at}
 use Rattle.goblin_pe_head.specs.PeHeader.{PeHeader}
-use Rattle.goblin_pe_import.specs.declared.import.left_out.LeftOut.{LeftOut}
+use Rattle.goblin_pe_import.specs.declared.added.left_out.LeftOut.{LeftOut}
 use Rattle.goblin_pe_import.specs.ImportEntries.{EntryValue}
-use Rattle.goblin_pe_import.specs.LeftOut.{entries_left_out, libraries_left_out, unmapped_entries}
+use Rattle.goblin_pe_import.specs.added.LeftOut.{entries_left_out, libraries_left_out}
+use Rattle.goblin_pe_import.specs.added.LeftOut.{unmapped_entries}
 use Rattle.goblin_pe_export.specs.ExportReadings.{numbered_read}
 use Rattle.goblin_pe_export.specs.ExportRecords.{ExportTables, NumberedExport}
 use Rattle.goblin_pe_export.specs.LeftOutExports.{pointers_left_out}

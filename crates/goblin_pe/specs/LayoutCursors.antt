@@ -12,15 +12,18 @@ use Rattle.goblin_pe_sect.specs.Options.{is_strict}
 use Rattle.goblin_pe_sect.specs.Addresses.{MapOfAddresses, reads_strictly}
 use Rattle.goblin_pe_sect.specs.Addresses.{Addressing}
 use Rattle.goblin_pe_import.specs.ImportLookup.{entries_32, entries_64}
-use Rattle.goblin_pe_import.specs.ImportCursors.{first_import}
+use Rattle.goblin_pe_import.specs.added.ImportCursors.{first_import}
 use Rattle.goblin_pe_import.specs.Imports.{NumberedImport}
-use Rattle.goblin_pe_import.specs.ImportWalks.{AreImportsOver, HasName, IsCursorCause, cursor_left}
-use Rattle.goblin_pe_import.specs.ImportWalks.{cursor_of, imports_bytes, imports_map, no_imports}
-use Rattle.goblin_pe_import.specs.ImportWalks.{walked_value}
-use Rattle.goblin_pe_import.specs.StepsAhead.{EndsWithin, GivesWithin, HasNotGrown, HaveRunOut}
-use Rattle.goblin_pe_import.specs.StepsAhead.{LooksAt, cursor_ahead, imports_ahead}
-use Rattle.goblin_pe_import.specs.declared.import.imports.ImportCursor.{ImportCursor}
-use Rattle.goblin_pe_import.specs.declared.import.imports.WalkedImport.{WalkedImport}
+use Rattle.goblin_pe_import.specs.added.ImportWalks.{AreImportsOver, HasName, IsCursorCause}
+use Rattle.goblin_pe_import.specs.added.ImportWalks.{cursor_left}
+use Rattle.goblin_pe_import.specs.added.ImportWalks.{cursor_of, imports_bytes, imports_map}
+use Rattle.goblin_pe_import.specs.added.ImportWalks.{no_imports}
+use Rattle.goblin_pe_import.specs.added.ImportWalks.{walked_value}
+use Rattle.goblin_pe_import.specs.added.StepsAhead.{EndsWithin, HaveRunOut}
+use Rattle.goblin_pe_import.specs.Steps.{GivesWithin, HasNotGrown}
+use Rattle.goblin_pe_import.specs.added.StepsAhead.{LooksAt, cursor_ahead, imports_ahead}
+use Rattle.goblin_pe_import.specs.declared.added.imports.ImportCursor.{ImportCursor}
+use Rattle.goblin_pe_import.specs.declared.added.imports.WalkedImport.{WalkedImport}
 use Rattle.goblin_pe.specs.declared.whole.Part.{Part}
 use Rattle.goblin_pe.specs.declared.whole.Part.TheVariants.{Absent, Refused}
 use Rattle.goblin_pe.specs.declared.whole.Part.TheVariants as part

@@ -14,7 +14,7 @@ use Rattle.goblin_pe_export.specs.ExportWalks.{AreExportsOver, exports_left, exp
 use Rattle.goblin_pe_export.specs.ExportWalks.{walked_tables}
 use Rattle.goblin_pe_import.specs.ImportLookup.{entries_32, entries_64}
 use Rattle.goblin_pe_import.specs.Imports.{NumberedImport}
-use Rattle.goblin_pe_import.specs.ImportWalks.{IsImportsCause, imports_bound, imports_left}
+use Rattle.goblin_pe_import.specs.added.ImportWalks.{IsImportsCause, imports_bound, imports_left}
 use Rattle.goblin_pe.specs.declared.whole.Part.{Part}
 use Rattle.goblin_pe.specs.declared.whole.Part.TheVariants.{Absent, Refused}
 use Rattle.goblin_pe.specs.declared.whole.Part.TheVariants as part

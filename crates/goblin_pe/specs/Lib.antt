@@ -61,17 +61,12 @@ pub use Rattle.goblin_pe_head.specs.RichReadings
 pub use Rattle.goblin_pe_head.specs.TeHeader
 pub use Rattle.goblin_pe_head.specs.TeReadings
 pub use Rattle.goblin_pe_import.specs.ImportBound
-pub use Rattle.goblin_pe_import.specs.ImportCursors
 pub use Rattle.goblin_pe_import.specs.ImportEntries
 pub use Rattle.goblin_pe_import.specs.ImportLookup
 pub use Rattle.goblin_pe_import.specs.ImportReadings
 pub use Rattle.goblin_pe_import.specs.ImportRecords
-pub use Rattle.goblin_pe_import.specs.ImportWalks
 pub use Rattle.goblin_pe_import.specs.Imports
-pub use Rattle.goblin_pe_import.specs.LeftOut
-pub use Rattle.goblin_pe_import.specs.Libraries
 pub use Rattle.goblin_pe_import.specs.LookupReadings
-pub use Rattle.goblin_pe_import.specs.StepsAhead
 pub use Rattle.goblin_pe_export.specs.ExportReadings
 pub use Rattle.goblin_pe_export.specs.ExportRecords
 pub use Rattle.goblin_pe_export.specs.Exports

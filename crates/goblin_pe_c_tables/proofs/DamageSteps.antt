@@ -1,8 +1,9 @@
 -- A walk over all imports within a number of steps.
 use Rattle.std.proofs.Common.{◌≡◌, ◌⊎◌, ℕ, ◌≤◌, Bool, true, false, ◌&&◌, List, Option, None, Some, ap, arith, inl, inr, is_none, refl}
-use Rattle.goblin_pe_import.specs.declared.import.imports.ImportCursor.{ImportCursor}
-use Rattle.goblin_pe_import.specs.ImportWalks.{no_imports}
-use Rattle.goblin_pe_import.specs.StepsAhead.{AreCounted, AtSteps, HasNotGrown, HaveRunOut}
+use Rattle.goblin_pe_import.specs.declared.added.imports.ImportCursor.{ImportCursor}
+use Rattle.goblin_pe_import.specs.added.ImportWalks.{no_imports}
+use Rattle.goblin_pe_import.specs.Steps.{AreCounted, HasNotGrown}
+use Rattle.goblin_pe_import.specs.added.StepsAhead.{AtSteps, HaveRunOut}
 use Rattle.goblin_pe_sect.specs.Addresses.{MapOfAddresses, reads_strictly}
 use Rattle.goblin_pe.specs.LayoutCursors.{IsImportWalk, file_cursor_ahead, file_map}
 use Rattle.goblin_pe.specs.declared.whole.imports.FileImports.{FileImports}

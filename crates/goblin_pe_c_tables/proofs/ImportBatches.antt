@@ -2,15 +2,17 @@
 use Rattle.std.proofs.Common.{◌≡◌, ◌≢◌, append-nil, ℕ, ◌+◌, ◌-◌, ◌<◌, ◌≤◌, List, [], ◌∷◌, ◌++◌, length, drop, set, ap, subst, sym, refl, arith, ◌∙◌, inl, inr, is_none, is_some, Bool, true, false, ◌&&◌, Option, None, Some, Ok, Err, option_map, unwrap_or}
 use Rattle.std.proofs.lemmas.List.{append_assoc, length-append}
 use Rattle.goblin_base.specs.declared.error.ErrorOf.{ErrorOf}
-use Rattle.goblin_pe_import.specs.declared.import.imports.ImportCursor.{ImportCursor}
-use Rattle.goblin_pe_import.specs.declared.import.imports.WalkedImport.{WalkedImport}
+use Rattle.goblin_pe_import.specs.declared.added.imports.ImportCursor.{ImportCursor}
+use Rattle.goblin_pe_import.specs.declared.added.imports.WalkedImport.{WalkedImport}
 use Rattle.goblin_pe.specs.Addresses.{MapOfAddresses}
 use Rattle.goblin_pe.specs.Imports.{NumberedImport}
-use Rattle.goblin_pe.specs.ImportWalks.{entries_from, imports_next, walked_value}
+use Rattle.goblin_pe.specs.KeptEntries.{entries_from}
+use Rattle.goblin_pe.specs.added.ImportWalks.{imports_next, walked_value}
 use Rattle.goblin_pe.specs.LayoutCursors.{GivesFileWithin, IsImportWalk, IsImportWalkAt, file_ahead}
 use Rattle.goblin_pe.specs.LayoutCursors.{file_bytes, file_cursor, file_cursor_ahead, file_cursor_left}
-use Rattle.goblin_pe.specs.LeftOut.{amount_of}
-use Rattle.goblin_pe.specs.StepsAhead.{AreCounted, AtSteps, HaveRunOut}
+use Rattle.goblin_pe.specs.TableSums.{amount_of}
+use Rattle.goblin_pe.specs.Steps.{AreCounted}
+use Rattle.goblin_pe.specs.added.StepsAhead.{AtSteps, HaveRunOut}
 use Rattle.goblin_pe.proofs.ImportStarts.{walk-ahead, walk-left}
 use Rattle.goblin_pe.specs.Layouts.{IsFileImportsCause, file_imports_left}
 use Rattle.goblin_pe.specs.Whole.{TablePlaces}

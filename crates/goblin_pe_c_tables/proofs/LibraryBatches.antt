@@ -1,19 +1,19 @@
 -- A loop that fills records with the libraries of a file from a position on.
 use Rattle.std.proofs.Common.{◌≡◌, ◌≢◌, ℕ, ◌+◌, List, [], ◌∷◌, ◌++◌, ap, arith, sym, subst, refl, ◌∙◌, ◌<◌, ◌≤◌, length, drop, take, set, Bool, true, false, Option, None, Some, Ok, Err, option_map}
-use Rattle.goblin_pe_import.specs.declared.import.imports.ImportCursor.{ImportCursor}
-use Rattle.goblin_pe_import.specs.declared.import.library_walk.Libraries.{Libraries}
+use Rattle.goblin_pe_import.specs.declared.added.imports.ImportCursor.{ImportCursor}
+use Rattle.goblin_pe_import.specs.declared.added.library_walk.Libraries.{Libraries}
 use Rattle.goblin_pe_import.specs.ImportEntries.{EntryValue}
 use Rattle.goblin_base.specs.Tables.{Format}
 use Rattle.goblin_base.specs.declared.error.ErrorOf.{ErrorOf}
 use Rattle.goblin_pe.specs.Addresses.{MapOfAddresses}
-use Rattle.goblin_pe.specs.ImportWalks.{no_imports}
-use Rattle.goblin_pe.specs.Libraries.{AreLibrariesOver, GivesNextLibrary, IsCursorEndCause, IsLibrariesCause, LibraryValue, after_library, cursor_libraries, libraries_bytes, libraries_cursor, libraries_format, libraries_left, libraries_map, libraries_next, library_value}
+use Rattle.goblin_pe.specs.added.ImportWalks.{no_imports}
+use Rattle.goblin_pe.specs.added.Libraries.{AreLibrariesOver, GivesNextLibrary, IsCursorEndCause, IsLibrariesCause, LibraryValue, after_library, cursor_libraries, libraries_bytes, libraries_cursor, libraries_format, libraries_left, libraries_map, libraries_next, library_value}
 use Rattle.goblin_pe.specs.Whole.{TablePlaces, entry_format}
 use Rattle.goblin_pe_c_tables.specs.declared.next.PeImportCursor.{PeImportCursor}
 use Rattle.goblin_pe_c_tables.specs.Batches.{cursor_numbers, import_cursor}
 use Rattle.goblin_pe_c_tables.specs.Libraries.{GivesLibraries, LibraryBatch, library_said, library_table, library_view, position_after, position_by}
 use Rattle.goblin_pe_c_headers.specs.Onward.{IsRefusedNext, TellsEnd, values_before}
-use Rattle.goblin_pe_import.specs.declared.import.library_walk.WalkedLibrary.{WalkedLibrary}
+use Rattle.goblin_pe_import.specs.declared.added.library_walk.WalkedLibrary.{WalkedLibrary}
 use Rattle.goblin_pe_c_tables.specs.declared.library.PeLibrary.{PeLibrary}
 use Rattle.goblin_pe_c_headers.proofs.Batches.{AtItems, items-end, items-fault, items-full, items-gives, items-more, items-refused, items-start, items-taken, items-then, told-end, told-full, told-refused}
 use Rattle.goblin_pe_c_tables.proofs.ImportBatches.{said-again}

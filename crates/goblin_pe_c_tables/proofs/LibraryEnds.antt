@@ -8,12 +8,13 @@ use Rattle.goblin_pe_sect.specs.Addresses.{MapOfAddresses, reads_strictly}
 use Rattle.goblin_pe_import.specs.ImportEntries.{EntryValue}
 use Rattle.goblin_pe_import.specs.ImportRecords.{address_table_rva, lookup_offset}
 use Rattle.goblin_pe_import.specs.Imports.{NumberedImport}
-use Rattle.goblin_pe_import.specs.ImportWalks.{addresses_of, entries_from, imports_next, imports_of_entries, is_skipped, library_items, library_name, named_items, no_imports, origin, untested_table}
-use Rattle.goblin_pe_import.specs.LeftOut.{leads_to_none}
-use Rattle.goblin_pe_import.specs.Libraries.{LibraryValue, inside_library, library_at}
+use Rattle.goblin_pe_import.specs.added.ImportWalks.{addresses_of, imports_next, imports_of_entries, is_skipped, library_items, library_name, named_items, no_imports, origin, untested_table}
+use Rattle.goblin_pe_import.specs.KeptEntries.{entries_from}
+use Rattle.goblin_pe_import.specs.added.LeftOut.{leads_to_none}
+use Rattle.goblin_pe_import.specs.added.Libraries.{LibraryValue, inside_library, library_at}
 use Rattle.goblin_pe_import.specs.declared.import.directory_entry.ImportDirectoryEntry.{ImportDirectoryEntry}
-use Rattle.goblin_pe_import.specs.declared.import.imports.ImportCursor.{ImportCursor}
-use Rattle.goblin_pe_import.proofs.LeftOutLibraries.{library_left_out}
+use Rattle.goblin_pe_import.specs.declared.added.imports.ImportCursor.{ImportCursor}
+use Rattle.goblin_pe_import.proofs.added.LeftOutLibraries.{library_left_out}
 use Rattle.goblin_pe.specs.LayoutCursors.{file_cursor_left}
 use Rattle.goblin_pe.specs.Whole.{TablePlaces, entry_format}
 use Rattle.goblin_pe_c_tables.specs.Libraries.{LibrariesEnd}

@@ -13,16 +13,17 @@ use Rattle.goblin_pe_sect.specs.declared.data_directories.DataDirectory.{DataDir
 use Rattle.goblin_pe_head.specs.HeaderReadings.{pe_header}
 use Rattle.goblin_pe_head.specs.PeHeader.{PeHeader}
 use Rattle.goblin_pe_head.specs.declared.optional_header.OptionalHeader.{OptionalHeader}
-use Rattle.goblin_pe_import.specs.ImportCursors.{before_first, before_record, first_import}
+use Rattle.goblin_pe_import.specs.added.ImportCursors.{before_first, before_record, first_import}
 use Rattle.goblin_pe_import.specs.ImportEntries.{EntryValue}
 use Rattle.goblin_pe_import.specs.ImportLookup.{entries_32, entries_64}
 use Rattle.goblin_pe_import.specs.ImportReadings.{first_record_offset, numbered_data, numbered_libraries_at, read_if, read_past_front}
 use Rattle.goblin_pe_import.specs.ImportRecords.{NumberedLibrary}
 use Rattle.goblin_pe_import.specs.Imports.{NumberedImport, numbered_imports}
-use Rattle.goblin_pe_import.specs.ImportWalks.{cursor_left, entries_from, imports_next, no_imports}
-use Rattle.goblin_pe_import.specs.declared.import.imports.ImportCursor.{ImportCursor}
-use Rattle.goblin_pe_import.proofs.ImportsValue.{imports-value}
-use Rattle.goblin_pe_import.proofs.ImportsWalk.{imports-once}
+use Rattle.goblin_pe_import.specs.added.ImportWalks.{cursor_left, imports_next, no_imports}
+use Rattle.goblin_pe_import.specs.KeptEntries.{entries_from}
+use Rattle.goblin_pe_import.specs.declared.added.imports.ImportCursor.{ImportCursor}
+use Rattle.goblin_pe_import.proofs.added.ImportsValue.{imports-value}
+use Rattle.goblin_pe_import.proofs.added.ImportsWalk.{imports-once}
 use Rattle.goblin_pe_import.proofs.LibraryIndexes.{unnumbered}
 use Rattle.goblin_pe_export.specs.ExportReadings.{export_addresses, export_data, numbered_read, without_names}
 use Rattle.goblin_pe_export.specs.ExportRecords.{ExportTables, NumberedExport}

@@ -9,9 +9,9 @@ use Rattle.goblin_pe_sect.specs.SectionTable.{Section}
 use Rattle.goblin_pe_head.specs.CoffHeader.{symbols_end}
 use Rattle.goblin_pe_head.specs.HeaderReadings.{stub_at}
 use Rattle.goblin_pe_head.specs.CoffReadings.{sections_at}
-use Rattle.goblin_pe_import.specs.ImportCursors.{before_record}
-use Rattle.goblin_pe_import.specs.LeftOut.{amount_of}
-use Rattle.goblin_pe_import.specs.StepsAhead.{AtSteps}
+use Rattle.goblin_pe_import.specs.added.ImportCursors.{before_record}
+use Rattle.goblin_pe_import.specs.TableSums.{amount_of}
+use Rattle.goblin_pe_import.specs.added.StepsAhead.{AtSteps}
 use Rattle.goblin_pe.specs.Damages.{AreDamaged, IsDamage, exports_left_out}
 use Rattle.goblin_pe.specs.LayoutCursors.{file_cursor_ahead}
 use Rattle.goblin_pe.specs.Whole.{TablePlaces, export_part}

@@ -1,10 +1,11 @@
 //! The records of imports.
 
 ghost use Rattle.std.specs.Prelude.{◌≡◌, ◌==◌, length, not};
-ghost use Rattle.goblin_pe_import.specs.ImportWalks.{walked_value};
+ghost use Rattle.goblin_pe_import.specs.added.ImportWalks.{walked_value};
 ghost use Rattle.goblin_pe_c_tables.specs.Imports.{import_said, import_view};
 
-use goblin_pe::import::{SyntheticImportLookupTableEntry, WalkedImport};
+use goblin_pe::added::WalkedImport;
+use goblin_pe::import::SyntheticImportLookupTableEntry;
 
 /// An import.
 #[repr(C)]

@@ -21,8 +21,9 @@ use crate::batch::{Batched, at_room};
 use crate::export::{PeExport, plain_record, put_export};
 use crate::import::{PeImport, put_import};
 use goblin_base::answer_for;
+use goblin_pe::added::{ImportCursor, Imports};
 use goblin_pe::export::Exports;
-use goblin_pe::import::{Bitfield, ImportCursor, Imports};
+use goblin_pe::import::Bitfield;
 use goblin_pe::{FileImports, Layout, Part, Result, ResultOf};
 use goblin_pe_c_headers::batch::{PeBatch, goes_on};
 

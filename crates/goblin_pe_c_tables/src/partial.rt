@@ -17,8 +17,8 @@ ghost use Rattle.goblin_pe_c_tables.specs.PartialImages.{sections_of};
 ghost use Rattle.goblin_pe_c_tables.specs.PartialImages.{partial_image, stub_size, table_there};
 
 use crate::read::rich_record;
-use goblin_pe::header::{CoffHeader, DosHeader, DosStub, Header, RichHeader};
 use goblin_pe::added::{HeaderParts, unnamed_records};
+use goblin_pe::header::{CoffHeader, DosHeader, DosStub, Header, RichHeader};
 use goblin_pe::optional_header::{OptionalHeader, StandardFields, WindowsFields};
 use goblin_pe::options::ParseOptions;
 use goblin_pe::section_table::SectionRecords;

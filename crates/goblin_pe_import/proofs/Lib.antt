@@ -1,14 +1,7 @@
 mod AddressTables
 pub mod ImportBound
 pub mod ImportDirectoryRoundTrip
-pub mod ImportCursors
-mod ImportFaults
-mod ImportSteps
 pub mod Imports
-pub mod ImportsValue
-pub mod ImportsWalk
-pub mod LeftOutLibraries
-mod LibrariesWalk
 pub mod LibraryNames
 mod Listed
 pub mod ListedImports
@@ -17,6 +10,4 @@ pub mod LookupSlots
 pub mod LookupWalk
 pub mod Modes
 pub mod PermissiveReads
-pub mod PlainEntries
-mod SlotSums
-mod StepsAhead
+pub mod SlotSteps

@@ -13,9 +13,9 @@ use Rattle.goblin_pe_import.specs.ImportEntries.{EntryValue, LookupEntry, entry_
 use Rattle.goblin_pe_import.specs.declared.import.lookup_table.SyntheticImportLookupTableEntry.{SyntheticImportLookupTableEntry}
 use Rattle.goblin_pe_import.specs.declared.import.kept.KeptEntry.{KeptEntry}
 use Rattle.goblin_pe_import.specs.ImportLookup.{entry_view, kept_view}
-use Rattle.goblin_pe_import.specs.ImportWalks.{IsEntriesCause, KeptValue, entries_from, entry_items, kept_at}
-use Rattle.goblin_pe_import.specs.ImportWalks.{kept_value, place_after}
-use Rattle.goblin_pe_import.specs.StepsAhead.{AreCounted, GivesWithin, IsOut, UnlessErr}
+use Rattle.goblin_pe_import.specs.KeptEntries.{IsEntriesCause, KeptValue, entries_from, entry_items, kept_at}
+use Rattle.goblin_pe_import.specs.KeptEntries.{kept_value, place_after}
+use Rattle.goblin_pe_import.specs.Steps.{AreCounted, GivesWithin, IsOut, UnlessErr}
 use Rattle.readings.specs.Walks.{GivesNext, IsWalkOf, from_slot, end_items, items_at, items_of, table_walk}
 use Rattle.readings.specs.Walks.{until_refused}
 use Rattle.readings.proofs.Walked.{AtWalk, walk-all, walk-fault, walk-more, walk-start}

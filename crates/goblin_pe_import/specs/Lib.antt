@@ -1,12 +1,11 @@
 pub mod ImportBound
-pub mod ImportCursors
 pub mod ImportEntries
 pub mod ImportLookup
 pub mod ImportReadings
 pub mod ImportRecords
-pub mod ImportWalks
 pub mod Imports
-pub mod LeftOut
-pub mod Libraries
 pub mod LookupReadings
-pub mod StepsAhead
+pub mod added
+pub mod TableSums
+pub mod KeptEntries
+pub mod Steps

@@ -25,29 +25,23 @@ use goblin_pe_sect::section_table::SectionTable;
 use std::alloc::Global;
 use std::marker::Model;
 
-mod address_table;
-mod bitfield;
-mod directory_entry;
-mod imports;
-mod kept;
-mod left_out;
-mod library;
-mod library_walk;
+pub(crate) mod address_table;
+pub(crate) mod bitfield;
+pub(crate) mod directory_entry;
+pub(crate) mod kept;
+pub(crate) mod library;
 mod listed;
-mod lookup_table;
-mod slots;
-mod steps;
+pub(crate) mod lookup_table;
+pub(crate) mod slots;
+pub(crate) mod steps;
 
 pub use address_table::ImportAddressTable;
 pub use bitfield::{
     Bitfield, IMPORT_BY_ORDINAL_32, IMPORT_BY_ORDINAL_64, IMPORT_RVA_MASK_32, IMPORT_RVA_MASK_64,
 };
 pub use directory_entry::{ImportDirectoryEntry, SIZEOF_IMPORT_DIRECTORY_ENTRY};
-pub use imports::{ImportCursor, Imports, PlainImports, WalkedImport};
-pub use left_out::LeftOut;
 pub use library::SyntheticImportDirectoryEntry;
 pub(crate) use library::{address_table_rva, first_record_offset, lookup_offset};
-pub use library_walk::{Libraries, WalkedLibrary};
 pub use listed::Import;
 pub use lookup_table::{HintNameTableEntry, ImportLookupTable, SyntheticImportLookupTableEntry};
 use slots::may_end;

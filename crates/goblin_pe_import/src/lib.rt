@@ -2,5 +2,6 @@
 //! `goblin_pe_export`. `goblin_pe` re-exports `import`.
 #![tactic(auto)]
 
+pub mod added;
 pub mod import;
 pub mod laws;

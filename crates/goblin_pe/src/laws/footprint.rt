@@ -10,8 +10,8 @@ ghost use Rattle.goblin_pe.specs.Whole.{whole_after, whole_file, whole_in};
 use crate::whole::Layout;
 use goblin_base::footprint::Marks;
 use goblin_base::{ResultOf, error_for, is_passed_over};
-use goblin_pe_head::header::Header;
 use goblin_pe_head::added::{add_header, add_sections};
+use goblin_pe_head::header::Header;
 use goblin_pe_sect::{ParseOptions, View};
 use std::alloc::Global;
 

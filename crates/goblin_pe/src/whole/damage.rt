@@ -6,7 +6,7 @@ ghost use Rattle.goblin_pe_sect.specs.Options.{is_strict};
 ghost use Rattle.goblin_pe_head.specs.HeaderReadings.{pe_header};
 ghost use Rattle.goblin_pe_head.specs.PeHeader.{header_value};
 ghost use Rattle.goblin_pe_sect.specs.declared.options.View.TheVariants.{Sections};
-ghost use Rattle.goblin_pe_import.specs.ImportWalks.{IsImportsCause, imports_left};
+ghost use Rattle.goblin_pe_import.specs.added.ImportWalks.{IsImportsCause, imports_left};
 ghost use Rattle.goblin_pe.specs.Callers.{layout_table};
 ghost use Rattle.goblin_pe.specs.Damages.{AreDamaged, IsDamage, IsDamageOf, IsReadByBoth, IsSound};
 ghost use Rattle.goblin_pe.specs.Damages.{TellsDamage};
@@ -15,7 +15,8 @@ ghost use Rattle.goblin_pe.specs.Layouts.{layout_bytes, layout_places};
 ghost use Rattle.goblin_pe.specs.TakenMemory.{TakesIndex};
 ghost use Rattle.goblin_pe.specs.Whole.{import_list, sections_after, whole_in};
 
-use crate::import::{Bitfield, Imports, LeftOut};
+use crate::added::{Imports, LeftOut};
+use crate::import::Bitfield;
 use crate::whole::layout::section_records_of;
 use crate::whole::{FileImports, Layout, Part, Whole};
 use goblin_base::{Error, ErrorOf, Result};

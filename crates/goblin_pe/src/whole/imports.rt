@@ -7,7 +7,7 @@ ghost use Rattle.std.specs.Iterator.SizeHint.{IsWithinCount};
 ghost use Rattle.goblin_base.specs.Answers.{Answers, all_of};
 ghost use Rattle.readings.specs.Tests.{IsTest};
 ghost use Rattle.readings.specs.added.Questions.{counted, has_any};
-ghost use Rattle.goblin_pe_import.specs.ImportWalks.{walked_value};
+ghost use Rattle.goblin_pe_import.specs.added.ImportWalks.{walked_value};
 ghost use Rattle.goblin_pe_import.specs.Imports.{NumberedImport};
 ghost use Rattle.goblin_pe_sect.specs.Addresses.{MapOfAddresses, map_of};
 ghost use Rattle.goblin_pe.specs.LayoutCursors.{GivesFileImport, GivesFileWithin, IsImportWalk};
@@ -15,7 +15,7 @@ ghost use Rattle.goblin_pe.specs.LayoutCursors.{file_cursor, file_cursor_left, f
 ghost use Rattle.goblin_pe.specs.Layouts.{IsFileImportsCause, file_imports_bound};
 ghost use Rattle.goblin_pe.specs.Layouts.{file_imports_left};
 
-use crate::import::{ImportCursor, Imports, WalkedImport};
+use crate::added::{ImportCursor, Imports, WalkedImport};
 use goblin_base::ResultOf;
 use goblin_pe_sect::address_map::Finder;
 use std::iter::FusedIterator;
@@ -49,7 +49,7 @@ impl<'a, 'm, 'e> FileImports<'a, 'm, 'e> {
     }
 
     /// The next import within a budget of steps, as
-    /// [`Imports::next_within`](crate::import::Imports::next_within) returns it. Each step looks at
+    /// [`Imports::next_within`](crate::added::Imports::next_within) returns it. Each step looks at
     /// one slot of a table or one import descriptor of the directory.
     ///
     /// `None` means one of two things. If the [`cursor`](FileImports::cursor) is at the end, so is

@@ -17,7 +17,7 @@ ghost use Rattle.goblin_pe_sect.specs.Options.{is_strict, rule_by_alignment};
 ghost use Rattle.goblin_pe_sect.specs.SectionTable.{mapped_of, recorded_sections, unnamed};
 ghost use Rattle.goblin_pe_head.specs.CoffHeader.{IsTooManySections};
 ghost use Rattle.goblin_pe_head.specs.PeHeader.{header_value};
-ghost use Rattle.goblin_pe_import.specs.ImportCursors.{first_import};
+ghost use Rattle.goblin_pe_import.specs.added.ImportCursors.{first_import};
 ghost use Rattle.goblin_pe_import.specs.ImportReadings.{numbered_data};
 ghost use Rattle.goblin_pe_import.specs.Imports.{numbered_imports};
 ghost use Rattle.goblin_pe.specs.Callers.{layout_table};
@@ -36,8 +36,8 @@ ghost use Rattle.goblin_pe.specs.Whole.{import_list};
 ghost use Rattle.goblin_pe.specs.Whole.{part_map, relocation_part, section_table_offset};
 ghost use Rattle.goblin_pe.specs.Whole.{places_in, sections_after, table_places};
 
+use crate::added::{ImportCursor, Imports, LeftOut};
 use crate::export::Exports;
-use crate::import::{ImportCursor, Imports, LeftOut};
 use crate::whole::places::{
     EXPORT_TABLE, IMPORT_TABLE, Places, file_alignment, part_of, size_of_headers,
 };
@@ -335,7 +335,7 @@ impl<'a> Layout<'a> {
     /// `unmapped_entries` give none in either mode.
     ///
     /// # Errors
-    /// In strict mode as [`Imports::of`](crate::import::Imports::of).
+    /// In strict mode as [`Imports::of`](crate::added::Imports::of).
     #[inline(always)]
     #[tactic(auto, unfolding(crate::specs::LayoutCursors::import_begin))]
     pub fn imports<'m, 'e>(&'m self) -> ResultOf<'e, Part<FileImports<'a, 'm, 'e>>>

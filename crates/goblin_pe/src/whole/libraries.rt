@@ -2,12 +2,12 @@
 
 ghost use Rattle.std.specs.Prelude.{IfOk};
 ghost use Rattle.goblin_base.specs.Reading.{Reads};
-ghost use Rattle.goblin_pe_import.specs.Libraries.{AreLibrariesAt, libraries_cursor};
+ghost use Rattle.goblin_pe_import.specs.added.Libraries.{AreLibrariesAt, libraries_cursor};
 ghost use Rattle.goblin_pe.specs.LayoutCursors.{import_begin};
 ghost use Rattle.goblin_pe.specs.Layouts.{layout_bytes, layout_map, layout_places};
 ghost use Rattle.goblin_pe.specs.Whole.{entry_format};
 
-use crate::import::{ImportCursor, Libraries};
+use crate::added::{ImportCursor, Libraries};
 use crate::whole::Layout;
 use goblin_base::ResultOf;
 

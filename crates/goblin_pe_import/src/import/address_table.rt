@@ -1,21 +1,9 @@
 //! Import address tables. Their numbers are addresses once an image is bound.
-
-ghost use Rattle.std.specs.Prelude.{◌≡◌};
-ghost use Rattle.goblin_base.specs.Reading.{Reads, ReadsOrMemory};
-ghost use Rattle.goblin_base.specs.Tables.{stop};
-ghost use Rattle.readings.specs.Reads.{mapped};
-ghost use Rattle.goblin_pe_sect.specs.AddressReadings.{at_address};
-ghost use Rattle.goblin_pe_sect.specs.Addresses.{map_of, offset_of};
-ghost use Rattle.goblin_pe_import.specs.ImportRecords.{address_table_rva};
-ghost use Rattle.goblin_pe_import.specs.ImportEntries.{entry_slots};
+ghost use Rattle.goblin_base.specs.Reading.{ReadsOrMemory};
 ghost use Rattle.goblin_pe_import.specs.LookupReadings.{address_table};
-ghost use Rattle.goblin_pe_import.specs.StepsAhead.{slots_at_address};
 
 use crate::import::bitfield::{Bitfield, read_entry};
-use crate::import::directory_entry::ImportDirectoryEntry;
-use crate::import::library::address_table_rva;
-use goblin_base::{Cause, Error, ReadFault, ResultOf};
-use goblin_pe_sect::address_map::AddressMap;
+use goblin_base::ResultOf;
 use goblin_pe_sect::table::Table;
 use std::alloc::Global;
 
@@ -27,7 +15,7 @@ use std::alloc::Global;
 pub type ImportAddressTable = Table<u64>;
 
 // The numbers of the address table at an offset, up to its zero.
-pub(super) fn address_table<'a, 'e, T: Bitfield<'a>>(
+pub(crate) fn address_table<'a, 'e, T: Bitfield<'a>>(
     alloc: Global,
     bytes: &'a [u8],
     offset: usize,
@@ -45,55 +33,4 @@ pub(super) fn address_table<'a, 'e, T: Bitfield<'a>>(
         addresses.push(entry.number())?;
         place += size;
     }
-}
-
-// Tests whether there is an address table at an offset, as `address_table` reads it. Also returns
-// how many numbers it looks at: those before the 0, or before the end of the file. They are not
-// kept.
-pub(super) fn test_numbers<'a, 'e, T: Bitfield<'a>>(
-    bytes: &'a [u8],
-    offset: usize,
-) -> (ResultOf<'e, ()>, usize)
-    ensures tested { Reads (λ _. tt {0}) result.0
-        (mapped (λ _. tt {0}) (address_table T.format offset)) bytes.now }
-    ensures counted { result.1 ≡ stop (entry_slots T.format) bytes.now offset }
-{
-    let size = T::size_of();
-    if bytes.len() < offset {
-        return (Err(Error::Read(ReadFault::BadOffset)), 0);
-    }
-    let mut place = offset;
-    'slots: while size <= bytes.len() - place {
-        if T::read(&bytes[place..place + size]).is_zero() {
-            return (Ok(()), (place - offset) / size);
-        }
-        place += size;
-    }
-    // (The slot at `place` is not all in the file, so this is refused.)
-    let count = (place - offset) / size;
-    if let Err(error) = read_entry::<T>(bytes, place) {
-        return (Err(error), count);
-    }
-    (Ok(()), count)
-}
-
-// Tests whether the library of an import descriptor has an address table, and returns how many
-// numbers it looks at. They are not kept.
-pub(super) fn test_address_table<'a, 'e, T: Bitfield<'a>>(
-    bytes: &'a [u8],
-    entry: &ImportDirectoryEntry,
-    address_map: &AddressMap,
-) -> (ResultOf<'e, ()>, usize)
-    ensures tested { let rva = address_table_rva entry.now in
-        Reads (λ _. tt {0}) result.0
-        (mapped (λ _. tt {0}) (at_address (offset_of (map_of address_map.now)) rva (address_table T.format)))
-        bytes.now }
-    ensures counted { result.1 ≡ slots_at_address T.format (map_of address_map.now).addressing bytes.now
-        (address_table_rva entry.now) }
-{
-    let rva = address_table_rva(entry);
-    let Some(offset) = address_map.offset_of(rva) else {
-        return (Err(Error::Malformed(Cause::Unmapped(rva as usize))), 0);
-    };
-    test_numbers::<T>(bytes, offset)
 }

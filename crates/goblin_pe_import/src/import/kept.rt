@@ -1,12 +1,12 @@
 //! A walk over the entries that a lookup table keeps.
 
 ghost use Rattle.std.specs.Prelude.{◌≡◌, ◌⊎◌, ◌+◌, ◌<◌, ◌≤◌, ◌^◌, IfErr, IfOk, IfSome, IsSome, None};
-ghost use Rattle.std.specs.Prelude.{Ok, Some, length, suc, true};
+ghost use Rattle.std.specs.Prelude.{Ok, Some, length, true};
 ghost use Rattle.goblin_pe_sect.specs.Addresses.{map_of, reads_strictly};
-ghost use Rattle.goblin_pe_import.specs.ImportWalks.{IsEntriesCause, entries_from, kept_value};
-ghost use Rattle.goblin_pe_import.specs.ImportWalks.{place_after, slots_bound};
-ghost use Rattle.goblin_pe_import.specs.StepsAhead.{AreCounted, GivesWithin, HasNotGrown};
-ghost use Rattle.goblin_pe_import.specs.StepsAhead.{HasSteps, IsOut, UnlessErr, slots_ahead};
+ghost use Rattle.goblin_pe_import.specs.KeptEntries.{IsEntriesCause, entries_from, kept_value};
+ghost use Rattle.goblin_pe_import.specs.KeptEntries.{place_after, slots_bound};
+ghost use Rattle.goblin_pe_import.specs.Steps.{AreCounted, GivesWithin, HasNotGrown};
+ghost use Rattle.goblin_pe_import.specs.Steps.{HasSteps, IsOut, UnlessErr, slots_ahead};
 ghost use Rattle.readings.specs.Walks.{GivesNext};
 
 use crate::import::bitfield::Bitfield;
@@ -18,20 +18,20 @@ use goblin_pe_sect::address_map::Finder;
 
 // An entry that a lookup table keeps, and where it lies.
 #[derive(Drop)]
-pub(super) struct KeptEntry<'a> {
+pub(crate) struct KeptEntry<'a> {
     // The index of its slot in the lookup table of the file, where entries that are left out are
     // counted. The import's entry in the address table has the same index.
-    pub(super) slot: usize,
+    pub(crate) slot: usize,
     // The file offset of its slot.
-    pub(super) place: usize,
+    pub(crate) place: usize,
     // What is kept.
-    pub(super) entry: SyntheticImportLookupTableEntry<'a>,
+    pub(crate) entry: SyntheticImportLookupTableEntry<'a>,
 }
 
 // The next entry that the lookup table at `offset` keeps, from the slot at `place` on. It is an
 // error if an entry before that is refused, and `None` at the end or without a place.
 #[inline(always)]
-pub(super) fn next_kept<'a, 'e, T: Bitfield<'a>>(
+pub(crate) fn next_kept<'a, 'e, T: Bitfield<'a>>(
     bytes: &'a [u8],
     offset: usize,
     place: Option<usize>,
@@ -56,8 +56,8 @@ pub(super) fn next_kept<'a, 'e, T: Bitfield<'a>>(
 // The same within a budget of steps: each step looks at one slot. `place` moves on. `None`
 // means the end if no place is left, or else that the budget has run out.
 #[inline(always)]
-#[tactic(auto, using(crate::proofs::StepsAhead::grown_none, crate::proofs::StepsAhead::grown_spent))]
-pub(super) fn next_kept_within<'a, 'e, T: Bitfield<'a>>(
+#[tactic(auto, using(crate::proofs::SlotSteps::grown_none, crate::proofs::SlotSteps::grown_spent))]
+pub(crate) fn next_kept_within<'a, 'e, T: Bitfield<'a>>(
     bytes: &'a [u8],
     offset: usize,
     place: &mut Option<usize>,
@@ -123,35 +123,4 @@ pub(super) fn next_kept_within<'a, 'e, T: Bitfield<'a>>(
             }
         }
     }
-}
-
-// The entry that the lookup table at `offset` keeps in the slot at `place`, if it is plain: by
-// ordinal, or by a name that is ASCII and lies near the last one. `None` says nothing about the
-// slot. Every call in here is inlined, so a loop over such slots keeps its values in registers.
-#[inline(always)]
-pub(super) fn plain_kept<'a, T: Bitfield<'a>>(
-    bytes: &'a [u8],
-    offset: usize,
-    place: usize,
-    finder: &Finder<'_>,
-) -> Option<KeptEntry<'a>>
-    ensures steps { let m = map_of finder.now in
-        IfSome result (λ kept. GivesNext kept_value
-        (entries_from (reads_strictly m) T.format m.addressing bytes.now offset)
-        (IsEntriesCause (reads_strictly m) T.format m.addressing bytes.now)
-        (Some place) (Some (Ok kept)) (Some (kept.place + T.format.width))) }
-    ensures here { IfSome result (λ kept. kept.place ≡ place) }
-    ensures inside { IfSome result (λ kept. place + T.format.width ≤ length bytes.now) }
-    ensures short { IfSome result (λ kept. kept.place + T.format.width < 2 ^ 63) }
-    ensures counted { IfSome result (λ kept. slots_ahead T.format bytes.now (Some place)
-        ≡ suc (slots_ahead T.format bytes.now (Some (place + T.format.width)))) }
-{
-    let Some(entry) = next_entry::<T>(bytes, place) else {
-        return None;
-    };
-    let Some(entry) = SyntheticImportLookupTableEntry::plain(&entry, bytes, finder) else {
-        return None;
-    };
-    let slot = place.saturating_sub(offset) / T::size_of();
-    Some(KeptEntry { slot, place, entry })
 }

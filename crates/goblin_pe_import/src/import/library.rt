@@ -88,7 +88,7 @@ fn lookup_table_if<'a, 'e, T: Bitfield<'a>>(
 // The name of a library. In permissive mode it is empty if none can be read.
 #[inline(always)]
 #[tactic(auto, using(crate::proofs::LibraryNames::taken, crate::proofs::LibraryNames::missing))]
-pub(super) fn library_name<'a, 'e>(
+pub(crate) fn library_name<'a, 'e>(
     bytes: &'a [u8],
     rva: u32,
     finder: &mut Finder<'_>,
@@ -105,7 +105,7 @@ pub(super) fn library_name<'a, 'e>(
 // The name at an address, or the empty one if none can be read.
 #[inline(always)]
 #[tactic(auto, using(crate::proofs::LibraryNames::said))]
-pub(super) fn said_name<'a>(bytes: &'a [u8], rva: u32, finder: &mut Finder<'_>) -> &'a str
+pub(crate) fn said_name<'a>(bytes: &'a [u8], rva: u32, finder: &mut Finder<'_>) -> &'a str
     ensures value { let name = name_at (map_of finder.old).addressing rva in
         result.now ≡ unwrap_or (name.value bytes.now) [] }
     ensures same { finder.new ≡ finder.old }
@@ -221,7 +221,7 @@ impl<'a> SyntheticImportDirectoryEntry<'a> {
 
     // Reads what an import descriptor leads to, with an address map that exists already.
     #[tactic(auto, unfolding(crate::specs::ImportReadings::library_of))]
-    pub(super) fn parse_by<'e, T: Bitfield<'a>>(
+    pub(crate) fn parse_by<'e, T: Bitfield<'a>>(
         alloc: Global,
         bytes: &'a [u8],
         import_directory_entry: ImportDirectoryEntry,

@@ -1,6 +1,6 @@
 //! Import lookup tables: what is imported from a library, by name or by ordinal.
 
-ghost use Rattle.std.specs.Prelude.{◌≡◌, ◌<◌, [], Bool, IfOk, IfSome, None, Some, length};
+ghost use Rattle.std.specs.Prelude.{◌≡◌, ◌<◌, IfOk, None, Some, length};
 ghost use Rattle.std.specs.Prelude.{map, true, All};
 ghost use Rattle.std.specs.List.Sorted.{IsStrictlyIncreasing};
 ghost use Rattle.goblin_base.specs.Reading.{Reads, ReadsOrMemory};
@@ -14,19 +14,12 @@ ghost use Rattle.goblin_pe_import.specs.LookupReadings as reading;
 
 use crate::import::bitfield::Bitfield;
 use crate::import::kept::next_kept;
-use goblin_base::{
-    Cause, Endian, Error, Result, ResultOf, field_u16, no_text, pread_plain_str, pread_str_within,
-    pread_u16,
-};
+use goblin_base::{Cause, Endian, Error, Result, ResultOf, no_text, pread_str_within, pread_u16};
 use goblin_pe_sect::address_map::{AddressMap, Finder};
 use goblin_pe_sect::options::ParseOptions;
 use goblin_pe_sect::section_table::SectionTable;
 use goblin_pe_sect::table::Table;
 use std::alloc::Global;
-
-// How many bytes the file must have from a plain entry on: those of the hint, and a lane of 16
-// bytes for the name.
-const PLAIN_ROOM: usize = 18;
 
 /// A hint, and after it the name under which a library exports what is imported.
 ///
@@ -92,24 +85,6 @@ impl<'a> HintNameTableEntry<'a> {
         };
         Ok(HintNameTableEntry { hint, name })
     }
-
-    // The hint and the name at an offset, if the name is ASCII and its NUL is not among the last
-    // bytes of the file. `None` says nothing about them. Both modes return the same.
-    #[inline(always)]
-    fn plain(bytes: &'a [u8], offset: usize) -> Option<HintNameTableEntry<'a>>
-        ensures { IfSome result (λ named. (strict : Bool)
-            → (reading.hint_name strict None offset).value bytes.now ≡ Some (hint_name_view named)) }
-    {
-        if bytes.len() < offset || bytes.len() - offset < PLAIN_ROOM {
-            return None;
-        }
-        let entry = &bytes[offset..];
-        let hint = field_u16(entry, 0, Endian::Little);
-        let Some(name) = pread_plain_str(entry, 2) else {
-            return None;
-        };
-        Some(HintNameTableEntry { hint, name })
-    }
 }
 
 /// An entry that a lookup table keeps.
@@ -128,7 +103,7 @@ impl<'a> SyntheticImportLookupTableEntry<'a> {
     // mode to no hint.
     #[inline(always)]
     #[tactic(auto, unfolding(crate::specs::LookupReadings::kept_entry))]
-    pub(super) fn kept<'e, T: Bitfield<'a>>(
+    pub(crate) fn kept<'e, T: Bitfield<'a>>(
         entry: &T,
         bytes: &'a [u8],
         finder: &mut Finder<'_>,
@@ -152,34 +127,6 @@ impl<'a> SyntheticImportLookupTableEntry<'a> {
             Err(error) if finder.reads_strictly() => Err(error),
             Err(_) => Ok(None),
         }
-    }
-
-    // What a table keeps of an entry that is plain: by ordinal, or by a name that is ASCII and
-    // whose address lies among those around the last name, as the finder keeps them. `None` says
-    // nothing about the entry.
-    #[inline(always)]
-    #[tactic(auto, unfolding(crate::specs::LookupReadings::kept_entry))]
-    pub(super) fn plain<T: Bitfield<'a>>(
-        entry: &T,
-        bytes: &'a [u8],
-        finder: &Finder<'_>,
-    ) -> Option<SyntheticImportLookupTableEntry<'a>>
-        ensures { let m = map_of finder.now in
-            let read = reading.kept_entry (reads_strictly m) m.addressing (T.value entry.now) in
-            IfSome result (λ kept. read.value bytes.now ≡ Some (kept_view (Some kept))) }
-    {
-        if entry.is_ordinal() {
-            let ordinal = entry.to_ordinal();
-            return Some(SyntheticImportLookupTableEntry::OrdinalNumber(ordinal));
-        }
-        let rva = entry.to_rva();
-        let Some(offset) = finder.near_name_offset(rva) else {
-            return None;
-        };
-        let Some(named) = HintNameTableEntry::plain(bytes, offset) else {
-            return None;
-        };
-        Some(SyntheticImportLookupTableEntry::HintNameTableRVA((rva, named)))
     }
 }
 
@@ -287,7 +234,7 @@ impl<'a> SyntheticImportLookupTableEntry<'a> {
     }
 
     // The lookup table at an offset, and the indexes of the slots whose entries it keeps.
-    pub(super) fn parse_by<'e, T: Bitfield<'a>>(
+    pub(crate) fn parse_by<'e, T: Bitfield<'a>>(
         alloc: Global,
         bytes: &'a [u8],
         offset: usize,

@@ -1,11 +1,11 @@
 //! A budget of steps: how many slots and import descriptors a call may look at.
 
 ghost use Rattle.std.specs.Prelude.{◌≡◌, false, true};
-ghost use Rattle.goblin_pe_import.specs.StepsAhead.{HasSteps, IsOut, spent};
+ghost use Rattle.goblin_pe_import.specs.Steps.{HasSteps, IsOut, spent};
 
 // Whether a budget has run out.
 #[inline(always)]
-pub(super) fn are_out(steps: &Option<usize>) -> bool
+pub(crate) fn are_out(steps: &Option<usize>) -> bool
     ensures yes { result ≡ true → IsOut steps.now }
     ensures no { result ≡ false → HasSteps steps.now }
 {
@@ -17,7 +17,7 @@ pub(super) fn are_out(steps: &Option<usize>) -> bool
 
 // Takes that many steps off a budget, or all that are left.
 #[inline(always)]
-pub(super) fn spend(steps: &mut Option<usize>, count: usize)
+pub(crate) fn spend(steps: &mut Option<usize>, count: usize)
     ensures { steps.new ≡ spent steps.old count }
 {
     if let Some(left) = *steps {

@@ -1,9 +1,10 @@
 //! The plain steps of walks give what is plain, which their contracts leave open.
 
 use fixture::sample::{put, sample};
+use goblin_pe::added::{Imports, WalkedImport};
 use goblin_pe::export::Exports;
 use goblin_pe::header::Header;
-use goblin_pe::import::{Imports, SyntheticImportLookupTableEntry, WalkedImport};
+use goblin_pe::import::SyntheticImportLookupTableEntry;
 use goblin_pe::options::ParseOptions;
 use goblin_pe::{FileImports, Layout, Part};
 use std::alloc::Global;

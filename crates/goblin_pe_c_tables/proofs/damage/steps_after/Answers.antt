@@ -1,12 +1,12 @@
 use Rattle.std.proofs.Common.{◌∙◌, ℕ, List, Result, Some, ap, inl, length, refl, subst, sym, arith}
 use Rattle.goblin_base.specs.declared.error.ErrorOf.{ErrorOf}
-use Rattle.goblin_pe_import.specs.declared.import.imports.ImportCursor.{ImportCursor}
-use Rattle.goblin_pe_import.specs.declared.import.imports.WalkedImport.{WalkedImport}
-use Rattle.goblin_pe_import.specs.ImportCursors.{before_record}
-use Rattle.goblin_pe_import.specs.LeftOut.{amount_of}
+use Rattle.goblin_pe_import.specs.declared.added.imports.ImportCursor.{ImportCursor}
+use Rattle.goblin_pe_import.specs.declared.added.imports.WalkedImport.{WalkedImport}
+use Rattle.goblin_pe_import.specs.added.ImportCursors.{before_record}
+use Rattle.goblin_pe_import.specs.TableSums.{amount_of}
 use Rattle.goblin_pe.specs.LayoutCursors.{GivesFileWithin, file_ahead, file_cursor, file_cursor_ahead}
 use Rattle.goblin_pe.specs.Layouts.{layout_map, layout_places}
-use Rattle.goblin_pe.specs.StepsAhead.{AtSteps}
+use Rattle.goblin_pe.specs.added.StepsAhead.{AtSteps}
 use Rattle.goblin_pe.proofs.ImportStarts.{walk-ahead}
 use Rattle.goblin_pe_sect.specs.Addresses.{reads_strictly}
 use Rattle.goblin_pe_c_tables.specs.Batches.{is_over}

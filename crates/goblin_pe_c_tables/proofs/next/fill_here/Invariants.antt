@@ -1,6 +1,6 @@
 -- The records hold the plain imports that have come so far.
 use Rattle.std.proofs.Common.{◌≡◌, ◌-◌, ◌≤◌, length}
-use Rattle.goblin_pe_import.specs.ImportWalks.{plain_at}
+use Rattle.goblin_pe_import.specs.added.ImportWalks.{plain_at}
 use Rattle.goblin_pe_c_tables.specs.Batches.{Fills}
 use Rattle.goblin_pe_c_tables.specs.Imports.{GivesHere}
 use Rattle.goblin_pe_c_tables.proofs.next.fill_here.Given as goal

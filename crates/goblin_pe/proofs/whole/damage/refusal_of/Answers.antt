@@ -1,4 +1,4 @@
-use Rattle.goblin_pe_import.specs.ImportWalks.{IsImportsCause, imports_left, walked_value}
+use Rattle.goblin_pe_import.specs.added.ImportWalks.{IsImportsCause, imports_left, walked_value}
 use Rattle.goblin_pe.proofs.Walked.{walked-all, walked-fault, walked-more, walked-start}
 use Rattle.goblin_pe.proofs.whole.damage.refusal_of.Goals as goal
 

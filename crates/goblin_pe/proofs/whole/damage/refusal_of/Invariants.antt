@@ -1,4 +1,4 @@
-use Rattle.goblin_pe_import.specs.ImportWalks.{IsImportsCause, imports_left}
+use Rattle.goblin_pe_import.specs.added.ImportWalks.{IsImportsCause, imports_left}
 use Rattle.goblin_pe.proofs.Walked.{IsWalked}
 use Rattle.goblin_pe.proofs.whole.damage.refusal_of.Given as goal
 

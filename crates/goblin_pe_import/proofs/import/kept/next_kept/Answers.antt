@@ -1,5 +1,5 @@
 use Rattle.goblin_pe_sect.specs.Addresses.{map_of, reads_strictly}
-use Rattle.goblin_pe_import.specs.StepsAhead.{slots_ahead}
+use Rattle.goblin_pe_import.specs.Steps.{slots_ahead}
 use Rattle.goblin_pe_import.proofs.LookupWalk.{kept-unlimited}
 use Rattle.goblin_pe_import.proofs.import.kept.next_kept.Goals as goal
 

@@ -2,12 +2,12 @@ use Rattle.std.proofs.Common.{◌≤◌, ◌∙◌, ℕ, arith, refl, subst, sym
 use Rattle.goblin_base.specs.declared.error.ErrorOf.TheVariants.{Malformed}
 use Rattle.goblin_base.specs.declared.error.CauseOf.TheVariants.{LookupEnd}
 use Rattle.goblin_pe_import.specs.ImportEntries.{entry_slots}
-use Rattle.goblin_pe_import.specs.StepsAhead.{AreCounted, slots_ahead}
+use Rattle.goblin_pe_import.specs.Steps.{AreCounted, slots_ahead}
 use Rattle.goblin_pe_import.proofs.LookupWalk.{refused-strictly, rest-end, rest-kept}
 use Rattle.goblin_pe_import.proofs.LookupWalk.{rest-missing, rest-refused, rest-skip, rest-start}
 use Rattle.goblin_pe_import.proofs.Modes.{ends, lacks_end}
-use Rattle.goblin_pe_import.proofs.StepsAhead.{counted-given, counted-one, counted-start, grown_none}
-use Rattle.goblin_pe_import.proofs.StepsAhead.{grown_spent, stop-here, stop-next}
+use Rattle.goblin_pe_import.proofs.SlotSteps.{counted-given, counted-one, counted-start, grown_none}
+use Rattle.goblin_pe_import.proofs.SlotSteps.{grown_spent, stop-here, stop-next}
 use Rattle.goblin_pe_import.proofs.import.kept.next_kept_within.Goals as goal
 
 pub slots-init : goal.slots-init

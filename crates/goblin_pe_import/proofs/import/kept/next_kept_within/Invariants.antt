@@ -1,6 +1,6 @@
 use Rattle.std.proofs.Common.{◌≡◌, ◌≤◌, length, ◌-◌, Some}
 use Rattle.goblin_pe_sect.specs.Addresses.{map_of, reads_strictly}
-use Rattle.goblin_pe_import.specs.StepsAhead.{AreCounted, HasNotGrown, slots_ahead}
+use Rattle.goblin_pe_import.specs.Steps.{AreCounted, HasNotGrown, slots_ahead}
 use Rattle.goblin_pe_import.proofs.LookupWalk.{AtRest}
 use Rattle.goblin_pe_import.proofs.import.kept.next_kept_within.Given as goal
 

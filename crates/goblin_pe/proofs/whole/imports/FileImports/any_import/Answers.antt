@@ -1,6 +1,6 @@
 use Rattle.std.proofs.lemmas.Result.{err_from_is_err_and}
 use Rattle.readings.proofs.added.Questions.{found_any_of, refused_any}
-use Rattle.goblin_pe_import.specs.ImportWalks.{walked_value}
+use Rattle.goblin_pe_import.specs.added.ImportWalks.{walked_value}
 use Rattle.goblin_pe.proofs.whole.imports.FileImports.any_import.Goals as goal
 
 pub returns-in_err-found : goal.returns-in_err-found

@@ -1,7 +1,7 @@
 use Rattle.std.proofs.Common.{Bool}
 use Rattle.std.specs.Fn.{FnReturnsAt}
 use Rattle.goblin_pe_import.specs.Imports.{NumberedImport}
-use Rattle.goblin_pe_import.specs.ImportWalks.{walked_value}
+use Rattle.goblin_pe_import.specs.added.ImportWalks.{walked_value}
 use Rattle.readings.specs.Tests.{IsTest}
 use Rattle.readings.specs.added.Questions.{counted}
 use Rattle.goblin_pe.proofs.Folds.{Gathers}

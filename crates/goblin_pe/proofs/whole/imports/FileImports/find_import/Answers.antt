@@ -2,8 +2,8 @@ use Rattle.std.proofs.Common.{◌≡◌, Bool, true, false, cond, not, Option, S
 use Rattle.std.specs.Option.{is_some, option_or}
 use Rattle.std.proofs.lemmas.Result.{err_from_is_err_and}
 use Rattle.std.proofs.lemmas.Fn.{says_at}
-use Rattle.goblin_pe_import.specs.declared.import.imports.WalkedImport.{WalkedImport}
-use Rattle.goblin_pe_import.specs.ImportWalks.{walked_value}
+use Rattle.goblin_pe_import.specs.declared.added.imports.WalkedImport.{WalkedImport}
+use Rattle.goblin_pe_import.specs.added.ImportWalks.{walked_value}
 use Rattle.goblin_pe.proofs.Folds.{find_more, gathers_all, gathers_fault, gathers_start}
 use Rattle.goblin_pe.proofs.whole.imports.FileImports.find_import.Goals as goal
 use Rattle.goblin_pe.proofs.whole.imports.FileImports.find_import.Goals.{else-is_none-via-then-is_none+else-test, else-is_none-via-else-is_none}

@@ -1,7 +1,7 @@
 use Rattle.std.proofs.Common.{Bool, find, option_map}
 use Rattle.std.specs.Fn.{FnReturnsAt}
 use Rattle.goblin_pe_import.specs.Imports.{NumberedImport}
-use Rattle.goblin_pe_import.specs.ImportWalks.{walked_value}
+use Rattle.goblin_pe_import.specs.added.ImportWalks.{walked_value}
 use Rattle.readings.specs.Tests.{IsTest}
 use Rattle.goblin_pe.proofs.Folds.{Gathers}
 use Rattle.goblin_pe.proofs.whole.imports.FileImports.find_import.Given as goal

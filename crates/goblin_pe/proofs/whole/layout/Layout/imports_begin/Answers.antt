@@ -2,7 +2,7 @@ use Rattle.std.proofs.Common.{◌≡◌, ◌∙◌, ap, subst, sym, true}
 use Rattle.goblin_base.specs.Reading.{Reads}
 use Rattle.goblin_pe_sect.specs.declared.options.ParseOptions.{ParseOptions}
 use Rattle.goblin_pe_sect.specs.Addresses.{MapOfAddresses, reads_strictly}
-use Rattle.goblin_pe_import.specs.ImportCursors.{first_import}
+use Rattle.goblin_pe_import.specs.added.ImportCursors.{first_import}
 use Rattle.goblin_pe.specs.Layouts.{layout_bytes, layout_map, layout_places}
 use Rattle.goblin_pe.proofs.ImportStarts.{begin-reads}
 use Rattle.goblin_pe.proofs.whole.layout.Layout.imports_begin.Goals as goal

@@ -1,0 +1,10 @@
+pub mod StepsAhead
+pub mod LeftOutLibraries
+pub mod PlainEntries
+pub mod ImportFaults
+pub mod ImportSteps
+pub mod ImportCursors
+pub mod ImportsWalk
+pub mod ImportsValue
+pub mod LibrariesWalk
+pub mod SlotSums

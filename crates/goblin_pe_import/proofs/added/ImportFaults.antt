@@ -1,0 +1,91 @@
+-- The error that ends a walk over imports.
+use Rattle.std.proofs.Common.{ℕ, Bool, List, Option, Some, None, Err, Ok, Result, ◌∙◌, inl, inr}
+use Rattle.std.proofs.Common.{IfErr, IfSome}
+use Rattle.goblin_base.specs.declared.error.ErrorOf.{ErrorOf}
+use Rattle.goblin_base.specs.Answers.{IsMemory, all_of}
+use Rattle.goblin_base.specs.Tables.{Format}
+use Rattle.goblin_base.proofs.Readings.{first_no_memory}
+use Rattle.goblin_pe_import.specs.declared.added.imports.Imports.{Imports}
+use Rattle.goblin_pe_import.specs.declared.added.imports.Walk.{Walk}
+use Rattle.goblin_pe_import.specs.declared.added.imports.WalkedImport.{WalkedImport}
+use Rattle.goblin_pe_sect.specs.Addresses.{map_of, reads_strictly}
+use Rattle.goblin_pe_sect.specs.Addresses.{Addressing}
+use Rattle.goblin_pe_import.specs.ImportEntries.{EntryValue}
+use Rattle.goblin_pe_import.specs.ImportReadings.{libraries_at}
+use Rattle.goblin_pe_import.specs.LookupReadings.{lookup_table}
+use Rattle.goblin_pe_import.specs.added.ImportWalks.{AreImportsOver, GivesImport, HasName, IsImportsCause, imports_left}
+use Rattle.goblin_pe_import.specs.KeptEntries.{IsEntriesCause}
+use Rattle.goblin_pe_import.specs.added.ImportWalks.{IsLaterCause, IsNextCause, IsWalkCause}
+use Rattle.goblin_pe_import.specs.added.ImportWalks.{IsWalkFault}
+use Rattle.goblin_pe_import.specs.KeptEntries.{entries_from}
+use Rattle.goblin_pe_import.specs.added.ImportWalks.{untested_table, walk_left, walked_value}
+use Rattle.goblin_pe_import.specs.added.StepsAhead.{EndsWithin}
+use Rattle.goblin_pe_import.specs.Steps.{GivesWithin}
+use Rattle.goblin_pe_import.proofs.added.ImportSteps.{ended-left}
+
+module _ (strict : Bool) (format : Format EntryValue) (addressing : Addressing)
+    (bytes : List ℕ) (e : ErrorOf) where
+  entries-not_memory : (place : Option ℕ) → IsEntriesCause strict format addressing bytes place e
+      → ¬ IsMemory e
+  entries-not_memory None fault = absurd fault
+  entries-not_memory (Some place) fault =
+      (lookup_table strict format addressing place).not_memory bytes e fault
+
+  next-not_memory : (next : Option ℕ) → IsNextCause strict format addressing bytes next e → ¬ IsMemory e
+  next-not_memory None fault = absurd fault
+  next-not_memory (Some p) fault = (libraries_at strict format addressing p).not_memory bytes e fault
+
+walk-not_memory : (format : Format EntryValue) (w : Walk) (e : ErrorOf) → IsWalkCause format w e
+    → ¬ IsMemory e
+walk-not_memory format w e fault =
+    let m = map_of w.finder in
+    let strict = reads_strictly m in
+    let bytes = w.bytes.now in
+    let table = untested_table strict format m.addressing w.at.untested in
+    first_no_memory
+    (all_of (entries_from strict format m.addressing bytes w.at.table_offset w.at.place))
+    (IsEntriesCause strict format m.addressing bytes w.at.place)
+    (λ _. IsLaterCause strict format m.addressing bytes w.at.untested w.at.next_record) e
+    (entries-not_memory strict format m.addressing bytes e w.at.place)
+    (λ _. first_no_memory (table.value bytes) (table.IsCause bytes)
+    (λ _. IsNextCause strict format m.addressing bytes w.at.next_record) e
+    (table.not_memory bytes e)
+    (λ _. next-not_memory strict format m.addressing bytes e w.at.next_record))
+    fault.1
+
+walk-fault : (format : Format EntryValue) (s : Walk) (e : ErrorOf) → IsWalkCause format s e
+    → IsWalkFault s e
+walk-fault format s e fault = (fault.0, walk-not_memory format s e fault)
+
+-- an error that a call gives is such a one
+pub given-fault : (format : Format EntryValue) (s t : Walk) (result : Option (Result WalkedImport ErrorOf))
+    → GivesWithin walked_value (walk_left format) (IsWalkCause format) s result t
+    → IfSome result (λ r. IfErr r (IsWalkFault s))
+given-fault format s t None given = tt
+given-fault format s t (Some (Ok import)) given = tt
+given-fault format s t (Some (Err e)) given = walk-fault format s e given.2
+
+-- what a call gives of a walk, it gives of the iterator
+pub within-given : {T : Type 0} (format : Format EntryValue) (s t : Imports T)
+    (result : Option (Result WalkedImport ErrorOf))
+    → GivesWithin walked_value (walk_left format) (IsWalkCause format) s.walk result t.walk
+    → GivesWithin walked_value (imports_left format) (IsImportsCause format) s result t
+within-given format s t None given = given
+within-given format s t (Some (Ok import)) given = given
+within-given format s t (Some (Err e)) given = given
+
+-- so does one that gives the next import without a limit
+pub import-given : {T : Type 0} (format : Format EntryValue) (s t : Imports T)
+    (result : Option (Result WalkedImport ErrorOf))
+    → GivesWithin walked_value (walk_left format) (IsWalkCause format) s.walk result t.walk
+    → (HasName s → HasName t)
+    → AreImportsOver s.walk.bytes.now (map_of s.walk.finder) t → EndsWithin result t.walk.at ⊥
+    → GivesImport format s result t
+import-given format s t None given named over (inl ended) =
+    let none = ended-left format t.walk ended in
+    ((given.0 ∙ none, none), named, tt, over, ended)
+import-given format s t None given named over (inr out) = absurd out
+import-given format s t (Some (Ok import)) given named over ended =
+    (given, named, tt, over, tt)
+import-given format s t (Some (Err e)) given named over ended =
+    (given, named, walk-fault format s.walk e given.2, over, ended)

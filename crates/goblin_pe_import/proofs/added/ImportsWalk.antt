@@ -1,0 +1,419 @@
+-- The walk over all imports: from one library to the next.
+use Rattle.std.proofs.Common.{◌≡◌, ◌≤◌, ◌+◌, ◌-◌, ◌*◌, ℕ, Bool, true, false, not, ◌&&◌, List, []}
+use Rattle.std.proofs.Common.{◌∷◌, ◌++◌, length, Option, Some, None, refl, sym, ap, subst, ◌∙◌}
+use Rattle.std.proofs.Common.{append_assoc, lit≤, arith, Err, IfOk, MatchResult, Ok}
+use Rattle.std.proofs.Common.{Result, option_map, unwrap_or, mul-le-mul_left, is_some}
+use Rattle.goblin_base.specs.declared.error.ErrorOf.{ErrorOf}
+use Rattle.goblin_base.specs.Answers.{FirstFault, all_of}
+use Rattle.goblin_base.specs.Reading.{IsRefused, Reading}
+use Rattle.goblin_base.specs.Tables.{Format, ends_table, or_left_out}
+use Rattle.goblin_base.proofs.SlotTables.{reads}
+use Rattle.goblin_base.proofs.Steps.{unmapped}
+use Rattle.readings.specs.Reads.{given, pair_of, pick}
+use Rattle.readings.specs.Walks.{from_slot, refusal_of, until_refused}
+use Rattle.readings.proofs.Walks.{IsSlotCause, cause-slot, slot-end, slot-going, slot-missing, slot-once}
+use Rattle.readings.proofs.Walks.{walk-slot}
+use Rattle.goblin_pe_import.specs.declared.import.directory_entry.ImportDirectoryEntry.{ImportDirectoryEntry}
+use Rattle.goblin_pe_import.specs.declared.added.imports.Walk.{Walk}
+use Rattle.goblin_pe_import.specs.ImportEntries.{EntryValue, LookupEntry}
+use Rattle.goblin_pe_import.specs.ImportReadings.{import_record_at, kept_library, library_of, lookup_if}
+use Rattle.goblin_pe_import.specs.ImportRecords.{address_table_rva, import_slots, is_last_record}
+use Rattle.goblin_pe_import.specs.ImportRecords.{lookup_offset}
+use Rattle.goblin_pe_import.specs.Imports.{NumberedImport}
+use Rattle.goblin_pe_import.specs.added.ImportWalks.{Origin, origin}
+use Rattle.goblin_pe_import.specs.added.ImportWalks.{GivesLibrary, IsNextCause}
+use Rattle.goblin_pe_import.specs.KeptEntries.{IsEntriesCause}
+use Rattle.goblin_pe_import.specs.added.ImportWalks.{IsLaterCause, IsNamedCause, IsRecordCause, IsRecordsCause}
+use Rattle.goblin_pe_import.specs.KeptEntries.{KeptValue}
+use Rattle.goblin_pe_import.specs.added.ImportWalks.{addresses_of, bound_next}
+use Rattle.goblin_pe_import.specs.KeptEntries.{entries_from, slots_bound}
+use Rattle.goblin_pe_import.specs.added.ImportWalks.{imports_next, is_skipped, one_if}
+use Rattle.goblin_pe_import.specs.added.ImportWalks.{walk_bound}
+use Rattle.goblin_pe_import.specs.added.ImportWalks.{imports_from_record, imports_of_entries, record_index}
+use Rattle.goblin_pe_import.specs.added.ImportWalks.{later_items, library_items, library_name, untested_table}
+use Rattle.goblin_pe_import.proofs.LookupWalk.{in_two, lookup_walked}
+use Rattle.goblin_pe_import.proofs.PermissiveReads.{name_strict}
+use Rattle.goblin_pe_sect.specs.Addresses.{Addressing}
+
+-- ---- values that may be missing
+
+permissive_by : (strict b : Bool) → (not strict && b) ≡ true → strict ≡ false
+permissive_by true b e = absurd cc
+permissive_by false b e = refl
+
+two_maps : {A B C : Type 0} (f : A → B) (h : B → C) (o : Option A)
+    → option_map h (option_map f o) ≡ option_map (λ x. h (f x)) o
+two_maps f h None = refl
+two_maps f h (Some x) = refl
+
+-- Which cause is true of a library, by what its walk collects of its entries.
+library-fault : {W A B L R : Type 0} (mode : Bool) (make : (A × B) × R → L) (g : W → B)
+    (name : Option A) (walked : Option W) (listed : Option B) (addresses : Option R)
+    (IsName IsListed IsAddressed IsLater : ErrorOf → Type 0) (e : ErrorOf) → mode ≡ true
+    → listed ≡ option_map g walked
+    → FirstFault name IsName
+    (λ _. FirstFault walked IsListed (λ _. FirstFault addresses IsAddressed (λ _. IsLater))) e
+    → FirstFault (or_left_out mode (option_map make (pair_of (pair_of name listed) addresses)))
+    (FirstFault (pair_of name listed) (FirstFault name IsName (λ _. IsListed)) (λ _. IsAddressed))
+    (λ _. IsLater) e
+library-fault mode make g None walked listed addresses IsName IsListed IsAddressed IsLater e
+    strictly same fault = rw strictly fault
+library-fault mode make g (Some text) None listed addresses IsName IsListed IsAddressed IsLater e
+    strictly same fault = rw (strictly, same) fault
+library-fault mode make g (Some text) (Some x) listed None IsName IsListed IsAddressed IsLater e
+    strictly same fault = rw (strictly, same) fault
+library-fault mode make g (Some text) (Some x) listed (Some y) IsName IsListed IsAddressed IsLater e
+    strictly same fault = rw (strictly, same) fault
+
+-- kept entries and slots, where there is a table
+abbrev pub in_two_if : Option ℕ → List KeptValue → Option (List LookupEntry) × List ℕ
+in_two_if None kept = (None, [])
+in_two_if (Some o) kept = (Some (in_two kept).0, (in_two kept).1)
+
+-- ---- what comes from a record on
+
+module _ (strict : Bool) (format : Format EntryValue) (addressing : Addressing)
+    (bytes : List ℕ) where
+  -- what is collected of a library's entries is its lookup table
+  pub listed : 1 ≤ format.width → (at : Option ℕ)
+      → (lookup_if strict format addressing at).value bytes
+      ≡ option_map (in_two_if at)
+      (all_of (entries_from strict format addressing bytes (unwrap_or at 0) at))
+  unfolding lookup_if entries_from
+  listed wide None = refl
+  listed wide (Some o) =
+      ap (option_map (λ both. (Some both.0, both.1)))
+      (sym (lookup_walked strict format addressing bytes o wide).value)
+      ∙ two_maps in_two (λ both. (Some both.0, both.1)) _
+
+  module _ (first p : ℕ) where
+    abbrev slots : Option ImportDirectoryEntry
+    slots = (import_record_at p).value bytes
+
+    -- what comes of the record at p and of those after it
+    abbrev pub from_record : Option ImportDirectoryEntry → List (Option NumberedImport)
+    from_record entry =
+        from_slot strict is_last_record
+        (library_items strict format addressing bytes (record_index first p))
+        (imports_from_record strict format addressing bytes first (p + 20)) entry
+
+    pub imports-slot : imports_from_record strict format addressing bytes first p ≡ from_record slots
+    unfolding imports_from_record
+    imports-slot =
+        walk-slot import_slots
+        (λ p r. library_items strict format addressing bytes (record_index first p) r) bytes strict
+        (lit≤ tt) p slots refl
+
+    pub imports-once : until_refused (imports_from_record strict format addressing bytes first p)
+        ≡ imports_from_record strict format addressing bytes first p
+    imports-once =
+        rw imports-slot (slot-once strict is_last_record
+        (library_items strict format addressing bytes (record_index first p))
+        (imports_from_record strict format addressing bytes first (p + 20)) slots)
+
+    -- a cause that is true of the rest of a directory from its first entry on is true of it
+    pub cause-record : 1 ≤ format.width → strict ≡ true → (e : ErrorOf)
+        → IsRecordCause strict format addressing bytes p slots e
+        → IsRecordsCause strict format addressing bytes p e
+    unfolding library_of lookup_if
+    cause-record wide is e fault =
+        cause-slot import_slots (kept_library strict format addressing) bytes strict import_record_at
+        (lit≤ tt) p slots refl e (in_slot slots fault)
+      where
+        in_table : (at : Option ℕ) {A : Type 0} (o : Option A) (IsLater : ErrorOf → Type 0)
+            → FirstFault o (IsEntriesCause strict format addressing bytes at)
+            (λ _. IsLater) e
+            → FirstFault o ((lookup_if strict format addressing at).IsCause bytes) (λ _. IsLater) e
+        in_table None o IsLater fault = fault
+        in_table (Some place) o IsLater fault = fault
+
+        in_slot : (entry : Option ImportDirectoryEntry)
+            → IsRecordCause strict format addressing bytes p entry e
+            → IsSlotCause strict is_last_record (λ r. (kept_library strict format addressing r).value bytes)
+            ((import_record_at p).IsCause bytes)
+            (λ r. (kept_library strict format addressing r).IsCause bytes)
+            (IsRecordsCause strict format addressing bytes (p + 20)) entry e
+        in_slot None fault = (is, fault)
+        in_slot (Some r) fault =
+            let at = lookup_offset addressing r in
+            let name = library_name strict addressing r in
+            let table = lookup_if strict format addressing at in
+            let addresses = addresses_of format addressing r in
+            let walked =
+            all_of (entries_from strict format addressing bytes (unwrap_or at 0) at) in (
+              fault.0,
+              library-fault strict _ (in_two_if at) (name.value bytes) walked (table.value bytes)
+                  (addresses.value bytes) (name.IsCause bytes) (table.IsCause bytes)
+                  (addresses.IsCause bytes) (IsRecordsCause strict format addressing bytes (p + 20)) e is
+                  (listed wide at) (after_name (name.value bytes) fault.1),
+            )
+          where
+            after_name : (name : Option (List ℕ))
+                → FirstFault name ((library_name strict addressing r).IsCause bytes)
+                (λ _. IsNamedCause strict format addressing bytes r
+                (IsRecordsCause strict format addressing bytes (p + 20))) e
+                → FirstFault name ((library_name strict addressing r).IsCause bytes)
+                (λ _. FirstFault
+                (all_of
+                (entries_from strict format addressing bytes (unwrap_or (lookup_offset addressing r) 0)
+                (lookup_offset addressing r)))
+                ((lookup_if strict format addressing (lookup_offset addressing r)).IsCause bytes)
+                (λ _. FirstFault ((addresses_of format addressing r).value bytes)
+                ((addresses_of format addressing r).IsCause bytes)
+                (λ _. IsRecordsCause strict format addressing bytes (p + 20)))) e
+            after_name None fault = fault
+            after_name (Some text) fault =
+                let at = lookup_offset addressing r in
+                let walked =
+                all_of (entries_from strict format addressing bytes (unwrap_or at 0) at) in
+                let addresses = addresses_of format addressing r in
+                let IsLater = IsRecordsCause strict format addressing bytes (p + 20) in
+                in_table at walked
+                (FirstFault (addresses.value bytes) (addresses.IsCause bytes) (λ _. IsLater))
+                (subst
+                (λ (mode : Bool).
+                let table = pick mode addresses (given []) in
+                FirstFault walked (IsEntriesCause strict format addressing bytes at)
+                (λ _. FirstFault (table.value bytes) (table.IsCause bytes) (λ _. IsLater)) e)
+                is fault)
+
+-- ---- the library of a record
+
+module _ (strict : Bool) (format : Format EntryValue) (addressing : Addressing)
+    (bytes : List ℕ) (first index : ℕ) (r : ImportDirectoryEntry) (next : ℕ) where
+  abbrev name : Reading (List ℕ)
+  name = library_name strict addressing r
+
+  abbrev addresses : Reading (List ℕ)
+  addresses = addresses_of format addressing r
+
+  -- what comes of the library, and then of those whose records are in the directory from `next` on
+  abbrev pub whole : List (Option NumberedImport)
+  whole =
+      until_refused
+      (library_items strict format addressing bytes index r
+      ++ imports_from_record strict format addressing bytes first next)
+
+  abbrev pub IsWholeCause : ErrorOf → Type 0
+  IsWholeCause e =
+      FirstFault (name.value bytes) (name.IsCause bytes)
+      (λ _. IsNamedCause strict format addressing bytes r
+      (IsRecordsCause strict format addressing bytes next)) e
+
+  -- what is left of a walk of these parts
+  abbrev pub parts_left : Origin → ℕ → ℕ → Option ℕ → Option ℕ → List (Option NumberedImport)
+  parts_left from rva o at untested =
+      until_refused
+      (imports_of_entries strict format addressing bytes from rva o at
+      ++ later_items strict format addressing bytes untested first (Some next))
+
+  abbrev pub IsPartsCause : ℕ → Option ℕ → Option ℕ → ErrorOf → Type 0
+  IsPartsCause o at untested e =
+      (strict ≡ true)
+      × FirstFault (all_of (entries_from strict format addressing bytes o at))
+      (IsEntriesCause strict format addressing bytes at)
+      (λ _. IsLaterCause strict format addressing bytes untested (Some next)) e
+
+  pub walk-left_out : is_skipped strict format addressing bytes r ≡ true
+      → (from : Origin) (rva o : ℕ)
+      → (parts_left from rva o None None ≡ whole)
+      × ((e : ErrorOf) → IsPartsCause o None None e → (strict ≡ true) × IsWholeCause e)
+  unfolding entries_from library_items imports_next
+  walk-left_out out from rva o = (
+    rw out refl,
+    λ e fault.
+        let is = permissive_by strict _ out in
+        absurd (cc (is, fault.0)),
+  )
+
+  pub walk-unnamed : (e : ErrorOf) → name.value bytes ≡ None → name.IsCause bytes e
+      → (library_items strict format addressing bytes index r ≡ None ∷ []) × (strict ≡ true)
+      × IsRefused name bytes e
+  unfolding library_items
+  walk-unnamed e none fault =
+      let is = name_strict strict _ none in (
+        rw (none, is) refl,
+        is,
+        (none, fault),
+      )
+
+  abbrev at : Option ℕ
+  at = lookup_offset addressing r
+
+  module _ (dll : List ℕ) (named : name.value bytes ≡ Some dll)
+      (kept : is_skipped strict format addressing bytes r ≡ false) where
+    -- a library that is walked over
+    pub walk-entered : parts_left (origin index dll) r.import_address_table_rva (unwrap_or at 0) at
+        (Some (address_table_rva r)) ≡ whole
+    unfolding library_items imports_next
+    walk-entered =
+        let imports =
+        imports_of_entries strict format addressing bytes (origin index dll) r.import_address_table_rva (unwrap_or at 0)
+        at in
+        let table = untested_table strict format addressing (Some (address_table_rva r)) in
+        rw (kept, named)
+        (ap until_refused
+        (sym (append_assoc imports (refusal_of (table.value bytes))
+        (imports_from_record strict format addressing bytes first next))))
+
+    -- a cause of the one is one of the other
+    pub cause-entered : (e : ErrorOf)
+        → IsPartsCause (unwrap_or at 0) at (Some (address_table_rva r)) e
+        → (strict ≡ true) × IsWholeCause e
+    cause-entered e fault = (fault.0, rw named fault.1)
+
+    pub entered : (parts_left (origin index dll) r.import_address_table_rva (unwrap_or at 0) at
+        (Some (address_table_rva r)) ≡ whole)
+        × ((e : ErrorOf)
+        → IsPartsCause (unwrap_or at 0) at (Some (address_table_rva r)) e
+        → (strict ≡ true) × IsWholeCause e)
+    entered = (walk-entered, cause-entered)
+
+-- ---- once the entries of a library have come
+
+module _ (strict : Bool) (format : Format EntryValue) (addressing : Addressing)
+    (bytes : List ℕ) (untested : Option ℕ) where
+  abbrev table : Reading (List ℕ)
+  table = untested_table strict format addressing untested
+
+  abbrev later : ℕ → Option ℕ → List (Option NumberedImport)
+  later first next = until_refused (later_items strict format addressing bytes untested first next)
+
+  abbrev IsCause : Option ℕ → ErrorOf → Type 0
+  IsCause next e = IsLaterCause strict format addressing bytes untested next e
+
+  -- its address table is missing
+  pub later-refused : (first : ℕ) (next : Option ℕ) (e : ErrorOf)
+      → (option_map (λ _. tt {0}) (table.value bytes) ≡ None) × table.IsCause bytes e
+      → (later first next ≡ None ∷ []) × IsCause next e
+  later-refused first next e refused =
+      let none = unmapped (λ _. tt {0}) _ refused.0 in
+      (rw none refl, rw none refused.1)
+
+  module _ (tested : option_map (λ _. tt {0}) (table.value bytes) ≡ Some (tt {0})) where
+    is_there : (found : Option (List ℕ)) → option_map (λ _. tt {0}) found ≡ Some (tt {0})
+        → (items : List (Option NumberedImport)) (IsTable IsLater : ErrorOf → Type 0)
+        → (refusal_of found ++ items ≡ items)
+        × ((e : ErrorOf) → IsLater e → FirstFault found IsTable (λ _. IsLater) e)
+    is_there None e items IsTable IsLater = absurd cc
+    is_there (Some x) e items IsTable IsLater = (refl, λ e fault. fault)
+
+    later-from : (first : ℕ) (next : Option ℕ)
+        → later first next ≡ until_refused (imports_next strict format addressing bytes first next)
+    later-from first next =
+        ap until_refused
+        (is_there (table.value bytes) tested (imports_next strict format addressing bytes first next)
+        (λ e. ⊥) (λ e. ⊥)).0
+
+    later-cause : (next : Option ℕ) (e : ErrorOf)
+        → IsNextCause strict format addressing bytes next e → IsCause next e
+    later-cause next e fault =
+        (is_there (table.value bytes) tested [] (table.IsCause bytes)
+        (IsNextCause strict format addressing bytes next)).1 e fault
+
+    -- there are no more records
+    pub later-none : (first : ℕ) → later first None ≡ []
+    unfolding imports_next
+    later-none first = later-from first None
+
+    module _ (wide : 1 ≤ format.width) (first p : ℕ) where
+      abbrev index : ℕ
+      index = record_index first p
+
+      abbrev of_library : ImportDirectoryEntry → List (Option NumberedImport)
+      of_library = library_items strict format addressing bytes index
+
+      abbrev from_next : List (Option NumberedImport)
+      from_next = imports_from_record strict format addressing bytes first (p + 20)
+
+      by_record : (entry : Option ImportDirectoryEntry) → reads import_slots bytes p ≡ entry
+          → later first (Some p) ≡ from_record strict format addressing bytes first p entry
+      unfolding imports_next
+      by_record entry r =
+          later-from first (Some p) ∙ imports-once strict format addressing bytes first p
+          ∙ imports-slot strict format addressing bytes first p
+          ∙ ap (from_record strict format addressing bytes first p) r
+
+      by_cause : (entry : Option ImportDirectoryEntry) → reads import_slots bytes p ≡ entry
+          → strict ≡ true → (e : ErrorOf)
+          → IsRecordCause strict format addressing bytes p entry e
+          → IsCause (Some p) e
+      by_cause entry r is e fault =
+          later-cause (Some p) e
+          (cause-record strict format addressing bytes first p wide is e
+          (subst
+          (λ (entry : Option ImportDirectoryEntry).
+          IsRecordCause strict format addressing bytes p entry e) (sym r) fault))
+
+      pub later-end : (entry : Option ImportDirectoryEntry) → reads import_slots bytes p ≡ entry
+          → ends_table is_last_record entry ≡ true → (strict && not (is_some entry)) ≡ false
+          → later first (Some p) ≡ []
+      later-end entry r z there =
+          by_record entry r ∙ slot-end strict is_last_record of_library from_next entry z there
+
+      pub later-missing : (e : ErrorOf) → reads import_slots bytes p ≡ None → strict ≡ true
+          → (import_record_at p).IsCause bytes e
+          → (later first (Some p) ≡ None ∷ []) × (strict ≡ true) × IsCause (Some p) e
+      later-missing e r m fault = (
+        by_record None r ∙ slot-missing strict is_last_record of_library from_next m,
+        m,
+        by_cause None r m e fault,
+      )
+
+      -- what a walk goes on with, by what is made of the record's library
+      pub later-given : (v : ImportDirectoryEntry) → reads import_slots bytes p ≡ Some v
+          → is_last_record v ≡ false → {S : Type 0} (left : S → List (Option NumberedImport))
+          (IsLeft : S → ErrorOf → Type 0) (result : Result S ErrorOf)
+          → MatchResult result
+          (λ t. (left t ≡ whole strict format addressing bytes first index v (p + 20))
+          × ((e : ErrorOf) → IsLeft t e
+          → (strict ≡ true) × IsWholeCause strict format addressing bytes first index v (p + 20) e))
+          (λ e. (library_items strict format addressing bytes index v ≡ None ∷ [])
+          × (strict ≡ true)
+          × IsRefused (library_name strict addressing v) bytes e)
+          → GivesLibrary left IsLeft
+          (later_items strict format addressing bytes untested first (Some p))
+          (λ e. (strict ≡ true) × IsCause (Some p) e) (Some result)
+      later-given v r going left IsLeft (Ok t) h = (
+        h.0 ∙ sym (by_record (Some v) r ∙ slot-going strict is_last_record of_library from_next v going),
+        λ e fault.
+            let both = h.1 e fault in
+            (both.0, by_cause (Some v) r both.0 e (going, both.1)),
+      )
+      later-given v r going left IsLeft (Err e) h = (
+        by_record (Some v) r ∙ slot-going strict is_last_record of_library from_next v going
+            ∙ ap
+            (λ (xs : List (Option NumberedImport)). until_refused
+            (xs ++ imports_from_record strict format addressing bytes first (p + 20)))
+            h.0,
+        (h.1, by_cause (Some v) r h.1 e (going, rw (h.2.0) (h.2.1))),
+      )
+
+-- ---- how many may come
+
+slots_few : (bytes : List ℕ) (place : Option ℕ) → slots_bound bytes place ≤ length bytes + 1
+slots_few bytes None = omega arith
+slots_few bytes (Some p) = omega arith
+
+one_few : (untested : Option ℕ) → one_if untested ≤ 1
+one_few None = omega arith
+one_few (Some rva) = omega arith
+
+-- a record less makes room for a whole file of slots, and a refusal
+fewer : (n p x y : ℕ) → p + 20 ≤ n → x ≤ n + 1 → y ≤ 1
+    → x + y + (n + 2) * (n - (p + 20) + 1) ≤ (n + 2) * (n - p + 1)
+fewer n p x y inside few one =
+    let more : (n + 2) * (n - (p + 20) + 1 + 1) ≤ (n + 2) * (n - p + 1) =
+    mul-le-mul_left (n + 2) (omega (arith, inside)) in
+    omega (arith, few, one, more)
+
+-- a walk that goes on in the library of the record at p
+pub bound-given : (bytes : List ℕ) (p : ℕ) → p + 20 ≤ length bytes
+    → (r : Result Walk ErrorOf) → IfOk r (λ t. t.bytes.now ≡ bytes)
+    → IfOk r (λ t. t.at.next_record ≡ Some (p + 20))
+    → IfOk r (λ t. walk_bound t ≤ bound_next bytes (Some p))
+bound-given bytes p inside (Err e) same next = tt
+bound-given bytes p inside (Ok t) same next =
+    rw (same, next)
+    (fewer (length bytes) p (slots_bound bytes t.at.place) (one_if t.at.untested) inside
+    (slots_few bytes t.at.place) (one_few t.at.untested))

@@ -1,0 +1,16 @@
+use Rattle.std.proofs.Common.{length}
+use Rattle.goblin_pe_import.specs.added.ImportWalks.{records_left}
+use Rattle.goblin_pe_import.specs.added.StepsAhead.{AtSteps, walk_ahead}
+use Rattle.goblin_pe_import.specs.Steps.{HasNotGrown}
+use Rattle.goblin_pe_import.proofs.added.ImportSteps.{AtImports}
+use Rattle.goblin_pe_import.proofs.added.imports.Walk.next_within.Given as goal
+
+abbrev pub invariant-libraries : goal.invariant-libraries
+invariant-libraries g l =
+    AtImports g.T.Bitfield.format l.initial.self l.self
+    × AtSteps (length l.initial.self.bytes.now) l.initial.steps l.steps
+    (walk_ahead g.T.Bitfield.format l.initial.self) (walk_ahead g.T.Bitfield.format l.self)
+    × HasNotGrown l.initial.steps l.steps
+
+abbrev pub decreases-libraries : goal.decreases-libraries
+decreases-libraries g l = records_left l.self.bytes.now l.self.at.next_record

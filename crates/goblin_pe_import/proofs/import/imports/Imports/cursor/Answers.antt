@@ -1,5 +1,0 @@
-use Rattle.goblin_pe_import.proofs.ImportCursors.{named-left}
-use Rattle.goblin_pe_import.proofs.import.imports.Imports.cursor.Goals as goal
-
-pub returns-clause-left : goal.returns-clause-left
-returns-clause-left g c named = named-left g.T.Bitfield.format c.args.self.now.walk named

@@ -1,7 +1,0 @@
-use Rattle.goblin_pe_import.proofs.StepsAhead.{slots-few}
-use Rattle.goblin_pe_import.proofs.import.imports.is_skipped.Goals as goal
-
-pub returns-clause-few : goal.returns-clause-few
-returns-clause-few g c =
-    rw c.test_address_table-count.ensures.counted
-    (slots-few g.T.Bitfield.format c.args.bytes.now _)

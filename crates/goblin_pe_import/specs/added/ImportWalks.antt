@@ -1,0 +1,368 @@
+-- The walk over all imports: what is still to come.
+use Rattle.std.specs.Prelude.{◌≡◌, ℕ, ◌+◌, ◌-◌, ◌*◌, ◌/◌, Bool, ◌&&◌, not, true, false}
+use Rattle.std.specs.Prelude.{if◌then◌else◌, List, [], ◌∷◌, ◌++◌, map, length, Option, Some, None}
+use Rattle.std.specs.Prelude.{option_map, unwrap_or, is_none, Result, Ok, Err, IfErr, IfSome}
+use Rattle.std.specs.Prelude.{MatchOption}
+use Rattle.goblin_base.specs.declared.error.ErrorOf.{ErrorOf}
+use Rattle.goblin_base.specs.Answers.{FirstFault, IsMemory, all_of}
+use Rattle.goblin_base.specs.Reading.{Reading}
+use Rattle.goblin_base.specs.Tables.{Format}
+use Rattle.readings.specs.Reads.{given, or_else, pick}
+use Rattle.readings.specs.Walks.{GivesNext, refusal_of, table_walk}
+use Rattle.readings.specs.Walks.{until_refused}
+use Rattle.goblin_pe_sect.specs.declared.address_map.finder.Finder.{Finder}
+use Rattle.goblin_pe_sect.specs.AddressReadings.{at_address, name_at}
+use Rattle.goblin_pe_sect.specs.Addresses.{Addressing, MapOfAddresses, map_of, reads_strictly}
+use Rattle.goblin_pe_import.specs.ImportEntries.{EntryValue}
+use Rattle.goblin_pe_import.specs.ImportLookup.{entry_view}
+use Rattle.goblin_pe_import.specs.ImportReadings.{import_record_at, libraries_at}
+use Rattle.goblin_pe_import.specs.ImportRecords.{address_table_rva, import_slots, is_last_record}
+use Rattle.goblin_pe_import.specs.ImportRecords.{lookup_offset}
+use Rattle.goblin_pe_import.specs.Imports.{NumberedImport, at_library, import_of}
+use Rattle.goblin_pe_import.specs.LookupReadings.{address_table}
+use Rattle.goblin_pe_import.specs.declared.import.directory_entry.ImportDirectoryEntry.{ImportDirectoryEntry}
+use Rattle.goblin_pe_import.specs.declared.added.imports.ImportCursor.{ImportCursor}
+use Rattle.goblin_pe_import.specs.declared.added.imports.Imports.{Imports}
+use Rattle.goblin_pe_import.specs.declared.added.imports.PlainImports.{PlainImports}
+use Rattle.goblin_pe_import.specs.declared.added.imports.Walk.{Walk}
+use Rattle.goblin_pe_import.specs.declared.added.imports.WalkedImport.{WalkedImport}
+use Rattle.goblin_pe_import.specs.KeptEntries.{KeptValue}
+use Rattle.goblin_pe_import.specs.KeptEntries.{entries_from, IsEntriesCause}
+use Rattle.goblin_pe_import.specs.KeptEntries.{slots_bound}
+
+-- ---- the entries of a lookup table
+
+-- what an import is from: the index of the library's import descriptor in the directory, and the
+-- library's name
+pub record Origin : Type 0 where
+  pub index : ℕ
+  pub dll : List ℕ
+
+abbrev pub origin : ℕ → List ℕ → Origin
+origin index dll = record { index = index; dll = dll }
+
+-- an import that a walk yields
+abbrev pub walked_value : WalkedImport → NumberedImport
+walked_value x =
+    at_library x.library (import_of x.dll.now x.slot x.slot_rva x.size (entry_view x.entry))
+
+-- the import of an entry that the lookup table at o keeps, of a library whose address table is at
+-- `rva` and has entries of `width` bytes
+abbrev pub kept_import : ℕ → Origin → ℕ → ℕ → KeptValue → NumberedImport
+kept_import width from rva o kept =
+    at_library from.index
+    (import_of from.dll kept.slot (rva + (kept.place - o)) width kept.entry)
+
+-- the imports of the entries from a place on
+abbrev pub imports_of_entries : Bool → Format EntryValue → Addressing → List ℕ → Origin → ℕ → ℕ
+    → Option ℕ → List (Option NumberedImport)
+imports_of_entries strict format addressing bytes from rva o place =
+    map (option_map (kept_import format.width from rva o))
+    (entries_from strict format addressing bytes o place)
+
+-- the name of a descriptor's library
+abbrev pub library_name : Bool → Addressing → ImportDirectoryEntry → Reading (List ℕ)
+library_name strict addressing r = or_else strict [] (name_at addressing r.name_rva)
+
+-- the address table of a descriptor
+abbrev pub addresses_of : Format EntryValue → Addressing → ImportDirectoryEntry
+    → Reading (List ℕ)
+addresses_of format addressing r =
+    at_address addressing.offset (address_table_rva r) (address_table format)
+
+-- an address table that is still to be tested, which only strict mode does
+abbrev pub untested_table : Bool → Format EntryValue → Addressing → Option ℕ
+    → Reading (List ℕ)
+untested_table strict format addressing None = given []
+untested_table strict format addressing (Some rva) =
+    pick strict (at_address addressing.offset rva (address_table format)) (given [])
+
+-- the imports of a library of this name, then a refusal if strict mode cannot read its address
+-- table; without a name only a refusal
+abbrev pub named_items : Bool → Format EntryValue → Addressing → List ℕ → ℕ
+    → ImportDirectoryEntry → Option (List ℕ) → List (Option NumberedImport)
+named_items strict format addressing bytes index r None = None ∷ []
+named_items strict format addressing bytes index r (Some dll) =
+    let table = lookup_offset addressing r in
+    let addresses = untested_table strict format addressing (Some (address_table_rva r)) in
+    imports_of_entries strict format addressing bytes (origin index dll) r.import_address_table_rva
+    (unwrap_or table 0) table
+    ++ refusal_of (addresses.value bytes)
+
+-- whether a walk skips a library, as it does in permissive mode if its address table cannot be read
+abbrev pub is_skipped : Bool → Format EntryValue → Addressing → List ℕ
+    → ImportDirectoryEntry → Bool
+is_skipped strict format addressing bytes r =
+    not strict && is_none ((addresses_of format addressing r).value bytes)
+
+-- What comes of the library of the descriptor with an index: its name is needed, then its imports
+-- come, then strict mode needs its address table. Permissive mode needs that table first, and
+-- leaves out the library without it.
+unfoldable pub library_items : Bool → Format EntryValue → Addressing → List ℕ → ℕ
+    → ImportDirectoryEntry → List (Option NumberedImport)
+library_items strict format addressing bytes index r =
+    if is_skipped strict format addressing bytes r then []
+    else named_items strict format addressing bytes index r
+    ((library_name strict addressing r).value bytes)
+
+-- ---- all imports
+
+-- the index of the descriptor at p in a directory whose first one is at `first`
+abbrev pub record_index : ℕ → ℕ → ℕ
+record_index first p = (p - first) / 20
+
+-- the imports of the libraries whose descriptors are in this directory from a place on
+unfoldable pub imports_from_record : Bool → Format EntryValue → Addressing → List ℕ → ℕ → ℕ
+    → List (Option NumberedImport)
+imports_from_record strict format addressing bytes first p =
+    table_walk import_slots strict
+    (λ p r. library_items strict format addressing bytes (record_index first p) r) bytes p
+
+-- the imports from the next descriptor on, if there is one
+unfoldable pub imports_next : Bool → Format EntryValue → Addressing → List ℕ → ℕ → Option ℕ
+    → List (Option NumberedImport)
+imports_next strict format addressing bytes first None = []
+imports_next strict format addressing bytes first (Some p) =
+    imports_from_record strict format addressing bytes first p
+
+-- the cause that is true if one of the libraries whose descriptors are in the directory from a
+-- place on is refused
+abbrev pub IsRecordsCause : Bool → Format EntryValue → Addressing → List ℕ → ℕ → ErrorOf
+    → Type 0
+IsRecordsCause strict format addressing bytes p e =
+    (libraries_at strict format addressing p).IsCause bytes e
+
+-- The cause that is true if a library that has a name is refused, or else what comes later: that of
+-- its lookup table, then that of its address table, then the later one.
+abbrev pub IsNamedCause : Bool → Format EntryValue → Addressing → List ℕ
+    → ImportDirectoryEntry → (IsLater : ErrorOf → Type 0) → ErrorOf → Type 0
+IsNamedCause strict format addressing bytes r IsLater e =
+    let table = lookup_offset addressing r in
+    let addresses = untested_table strict format addressing (Some (address_table_rva r)) in
+    FirstFault (all_of (entries_from strict format addressing bytes (unwrap_or table 0) table))
+    (IsEntriesCause strict format addressing bytes table)
+    (λ _. FirstFault (addresses.value bytes) (addresses.IsCause bytes) (λ _. IsLater)) e
+
+-- the cause that is true if there is no descriptor at p, or if its library is refused, or else what
+-- comes later
+abbrev pub IsRecordCause : Bool → Format EntryValue → Addressing → List ℕ → ℕ
+    → Option ImportDirectoryEntry → ErrorOf → Type 0
+IsRecordCause strict format addressing bytes p None e = (import_record_at p).IsCause bytes e
+IsRecordCause strict format addressing bytes p (Some r) e =
+    let name = library_name strict addressing r in
+    (is_last_record r ≡ false)
+    × FirstFault (name.value bytes) (name.IsCause bytes)
+    (λ _. IsNamedCause strict format addressing bytes r
+    (IsRecordsCause strict format addressing bytes (p + 20))) e
+
+-- the cause that is true if what comes from the next descriptor on is refused
+abbrev pub IsNextCause : Bool → Format EntryValue → Addressing → List ℕ → Option ℕ → ErrorOf
+    → Type 0
+IsNextCause strict format addressing bytes None e = ⊥
+IsNextCause strict format addressing bytes (Some p) e = IsRecordsCause strict format addressing bytes p e
+
+-- ---- how many more may come
+
+-- an upper bound of what comes from p on: for each descriptor that may be left, a whole file of
+-- entries, a refusal of their table and one of the address table
+abbrev pub records_bound : List ℕ → ℕ → ℕ
+records_bound bytes p = (length bytes + 2) * (length bytes - p + 1)
+
+-- an upper bound of what comes from the next descriptor on
+abbrev pub bound_next : List ℕ → Option ℕ → ℕ
+bound_next bytes None = 0
+bound_next bytes (Some p) = records_bound bytes p
+
+-- ---- the walk, by what it holds of the library that it is in
+
+-- what comes once the entries of a library have come: a refusal if its address table is still to be
+-- tested and cannot be read, then the imports from the next descriptor on
+abbrev pub later_items : Bool → Format EntryValue → Addressing → List ℕ → Option ℕ → ℕ
+    → Option ℕ → List (Option NumberedImport)
+later_items strict format addressing bytes untested first next =
+    refusal_of ((untested_table strict format addressing untested).value bytes)
+    ++ imports_next strict format addressing bytes first next
+
+abbrev pub IsLaterCause : Bool → Format EntryValue → Addressing → List ℕ → Option ℕ
+    → Option ℕ → ErrorOf → Type 0
+IsLaterCause strict format addressing bytes untested next e =
+    let table = untested_table strict format addressing untested in
+    FirstFault (table.value bytes) (table.IsCause bytes)
+    (λ _. IsNextCause strict format addressing bytes next) e
+
+-- the cursor at the end
+abbrev pub no_imports : ImportCursor
+no_imports = record {
+  first_record = 0;
+  next_record = None;
+  library = 0;
+  name_rva = 0;
+  rva = 0;
+  table_offset = 0;
+  place = None;
+  untested = None;
+}
+
+-- what is still to come at a cursor, if the library there has this name
+abbrev pub items_left : Bool → Format EntryValue → Addressing → List ℕ → List ℕ → ImportCursor
+    → List (Option NumberedImport)
+items_left strict format addressing bytes dll c =
+    until_refused
+    (imports_of_entries strict format addressing bytes (origin c.library dll) c.rva c.table_offset
+    c.place
+    ++ later_items strict format addressing bytes c.untested c.first_record c.next_record)
+
+-- the name of the library that a cursor is in; empty if it can't be read
+abbrev pub name_said : Addressing → List ℕ → ImportCursor → List ℕ
+name_said addressing bytes c = unwrap_or ((name_at addressing c.name_rva).value bytes) []
+
+-- what is still to come at a cursor
+abbrev pub cursor_left : MapOfAddresses → Format EntryValue → List ℕ → ImportCursor
+    → List (Option NumberedImport)
+cursor_left m format bytes c =
+    items_left (reads_strictly m) format m.addressing bytes (name_said m.addressing bytes c) c
+
+-- the cause that is true if a refusal is among it, which happens only in strict mode
+abbrev pub IsCursorCause : MapOfAddresses → Format EntryValue → List ℕ → ImportCursor → ErrorOf
+    → Type 0
+IsCursorCause m format bytes c e =
+    let strict = reads_strictly m in
+    (strict ≡ true)
+    × FirstFault (all_of (entries_from strict format m.addressing bytes c.table_offset c.place))
+    (IsEntriesCause strict format m.addressing bytes c.place)
+    (λ _. IsLaterCause strict format m.addressing bytes c.untested c.next_record) e
+
+-- what is still to come of a walk
+abbrev pub walk_left : Format EntryValue → Walk → List (Option NumberedImport)
+walk_left format w =
+    let m = map_of w.finder in
+    items_left (reads_strictly m) format m.addressing w.bytes.now w.dll.now w.at
+
+abbrev pub IsWalkCause : Format EntryValue → Walk → ErrorOf → Type 0
+IsWalkCause format w e = IsCursorCause (map_of w.finder) format w.bytes.now w.at e
+
+-- In a library, the walk holds the name that its cursor says.
+abbrev pub IsNamedAt : Option ℕ → List ℕ → List ℕ → Type 0
+IsNamedAt None dll name = Unit {0}
+IsNamedAt (Some place) dll name = dll ≡ name
+
+abbrev pub IsNamed : Walk → Type 0
+IsNamed w =
+    IsNamedAt w.at.place w.dll.now (name_said (map_of w.finder).addressing w.bytes.now w.at)
+
+-- how many refusals may come of an address table that is still to be tested
+abbrev pub one_if : Option ℕ → ℕ
+one_if None = 0
+one_if (Some rva) = 1
+
+abbrev pub walk_bound : Walk → ℕ
+walk_bound w =
+    slots_bound w.bytes.now w.at.place + one_if w.at.untested
+    + bound_next w.bytes.now w.at.next_record
+
+-- an upper bound of the number of descriptors from the next one on: the bytes that are left, and
+-- one
+abbrev pub records_left : List ℕ → Option ℕ → ℕ
+records_left bytes None = 0
+records_left bytes (Some p) = length bytes - p + 1
+
+-- Once the entries of a library have come, the walk goes on at t. `later` is what is to come then,
+-- and `IsCause` says which cause is true if a refusal is among it.
+abbrev pub GivesLibrary : {S A : Type 0} → (S → List (Option A)) → (S → ErrorOf → Type 0)
+    → List (Option A) → (ErrorOf → Type 0) → Option (Result S ErrorOf) → Type 0
+GivesLibrary left IsLeftCause later IsCause None = until_refused later ≡ []
+GivesLibrary left IsLeftCause later IsCause (Some (Ok t)) =
+    (left t ≡ until_refused later) × ((e : ErrorOf) → IsLeftCause t e → IsCause e)
+GivesLibrary left IsLeftCause later IsCause (Some (Err e)) =
+    (until_refused later ≡ None ∷ []) × IsCause e
+
+-- the answer of a call, with the walk as the call has left it
+abbrev pub walk_answer : {X : Type 0} → Walk → Result X ErrorOf → Result Walk ErrorOf
+walk_answer t (Ok x) = Ok t
+walk_answer t (Err e) = Err e
+
+-- ---- the walk as callers see it
+
+-- what is still to come
+abbrev pub imports_left : {T : Type 0} → Format EntryValue → Imports T → List (Option NumberedImport)
+imports_left format it = walk_left format it.walk
+
+-- the cause that is true if a refusal is among it, which happens only in strict mode
+abbrev pub IsImportsCause : {T : Type 0} → Format EntryValue → Imports T → ErrorOf → Type 0
+IsImportsCause format it e = IsWalkCause format it.walk e
+
+-- the cursor of the walk
+abbrev pub cursor_of : {T : Type 0} → Imports T → ImportCursor
+cursor_of it = it.walk.at
+
+-- The walk holds the name that its cursor says.
+abbrev pub HasName : {T : Type 0} → Imports T → Type 0
+HasName it = IsNamed it.walk
+
+-- the bytes that the walk is over
+abbrev pub imports_bytes : {T : Type 0} → Imports T → List ℕ
+imports_bytes it = it.walk.bytes.now
+
+-- the finder of the walk, and its map of addresses
+abbrev pub finder_of : {T : Type 0} → Imports T → Finder
+finder_of it = it.walk.finder
+
+abbrev pub imports_map : {T : Type 0} → Imports T → MapOfAddresses
+imports_map it = map_of (finder_of it)
+
+-- The walk is over these bytes, with this map of addresses.
+abbrev pub AreImportsOver : {T : Type 0} → List ℕ → MapOfAddresses → Imports T → Type 0
+AreImportsOver bytes m it = (imports_bytes it ≡ bytes) × (imports_map it ≡ m)
+
+-- the walk over these bytes, with this map of addresses, at a cursor
+pub record IsWalkAt {T : Type 0} (m : MapOfAddresses) (bytes : List ℕ) (c : ImportCursor)
+    (it : Imports T) : Type 0 where
+  pub over : AreImportsOver bytes m it
+  pub at : cursor_of it ≡ c
+  pub named : HasName it
+
+-- If the call gave no import, the walk is at the end.
+abbrev pub IsAtEnd : {T : Type 0} → Option (Result WalkedImport ErrorOf) → Imports T → Type 0
+IsAtEnd result it =
+    let c = cursor_of it in
+    MatchOption result (c ≡ no_imports) (λ r. IfErr r (λ e. c ≡ no_imports))
+
+-- an upper bound of the number of imports to come
+abbrev pub imports_bound : {T : Type 0} → Imports T → ℕ
+imports_bound it = walk_bound it.walk
+
+-- an error that ends a walk: it comes only in strict mode, and is never Memory
+abbrev pub IsWalkFault : Walk → ErrorOf → Type 0
+IsWalkFault w e = (reads_strictly (map_of w.finder) ≡ true) × ¬ IsMemory e
+
+-- A call of `next` gives the next import, or such an error, or it has ended the walk. It keeps the
+-- bytes and the map.
+abbrev pub GivesImport : {T : Type 0} → Format EntryValue → Imports T
+    → Option (Result WalkedImport ErrorOf) → Imports T → Type 0
+GivesImport format s result t =
+    GivesNext walked_value (imports_left format) (IsImportsCause format) s result t
+    × (HasName s → HasName t)
+    × IfSome result (λ r. IfErr r (IsWalkFault s.walk))
+    × AreImportsOver (imports_bytes s) (imports_map s) t
+    × IsAtEnd result t
+
+-- the walk at another place of the library that it is in
+abbrev pub walk_at : Walk → ℕ → Walk
+walk_at w place = record w { at = record w.at { place = Some place } }
+
+-- the walk that plain imports come from, as it was before them
+abbrev pub plain_walk : {T : Type 0} → PlainImports T → Imports T
+plain_walk plain = plain.imports
+
+-- the walk after the plain imports that have come from it
+abbrev pub plain_at : {T : Type 0} → PlainImports T → Imports T
+plain_at plain = record plain.imports { walk = walk_at plain.imports.walk plain.place }
+
+-- A call gives the next import of the walk, as `next` does. Or it gives nothing, and all stays as
+-- it was.
+abbrev pub GivesPlain : {T : Type 0} → Format EntryValue → PlainImports T → Option WalkedImport
+    → PlainImports T → Type 0
+GivesPlain format s None t = t ≡ s
+GivesPlain format s (Some x) t =
+    GivesImport format (plain_at s) (Some (Ok x)) (plain_at t)
+    × (plain_walk t ≡ plain_walk s)

@@ -1,0 +1,191 @@
+-- The walk over the libraries of an import directory: what is still to come.
+use Rattle.std.specs.Prelude.{◌≡◌, ℕ, Bool, true, ◌&&◌, not, if◌then◌else◌, List, [], ◌∷◌, Option}
+use Rattle.std.specs.Prelude.{Some, None, unwrap_or, Result, Err, IfErr, IfOk, IfSome, MatchOption}
+use Rattle.std.specs.Prelude.{◌+◌, ◌==◌}
+use Rattle.std.specs.Option.{ok_or}
+use Rattle.std.specs.Result.{result_map_both}
+use Rattle.goblin_base.specs.declared.error.ErrorOf.{ErrorOf}
+use Rattle.goblin_base.specs.declared.error.ErrorOf.TheVariants.{Malformed}
+use Rattle.goblin_base.specs.declared.error.CauseOf.TheVariants.{NameRead, Unmapped}
+use Rattle.goblin_base.specs.Answers.{IsMemory}
+use Rattle.goblin_base.specs.Reading.{Reading}
+use Rattle.goblin_base.specs.Tables.{Format}
+use Rattle.readings.specs.Reads.{given, table, text_within}
+use Rattle.readings.specs.Walks.{GivesNext, table_walk}
+use Rattle.goblin_pe_sect.specs.Addresses.{Addressing, MapOfAddresses, map_of, reads_strictly}
+use Rattle.goblin_pe_import.specs.ImportEntries.{EntryValue, entries_32, entries_64}
+use Rattle.goblin_pe_import.specs.ImportReadings.{import_record_at}
+use Rattle.goblin_pe_import.specs.ImportRecords.{address_table_rva, import_slots, lookup_offset}
+use Rattle.goblin_pe_import.specs.added.ImportWalks.{no_imports, record_index, records_left}
+use Rattle.goblin_pe_import.specs.added.LeftOut.{is_library_left_out}
+use Rattle.goblin_pe_import.specs.declared.import.directory_entry.ImportDirectoryEntry.{ImportDirectoryEntry}
+use Rattle.goblin_pe_import.specs.declared.added.imports.ImportCursor.{ImportCursor}
+use Rattle.goblin_pe_import.specs.declared.added.library_walk.Libraries.{Libraries}
+use Rattle.goblin_pe_import.specs.declared.added.library_walk.WalkedLibrary.{WalkedLibrary}
+
+-- ---- a library
+
+-- the text at the offset of an address, up to a limit, or why there is none
+abbrev pub text_or_cause : Option ℕ → List ℕ → ℕ → Option ℕ → Result (List ℕ) ErrorOf
+text_or_cause longest bytes rva None = Err (Malformed (Unmapped rva))
+text_or_cause longest bytes rva (Some p) =
+    ok_or ((text_within longest p).value bytes) (Malformed (NameRead p))
+
+-- the name at an address, or why there is none, in either mode
+abbrev pub name_or_cause : Addressing → List ℕ → ℕ → Result (List ℕ) ErrorOf
+name_or_cause addressing bytes rva =
+    text_or_cause addressing.longest bytes rva (addressing.offset rva)
+
+-- the cursor before the descriptor at p, in a directory whose first one is at `first`
+abbrev pub at_record : ℕ → ℕ → ImportCursor
+at_record first p = record no_imports { first_record = first; next_record = Some p }
+
+-- A library: the index and the offset of its import descriptor, and the descriptor itself; its
+-- name; whether permissive mode leaves it out of the imports; and the cursor before these.
+pub record LibraryValue : Type 0 where
+  pub index : ℕ
+  pub offset : ℕ
+  pub entry : ImportDirectoryEntry
+  pub name : Result (List ℕ) ErrorOf
+  pub is_left_out : Bool
+  pub cursor : ImportCursor
+
+-- the library of the descriptor at p, in a directory whose first one is at `first`
+abbrev pub library_at : Format EntryValue → Addressing → List ℕ → ℕ → ℕ → ImportDirectoryEntry
+    → LibraryValue
+library_at format addressing bytes first p r = record {
+  index = record_index first p;
+  offset = p;
+  entry = r;
+  name = name_or_cause addressing bytes r.name_rva;
+  is_left_out = is_library_left_out (first == 0) format addressing bytes r;
+  cursor = at_record first p;
+}
+
+-- a library that a walk yields
+abbrev pub library_value : WalkedLibrary → LibraryValue
+library_value x = record {
+  index = x.index;
+  offset = x.offset;
+  entry = x.import_directory_entry;
+  name = result_map_both (λ s. s.now) (λ e. e) x.name;
+  is_left_out = x.is_left_out;
+  cursor = x.cursor;
+}
+
+-- The cursor in a library, from which its imports come, and nothing else. Permissive mode gives none
+-- of a library without an address table.
+abbrev pub inside_library : Bool → Addressing → LibraryValue → ImportCursor
+inside_library strict addressing x =
+    if x.is_left_out && not strict then no_imports
+    else record no_imports {
+      library = x.index;
+      name_rva = x.entry.name_rva;
+      rva = x.entry.import_address_table_rva;
+      table_offset = unwrap_or (lookup_offset addressing x.entry) 0;
+      place = lookup_offset addressing x.entry;
+      untested = Some (address_table_rva x.entry);
+    }
+
+-- ---- all libraries
+
+-- One library for each descriptor of a directory from a place on, before the first that is not in
+-- the file or ends the directory. Strict mode needs that descriptor.
+unfoldable pub libraries_from_record : Bool → Format EntryValue → Addressing → List ℕ → ℕ → ℕ
+    → List (Option LibraryValue)
+libraries_from_record strict format addressing bytes first p =
+    table_walk import_slots strict
+    (λ p r. Some (library_at format addressing bytes first p r) ∷ []) bytes p
+
+-- the libraries from the next descriptor on, if there is one
+unfoldable pub libraries_next : Bool → Format EntryValue → Addressing → List ℕ → ℕ → Option ℕ
+    → List (Option LibraryValue)
+libraries_next strict format addressing bytes first None = []
+libraries_next strict format addressing bytes first (Some p) =
+    libraries_from_record strict format addressing bytes first p
+
+-- the libraries whose descriptors come next at a cursor; a library that the cursor is in has come
+abbrev pub cursor_libraries : MapOfAddresses → Format EntryValue → List ℕ → ImportCursor
+    → List (Option LibraryValue)
+cursor_libraries m format bytes c =
+    libraries_next (reads_strictly m) format m.addressing bytes c.first_record c.next_record
+
+-- The descriptors of a directory from a place on, before the first that is not in the file or ends
+-- the directory. Strict mode needs that descriptor.
+abbrev pub directory_records : Bool → ℕ → Reading (List ImportDirectoryEntry)
+directory_records strict p = table import_slots strict import_record_at (λ r. given (r ∷ [])) p
+
+-- the cause that is true if a refusal is among them: the directory reaches the end of the file
+abbrev pub IsEndCause : Bool → List ℕ → Option ℕ → ErrorOf → Type 0
+IsEndCause strict bytes None e = ⊥
+IsEndCause strict bytes (Some p) e = (directory_records strict p).IsCause bytes e
+
+abbrev pub IsCursorEndCause : MapOfAddresses → List ℕ → ImportCursor → ErrorOf → Type 0
+IsCursorEndCause m bytes c e = IsEndCause (reads_strictly m) bytes c.next_record e
+
+-- ---- the walk
+
+-- entries of four bytes, or of eight
+abbrev pub entries_by : Bool → Format EntryValue
+entries_by is_narrow = if is_narrow then entries_32 else entries_64
+
+abbrev pub libraries_format : Libraries → Format EntryValue
+libraries_format it = entries_by it.is_narrow
+
+abbrev pub libraries_map : Libraries → MapOfAddresses
+libraries_map it = map_of it.finder
+
+abbrev pub libraries_bytes : Libraries → List ℕ
+libraries_bytes it = it.bytes.now
+
+-- the cursor of the walk
+abbrev pub libraries_cursor : Libraries → ImportCursor
+libraries_cursor it = it.at
+
+-- what is still to come
+abbrev pub libraries_left : Libraries → List (Option LibraryValue)
+libraries_left it =
+    cursor_libraries (libraries_map it) (libraries_format it) (libraries_bytes it)
+    (libraries_cursor it)
+
+abbrev pub IsLibrariesCause : Libraries → ErrorOf → Type 0
+IsLibrariesCause it e =
+    IsCursorEndCause (libraries_map it) (libraries_bytes it) (libraries_cursor it) e
+
+-- an upper bound of the number of libraries to come
+abbrev pub libraries_bound : Libraries → ℕ
+libraries_bound it = records_left (libraries_bytes it) (libraries_cursor it).next_record
+
+-- the walk over these bytes, with this map of addresses and such entries
+pub record AreLibrariesOver (m : MapOfAddresses) (format : Format EntryValue) (bytes : List ℕ)
+    (it : Libraries) : Type 0 where
+  pub bytes_are : libraries_bytes it ≡ bytes
+  pub map_is : libraries_map it ≡ m
+  pub format_is : libraries_format it ≡ format
+
+-- It is such a walk, and it is at this cursor.
+abbrev pub AreLibrariesAt : MapOfAddresses → Format EntryValue → List ℕ → ImportCursor → Libraries
+    → Type 0
+AreLibrariesAt m format bytes c it =
+    AreLibrariesOver m format bytes it × (libraries_cursor it ≡ c)
+
+-- the cursor after a library: before the descriptor that follows its own
+abbrev pub after_library : LibraryValue → ImportCursor
+after_library library = at_record library.cursor.first_record (library.offset + 20)
+
+-- If the call gave no library, the walk is at the end.
+abbrev pub AreAtEnd : Option (Result WalkedLibrary ErrorOf) → Libraries → Type 0
+AreAtEnd result it =
+    let c = libraries_cursor it in
+    MatchOption result (c ≡ no_imports) (λ r. IfErr r (λ e. c ≡ no_imports))
+
+-- A call of `next` gives the next library, and the walk is then after it. Or it has ended the walk.
+-- Or it is refused in strict mode, because the directory reaches the end of the file. It keeps the
+-- bytes and the map.
+abbrev pub GivesNextLibrary : Libraries → Option (Result WalkedLibrary ErrorOf) → Libraries → Type 0
+GivesNextLibrary s result t =
+    GivesNext library_value libraries_left IsLibrariesCause s result t
+    × IfSome result (λ r. IfErr r (λ e. ¬ IsMemory e))
+    × AreLibrariesOver (libraries_map s) (libraries_format s) (libraries_bytes s) t
+    × IfSome result (λ r. IfOk r (λ x. libraries_cursor t ≡ after_library (library_value x)))
+    × AreAtEnd result t

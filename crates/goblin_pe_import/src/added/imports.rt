@@ -1,0 +1,801 @@
+//! A walk over all imports of an image.
+
+ghost use Rattle.std.specs.Prelude.{◌≡◌, ◌+◌, ◌-◌, ◌<◌, ◌≤◌, ◌^◌, ◌∷◌, ◌++◌, [], IfErr, IfOk};
+ghost use Rattle.std.specs.Prelude.{IfSome};
+ghost use Rattle.std.specs.Prelude.{MatchOption, MatchResult, None, Some, false, length};
+ghost use Rattle.std.specs.Prelude.{List, option_map, true, ℕ};
+ghost use Rattle.std.specs.Prelude.{IsSome, IsOk, Ok, suc};
+ghost use Rattle.std.specs.Iterator.{UpTo, at_most};
+ghost use Rattle.std.specs.Iterator.SizeHint.{IsWithinCount};
+ghost use Rattle.std.specs.List.{flat_map};
+ghost use Rattle.goblin_base.specs.declared.error.ErrorOf.{ErrorOf};
+ghost use Rattle.goblin_base.specs.Answers.{FirstFault};
+ghost use Rattle.goblin_base.specs.Reading.{IsRefused, Reads};
+ghost use Rattle.readings.specs.Reads.{mapped};
+ghost use Rattle.readings.specs.Walks.{GivesNext, IsWalkOf, Walks, until_refused};
+ghost use Rattle.goblin_pe_sect.specs.Addresses.{map_of, reads_strictly};
+ghost use Rattle.goblin_pe_import.specs.added.ImportCursors.{BeginsAt, before_record, first_import};
+ghost use Rattle.goblin_pe_import.specs.ImportReadings.{indexed_at, numbered_data, numbered_libraries_at};
+ghost use Rattle.goblin_pe_import.specs.Imports.{numbered_imports};
+ghost use Rattle.goblin_pe_import.specs.added.ImportWalks.{GivesImport, GivesLibrary, GivesPlain};
+ghost use Rattle.goblin_pe_import.specs.added.ImportWalks.{HasName, IsCursorCause, IsNamed};
+ghost use Rattle.goblin_pe_import.specs.added.ImportWalks.{IsWalkAt};
+ghost use Rattle.goblin_pe_import.specs.added.ImportWalks.{IsImportsCause, cursor_left, cursor_of};
+ghost use Rattle.goblin_pe_import.specs.added.ImportWalks.{IsLaterCause, IsNamedCause};
+ghost use Rattle.goblin_pe_import.specs.added.ImportWalks.{IsRecordsCause, IsWalkCause, is_skipped};
+ghost use Rattle.goblin_pe_import.specs.added.ImportWalks.{bound_next, imports_bound, imports_map};
+ghost use Rattle.goblin_pe_import.specs.added.ImportWalks.{imports_bytes, imports_from_record};
+ghost use Rattle.goblin_pe_import.specs.added.ImportWalks.{imports_left, kept_import, no_imports};
+ghost use Rattle.goblin_pe_import.specs.KeptEntries.{kept_value};
+ghost use Rattle.goblin_pe_import.specs.added.ImportWalks.{later_items, library_items};
+ghost use Rattle.goblin_pe_import.specs.added.ImportWalks.{library_name, one_if, origin};
+ghost use Rattle.goblin_pe_import.specs.added.ImportWalks.{records_bound};
+ghost use Rattle.goblin_pe_import.specs.added.ImportWalks.{finder_of, plain_at, plain_walk};
+ghost use Rattle.goblin_pe_import.specs.added.ImportWalks.{walk_answer, walk_at};
+ghost use Rattle.goblin_pe_import.specs.added.ImportWalks.{record_index, records_left};
+ghost use Rattle.goblin_pe_import.specs.KeptEntries.{slots_bound};
+ghost use Rattle.goblin_pe_import.specs.added.ImportWalks.{untested_table, walk_bound, walk_left};
+ghost use Rattle.goblin_pe_import.specs.added.ImportWalks.{walked_value};
+ghost use Rattle.goblin_pe_import.specs.ImportRecords.{address_table_rva};
+ghost use Rattle.goblin_pe_import.specs.added.StepsAhead.{EndsWithin, GivesImportWithin};
+ghost use Rattle.goblin_pe_import.specs.Steps.{GivesWithin};
+ghost use Rattle.goblin_pe_import.specs.Steps.{HasNotGrown};
+ghost use Rattle.goblin_pe_import.specs.added.StepsAhead.{HaveRunOut, LooksAt};
+ghost use Rattle.goblin_pe_import.specs.added.StepsAhead.{imports_ahead, later_ahead};
+ghost use Rattle.goblin_pe_import.specs.added.StepsAhead.{record_steps, tested_ahead};
+ghost use Rattle.goblin_pe_import.specs.Steps.{slots_ahead};
+ghost use Rattle.goblin_pe_import.specs.added.StepsAhead.{untested_ahead, walk_ahead};
+
+use crate::added::plain::plain_kept;
+use crate::added::tested::{test_address_table, test_numbers};
+use crate::import::bitfield::Bitfield;
+use crate::import::directory_entry::{ImportDirectoryEntry, SIZEOF_IMPORT_DIRECTORY_ENTRY};
+use crate::import::kept::{KeptEntry, next_kept_within};
+use crate::import::library::{
+    address_table_rva, first_record_offset, library_name, lookup_offset, said_name,
+};
+use crate::import::lookup_table::SyntheticImportLookupTableEntry;
+use crate::import::slots::{may_end, next_record};
+use crate::import::steps::{are_out, spend};
+use goblin_base::{Cause, Error, ResultOf};
+use goblin_pe_sect::address_map::{AddressMap, Finder};
+use goblin_pe_sect::data_directories::DataDirectory;
+use std::fmt;
+use std::iter::FusedIterator;
+use std::marker::PhantomData;
+
+/// An import, as a walk yields it. It takes no memory.
+#[derive(Debug, Clone, Drop)]
+pub struct WalkedImport<'a> {
+    /// The ordinal; or the address of the hint and the name, with the hint and the name.
+    pub entry: SyntheticImportLookupTableEntry<'a>,
+    /// The name of the library. It is empty if permissive mode could not read it.
+    pub dll: &'a str,
+    /// The index of the library's import descriptor in the import directory. Descriptors that are
+    /// left out are counted.
+    pub library: usize,
+    /// The index of the import's entry in the tables of the file: the lookup table and the address
+    /// table. Entries that are left out are counted.
+    pub slot: usize,
+    /// The address of the import's entry in the address table.
+    pub slot_rva: usize,
+    /// The size of an entry of the address table, in bytes.
+    pub size: usize,
+}
+
+/// Where a walk over imports is, in numbers. Together with the bytes and a map of addresses, they
+/// are the whole state of the walk.
+///
+/// Any numbers are safe. They lead to a walk that yields imports, nothing, or an error.
+#[derive(Debug, Copy, Clone, PartialEq, Eq)]
+pub struct ImportCursor {
+    /// The file offset of the directory's first import descriptor. Descriptors are counted from
+    /// there.
+    pub first_record: usize,
+    /// The file offset of the import descriptor after that of the library; `None` at the end.
+    pub next_record: Option<usize>,
+    /// The index of the library's import descriptor.
+    pub library: usize,
+    /// The address of the library's name.
+    pub name_rva: u32,
+    /// The address of the library's address table.
+    pub rva: u32,
+    /// The file offset of the library's lookup table.
+    pub table_offset: usize,
+    /// The file offset of the next slot in that table; `None` between two libraries.
+    pub place: Option<usize>,
+    /// The address of its address table, if that table is yet to be tested after its entries.
+    pub untested: Option<u32>,
+}
+
+impl ImportCursor {
+    /// The cursor at the end: no imports follow.
+    pub fn end() -> ImportCursor
+        ensures { result ≡ no_imports }
+    {
+        ImportCursor {
+            first_record: 0,
+            next_record: None,
+            library: 0,
+            name_rva: 0,
+            rva: 0,
+            table_offset: 0,
+            place: None,
+            untested: None,
+        }
+    }
+
+    /// The cursor before the first import descriptor of a directory, which lies at this file
+    /// offset.
+    pub fn before_record(offset: usize) -> ImportCursor
+        ensures { result ≡ before_record offset }
+    {
+        ImportCursor {
+            first_record: offset,
+            next_record: Some(offset),
+            ..ImportCursor::end()
+        }
+    }
+
+    /// The cursor before the first import of `directory`. In permissive mode it is the cursor at
+    /// the end if the directory's address has no file offset, or leads to file offset 0.
+    ///
+    /// # Errors
+    /// In strict mode [`Error::Malformed`] with [`Cause::Unmapped`] if the directory's address has
+    /// no file offset.
+    pub fn first<'e>(
+        directory: DataDirectory,
+        finder: &mut Finder<'_>,
+    ) -> ResultOf<'e, ImportCursor>
+        ensures first { (bytes : List ℕ) → let m = map_of finder.old in
+            let rva = directory.virtual_address in
+            Reads (λ c. c) result (first_import (reads_strictly m) m.addressing rva) bytes }
+        ensures same { finder.new ≡ finder.old }
+    {
+        let rva = directory.virtual_address;
+        let offset = finder.offset_of(rva);
+        let strictly = finder.reads_strictly();
+        if strictly && offset.is_none() {
+            return Err(Error::Malformed(Cause::Unmapped(rva as usize)));
+        }
+        match first_record_offset(offset, strictly) {
+            Some(offset) => Ok(ImportCursor::before_record(offset)),
+            None => Ok(ImportCursor::end()),
+        }
+    }
+}
+
+// A walk: where it is, and the name of the library there.
+#[derive(Drop)]
+struct Walk<'a, 'm> {
+    bytes: &'a [u8],
+    finder: Finder<'m>,
+    dll: &'a str,
+    at: ImportCursor,
+}
+
+// Tests the address table that is yet to be tested, if there is one, and returns how many slots it
+// looks at. Permissive mode has tested the table before.
+fn test_untested<'a, 'e, T: Bitfield<'a>>(
+    bytes: &'a [u8],
+    untested: Option<u32>,
+    finder: &mut Finder<'_>,
+) -> ResultOf<'e, usize>
+    ensures value { let m = map_of finder.old in
+        Reads (λ _. tt {0}) result
+        (mapped (λ _. tt {0}) (untested_table (reads_strictly m) T.format m.addressing untested))
+        bytes.now }
+    ensures counted { let m = map_of finder.old in
+        IfOk result (λ n.
+        n ≡ untested_ahead (reads_strictly m) T.format m.addressing bytes.now untested) }
+    ensures few { IfOk result (λ n. n ≤ length bytes.now) }
+    ensures strictly { IfErr result (λ e. reads_strictly (map_of finder.old) ≡ true) }
+    ensures there { IfErr result (λ e. 1 ≤ one_if untested) }
+    ensures wide { 1 ≤ T.format.width }
+    ensures same { finder.new ≡ finder.old }
+{
+    let Some(rva) = untested else {
+        return Ok(0);
+    };
+    if !finder.reads_strictly() {
+        return Ok(0);
+    }
+    let Some(offset) = finder.offset_of(rva) else {
+        return Err(Error::Malformed(Cause::Unmapped(rva as usize)));
+    };
+    match test_numbers::<T>(bytes, offset) {
+        (Ok(()), count) => Ok(count),
+        (Err(error), _) => Err(error),
+    }
+}
+
+// Whether the walk skips the library of an import descriptor, as it does in permissive mode if its
+// address table can't be read, and how many slots of that table are looked at. In strict mode:
+// false, and none.
+fn is_skipped<'a, T: Bitfield<'a>>(
+    bytes: &'a [u8],
+    entry: &ImportDirectoryEntry,
+    address_map: &AddressMap,
+) -> (bool, usize)
+    ensures out { let m = map_of address_map.now in
+        result.0 ≡ is_skipped (reads_strictly m) T.format m.addressing bytes.now entry.now }
+    ensures counted { let m = map_of address_map.now in
+        result.1 ≡ tested_ahead (reads_strictly m) T.format m.addressing bytes.now
+        (address_table_rva entry.now) }
+    ensures few { result.1 ≤ length bytes.now }
+{
+    if address_map.reads_strictly() {
+        return (false, 0);
+    }
+    let (tested, count) = test_address_table::<T>(bytes, entry, address_map);
+    (tested.is_err(), count)
+}
+
+// The import of an entry that a lookup table keeps. The library is `dll`, its import descriptor has
+// the index `library`, its address table the address `rva`, and its lookup table lies at
+// `table_offset`.
+#[inline(always)]
+fn import_of<'a, T: Bitfield<'a>>(
+    kept: KeptEntry<'a>,
+    dll: &'a str,
+    library: usize,
+    rva: u32,
+    table_offset: usize,
+) -> WalkedImport<'a>
+    requires { kept.place < 2 ^ 63 }
+    ensures { walked_value result
+        ≡ kept_import T.format.width (origin library dll.now) rva table_offset
+        (kept_value kept.entry) }
+{
+    let KeptEntry { slot, place, entry } = kept;
+    let size = T::size_of();
+    WalkedImport {
+        entry,
+        dll,
+        library,
+        slot,
+        slot_rva: rva as usize + place.saturating_sub(table_offset),
+        size,
+    }
+}
+
+// The index of the import descriptor at `offset` in a directory whose first one lies at `first`.
+pub(super) fn record_index(first: usize, offset: usize) -> usize
+    ensures { result ≡ record_index first offset }
+{
+    offset.saturating_sub(first) / SIZEOF_IMPORT_DIRECTORY_ENTRY
+}
+
+// An upper bound of the number of entries from the slot at `place` on.
+fn slots_bound(bytes: &[u8], place: Option<usize>) -> usize
+    ensures value { result ≡ slots_bound bytes.now place }
+    ensures low { result < 2 ^ 63 + 1 }
+{
+    match place {
+        Some(place) => bytes.len().saturating_sub(place) + 1,
+        None => 0,
+    }
+}
+
+// An upper bound of the number of imports from the descriptor at `offset` on, if it fits.
+fn records_bound(bytes: &[u8], offset: usize) -> Option<usize>
+    ensures value { IfSome result (λ n. n ≡ records_bound bytes.now offset) }
+    ensures fits { records_bound bytes.now offset < 2 ^ 64 → IsSome result }
+{
+    let records = bytes.len().saturating_sub(offset) + 1;
+    (bytes.len() + 2).checked_mul(records)
+}
+
+// An upper bound of the number of imports from the next descriptor on, if it fits.
+fn bound_next(bytes: &[u8], next: Option<usize>) -> Option<usize>
+    ensures value { IfSome result (λ n. n ≡ bound_next bytes.now next) }
+    ensures fits { bound_next bytes.now next < 2 ^ 64 → IsSome result }
+{
+    match next {
+        Some(offset) => records_bound(bytes, offset),
+        None => Some(0),
+    }
+}
+
+impl<'a, 'm> Walk<'a, 'm> {
+    fn end(&mut self)
+        ensures bytes { self.new.bytes.now ≡ self.old.bytes.now }
+        ensures finder { self.new.finder ≡ self.old.finder }
+        ensures at { self.new.at ≡ no_imports }
+    {
+        self.at = ImportCursor::end();
+    }
+
+    // Moves the walk to the library of `entry`, the import descriptor at `offset`. The descriptors
+    // after it begin at `next`. Returns how many steps this takes.
+    #[inline(always)]
+    fn enter<'e, T: Bitfield<'a>>(
+        &mut self,
+        entry: &ImportDirectoryEntry,
+        offset: usize,
+        next: usize,
+    ) -> ResultOf<'e, usize>
+        ensures gives { let m = map_of self.old.finder in
+            let strict = reads_strictly m in
+            let bytes = self.old.bytes.now in
+            let first = self.old.at.first_record in
+            let name = library_name strict m.addressing entry.now in
+            let index = record_index first offset in
+            let items = library_items strict T.format m.addressing bytes index entry.now in
+            MatchResult (walk_answer self.new result)
+            (λ t.
+            (walk_left T.format t
+            ≡ until_refused
+            (items ++ imports_from_record strict T.format m.addressing bytes first next))
+            × ((e : ErrorOf) → IsWalkCause T.format t e
+            → (strict ≡ true)
+            × FirstFault (name.value bytes) (name.IsCause bytes)
+            (λ _. IsNamedCause strict T.format m.addressing bytes entry.now
+            (IsRecordsCause strict T.format m.addressing bytes next)) e))
+            (λ e. (items ≡ None ∷ [])
+            × (strict ≡ true) × IsRefused name bytes e) }
+        ensures named { IfOk (walk_answer self.new result) IsNamed }
+        ensures bytes { self.new.bytes.now ≡ self.old.bytes.now }
+        ensures finder { self.new.finder ≡ self.old.finder }
+        ensures next { IfOk (walk_answer self.new result) (λ t. t.at.next_record ≡ Some next) }
+        ensures counted { let m = map_of self.old.finder in
+            let strict = reads_strictly m in
+            let bytes = self.old.bytes.now in
+            IfOk result (λ n.
+            n + slots_ahead T.format bytes self.new.at.place
+            + untested_ahead strict T.format m.addressing bytes self.new.at.untested
+            ≡ record_steps strict T.format m.addressing bytes entry.now) }
+        ensures looked { let m = map_of self.old.finder in
+            IfOk result (λ n. n ≡ 1 + tested_ahead (reads_strictly m) T.format m.addressing
+            self.old.bytes.now (address_table_rva entry.now)) }
+        ensures few { IfOk result (λ n. n ≤ length self.old.bytes.now + 1) }
+    {
+        let (is_out, tested) = is_skipped::<T>(self.bytes, entry, self.finder.address_map());
+        if is_out {
+            self.at.next_record = Some(next);
+            self.at.place = None;
+            self.at.untested = None;
+            return Ok(tested + 1);
+        }
+        let first_record = self.at.first_record;
+        self.dll = library_name(self.bytes, entry.name_rva, &mut self.finder)?;
+        let place = lookup_offset(entry, &mut self.finder);
+        self.at = ImportCursor {
+            first_record,
+            next_record: Some(next),
+            library: record_index(first_record, offset),
+            name_rva: entry.name_rva,
+            rva: entry.import_address_table_rva,
+            table_offset: place.unwrap_or(0),
+            place,
+            untested: Some(address_table_rva(entry)),
+        };
+        Ok(tested + 1)
+    }
+
+    // Moves the walk to the next library, once it has yielded the entries of this one. Returns how
+    // many steps this takes. If there is no other library, it returns `None`, and sets `last` to
+    // the number of steps.
+    #[inline(always)]
+    fn next_library<'e, T: Bitfield<'a>>(&mut self, last: &mut usize) -> Option<ResultOf<'e, usize>>
+        ensures gives { let m = map_of self.old.finder in
+            let bytes = self.old.bytes.now in
+            let c = self.old.at in
+            GivesLibrary (walk_left T.format) (IsWalkCause T.format)
+            (later_items (reads_strictly m) T.format m.addressing bytes c.untested c.first_record
+            c.next_record)
+            (λ e. (reads_strictly m ≡ true)
+            × IsLaterCause (reads_strictly m) T.format m.addressing bytes
+            c.untested c.next_record e) (option_map (walk_answer self.new) result) }
+        ensures named { IfSome (option_map (walk_answer self.new) result) (λ r. IfOk r IsNamed) }
+        ensures bytes { self.new.bytes.now ≡ self.old.bytes.now }
+        ensures finder { self.new.finder ≡ self.old.finder }
+        ensures nearer { let bytes = self.old.bytes.now in
+            IfSome (option_map (walk_answer self.new) result) (λ r. IfOk r (λ t.
+            records_left bytes t.at.next_record < records_left bytes self.old.at.next_record)) }
+        ensures bound { IfSome (option_map (walk_answer self.new) result) (λ r. IfOk r (λ t.
+            walk_bound t ≤ bound_next self.old.bytes.now self.old.at.next_record)) }
+        ensures there { let c = self.old.at in
+            IfSome result (λ r. IfErr r (λ e.
+            1 ≤ one_if c.untested + bound_next self.old.bytes.now c.next_record)) }
+        ensures counted { let m = map_of self.old.finder in
+            let bytes = self.old.bytes.now in
+            let c = self.old.at in
+            let before =
+            later_ahead (reads_strictly m) T.format m.addressing bytes c.untested c.next_record in
+            MatchOption result ((last.new ≡ before) × (last.new ≤ length bytes)) (λ r. IfOk r (λ n.
+            (n + walk_ahead T.format self.new ≡ before) × (n ≤ length bytes + 1))) }
+    {
+        let tested = match test_untested::<T>(self.bytes, self.at.untested, &mut self.finder) {
+            Ok(tested) => tested,
+            Err(error) => return Some(Err(error)),
+        };
+        let Some(offset) = self.at.next_record else {
+            *last = tested;
+            return None;
+        };
+        let size = SIZEOF_IMPORT_DIRECTORY_ENTRY;
+        let Some(record) = next_record(self.bytes, offset) else {
+            if may_end(self.bytes, offset, size, self.finder.reads_strictly()) {
+                *last = tested;
+                return None;
+            }
+            return Some(Err(Error::Malformed(Cause::ImportRecordEnd(offset))));
+        };
+        match self.enter::<T>(&record, offset, offset + size) {
+            Ok(entered) => Some(Ok(tested + entered)),
+            Err(error) => Some(Err(error)),
+        }
+    }
+
+    // An upper bound of the number of imports to come, if it fits.
+    fn bound(&self) -> Option<usize>
+        ensures value { IfSome result (λ n. n ≡ walk_bound self.now) }
+        ensures fits { walk_bound self.now < 2 ^ 64 → IsSome result }
+    {
+        let untested = usize::from(self.at.untested.is_some());
+        let slots = slots_bound(self.bytes, self.at.place) + untested;
+        slots.checked_add(bound_next(self.bytes, self.at.next_record)?)
+    }
+
+    // The import in the slot at `place` of the library that the walk is in, if it is plain. `None`
+    // says nothing about the slot.
+    #[inline(always)]
+    fn plain_import<T: Bitfield<'a>>(&self, place: usize) -> Option<WalkedImport<'a>>
+        ensures steps { IfSome result (λ import. GivesNext walked_value (walk_left T.format)
+            (IsWalkCause T.format) (walk_at self.now place) (Some (Ok import))
+            (walk_at self.now (place + T.format.width))) }
+        ensures inside { IfSome result (λ _. place + T.format.width ≤ length self.now.bytes.now) }
+        ensures short { IfSome result (λ _. place + T.format.width < 2 ^ 63) }
+        ensures counted { IfSome result (λ _. walk_ahead T.format (walk_at self.now place)
+            ≡ suc (walk_ahead T.format (walk_at self.now (place + T.format.width)))) }
+    {
+        let ImportCursor {
+            library,
+            rva,
+            table_offset,
+            ..
+        } = self.at;
+        let Some(kept) = plain_kept::<T>(self.bytes, table_offset, place, &self.finder) else {
+            return None;
+        };
+        Some(import_of::<T>(kept, self.dll, library, rva, table_offset))
+    }
+
+    // A copy of the walk.
+    fn again(&self) -> Walk<'a, 'm>
+        ensures { result ≡ self.now }
+    {
+        Walk {
+            bytes: self.bytes,
+            finder: self.finder.again(),
+            dll: self.dll,
+            at: self.at,
+        }
+    }
+
+    // The next import within a budget of steps. Each step looks at a slot or an import descriptor.
+    // `None` means that the walk is at its end, if its cursor is, or else that the budget has run
+    // out.
+    #[inline(always)]
+    #[tactic(auto, using(crate::proofs::added::StepsAhead::grown_then, crate::proofs::SlotSteps::grown_spent))]
+    fn next_within<'e, T: Bitfield<'a>>(
+        &mut self,
+        steps: &mut Option<usize>,
+    ) -> Option<ResultOf<'e, WalkedImport<'a>>>
+        ensures steps { GivesWithin walked_value (walk_left T.format) (IsWalkCause T.format)
+            self.old result self.new }
+        ensures named { IsNamed self.old → IsNamed self.new }
+        ensures bytes { self.new.bytes.now ≡ self.old.bytes.now }
+        ensures finder { self.new.finder ≡ self.old.finder }
+        ensures fewer { IfSome result (λ r. walk_bound self.new < walk_bound self.old) }
+        ensures spent { HasNotGrown steps.old steps.new }
+        ensures looked { LooksAt (length self.old.bytes.now) result steps.old steps.new
+            (walk_ahead T.format self.old) (walk_ahead T.format self.new) }
+        ensures ended { EndsWithin result self.new.at
+            (HaveRunOut (length self.old.bytes.now) steps.old steps.new
+            (walk_ahead T.format self.old) (walk_ahead T.format self.new)) }
+    {
+        'libraries: loop {
+            let ImportCursor {
+                library,
+                rva,
+                table_offset,
+                mut place,
+                ..
+            } = self.at;
+            match next_kept_within::<T>(
+                self.bytes,
+                table_offset,
+                &mut place,
+                &mut self.finder,
+                steps,
+            ) {
+                Some(Ok(kept)) => {
+                    self.at.place = place;
+                    let import = import_of::<T>(kept, self.dll, library, rva, table_offset);
+                    return Some(Ok(import));
+                }
+                Some(Err(error)) => {
+                    self.end();
+                    return Some(Err(error));
+                }
+                None => self.at.place = place,
+            }
+            if are_out(steps) {
+                return None;
+            }
+            let mut last = 0;
+            match self.next_library::<T>(&mut last) {
+                Some(Ok(count)) => spend(steps, count),
+                Some(Err(error)) => {
+                    self.end();
+                    return Some(Err(error));
+                }
+                None => {
+                    spend(steps, last);
+                    self.end();
+                    return None;
+                }
+            }
+        }
+    }
+}
+
+/// A walk over the imports of an image, library by library and entry by entry. It takes no memory.
+///
+/// In strict mode, if the import data is refused, the walk yields the imports that come before the
+/// damage, then one error, and ends. In permissive mode it yields no error: it leaves out what
+/// can't be read, as [`ImportData::parse_by`](crate::import::ImportData::parse_by) does.
+#[derive(Drop)]
+pub struct Imports<'a, 'm, 'e, T> {
+    walk: Walk<'a, 'm>,
+    items: PhantomData<ResultOf<'e, T>>,
+}
+
+impl<'a, 'm, 'e, T: Bitfield<'a>> Imports<'a, 'm, 'e, T> {
+    /// A walk over the imports of `directory`, whose tables have entries of type `T`. It yields the
+    /// imports that [`ImportData::parse_by`](crate::import::ImportData::parse_by) lists.
+    ///
+    /// # Errors
+    /// In strict mode [`Error::Malformed`] with [`Cause::Unmapped`] if the directory's address has
+    /// no file offset.
+    #[inline(always)]
+    #[tactic(auto, unfolding(crate::specs::ImportReadings::numbered_data, crate::specs::added::ImportWalks::imports_next))]
+    pub fn of(
+        bytes: &'a [u8],
+        directory: DataDirectory,
+        address_map: &'m AddressMap,
+    ) -> ResultOf<'e, Imports<'a, 'm, 'e, T>>
+        ensures walks { let m = map_of address_map.now in
+            let rva = directory.virtual_address in
+            Walks (imports_left T.format) (IsImportsCause T.format) (λ xs. xs) result
+            (mapped (flat_map (numbered_imports T.format.width))
+            (numbered_data (reads_strictly m) T.format m.addressing rva))
+            bytes.now }
+        ensures begins { let m = map_of address_map.now in
+            let rva = directory.virtual_address in
+            BeginsAt m bytes.now (first_import (reads_strictly m) m.addressing rva) result }
+        ensures permissive { reads_strictly (map_of address_map.now) ≡ false → IsOk result }
+    {
+        let rva = directory.virtual_address;
+        let strictly = address_map.reads_strictly();
+        let mut finder = Finder::of(address_map);
+        let Some(offset) = first_record_offset(finder.offset_of(rva), strictly) else {
+            if strictly {
+                return Err(Error::Malformed(Cause::Unmapped(rva as usize)));
+            }
+            return Ok(Imports::between(bytes, ImportCursor::end(), finder));
+        };
+        Ok(Imports::at(bytes, offset, finder))
+    }
+
+    /// A walk over the imports of the directory at the file offset `offset`.
+    pub fn at(bytes: &'a [u8], offset: usize, finder: Finder<'m>) -> Imports<'a, 'm, 'e, T>
+        ensures walks { let m = map_of finder.entry in
+            let libraries =
+            numbered_libraries_at (reads_strictly m) T.format m.addressing offset in
+            IsWalkOf (λ xs. xs)
+            (mapped (flat_map (numbered_imports T.format.width)) libraries) bytes.now
+            (imports_left T.format result) (IsImportsCause T.format result) }
+        ensures begins { IsWalkAt (map_of finder.entry) bytes.now (before_record offset) result }
+        ensures counted { let m = map_of finder.entry in
+            let both = indexed_at (reads_strictly m) T.format m.addressing offset in
+            IfSome (both.value bytes.now) (λ x. length x.1 ≡ length x.0) }
+    {
+        Imports::between(bytes, ImportCursor::before_record(offset), finder)
+    }
+
+    // The walk at a cursor between two libraries.
+    #[inline(always)]
+    fn between(bytes: &'a [u8], at: ImportCursor, finder: Finder<'m>) -> Imports<'a, 'm, 'e, T>
+        requires { at.place ≡ None }
+        ensures at { IsWalkAt (map_of finder.entry) bytes.now at result }
+        ensures none { result.walk.dll.now ≡ [] }
+        ensures wide { 1 ≤ T.format.width }
+    {
+        let dll = "";
+        Imports {
+            walk: Walk {
+                bytes,
+                finder,
+                dll,
+                at,
+            },
+            items: PhantomData,
+        }
+    }
+
+    // The walk at a cursor.
+    #[inline(always)]
+    fn walk_of(bytes: &'a [u8], at: ImportCursor, finder: Finder<'m>) -> Imports<'a, 'm, 'e, T>
+        ensures { IsWalkAt (map_of finder.entry) bytes.now at result }
+    {
+        let dll = "";
+        let mut walk = Walk {
+            bytes,
+            finder,
+            dll,
+            at,
+        };
+        if at.place.is_some() {
+            walk.dll = said_name(bytes, at.name_rva, &mut walk.finder);
+        }
+        Imports {
+            walk,
+            items: PhantomData,
+        }
+    }
+
+    /// The walk from a cursor on. At a cursor that [`Imports::cursor`] returned, it yields what
+    /// that walk had yet to yield. Any other cursor is safe, too.
+    #[inline(always)]
+    pub fn at_cursor(
+        bytes: &'a [u8],
+        at: ImportCursor,
+        finder: Finder<'m>,
+    ) -> Imports<'a, 'm, 'e, T>
+        ensures at { IsWalkAt (map_of finder.entry) bytes.now at result }
+        ensures left { imports_left T.format result
+            ≡ cursor_left (map_of finder.entry) T.format bytes.now at }
+        ensures cause { (e : ErrorOf) → IsImportsCause T.format result e
+            → IsCursorCause (map_of finder.entry) T.format bytes.now at e }
+    {
+        Imports::walk_of(bytes, at, finder)
+    }
+
+    /// Where the walk is. A walk at this cursor yields what this one has yet to yield.
+    pub fn cursor(&self) -> ImportCursor
+        ensures left { HasName self.now → imports_left T.format self.now
+            ≡ cursor_left (imports_map self.now) T.format (imports_bytes self.now) result }
+        ensures is { result ≡ cursor_of self.now }
+    {
+        self.walk.at
+    }
+
+    /// A faster walk over the next imports, as long as they are plain. `None` if this walk is in no
+    /// library. [`Imports::go_on`] moves this walk past those that came.
+    #[inline(always)]
+    pub fn plain(&self) -> Option<PlainImports<'a, 'm, 'e, T>>
+        ensures begins { IfSome result (λ plain. plain_at plain ≡ self.now) }
+        ensures same { IfSome result (λ plain. plain_walk plain ≡ self.now) }
+        ensures none { result ≡ None → (cursor_of self.now).place ≡ None }
+    {
+        let Some(place) = self.walk.at.place else {
+            return None;
+        };
+        let imports = Imports {
+            walk: self.walk.again(),
+            items: PhantomData,
+        };
+        Some(PlainImports { imports, place })
+    }
+
+    /// The next import within a budget of steps. `steps` is the budget, from which the call takes
+    /// what it spends. Each step looks at one slot of a table or one import descriptor of the
+    /// directory, whether or not that gives an import.
+    ///
+    /// `None` means one of two things. If the [`cursor`](Imports::cursor) is at the end, so is the
+    /// walk. Else the budget has run out; call again with a new one to go on.
+    ///
+    /// The slots of an address table are looked at in one go, so the last such table may take more
+    /// steps than are left.
+    #[inline(always)]
+    pub fn next_within(
+        &mut self,
+        steps: &mut Option<usize>,
+    ) -> Option<ResultOf<'e, WalkedImport<'a>>>
+        ensures { GivesImportWithin T.format self.old steps.old result self.new steps.new }
+    {
+        self.walk.next_within::<T>(steps)
+    }
+
+    /// A copy of the walk's finder of file offsets, with the addresses that it has at hand.
+    #[inline(always)]
+    pub fn finder(&self) -> Finder<'m>
+        ensures { result ≡ finder_of self.now }
+    {
+        self.walk.finder.again()
+    }
+
+    /// Moves the walk past the imports that `plain` has yielded. `plain` must come from this walk
+    /// as it is now.
+    #[inline(always)]
+    pub fn go_on(&mut self, plain: &PlainImports<'a, 'm, 'e, T>)
+        requires { plain_walk plain.now ≡ self.old }
+        ensures { self.new ≡ plain_at plain.now }
+    {
+        self.walk.at.place = Some(plain.place);
+    }
+}
+
+impl<'a, 'm, 'e, T: Bitfield<'a>> Iterator for Imports<'a, 'm, 'e, T> {
+    type Item = ResultOf<'e, WalkedImport<'a>>;
+
+    ghost next_gives = { GivesImport T.format };
+
+    ghost remaining = { λ it. at_most (imports_bound it) };
+
+    #[inline(always)]
+    fn next(&mut self) -> Option<ResultOf<'e, WalkedImport<'a>>> {
+        self.walk.next_within::<T>(&mut None)
+    }
+
+    fn size_hint(&self) -> (usize, Option<usize>)
+        ensures lower { IsWithinCount result.0 (at_most (imports_bound self.now)) }
+        ensures upper { IfSome result.1 (UpTo (at_most (imports_bound self.now))) }
+        ensures fits { imports_bound self.now < 2 ^ 64 → IsSome result.1 }
+        ensures least { result.0 ≡ 0 }
+        ensures most { IfSome result.1 (λ n. n ≡ imports_bound self.now) }
+    {
+        (0, self.walk.bound())
+    }
+}
+
+impl<'a, 'm, 'e, T: Bitfield<'a>> FusedIterator for Imports<'a, 'm, 'e, T> {}
+
+/// A faster walk over the next imports of a library, as long as they are plain: by ordinal, or by a
+/// name that is ASCII and lies near those before it.
+///
+/// Nearly all imports are plain. All others are left to `next` of [`Imports`]. Every call in a step
+/// is inlined, so a loop over this walk keeps its values in registers.
+#[derive(Drop)]
+pub struct PlainImports<'a, 'm, 'e, T> {
+    // The walk as it was.
+    imports: Imports<'a, 'm, 'e, T>,
+    // The file offset of the next slot.
+    place: usize,
+}
+
+impl<'a, 'm, 'e, T: Bitfield<'a>> PlainImports<'a, 'm, 'e, T> {
+    /// The next import, if it is plain. `None` says nothing about what comes next: call `next` of
+    /// [`Imports`].
+    #[inline(always)]
+    pub fn next_import(&mut self) -> Option<WalkedImport<'a>>
+        ensures gives { GivesPlain T.format self.old result self.new }
+        ensures counted { IfSome result (λ _. imports_ahead T.format (plain_at self.old)
+            ≡ suc (imports_ahead T.format (plain_at self.new))) }
+    {
+        let Some(import) = self.imports.walk.plain_import::<T>(self.place) else {
+            return None;
+        };
+        self.place += T::size_of();
+        Some(import)
+    }
+}
+
+impl<'a, 'm, 'e, T: Bitfield<'a>> fmt::Debug for Imports<'a, 'm, 'e, T> {
+    fn fmt<W: fmt::Write>(&self, f: &mut fmt::Formatter<W>) -> fmt::Result {
+        f.debug_struct("Imports")
+            .field("cursor", &self.walk.at)
+            .finish_non_exhaustive()
+    }
+}
+
+impl<'a, 'm, 'e, T: Bitfield<'a>> fmt::Debug for PlainImports<'a, 'm, 'e, T> {
+    fn fmt<W: fmt::Write>(&self, f: &mut fmt::Formatter<W>) -> fmt::Result {
+        f.debug_struct("PlainImports")
+            .field("place", &self.place)
+            .finish_non_exhaustive()
+    }
+}

@@ -1,0 +1,257 @@
+//! A walk over the libraries of an image, one for each import descriptor.
+
+ghost use Rattle.std.specs.Prelude.{◌≡◌, ◌<◌, IfErr, IfOk, IfSome, List, Some, ℕ};
+ghost use Rattle.std.specs.Iterator.{UpTo, at_most};
+ghost use Rattle.std.specs.Iterator.SizeHint.{IsWithinCount};
+ghost use Rattle.std.specs.Result.{result_map_both};
+ghost use Rattle.goblin_base.specs.Answers.{IsMemory};
+ghost use Rattle.goblin_base.specs.Tables.{Format};
+ghost use Rattle.readings.specs.Walks.{GivesNext};
+ghost use Rattle.goblin_pe_sect.specs.Addresses.{MapOfAddresses, map_of};
+ghost use Rattle.goblin_pe_sect.specs.Addresses.{reads_strictly};
+ghost use Rattle.goblin_pe_import.specs.ImportEntries.{EntryValue};
+ghost use Rattle.goblin_pe_import.specs.added.ImportWalks.{cursor_left, imports_from_record};
+ghost use Rattle.goblin_pe_import.specs.added.Libraries.{AreAtEnd, AreLibrariesAt};
+ghost use Rattle.goblin_pe_import.specs.added.Libraries.{AreLibrariesOver};
+ghost use Rattle.goblin_pe_import.specs.added.Libraries.{GivesNextLibrary, IsLibrariesCause};
+ghost use Rattle.goblin_pe_import.specs.added.Libraries.{at_record};
+ghost use Rattle.goblin_pe_import.specs.added.Libraries.{after_library};
+ghost use Rattle.goblin_pe_import.specs.added.Libraries.{cursor_libraries, entries_by};
+ghost use Rattle.goblin_pe_import.specs.added.Libraries.{inside_library};
+ghost use Rattle.goblin_pe_import.specs.added.Libraries.{libraries_bound, libraries_bytes};
+ghost use Rattle.goblin_pe_import.specs.added.Libraries.{libraries_cursor, libraries_format};
+ghost use Rattle.goblin_pe_import.specs.added.Libraries.{libraries_left, libraries_map, library_at};
+ghost use Rattle.goblin_pe_import.specs.added.Libraries.{library_value, name_or_cause};
+
+use crate::added::imports::{ImportCursor, record_index};
+use crate::added::left_out::leads_to_none;
+use crate::import::directory_entry::{ImportDirectoryEntry, SIZEOF_IMPORT_DIRECTORY_ENTRY};
+use crate::import::library::{address_table_rva, lookup_offset};
+use crate::import::slots::{may_end, next_record};
+use goblin_base::{Cause, Error, Result, pread_str_within};
+use goblin_pe_sect::address_map::Finder;
+use std::fmt;
+use std::iter::FusedIterator;
+
+/// A library, as a walk yields it: its import descriptor, and what the walk can say without listing
+/// its imports.
+///
+/// Source: PE Format, "Import Directory Table".
+#[derive(Debug, Drop)]
+pub struct WalkedLibrary<'a> {
+    /// The import descriptor of the library.
+    pub import_directory_entry: ImportDirectoryEntry,
+    /// The index of the import descriptor in the directory.
+    pub index: usize,
+    /// The file offset of the import descriptor.
+    pub offset: usize,
+    /// The name of the library. If none can be read, it is an error in either mode:
+    /// [`Error::Malformed`] with [`Cause::Unmapped`] if the address of the name has no file offset,
+    /// and with [`Cause::NameRead`] if there is no text.
+    pub name: Result<&'a str>,
+    /// Whether permissive mode leaves the library out of the imports: its address table cannot be
+    /// read, or the directory lies at file offset 0. Strict mode yields the imports of the library,
+    /// and then refuses it if its address table cannot be read.
+    pub is_left_out: bool,
+    /// The cursor before the imports of the library.
+    pub cursor: ImportCursor,
+}
+
+// The name at an address, or why there is none.
+fn name_or_cause<'a>(bytes: &'a [u8], rva: u32, finder: &mut Finder<'_>) -> Result<&'a str>
+    ensures value { result_map_both (λ s. s.now) (λ e. e) result
+        ≡ name_or_cause (map_of finder.old).addressing bytes.now rva }
+    ensures same { finder.new ≡ finder.old }
+{
+    let Some(offset) = finder.offset_of_name(rva) else {
+        return Err(Error::Malformed(Cause::Unmapped(rva as usize)));
+    };
+    match pread_str_within(bytes, offset, finder.longest_name()) {
+        Ok(name) => Ok(name),
+        Err(_) => Err(Error::Malformed(Cause::NameRead(offset))),
+    }
+}
+
+impl ImportCursor {
+    /// The cursor before the import descriptor at the file offset `offset`, in a directory whose
+    /// first descriptor lies at the file offset `first`. A walk over imports from this cursor on
+    /// yields the imports of that library, and then those of the later ones.
+    pub fn at_record(first: usize, offset: usize) -> ImportCursor
+        ensures is { result ≡ at_record first offset }
+        ensures left { (m : MapOfAddresses) (format : Format EntryValue) (bytes : List ℕ)
+            → cursor_left m format bytes result
+            ≡ imports_from_record (reads_strictly m) format m.addressing bytes first offset }
+    {
+        ImportCursor {
+            first_record: first,
+            next_record: Some(offset),
+            ..ImportCursor::end()
+        }
+    }
+}
+
+impl WalkedLibrary<'_> {
+    /// The cursor in this library. A walk over imports from there yields the imports of this
+    /// library, and ends. In permissive mode it yields none if the library is left out.
+    ///
+    /// The walk does not need the name. If it can't be read, the imports have an empty one, also in
+    /// strict mode.
+    pub fn inside(&self, finder: &mut Finder<'_>) -> ImportCursor
+        ensures is { let m = map_of finder.old in
+            result ≡ inside_library (reads_strictly m) m.addressing (library_value self.now) }
+        ensures same { finder.new ≡ finder.old }
+    {
+        if self.is_left_out && !finder.reads_strictly() {
+            return ImportCursor::end();
+        }
+        let entry = &self.import_directory_entry;
+        let place = lookup_offset(entry, finder);
+        ImportCursor {
+            library: self.index,
+            name_rva: entry.name_rva,
+            rva: entry.import_address_table_rva,
+            table_offset: place.unwrap_or(0),
+            place,
+            untested: Some(address_table_rva(entry)),
+            ..ImportCursor::end()
+        }
+    }
+}
+
+/// A walk over the libraries that an image imports from, in the order of their import descriptors.
+/// It takes no memory. It yields one library for each descriptor before the first one whose name or
+/// address table is at address 0. One library may have several descriptors.
+///
+/// The walk also yields the libraries whose address table cannot be read, which permissive mode
+/// leaves out of the imports; their [`is_left_out`](WalkedLibrary::is_left_out) is true. In strict
+/// mode, if the directory reaches the end of the file, the walk ends with one error. In permissive
+/// mode it yields no error.
+#[derive(Drop)]
+pub struct Libraries<'a, 'm> {
+    bytes: &'a [u8],
+    finder: Finder<'m>,
+    // Whether the tables have entries of four bytes, not of eight.
+    is_narrow: bool,
+    at: ImportCursor,
+}
+
+impl<'a, 'm> Libraries<'a, 'm> {
+    /// A walk over the libraries whose import descriptors come next at a cursor. The cursor comes
+    /// from [`ImportCursor::first`], from [`Libraries::cursor`], or from a walk over imports. If it
+    /// lies in a library, that library does not come again. The tables of the libraries have
+    /// entries of four bytes if `is_narrow`, else of eight.
+    pub fn at_cursor(
+        bytes: &'a [u8],
+        at: ImportCursor,
+        is_narrow: bool,
+        finder: Finder<'m>,
+    ) -> Libraries<'a, 'm>
+        ensures { AreLibrariesAt (map_of finder.entry) (entries_by is_narrow) bytes.now at result }
+    {
+        Libraries {
+            bytes,
+            finder,
+            is_narrow,
+            at,
+        }
+    }
+
+    /// Where the walk is: before the import descriptor that comes next. A walk over imports from
+    /// this cursor on begins with the imports of that library. One exception: until this walk has
+    /// yielded something, its cursor is the one that it was made from, which may lie in an earlier
+    /// library. At the end, and after an error, it is [`ImportCursor::end`].
+    pub fn cursor(&self) -> ImportCursor
+        ensures is { result ≡ libraries_cursor self.now }
+        ensures left { libraries_left self.now
+            ≡ cursor_libraries (libraries_map self.now) (libraries_format self.now)
+            (libraries_bytes self.now) result }
+    {
+        self.at
+    }
+
+    // The library of the import descriptor at an offset.
+    fn library_at(&mut self, offset: usize, entry: ImportDirectoryEntry) -> WalkedLibrary<'a>
+        ensures value { let m = libraries_map self.old in
+            library_value result
+            ≡ library_at (libraries_format self.old) m.addressing (libraries_bytes self.old)
+            (libraries_cursor self.old).first_record offset entry }
+        ensures same { self.new ≡ self.old }
+    {
+        let first = self.at.first_record;
+        let is_none = if self.is_narrow {
+            leads_to_none::<u32>(self.bytes, &entry, self.finder.address_map())
+        } else {
+            leads_to_none::<u64>(self.bytes, &entry, self.finder.address_map())
+        };
+        WalkedLibrary {
+            import_directory_entry: entry,
+            index: record_index(first, offset),
+            offset,
+            name: name_or_cause(self.bytes, entry.name_rva, &mut self.finder),
+            is_left_out: is_none || first == 0,
+            cursor: ImportCursor::at_record(first, offset),
+        }
+    }
+
+    fn next_library(&mut self) -> Option<Result<WalkedLibrary<'a>>>
+        ensures gives { GivesNext library_value libraries_left IsLibrariesCause self.old result self.new }
+        ensures refused { IfSome result (λ r. IfErr r (λ e. ¬ IsMemory e)) }
+        ensures over { AreLibrariesOver (libraries_map self.old) (libraries_format self.old)
+            (libraries_bytes self.old) self.new }
+        ensures after { IfSome result
+            (λ r. IfOk r (λ x. libraries_cursor self.new ≡ after_library (library_value x))) }
+        ensures ended { AreAtEnd result self.new }
+        ensures fewer { IfSome result (λ r. libraries_bound self.new < libraries_bound self.old) }
+    {
+        let Some(offset) = self.at.next_record else {
+            self.at = ImportCursor::end();
+            return None;
+        };
+        let Some(record) = next_record(self.bytes, offset) else {
+            self.at = ImportCursor::end();
+            let size = SIZEOF_IMPORT_DIRECTORY_ENTRY;
+            if may_end(self.bytes, offset, size, self.finder.reads_strictly()) {
+                return None;
+            }
+            return Some(Err(Error::Malformed(Cause::ImportRecordEnd(offset))));
+        };
+        let library = self.library_at(offset, record);
+        let next = offset + SIZEOF_IMPORT_DIRECTORY_ENTRY;
+        self.at = ImportCursor::at_record(self.at.first_record, next);
+        Some(Ok(library))
+    }
+}
+
+impl<'a, 'm> Iterator for Libraries<'a, 'm> {
+    type Item = Result<WalkedLibrary<'a>>;
+
+    ghost next_gives = { GivesNextLibrary };
+
+    ghost remaining = { λ it. at_most (libraries_bound it) };
+
+    fn next(&mut self) -> Option<Result<WalkedLibrary<'a>>> {
+        self.next_library()
+    }
+
+    fn size_hint(&self) -> (usize, Option<usize>)
+        ensures lower { IsWithinCount result.0 (at_most (libraries_bound self.now)) }
+        ensures upper { IfSome result.1 (UpTo (at_most (libraries_bound self.now))) }
+        ensures value { result ≡ (0, Some (libraries_bound self.now)) }
+    {
+        let most = match self.at.next_record {
+            Some(offset) => self.bytes.len().saturating_sub(offset) + 1,
+            None => 0,
+        };
+        (0, Some(most))
+    }
+}
+
+impl<'a, 'm> FusedIterator for Libraries<'a, 'm> {}
+
+impl<'a, 'm> fmt::Debug for Libraries<'a, 'm> {
+    fn fmt<W: fmt::Write>(&self, f: &mut fmt::Formatter<W>) -> fmt::Result {
+        f.debug_struct("Libraries")
+            .field("cursor", &self.at)
+            .finish_non_exhaustive()
+    }
+}
