@@ -2,6 +2,7 @@
 import importlib.util
 import os
 import re
+import shutil
 import struct
 import sys
 import unittest
@@ -151,7 +152,10 @@ int main(void)
                     self.assertRegex(out, rb"\AKERNEL32.dll GetTickCount\n[0-9a-f]{64}\n\Z")
 
     def test_in_c(self):
-        source = self.written("readme.c", (self.C % self.program("c")).encode())
+        text = (self.C % self.program("c")).encode()
+        source, in_cpp = self.written("readme.c", text), self.written("readme.cc", text.replace(b"{ 0 }", b"{}"))
+        for compiler in filter(shutil.which, ("g++", "clang++")):
+            succeed([compiler, "-std=c++11", *FLAGS, "-I", library(), "-fsyntax-only", in_cpp])
         succeed([CC, "-std=c11", *FLAGS, "-I", library(), "-o", self.folder / "readme", source, library() / "libgoblin_pe.a"])
         self.assert_runs([self.folder / "readme"], (0, b"GetTickCount\n", b""), BY_NAME)
         for data in hostile.files(1):
