@@ -1,12 +1,12 @@
 #!/usr/bin/env python3
-"""Reads changed base relocations by the module goblin_pe and by objdump, and compares the blocks that both see, word by
-word: beside_objdump.py COUNT FILE..
+"""Reads changed base relocations with the module goblin_pe and with objdump, and compares the blocks that both see, word by word:
+beside_objdump.py COUNT FILE..
 
-It is the second opinion where beside_goblin has none, since goblin 0.2.1 has no reader of base relocations. Each file is
-a sample whose section .reloc was filled with other blocks, of which some bytes were changed. objdump lists that section;
-the directory is the same bytes. It goes on where the library says that a rest is no block, so there the comparison of a
-file ends, by a rule with a name (ENDS). The last line counts the files by these names; the status is 1 where anything else
-differs, which is shown."""
+beside_goblin does not compare these, because goblin 0.2.1 has no reader of base relocations. Each file is a sample whose section
+.reloc was filled with other blocks, some of whose bytes were changed. objdump lists that section, and the directory is the same
+bytes. objdump continues where the library says that the rest is no block, so the comparison of a file ends there, by a rule with a
+name (ENDS). The last line counts the files by these names. The status is 1 if anything else differs, and the differences are
+shown."""
 import collections
 import os
 import random
@@ -19,18 +19,18 @@ from typing import Iterator, List, NamedTuple, Optional, Tuple
 
 from goblin_pe import Cause, DirectoryType, ErrorKind, Pe, Table
 
-# The kinds of words that images have, as objdump names them; of the others it has names of its own.
+# The kinds of words that images have, by the names of objdump. It has its own names for the others.
 KINDS = {0: "ABSOLUTE", 3: "HIGHLOW", 4: "HIGHADJ", 10: "DIR64"}
 HIGHADJ = 4
 HEAD = 8  # the size of a block's head
 
-# Where a file's comparison ends before its last byte, and the cause that the library then tells of the rest.
+# The rules by which the comparison of a file ends before its last byte, and the cause that the library then gives for the rest.
 ENDS = {
     "smaller than its head": (ErrorKind.MALFORMED, Cause.BLOCK_SIZE),
     "past the end": (ErrorKind.MALFORMED, Cause.BLOCK_RANGE),
     "no words at the end": (ErrorKind.MALFORMED, Cause.BLOCK_RANGE),
     "bytes left": (ErrorKind.TOO_BIG, None),
-    # objdump begins the next block at the byte that is no word, the library after it
+    # objdump begins the next block at the byte that is no word, the library after it.
     "odd size": None,
 }
 
@@ -44,7 +44,7 @@ class Block(NamedTuple):
 
 
 def changed(numbers: random.Random, room: int) -> bytes:
-    """Blocks of base relocations, of which some bytes are changed in most cases."""
+    """Blocks of base relocations. In most cases some of their bytes are changed."""
     data, sizes = bytearray(), []
     for _ in range(numbers.randrange(1, 7)):
         sizes.append(len(data) + 4)
@@ -73,12 +73,12 @@ def filled(image: bytes, blocks: bytes) -> bytes:
 
 
 def room(image: bytes) -> int:
-    """How many bytes the section .reloc has in the file; 0 where there is none."""
+    """How many bytes the section .reloc has in the file; 0 without such a section."""
     return next((s.size_of_raw_data for s in Pe(image).sections if s.name == b".reloc"), 0)
 
 
 def listed(names: List[str], folder: str) -> Iterator[List[Block]]:
-    """The blocks of each file, as objdump lists them."""
+    """The blocks that objdump lists, for each file."""
     answer = subprocess.run(["objdump", "-p", *names], cwd=folder, env={**os.environ, "LC_ALL": "C"}, stdout=subprocess.PIPE, check=False)
     files = re.split(r"^\S+: +file format \S+$", answer.stdout.decode("ascii", "replace"), flags=re.M)[1:]
     if len(files) != len(names):
@@ -96,7 +96,7 @@ def listed(names: List[str], folder: str) -> Iterator[List[Block]]:
 
 
 def seen(entries: bytes, theirs: List[Tuple[Optional[str], int]]) -> bool:
-    """Whether objdump shows these words. A byte at the end that is none is shown by neither."""
+    """Whether objdump shows these words. Neither shows a byte at the end that is no word."""
     words = [word for word, in struct.iter_unpack("<H", entries[: len(entries) & ~1])]
     if len(words) != len(theirs):
         return False
@@ -111,7 +111,7 @@ def seen(entries: bytes, theirs: List[Tuple[Optional[str], int]]) -> bool:
 
 
 def end_of(theirs: List[Block], length: int) -> Tuple[int, Optional[str]]:
-    """How many of objdump's blocks the library has to see, and by which rule the comparison ends there, if by one."""
+    """How many of objdump's blocks the library has to see, and the rule by which the comparison ends there, if there is one."""
     at = 0
     for index, block in enumerate(theirs):
         if block.size < HEAD:
@@ -123,12 +123,12 @@ def end_of(theirs: List[Block], length: int) -> Tuple[int, Optional[str]]:
         if block.size % 2:
             return index + 1, "odd size"
         at += block.size
-    # objdump ends without a word at a size of zero
+    # objdump ends silently at a size of zero.
     return len(theirs), "smaller than its head" if length - at >= HEAD else "bytes left" if at < length else None
 
 
 def difference(data: bytes, length: int, theirs: List[Block]) -> Tuple[Optional[str], Optional[str]]:
-    """By which rule the comparison ends, if by one; and what differs, if anything does."""
+    """The rule by which the comparison ends, or None; and the difference, or None."""
     pe = Pe(data)
     count, end = end_of(theirs, length)
     ours = pe.relocation_blocks[:count] if end == "odd size" else pe.relocation_blocks
@@ -144,7 +144,7 @@ def difference(data: bytes, length: int, theirs: List[Block]) -> Tuple[Optional[
 
 
 def main(count: int, paths: List[str]) -> int:
-    """Compares so many changed samples, and answers the status of the program."""
+    """Compares a number of changed samples. Returns the status of the program."""
     images = []
     for path in paths:
         with open(path, "rb") as file:

@@ -1,16 +1,17 @@
 #!/usr/bin/env python3
-"""Reads images by the module goblin_pe and by pefile, and compares what both see: beside_pefile.py FILE.. Addresses are mapped
-as the Windows loader does, the headers too, nearly as pefile maps them. Of each file it compares the headers' numbers, the
-sections, the imports with their hints and slots, and by the names of ordinals where pefile knows these, the exports with their
-forwarders, also those without a name, and three things that analysts compare: the hashes of the imports and of the Rich header,
-and where an overlay begins. A file that either refuses has to be refused by the other.
+"""Reads images with the module goblin_pe and with pefile, and compares their answers: beside_pefile.py FILE..
+
+Addresses are mapped as the Windows loader maps them, headers included; pefile maps nearly so. For each file the program compares
+the numbers of the headers; the sections; the imports with their hints and slots (an ordinal whose name pefile knows counts as that
+name); the exports with their forwarders, also those without a name; and three things that analysts compare: the hashes of the
+imports and of the Rich header, and where an overlay begins. If one refuses a file, the other must refuse it, too.
 
 pefile lists a last block of base relocations of 8 bytes, without words, which the library refuses. Its overlay begins after the
-last section that the file has whole; `Image.overlay` has none where the file's end cuts a section.
+last section that lies whole in the file; `Image.overlay` has none if the file's end cuts a section.
 
-It shows each difference. The last line says how many files are alike; the status is 1 where one is not. By pefile 2023.2.7
-1,321 were of 1,322 images in Debian's packages of Wine, Mono, NSIS, GRUB, ClamAV's tests and others: of one that Upack packed it
-reads no imports."""
+The program shows each difference. The last line says how many files are alike. The status is 1 if one is not. With pefile
+2023.2.7, 1,321 of 1,322 images in Debian's packages of Wine, Mono, NSIS, GRUB, ClamAV's tests and others were alike: pefile reads
+no imports of one that was packed by Upack."""
 import collections
 import hashlib
 import sys
@@ -20,7 +21,7 @@ import pefile
 
 from goblin_pe import ExportAddress, Forwarder, Image, Mapping, Options, Pe, PeError, ordinal_name
 
-# How many rows pefile reads before it gives up, if it is not told otherwise: 8,192.
+# How many rows pefile reads before it gives up. Its default is 8,192.
 MOST = pefile.MAX_IMPORT_SYMBOLS = 1 << 32
 
 OPTIONS = Options(permissive=True, mapping=Mapping.AS_LOADED)
@@ -34,7 +35,7 @@ def forwarded(it: Optional[Forwarder]) -> Optional[bytes]:
 
 
 def forwarder_of(image: Image, x: ExportAddress) -> Optional[Forwarder]:
-    """Where an export without a name is forwarded to; None if it is not, or if that can't be read."""
+    """The forwarder of an export without a name. None if it is not forwarded, or if the forwarder can't be read."""
     try:
         return image.forwarder_at(x.rva) if x.is_forwarder else None
     except PeError:
@@ -42,7 +43,7 @@ def forwarder_of(image: Image, x: ExportAddress) -> Optional[Forwarder]:
 
 
 def ours(data: bytes) -> Optional[Dict[str, Any]]:
-    """What this library sees; None where it refuses the file."""
+    """What this library sees, or None if it refuses the file."""
     try:
         pe = Pe(data, OPTIONS)
     except PeError:
@@ -63,7 +64,7 @@ def ours(data: bytes) -> Optional[Dict[str, Any]]:
 
 
 def theirs(data: bytes) -> Optional[Dict[str, Any]]:
-    """What pefile sees; None where it refuses the file."""
+    """What pefile sees, or None if it refuses the file."""
     try:
         pe = pefile.PE(data=data, fast_load=True, max_symbol_exports=MOST, max_repeated_symbol=MOST)
     except pefile.PEFormatError:
@@ -99,7 +100,7 @@ def main(paths: "list[str]") -> int:
 
 
 def only_in(one: Any, two: Any) -> Tuple[Any, Any]:
-    """What two lists or counts have each for itself; all of other values."""
+    """What each of two lists or counts has alone. For other values, both."""
     if isinstance(one, list):
         one, two = collections.Counter(one), collections.Counter(two)
     return (one - two, two - one) if isinstance(one, collections.Counter) else (one, two)

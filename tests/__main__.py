@@ -1,6 +1,7 @@
-"""Runs the tests of what is built: python3 -m tests [--allow-missing] [MODULE..], the modules side by side. Each row of a table
-counts. What is skipped is told before the last line, which says how many passed and failed. A module that is skipped as a whole
-counts as a failure, unless --allow-missing is given."""
+"""Runs the tests of what is built, the modules side by side: python3 -m tests [--allow-missing] [MODULE..]
+
+Each row of a table counts as a test. The output names what was skipped; its last line says how many tests passed and failed. A
+module that is skipped as a whole counts as a failure, unless --allow-missing is given."""
 import concurrent.futures
 import contextlib
 import io
@@ -35,14 +36,14 @@ class Counts(unittest.TestResult):
 
 
 def build_for_all():
-    """Builds what several modules use, once, before they part. A module that lacks it says so."""
+    """Builds what several modules use, once, before they start. A module fails if it needs what could not be built."""
     for build in (library, build_pe_list, build_pe_replay, build_pe_audit):
         with contextlib.suppress(AssertionError, OSError):
             build()
 
 
 def tested(name):
-    """Runs a module's tests: what they say, how many passed and failed, and what was skipped."""
+    """Runs a module's tests. Returns their output, how many passed and failed, and what was skipped."""
     began, result = time.time(), Counts()
     with contextlib.redirect_stdout(io.StringIO()) as told:
         unittest.defaultTestLoader.loadTestsFromName(name).run(result)
@@ -55,7 +56,7 @@ def tested(name):
 def main(words):
     may_lack, names = "--allow-missing" in words, [it for it in words if it != "--allow-missing"]
     names = names or sorted(f"tests.{it.stem}" for it in pathlib.Path(__file__).parent.glob("test_*.py"))
-    shared_folder()  # (made here, since it goes with the process that makes it)
+    shared_folder()  # (It is made here because it is removed when the process that made it ends.)
     if len(names) > 1:
         build_for_all()
     passed = failed = 0

@@ -13,13 +13,13 @@ BINDINGS = TOP / "bindings"
 
 @functools.cache
 def built_library():
-    """Builds the library over what is proved: its folder, what came of it, and what was said."""
+    """Builds the library over the proved crates. Returns its folder, the status and the messages."""
     status, _, said = run([BINDINGS / "build", shared_folder() / "bindings"])
     return shared_folder() / "bindings", status, said
 
 
 def library():
-    """The folder with the library: one that GOBLIN_PE_LIB names, or else it is built over what is proved."""
+    """The folder with the library. GOBLIN_PE_LIB names it; otherwise it is built over the proved crates."""
     if "GOBLIN_PE_LIB" in os.environ:
         return pathlib.Path(os.environ["GOBLIN_PE_LIB"]).resolve()
     made, status, said = built_library()
@@ -63,7 +63,7 @@ def value(it):
     return tuple(value(getattr(it, name)) for name, _ in it._fields_)
 
 
-# The walks over an image, by the word that their calls and records have: the record of a row, and that of the cursor.
+# The walks over an image, by the word in the names of their calls: the record of a row, and the record of the cursor.
 WALKS = {"sections": ("Section", "SectionCursor"), "rich_entries": ("RichEntry", "RichCursor"), "imports": ("Import", "ImportCursor"),
          "libraries": ("Library", "ImportCursor"), "exports": ("Export", "ExportCursor"),
          "export_addresses": ("ExportAddress", "ExportAddressCursor"),
@@ -81,7 +81,7 @@ class Walk:
         self.batch, self.rows = records().Batch(), []
 
     def call(self, room, steps=None):
-        """One call, with so many steps by reference: its fault. The rows that it gives are kept."""
+        """Makes one call and returns its fault. `steps` is passed by reference. The rows that the call gives are kept."""
         rows = (self.row * max(room, 1))()
         counted = [steps and c.byref(steps)] if self.word in COUNTED else []
         fault = getattr(calls(), f"goblin_pe_next_{self.word}")(
@@ -103,7 +103,7 @@ def options(permissive=False, longest=0, mapping=0):
 
 
 def image_of(data, how=None, call="read_image"):
-    """The image in bytes, and its fault; the bytes have to stay."""
+    """The image that a call reads from bytes, and the fault. The image keeps the bytes."""
     image = records().Image()
     also = {"read_partial_image": [records().HeaderFaults()], "read_te": [records().TeHeader()]}.get(call, [])
     buffer = c.create_string_buffer(bytes(data), len(data) or 1)
@@ -114,12 +114,12 @@ def image_of(data, how=None, call="read_image"):
 
 
 def error_of(error):
-    """An error as rows have it: the names of its kind and its cause, and its two numbers. None stays None."""
+    """An error in the form of the tables: the names of its kind and cause, and its two numbers. None stays None."""
     return error and (error.kind.name, error.cause and error.cause.name, *error.numbers)
 
 
 def refusal(call, *arguments):
-    """The error of a call of the package; None if it has none."""
+    """The error that a call of the package raises, or None."""
     try:
         call(*arguments)
     except package().PeError as error:

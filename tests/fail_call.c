@@ -1,6 +1,6 @@
-// Stands before the C library's read and write in a program that the tests run. Each call for the file descriptor in FILE
-// moves at most as many bytes as STEP says. The one whose number is in FAILING moves none: its answer is in ANSWER, where
-// -1, as without one, is that it was interrupted. The file descriptor in TOLD gets a byte for each of them.
+// Replaces read and write of the C library in a program that the tests run. The environment has the parameters. Each call for
+// the file descriptor FILE moves at most STEP bytes. Call number FAILING moves none and returns ANSWER; -1, the default, means
+// that it was interrupted. The file descriptor COUNT gets a byte for each call.
 long syscall(long number, ...);
 char *getenv(const char *name);
 int atoi(const char *text);
@@ -13,7 +13,7 @@ static int calls;
 static long moved(long number, int file, const void *bytes, unsigned long length) {
     if (file != atoi(getenv("FILE")))
         return syscall(number, file, bytes, length);
-    syscall(WRITE, atoi(getenv("TOLD")), ".", 1);
+    syscall(WRITE, atoi(getenv("COUNT")), ".", 1);
     if (++calls == atoi(getenv("FAILING"))) {
         const char *answer = getenv("ANSWER");
         *__errno_location() = INTERRUPTED;

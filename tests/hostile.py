@@ -1,4 +1,4 @@
-"""Files that no reader may trust, on which the examples are run."""
+"""Files that no reader may trust. The examples are run on them."""
 import random
 
 from tests import images
@@ -6,7 +6,7 @@ from tests.programs import BY_NAME, IMAGES, OBJECTS, TERSE
 
 
 def files(changed=40):
-    """Files that are damaged, made to mislead, or no files of the kind that is read: of each sample so many changed copies."""
+    """Damaged and misleading files, files of other kinds, and a number of changed copies of each sample."""
     data, signature = BY_NAME.read_bytes(), int.from_bytes(BY_NAME.read_bytes()[0x3C:0x40], "little")
     highest = images.with_parts(data, (signature + 24 + 16, b"\xff" * 4), (signature + 24 + 24, b"\xff" * 8))
     yield from (b"", b"MZ", b"no image", data, highest, data[:-16], data + b"overlay", *(it.read_bytes() for it in (*OBJECTS, *TERSE)))

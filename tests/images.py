@@ -8,8 +8,8 @@ HEADERS = (
     (0x58, b"\x0B\x01"), (0x7C, b"\0\x02"), (0xB4, b"\x10"), (0xB8, struct.pack("<4I", 0x10A0, 0x60, 0x1000, 0x28)))
 # Its one section, at the address 0x1000.
 SECTION = ((0x138, b".rdata"), (0x140, struct.pack("<4I", 0x100, 0x1000, 0x100, 0x200)))
-# What stands in that section: the import directory, its two tables, and their names; the export directory, its three tables, and
-# their names.
+# The contents of that section: the import directory, its two tables, and their names; the export directory, its three tables,
+# and their names.
 IMPORTS = (
     (0x200, b"\x40\x10"), (0x20C, b"\x80\x10\0\0\x60\x10"), (0x240, b"\x90\x10\0\0\x07\0\0\x80"),
     (0x260, b"\x90\x10\0\0\x07\0\0\x80"), (0x280, b"a.dll"), (0x290, b"\x05\0Go"))
@@ -22,7 +22,7 @@ DEFAULT_STUB = (b"\x0E\x1F\xBA\x0E\x00\xB4\x09\xCD\x21\xB8\x01\x4C\xCD\x21This p
 
 
 def with_parts(file, *parts):
-    """The file with other bytes in it: each part a pair (offset, bytes). Zeros stand where it has to grow for them."""
+    """The file with other bytes in it: each part is a pair (offset, bytes). If the file has to grow, the gap is zeros."""
     file = bytearray(file)
     for offset, data in parts:
         file.extend(bytes(max(0, offset - len(file))))
@@ -36,16 +36,16 @@ def sample(*changes):
 
 
 def directory_in_front():
-    """The small image with its section from the raw pointer 0 on, so that its import directory lies at file offset 0, in the
-    DOS header: strict mode lists an import, and permissive mode none."""
+    """The small image whose section has the raw pointer 0, so its import directory is at file offset 0, in the DOS header. Strict
+    mode lists an import there, and permissive mode none."""
     directory, addresses = struct.pack("<2I", 0x1280, 0x1260), struct.pack("<2I", 0x1290, 0)
     return sample((0xB8, bytes(8)), (0x0C, directory), (0x140, struct.pack("<4I", 0x300, 0x1000, 0x300, 0)),
                   (0x260, addresses), (0x280, b"evil.dll\0"), (0x290, b"\0\0WinExec\0"))
 
 
 def rounded_to_dead_entries(count):
-    """The small image with one import, a.dll #5. Where the raw pointer is rounded down, a library with so many entries that lead
-    nowhere comes before it."""
+    """The small image with one import, a.dll #5. If the raw pointer is rounded down, a library comes before it that has this
+    many entries, which all lead nowhere."""
     size = 0x90 + 4 * count + 4
     words = ((0x200, 0x10A0, 0, 0, 0x1060, 0x1040, 0x1040, 0, 0x1060, 0x1080, 0x1040), (0x228, *[0] * 6, 0x80000005, 0, 0, 0, 0x80000005, 0),
              (0x290, 0x80000005, 0, 0, 0, *[0x70000000] * count, 0))
@@ -54,12 +54,12 @@ def rounded_to_dead_entries(count):
 
 
 def import_from_nowhere(image):
-    """The sample that imports by name, with that name at an address that no section maps: both modes list nothing."""
+    """The sample that imports by name, with the name at an address that no section maps. Both modes list nothing."""
     return with_parts(image, (0x698, struct.pack("<Q", 0x7FFFFFF0)))
 
 
 def without_a_place(image):
-    """The sample that imports by name, whose last section says a megabyte from the raw pointer 0 on: its data is an overlay then."""
+    """The sample that imports by name, whose last section has the raw pointer 0 and a megabyte of data. So its data is an overlay."""
     return with_parts(image, (0x208, struct.pack("<2I", 1 << 20, 0)))
 
 
@@ -106,7 +106,7 @@ def large_image(libraries=64, functions=1500, exports=60000, blocks=20000, size=
 
 
 def hostile_image(size):
-    """An image of a section and an import for each 64 bytes, whose names are all found in the last of the sections."""
+    """An image with a section and an import for each 64 bytes. All names are in the last section."""
     count = size // 64 - 16
     start = (0x148 + 40 * count + 0x1FF) // 0x200 * 0x200
     base = 0x1000
@@ -125,8 +125,8 @@ def hostile_image(size):
 
 
 def shared_image(libraries, functions):
-    """An image of many libraries that share one table of imports, all of them by the ordinal 1: with 20,000 and 50,000 it
-    has less than a megabyte, and asks for more memory than a machine has."""
+    """An image of many libraries that share one table of imports by the ordinal 1. With 20,000 libraries of 50,000 imports it
+    is smaller than a megabyte, and a list of them needs more memory than a machine has."""
     base = 0x1000
     tables = base + 20 * (libraries + 1)
     name = tables + 8 * (functions + 1)
@@ -138,7 +138,7 @@ def shared_image(libraries, functions):
 
 
 def one_long_name(sections, length):
-    """An image of so many sections, which all have the name of this length that ends the file."""
+    """An image of sections that all have one name, of this length, which ends the file."""
     name = 0x148 + 40 * sections + 8
     headers = image_headers(name, sections, 0x7FFFF000, ())
     for i in range(sections):
@@ -147,15 +147,15 @@ def one_long_name(sections, length):
 
 
 def own_tables(libraries):
-    """The small image with so many libraries instead, each of which has all their records as its table of imports: five
-    entries in each record, two of them ordinals."""
+    """The small image with other libraries. The lookup table of each is the records of all of them: each record is five entries,
+    two of them ordinals."""
     name = 0x1000 + 20 * libraries + 20
     data = struct.pack("<5I", 0x1000, 1 << 31 | 1, 1 << 31 | 1, name, 0x1000) * libraries + bytes(20) + b"a.dll\0"
     return sample((0xB8, bytes(8)), (0x140, struct.pack("<4I", len(data), 0x1000, len(data), 0x200)), (0x200, data))
 
 
 def library(name, exports, base=1):
-    """A library for 64 bits that exports these by the ordinals from a base on: each a pair (name or None, address or text of
+    """A library for 64 bits that exports these, by the ordinals from a base on. Each is a pair (name or None, address or text of
     a forwarder). The names have to be sorted."""
     place = 0x1000
     named = [(index, it) for index, (it, _) in enumerate(exports) if it]
@@ -181,8 +181,8 @@ def library(name, exports, base=1):
 
 
 def importer(imports, relocated=0):
-    """An image for 64 bits that imports these from libraries: each a pair (library, list of names and ordinals). Its
-    first section has the address of so many of its own bytes, in base relocations, and zeros in memory."""
+    """An image for 64 bits that imports from libraries: each is a pair (library, list of names and ordinals). Its first section
+    has `relocated` addresses of its own bytes, which base relocations name, and then zeros in memory."""
     place = 0x2000
     data = bytearray(20 * (len(imports) + 1))
     for index, (name, entries) in enumerate(imports):
@@ -209,8 +209,8 @@ def importer(imports, relocated=0):
 
 
 def with_others(is_wide=True):
-    """An image that has what the library leaves to others: delayed imports from two libraries, debug data that name a PDB, and three
-    resources. What each of them says stands in test_python.py."""
+    """An image with tables that the library leaves to others: delayed imports from two libraries, debug data that names a PDB, and
+    three resources. test_examples.py has their contents."""
     place, width = 0x1000, 8 if is_wide else 4
     base, data, form = 0x180000000 if is_wide else 0x400000, bytearray(0x200), "<%dQ" if is_wide else "<%dI"
 
@@ -229,7 +229,7 @@ def with_others(is_wide=True):
     debug = struct.pack("<2I2H4I", 0, 0, 0, 0, 2, len(path), pdb, pdb - place + 0x200)
     texts = {it: put(struct.pack("<H", len(it)) + it.encode("utf-16-le"), 2) for it in ("TEXT", "README")}
     content = put(b"content")
-    # (the offsets of resources are from their directory on, at the front of the section)
+    # (The offsets of resources count from their directory, which is at the front of the section.)
     high, at = 1 << 31, {name: it - place for name, it in texts.items()}
     tree = [(1, 1, ((high | at["TEXT"], high | 0x80), (16, high | 0xA0))), (1, 0, ((high | at["README"], high | 0xC0),)),
             (0, 1, ((1, high | 0xD8),)), (0, 1, ((0, 0x100),)), (0, 2, ((0x407, 0x110), (0x409, 0x110)))]
@@ -260,7 +260,7 @@ def narrow_headers(base, directories):
 
 
 def with_data_behind(image, size):
-    """The image with so many zeros between its headers, which have 512 bytes, and the data of its sections."""
+    """The image with a number of zeros between its headers, which have 512 bytes, and the data of its sections."""
     image, (signature,) = bytearray(image), struct.unpack_from("<I", image, 0x3C)
     count, optional = struct.unpack_from("<H12xH", image, signature + 6)
     for place in range(signature + 24 + optional, signature + 24 + optional + 40 * count, 40):
@@ -270,7 +270,7 @@ def with_data_behind(image, size):
 
 
 def with_small_header(image, size):
-    """The sample whose section table begins so many bytes after the begin of its optional header, over the rest of that."""
+    """The sample whose section table begins at this offset in its optional header, and overlaps the rest of it."""
     image, (signature,) = bytearray(image), struct.unpack_from("<I", image, 0x3C)
     count, optional = struct.unpack_from("<H12xH", image, signature + 6)
     table = signature + 24 + optional
@@ -280,7 +280,7 @@ def with_small_header(image, size):
 
 
 def with_directory(image, index, address, size):
-    """The image for 64 bits with one of its data directories at another address, of another size."""
+    """The image for 64 bits, one of whose data directories has another address and size."""
     image = bytearray(image)
     signature, = struct.unpack_from("<I", image, 0x3C)
     struct.pack_into("<II", image, signature + 0x88 + 8 * index, address, size)
@@ -288,7 +288,7 @@ def with_directory(image, index, address, size):
 
 
 def with_rich_header(image, key, entries):
-    """The image for 64 bits, whose headers have room left, with a Rich header before its PE signature: each entry a pair
+    """The image for 64 bits, whose headers have room left, with a Rich header before its PE signature. Each entry is a pair
     (tool and its build, count)."""
     words = [0x536E6144, 0, 0, 0, *(word for entry in entries for word in entry)]
     rich = struct.pack("<%dI4sI" % len(words), *(word ^ key for word in words), b"Rich", key)
@@ -301,7 +301,7 @@ def with_rich_header(image, key, entries):
 
 
 def pointers_to_nowhere(count):
-    """An image whose export directory has so many name pointers, of which only the first leads to an address."""
+    """An image whose export directory has this many name pointers. Only the first leads to an address."""
     base = 0x1000
     ordinals = base + 4 * count
     data = struct.pack("<IIHHIIIIIII", 0, 0, 0, 0, base + 40, 1, 1, count, base + 52, base, ordinals) + b"nowhere.dll\0"
@@ -312,7 +312,7 @@ def pointers_to_nowhere(count):
 
 
 def pointers_to_one_name(count):
-    """The same, but that each pointer leads to an address, and those past the first 16 to one name."""
+    """As pointers_to_nowhere, but each pointer leads to an address, and those after the first 16 lead to one name."""
     image = pointers_to_nowhere(count)
     return with_parts(image, (0x240, struct.pack("<I", 0x1028) * (count - 16)), (0x200 + 4 * count, bytes(2 * count)))
 
@@ -332,14 +332,14 @@ def image_headers(length, sections, image_size, directories):
 
 
 def put_section(headers, place, name, data, address, pointer):
-    """Writes the record of a section whose data stands at an address, and in the file at a pointer."""
+    """Writes a section header: the data is at an address in memory, and at a pointer in the file."""
     raw_size = (len(data) + 0x1FF) // 0x200 * 0x200
     struct.pack_into("<8sIIIIIIHHI", headers, place, name, len(data), address, raw_size, pointer, 0, 0, 0, 0, 0x40000040)
 
 
 def many_sections(count, size=0x1000, past=0):
-    """An object of many sections of a size, whose windows lie side by side; their data begin so many bytes past such
-    places in the file."""
+    """An object of many sections of one size. Their windows lie side by side, and so does their data, from the file offset `past`
+    on."""
     headers = bytearray(20 + 40 * count)
     struct.pack_into("<HHIIIHH", headers, 0, 0x8664, count, 0, 0, 0, 0, 0)
     for i in range(count):

@@ -25,17 +25,17 @@ FLAGS = ["-O2", "-Wall", "-Wextra", "-Werror"]
 
 
 def beside(sample, kind):
-    """What the file beside a sample says that is listed of it: its `listing`, as `permissive` mode lists it, or `symbols`."""
+    """The text of the file beside a sample: its `listing`, its listing in `permissive` mode, or its `symbols`."""
     return pathlib.Path(f"{sample}.{kind}").read_bytes()
 
 
 def modes(sample):
-    """The words of each mode of listing, and what it lists of an image."""
+    """The words for each mode of pe_list, and the listing of an image in that mode."""
     return ([], beside(sample, "listing")), (["--permissive"], beside(sample, "permissive"))
 
 
 def run(command, stdin=os.devnull, **how):
-    """Runs a command with a file or with bytes as its input: its status, its output, and what it says on standard error."""
+    """Runs a command with a file or with bytes as its input. Returns its status, its output and its standard error."""
     if isinstance(stdin, (bytes, bytearray)):
         it = subprocess.run(command, input=stdin, capture_output=True, check=False, **how)
     else:
@@ -48,7 +48,7 @@ def run(command, stdin=os.devnull, **how):
 
 
 def succeed(command, **how):
-    """Runs a command, which has to go well: its output."""
+    """Runs a command that must succeed. Returns its output."""
     status, out, said = run(command, **how)
     if status:
         raise AssertionError(f"{command}: status {status}\n{(out + said).decode(errors='replace')}")
@@ -56,12 +56,12 @@ def succeed(command, **how):
 
 
 def with_memory(kibibytes, command):
-    """A command that has so much memory."""
+    """The command with a limit of its memory."""
     return ["sh", "-c", 'ulimit -v "$0" && exec "$@"', str(kibibytes), *command]
 
 
 def milliseconds(command, path):
-    """The processor time of one run, of the program with the file on standard input."""
+    """The processor time of one run of a command with the file on standard input."""
     before = resource.getrusage(resource.RUSAGE_CHILDREN)
     with open(path, "rb") as file:
         subprocess.run(command, stdin=file, stdout=subprocess.DEVNULL, stderr=subprocess.DEVNULL, check=True)
@@ -70,7 +70,7 @@ def milliseconds(command, path):
 
 
 def need(*tools):
-    """Skips the test, or the class or the module, where the machine lacks a tool."""
+    """Skips the test, the class or the module if the machine lacks a tool."""
     for tool in tools:
         if not shutil.which(tool):
             raise unittest.SkipTest(f"no {tool}")
@@ -78,7 +78,7 @@ def need(*tools):
 
 @functools.cache
 def built_pe_list():
-    """Has ./pe_list prove and build the program, if it is not there or a source is newer: its status."""
+    """Has ./pe_list prove and build the program, if it is missing or a source is newer. Returns the status."""
     return subprocess.run([TOP / "pe_list", "--prove"], stdin=subprocess.DEVNULL, stdout=subprocess.DEVNULL, check=False).returncode
 
 
@@ -89,7 +89,7 @@ def build_pe_list():
 
 @functools.cache
 def built(program):
-    """Proves and builds a program of the tests, if it is not there or a source is newer: what came of it, and what was said."""
+    """Proves and builds a program of the tests, if it is missing or a source is newer. Returns the status and the messages."""
     folder = program.parent.parent
     if is_current(folder.name, program):
         return 0, b""
@@ -113,7 +113,7 @@ def build_pe_audit():
 
 @functools.cache
 def shared_folder():
-    """A folder that is there until the tests end."""
+    """A folder that is removed when the tests end."""
     made = tempfile.mkdtemp()
     atexit.register(shutil.rmtree, made)
     return pathlib.Path(made)
@@ -128,7 +128,7 @@ def folder():
 
 @functools.cache
 def preloaded(name):
-    """A library of tests/ that stands before the C library in a program, built by the toolchain's own compiler."""
+    """A library of tests/ to be loaded before the C library, built by the toolchain's own compiler."""
     kit = pathlib.Path(succeed(["rt", "doc"])).parent / "toolchain/bin"
     made = folder() / f"{name}.so"
     succeed([kit / "clang", "-O2", "-shared", "-fPIC", "-nostdlib", f"--ld-path={kit / 'ld.lld'}", "-o", made, TOP / f"tests/{name}.c"])
@@ -136,18 +136,18 @@ def preloaded(name):
 
 
 def is_current(crate, file):
-    """Whether what was built of a crate is there, and no source is newer."""
+    """Whether the file that was built of a crate exists, and no source is newer."""
     return not run([TOP / "tools/over_libraries", "current", crate, file])[0]
 
 
 def is_kept(crate):
-    """Whether the library of a crate is in its folder out/, as the gate leaves it there, and no source is newer."""
+    """Whether the library that the gate built is in the crate's folder out/, and no source is newer."""
     library = CRATES / crate / f"out/rlib/{crate}.rlib"
     return is_current(crate, library) and not library.with_name("stamp").exists()
 
 
 def environment(**more):
-    """The environment with more in it, and without what leads to a library."""
+    """The environment with more variables, and without those that lead to a library."""
     return {**{name: value for name, value in os.environ.items() if not name.startswith("GOBLIN_PE_")}, **more}
 
 
@@ -165,18 +165,18 @@ class Case(unittest.TestCase):
         return self.folder / name
 
     def assert_runs(self, command, wanted, stdin=os.devnull, **how):
-        """The wanted: a status, the output, and the lines on standard error."""
+        """`wanted` is a status, the output, and the lines on standard error."""
         self.assertEqual(run(command, stdin, **how), wanted)
 
     def each_growth(self, command, answer, stdin=os.devnull):
-        """Runs a program with its first growth of memory refused, then its second, and so on, until a run meets no
-        refusal: that one gives the answer, and each before it says that there is no memory. Returns what those wrote."""
+        """Runs a program with its first growth of memory refused, then its second, and so on, until no growth is refused. That
+        run has to give the answer, and each run before it has to report that there is no memory. Returns the output of those."""
         written = []
         while True:
-            with tempfile.TemporaryFile() as told:
-                preload = {"LD_PRELOAD": str(preloaded("refuse_growth")), "REFUSED": str(len(written) + 1), "TOLD": str(told.fileno())}
-                status, out, said = run(command, stdin, env={**os.environ, **preload}, pass_fds=[told.fileno()])
-                was_refused = os.fstat(told.fileno()).st_size
+            with tempfile.TemporaryFile() as report:
+                preload = {"LD_PRELOAD": str(preloaded("refuse_growth")), "REFUSED": str(len(written) + 1), "REPORT": str(report.fileno())}
+                status, out, said = run(command, stdin, env={**os.environ, **preload}, pass_fds=[report.fileno()])
+                was_refused = os.fstat(report.fileno()).st_size
             if not was_refused:
                 self.assertEqual((status, out, said), (0, answer, b""), "no growth refused")
                 self.assertTrue(written, "it takes no memory")

@@ -1,6 +1,6 @@
-// Stands before the C library's malloc and realloc in a program that the tests run: the growth whose number is in
-// REFUSED is refused, and the file descriptor whose number is in TOLD gets a line that says so. In the end the file
-// descriptor whose number is in COUNTED gets the number of growths, and of the bytes that they asked for.
+// Replaces malloc and realloc of the C library in a program that the tests run. The environment has the parameters. Growth number
+// REFUSED is refused, and the file descriptor REPORT gets a line that says so. In the end the file descriptor COUNTED gets the
+// number of growths, and of the bytes that they asked for.
 void *__libc_malloc(unsigned long size);
 void *__libc_realloc(void *block, unsigned long size);
 char *getenv(const char *name);
@@ -17,7 +17,7 @@ static int is_refused(unsigned long size) {
     asked += size;
     if (!refused || growths != atoi(refused))
         return 0;
-    write(atoi(getenv("TOLD")), "refused\n", 8);
+    write(atoi(getenv("REPORT")), "refused\n", 8);
     return 1;
 }
 

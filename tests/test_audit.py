@@ -1,5 +1,5 @@
-"""The built program pe_audit, which is written over goblin_pe as its users write theirs, beside llvm-readobj; and the page for
-such users, whose code is that of goblin_pe_caller."""
+"""The built program pe_audit, which uses goblin_pe as users do, compared with llvm-readobj; and the page for such users, whose
+code is that of goblin_pe_caller."""
 import re
 
 from tests.images import sample
@@ -18,7 +18,7 @@ def numbers(text, name):
 
 
 def seen(image):
-    """What llvm-readobj says of an image: the libraries that it imports from, and what an audit says of it but for these."""
+    """What llvm-readobj says of an image: the libraries that it imports from, and the other lines of an audit."""
     text = succeed(["llvm-readobj", "--file-headers", "--sections", "--coff-imports", "--coff-exports", image])
     imports, exports = (re.findall(rf"(?ms)^{kind} \{{\n(.*?)^\}}", text) for kind in ("Import", "Export"))
     start, = numbers(text, "ExportTableRVA")
@@ -50,12 +50,12 @@ class Audits(Case):
         self.assertEqual(run([PE_AUDIT, "a.dll"], file), (0, "\n".join([*others, "known by its key: yes", ""]).encode(), b""))
 
     def test_a_header_that_is_written_longer_than_the_file(self):
-        """The file ends with its header, which has none of the sixteen data directories that are written."""
+        """The file ends with its header, which has no data directory; sixteen are written."""
         self.assert_audited(sample((0x46, b"\0"), (0xB4, b"\0"))[:0xB8],
                             "imports from a.dll: no", "forwarders: 0", "entered in code: no", "header: 312 bytes")
 
     def test_names_are_escaped(self):
-        """The name of a section, in the string table, would end its line, begin another one, and give orders to a terminal."""
+        """The name of a section has a line break and a code for terminals."""
         file = sample((0x138, b"/768\0\0"), (0x15F, b"\xA0"), (0x300, b"x\nknown by its key: no\x1b[2J\\"))
         self.assert_audited(file, "imports from a.dll: yes", "forwarders: 1", "entered in code: no",
                             r"writable code: x\x0aknown by its key: no\x1b[2J\x5c", "header: 312 bytes")
@@ -65,7 +65,7 @@ class Audits(Case):
         self.assert_audited(file, "imports from a.dll: yes", "forwarders: 1", "entered in code: no",
                             r"writable code: \xff\x80t", "header: 312 bytes")
 
-    def test_refusals_are_told(self):
+    def test_a_refusal_has_a_line(self):
         for name, file, cause in (
                 ("no bytes", b"", b"the file is too short for the DOS signature"),
                 ("another signature", b"ZM", b"the file begins with 0x4d5a in place of the DOS signature")):
@@ -87,8 +87,8 @@ class Page(Case):
                     with self.subTest(piece=piece.splitlines()[0]):
                         self.assertIn(piece, sources)
 
-    def test_each_word_stands_in_its_file(self):
-        """One of the definitions of goblin_pe, or one that these re-export."""
+    def test_each_word_is_in_its_file(self):
+        """The file is one of goblin_pe, or one that it re-exports."""
         specs = CRATES / "goblin_pe/specs"
         modules = re.findall(r"(?m)^pub (?:mod|use Rattle\.(\w+)\.specs\.)\s*(\w+)$", (specs / "Lib.antt").read_text("utf-8"))
         files = {name: CRATES / (crate or "goblin_pe") / "specs" / f"{name}.antt" for crate, name in modules}

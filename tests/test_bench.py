@@ -1,4 +1,4 @@
-"""What bench/ compares with other readers: goblin, pefile and objdump, if the machine has them."""
+"""The programs of bench/ that compare answers with goblin, pefile and objdump, if the machine has these."""
 import importlib.util
 import os
 import pathlib

@@ -1,5 +1,5 @@
-"""Where a piece of the address space begins is read by one call, which counts. What reads it elsewhere is refused before any
-proof, so it can't stand among the wrong bodies."""
+"""One call reads where a piece of the address space begins, and counts its probes. A body that reads it elsewhere does not compile,
+so it can't be among the wrong bodies."""
 import shutil
 
 from tests.programs import CRATES, TOP, Case, is_kept, need, run
@@ -8,7 +8,7 @@ BELOW = ("goblin_base", "readings")
 
 
 class Bounds(Case):
-    """The crate of the index, with another line in it, over the proved libraries below it."""
+    """The crate of the index with one line changed, over the proved libraries below it."""
 
     def setUp(self):
         super().setUp()
@@ -17,7 +17,7 @@ class Bounds(Case):
             self.skipTest("the libraries below goblin_pe_sect are not kept in crates/*/out")
 
     def said_of(self, old, new):
-        """What the prover says of the crate with this text in its index."""
+        """The messages of the prover for the crate with this text as its index."""
         top = self.folder / "copy"
         for part in ("src", "specs", "proofs"):
             shutil.copytree(CRATES / "goblin_pe_sect" / part, top / "crates/goblin_pe_sect" / part)

@@ -1,4 +1,4 @@
-"""The library for C, Rust and Python is built over the proved libraries below it, and alike wherever it is built."""
+"""The library for C, Rust and Python is built over the proved libraries, and is the same wherever it is built."""
 import os
 import shutil
 
@@ -7,13 +7,13 @@ from tests.programs import CC, CRATES, TOP, Case, environment, is_kept, need, su
 
 
 class Built(Case):
-    """The library as bindings/build makes it, over the proved libraries below it."""
+    """The library that bindings/build makes over the proved libraries."""
 
     def copied(self, below):
-        """What it is built of, in another folder, whose path has a space. The libraries below stay where they are."""
+        """A copy of its sources in a folder whose path has a space. The libraries below it stay in place."""
         top = self.folder / "another one"
         sources = [f"crates/{crate}/{part}" for crate in (*below, "goblin_pe_capi") for part in ("src", "specs", "proofs")]
-        kept = "crates/goblin_pe_capi/out/incremental"  # (proofs, and nothing that is compiled)
+        kept = "crates/goblin_pe_capi/out/incremental"  # (proofs; nothing of it is compiled)
         for it in ("tools", "bindings", *sources, kept):
             if (TOP / it).exists():
                 shutil.copytree(TOP / it, top / it, ignore=shutil.ignore_patterns("lib", "target", "__pycache__"))
@@ -25,7 +25,7 @@ class Built(Case):
         return top
 
     def test_another_folder_makes_the_same_library(self):
-        """To the byte. No library below is proved again."""
+        """The bytes are the same, and no library below is proved again."""
         if "GOBLIN_PE_LIB" in os.environ:
             self.skipTest("GOBLIN_PE_LIB names a library that need not be built of these sources")
         need(CC)  # (for the shared library)

@@ -1,4 +1,4 @@
-"""The library for C, and what is installed of it."""
+"""The library for C, and its installed files."""
 import itertools
 import os
 import re
@@ -12,7 +12,7 @@ from tests.programs import BY_NAME, CC, FLAGS, IMAGES, OBJECTS, SAMPLES, TERSE, 
 
 STRICT = ["-pedantic", "-Wcast-qual", "-Wshadow"]
 SANITIZED = ("-std=c11", "-g", "-fsanitize=address,undefined", "-fno-sanitize-recover=all")
-# An object and a Terse Executable, which eight threads read beside an image.
+# Eight threads read this object and this Terse Executable, and an image.
 OTHERS = (SAMPLES / "object_x64.obj", SAMPLES / "firmware_x64.te")
 # The program at the top of the header.
 PROGRAM = re.compile(r"(?s)       (#include \"goblin_pe\.h\".*?)\n\n       \$ cc")
@@ -50,7 +50,7 @@ class C(Case):
                 self.assertLess(min(spent), 0.1)
 
     def test_examples_run_on_each_file_with_sanitizers(self):
-        """Which say nothing. What is printed is printable."""
+        """The sanitizers report nothing, and the output is printable."""
         self.need_flags(*SANITIZED)
         file, env = self.folder / "some.dll", {**os.environ, "ASAN_OPTIONS": "exitcode=99", "UBSAN_OPTIONS": "exitcode=99"}
         for name, *words in (("imports", ), ("walk", "1000", file), ("libraries", file), ("damage", file), ("loader", file, file),
@@ -64,7 +64,7 @@ class C(Case):
                     self.assertRegex(out + said, rb"\A[ -~\n]*\Z")
 
     def test_a_null_pointer_where_there_is_room_is_written_to(self):
-        """It stops the program, which else would write where it may not."""
+        """The call stops the program before it writes there."""
         source = b"""#include "goblin_pe.h"
 int main(int argc, char **argv)
 {
@@ -78,12 +78,12 @@ int main(int argc, char **argv)
         self.assertEqual((run([program])[0] > 0, run([program, "room"])[0]), (True, -signal.SIGSEGV))
 
     def need_flags(self, *flags):
-        """Skips the test if the compiler does not build programs by these flags."""
+        """Skips the test if the compiler can't build a program with these flags."""
         if run([CC, *flags, "-x", "c", "-o", self.folder / "flags", "-"], b"int main(void) { return 0; }\n")[0]:
             self.skipTest(f"{CC} has no {flags[-1]}")
 
     def calls(self):
-        """The files on which each call is made: the samples, and an image with a Rich header."""
+        """Runs the program that makes each call, on the samples and on an image with a Rich header."""
         rich = images.with_rich_header(images.library(b"rich.dll", [(b"Apple", 0x3010)]), 0x12345678, [(0x1047809, 3), (0x930001, 7)])
         return [*IMAGES, *OBJECTS, *TERSE, self.written("rich.dll", rich)]
 
@@ -98,7 +98,7 @@ int main(int argc, char **argv)
             succeed(["valgrind", "-q", "--error-exitcode=9", "--leak-check=full", self.built(source, "-std=c11"), *self.calls()])
 
     def test_threads_with_stacks_of_16_kib(self):
-        """Also if the file has a thousand sections and imports: no call needs more stack for these."""
+        """A file with a thousand sections and imports needs no more stack."""
         source, hostile_image = BINDINGS / "c/tests/threads.c", self.written("hostile.dll", images.hostile_image(1 << 16))
         program = self.built(source, "-std=c11", "-pthread")
         succeed([program, "16", "1", BY_NAME, *OTHERS])
@@ -107,8 +107,8 @@ int main(int argc, char **argv)
             self.need_flags("-fsanitize=thread")
             succeed([self.built(source, "-std=c11", "-pthread", "-fsanitize=thread"), "256", "1", BY_NAME, *OTHERS])
 
-    def test_each_refused_growth_of_memory_is_told(self):
-        """The footprint takes memory; a walk does only above 96 sections."""
+    def test_each_refused_growth_of_memory_is_reported(self):
+        """The footprint takes memory. A walk takes memory only above 96 sections."""
         program = self.built(BINDINGS / "c/tests/memory.c", "-std=c11")
         walks = ("damage", "directory", "imports", "libraries", "exports", "export_addresses", "relocation_blocks")
         # (an import and an export directory of zeros, and a block of two zeros)
@@ -151,7 +151,7 @@ class Installed(Case):
         return run(command, cwd=self.folder, env=environment(GOBLIN_PE_LIB=str(library()), **more))
 
     def test_programs_are_built_as_pkg_config_says(self):
-        """Over the archive; also in another folder, and over the shared library if there is one. Everybody can read the files."""
+        """They use the archive, or the shared library if there is one, also from another folder. Everybody can read the files."""
         need("pkg-config")
         for more, libraries in ({}, "usr/lib"), ({"LIBDIR": "/usr/lib64"}, "usr/lib64"):
             self.assertEqual(self.install("/usr", DESTDIR=str(self.folder), **more), (0, b"", b""))

@@ -1,6 +1,5 @@
-"""The library's calls in the test program pe_replay: headers written back, footprints, files that agree on them, addresses
-among many sections, walks over imports and exports, damage, and each call that takes memory with each of its growths
-refused."""
+"""The library's calls, made by the test program pe_replay: headers that are written back, footprints, files that agree on them,
+addresses among many sections, walks, damage, and each growth of memory refused."""
 import struct
 
 from tests import images
@@ -11,9 +10,8 @@ MODES = ("strict", "permissive")
 EACH = ("default", *MODES)
 DEFAULT = ("default",)
 
-# Calls that take memory, and their answers. A reader that returns Memory, whatever the allocator says, meets its contract: it
-# fails here, since the answer has to come where no growth is refused. A law has two answers: where one is refused memory, the
-# other stands in its place, and so it is for each of them.
+# Calls that take memory, and their answers. A reader that always returns Memory meets its contract, but fails here, because the
+# answer has to come if no growth is refused. A law has two answers: if one is refused memory, the other one is still given.
 TAKE_MEMORY = [
     (EACH, "section", "5"),
     (DEFAULT, "clone", "5"),
@@ -67,10 +65,10 @@ TAKE_NONE = [
     (EACH, "exports_of_no_bytes", "0"),
 ]
 
-# The sample file's length. Where its section table begins, and where its bytes can be read as a Terse Executable's header.
+# The length of the sample file, where its section table begins, and where its bytes can be read as a Terse Executable's header.
 SAMPLE_LEN = 0x300
 SECTIONS, TERSE = 0x138, 0x52
-# The footprint of each read of the sample file: the positions on which it depends, as ranges.
+# The footprint of each read of the sample file: the ranges on which it depends.
 OF_EXPORTS = [(0x280, 0x286), (0x2A0, 0x2DC), (0x2E0, 0x2E6), (0x2F0, 0x2F2)]
 OF_IMPORTS = [(0x200, 0x228), (0x240, 0x24C), (0x260, 0x26C), (0x280, 0x286), (0x290, 0x295)]
 FOOTPRINTS = {
@@ -85,7 +83,7 @@ FOOTPRINTS = {
     "relocations": [(0x280, 0x285)],
     "value": [(0x200, 0x300)],
 }
-# A call lists some of them. What it lists depends on the same positions.
+# Some of them are listed by a call. Its answer depends on the same positions.
 FOOTPRINTS.update({f"footprint of {read}": sorted(set(FOOTPRINTS[read])) for read in ("imports", "exports", "header", "whole")})
 FOOTPRINTS_AT = {
     SECTIONS: {**FOOTPRINTS, "sections": [(0x138, 0x160)]},
@@ -99,7 +97,7 @@ def setUpModule():
 
 class Growths(Case):
     def growths(self, call, form, answer):
-        """What a call writes where one of its growths is refused, for each of them."""
+        """The output of a call with each of its growths refused in turn."""
         return self.each_growth([PE_REPLAY, call, form], f"{answer}\n".encode())
 
     def test_calls_that_take_memory(self):
@@ -114,7 +112,7 @@ class Growths(Case):
                     self.assertEqual(set(written) - {b""}, refused)
 
     def test_calls_that_take_none(self):
-        """No growth is refused but those of the program for its words."""
+        """Only the growths of the program for its own words are refused."""
         own = len(self.growths("nothing", "default", "0"))
         for forms, call, answer in TAKE_NONE:
             for form in forms:
@@ -127,7 +125,7 @@ class Answers(Case):
         self.assert_runs([PE_REPLAY, *words], (0, wanted, b""), stdin)
 
     def test_a_header_is_written_as_it_was_read(self):
-        """The file's own bytes up to the section table."""
+        """It is written as the bytes of the file up to the section table."""
         for sample in IMAGES:
             with self.subTest(sample=sample.name):
                 data = sample.read_bytes()
@@ -139,8 +137,8 @@ class Answers(Case):
         self.assert_runs([*limit, PE_REPLAY, "footprint"], (0, lines.encode(), b""), image)
 
     def test_a_footprint_of_parts_that_are_shared(self):
-        """Of libraries that each have all their records as table of imports, millions of parts: the headers, and the
-        records through the one that ends them, with the name behind it."""
+        """The libraries share their records as lookup tables, so millions of parts overlap. The footprint is the headers, and the
+        records through the last one, with the name after it."""
         count = 1609
         image = images.own_tables(count)
         self.assertLessEqual(len(image), 32 << 10)
@@ -148,7 +146,7 @@ class Answers(Case):
         self.assert_ranges(image, [(0, 0x160), (0x200, 0x200 + 20 * (count + 1) + len(b"a.dll\0"))], *limit)
 
     def test_a_footprint_of_sections_with_one_long_name(self):
-        """The name is marked where it stands: copies of it for each section would not fit."""
+        """The name is marked once. A copy of it for each section would need too much memory."""
         count, length = 1000, 200_000
         image = images.one_long_name(count, length)
         limit = with_memory((len(image) + 20_000_000) >> 10, [])
@@ -156,7 +154,7 @@ class Answers(Case):
         self.assert_ranges(image, [(0, end), (end + 8, end + 8 + length)], *limit)
 
     def test_a_footprint_of_parts_that_touch(self):
-        """The tables of a large image: all but a byte before the hints of each library, behind its name."""
+        """The tables of a large image, without the byte between each library's name and its hints."""
         image = images.large_image(libraries=64, functions=2400, exports=0, blocks=0, size=1 << 20)
         library = 16 + 2400 * 24 + 2 * 2401 * 8
         names = [0x1200 + i * library for i in range(64)]
@@ -165,7 +163,7 @@ class Answers(Case):
         self.assert_ranges(image, zip(begins, ends))
 
     def test_addresses_among_many_sections(self):
-        """By both rules for raw pointers each is found where the format says."""
+        """With both rules for raw pointers, each is found at the place that the format says."""
         made = images.many_sections(count=5000, size=0xD000, past=0x10)
         places = [i * 0x9E3779B1 % (1 << 28) for i in range(5000)]
         found = [place for place in places if place < 5000 * 0xD000]
@@ -176,11 +174,11 @@ class Answers(Case):
 
 
 class Agreement(Case):
-    """Two files that agree on the footprint of a read have the same value by it: the sample file, and one like it."""
+    """Two files that agree on the footprint of a read have the same value: the sample file, and a changed one."""
 
     def answers(self, offset, changes):
-        """What each read gives of the sample file and of one in which the bytes at some places are other ones, and then of the
-        same two in the other order: four answers for each of the changes."""
+        """Four answers of each read for each change: for the sample file, for the file with other bytes at some places, and for
+        these two in the other order."""
         masks = (bytes(0xFF * (place in places) for place in range(SAMPLE_LEN)) for places in changes)
         status, out, said = run([PE_REPLAY, "twins", str(offset)], b"".join(masks))
         self.assertEqual((status, said), (0, b""))
@@ -191,7 +189,7 @@ class Agreement(Case):
         return {word: list(zip(*[iter(rows)] * 4)) for word, rows in read.items()}
 
     def test_reads_depend_on_their_footprints_alone(self):
-        """Every byte outside is changed, one at a time and all at once. Within each range some byte makes a difference."""
+        """Every byte outside is changed, one at a time and all at once. In each range some byte makes a difference."""
         for offset, footprints in FOOTPRINTS_AT.items():
             within = {word: {place for it in ranges for place in range(*it)} for word, ranges in footprints.items()}
             changes = [{place} for place in range(SAMPLE_LEN)] + [set(range(SAMPLE_LEN)) - it for it in within.values()]
@@ -221,7 +219,7 @@ class Walks(Case):
                     self.assert_shows(sample, b"%d\n" % rows.count(word[:-1].encode()), word)
 
     def test_all_imports_of_a_hostile_image(self):
-        """Of so many libraries that share one table. The walk takes no memory for them: none is left for a list."""
+        """Its libraries share one table. The walk takes no memory, and there is none for a list."""
         libraries, functions = 6500, 16000
         image = images.shared_image(libraries, functions)
         self.assertLess(len(image), 256 << 10)
@@ -229,7 +227,7 @@ class Walks(Case):
         self.assert_runs(walk, (0, b"%d\n" % (libraries * functions), b""), image)
 
     def test_what_ends_a_walk(self):
-        """The name of the third of four libraries stands at an address that no section maps."""
+        """The name of the third of four libraries is at an address that no section maps."""
         image = images.shared_image(libraries=4, functions=3)
         struct.pack_into("<I", image, 0x200 + 20 * 2 + 12, 0x9000)
         self.assert_shows(image, b"6\nthe address 0x9000 has no offset in the file\n", "imports")
@@ -254,7 +252,7 @@ class Damage(Case):
                 self.assert_damaged(sample)
 
     def test_each_part_for_itself(self):
-        """The name of a library and the base relocations stand at addresses that no section maps."""
+        """The name of a library and the base relocations are at addresses that no section maps."""
         image = images.shared_image(libraries=4, functions=3)
         struct.pack_into("<I", image, 0x200 + 12, 0x9000)
         struct.pack_into("<II", image, 0xC8 + 8 * 5, 0xA000, 8)
@@ -262,7 +260,7 @@ class Damage(Case):
         self.assert_damaged(image, imports=unmapped % 0x9000, relocations=unmapped % 0xA000)
 
     def test_imports_that_are_hidden(self):
-        """That of a directory at file offset 0 from permissive mode, and one that leads nowhere from both."""
+        """Permissive mode hides the import of a directory at file offset 0; both modes hide one that leads nowhere."""
         front, nowhere = images.directory_in_front(), images.import_from_nowhere(BY_NAME.read_bytes())
         for image, strictly, left_out in ((front, b"1\n", (1, 1, 0)), (nowhere, b"0\n", (0, 0, 1))):
             self.assert_runs([PE_REPLAY, "imports"], (0, strictly, b""), image)

@@ -1,4 +1,4 @@
-"""The checksum of an image: by hand, and as the linker has stored it in the launchers that come with pip."""
+"""The checksum of an image: computed by hand, and stored by the linker in the launchers that come with pip."""
 import ctypes
 import importlib.util
 import pathlib
@@ -7,7 +7,7 @@ import unittest
 from tests.bindings import calls, image_of, package
 from tests.programs import CC, need
 
-# Bytes, the offset of the field in them, and the checksum: the sum of the words, its carry, and the length.
+# Bytes, the offset of the checksum field, and the checksum: the sum of the words, with its carry, and the length.
 SUMS = [
     (b"", 0, 0),
     (b"\x01", 9, 1 + 1),
@@ -24,7 +24,7 @@ SUMS = [
 
 
 def launchers():
-    """The launchers of Windows that come with pip, where it is there."""
+    """The Windows launchers that come with pip, if the machine has it."""
     distlib = importlib.util.find_spec("pip._vendor.distlib")
     places = distlib.submodule_search_locations if distlib else []
     return [file for place in places for file in sorted(pathlib.Path(place).glob("*.exe"))]
@@ -36,7 +36,7 @@ class Checksums(unittest.TestCase):
         need(CC)  # (for the shared library)
 
     def test_words_are_added_with_their_carry_and_without_the_field(self):
-        """After zeros, as many as lie between the PE signature and the field."""
+        """The words come after as many zeros as lie between the PE signature and the field."""
         for data, field, wanted in SUMS:
             with self.subTest(data=data, field=field):
                 (found, _), total = image_of(bytes(88) + data, None, "read_partial_image"), ctypes.c_uint32()

@@ -1,4 +1,4 @@
-"""The constants that goblin has: their names, types, numbers and modules, in the crates and in the packages."""
+"""The constants of goblin: their names, types, numbers and modules, in the crates and in the packages."""
 import re
 import unittest
 

@@ -1,11 +1,11 @@
-"""The wrong bodies. The toolchain's gate passes where an edit cannot be applied, so that is tested here."""
+"""The wrong bodies. The gate passes even if an edit can't be applied, so this is tested here."""
 import unittest
 
 from tests.programs import CRATES, TOP
 
 
 class Edits(unittest.TestCase):
-    def test_each_text_to_be_replaced_stands_once(self):
+    def test_each_text_to_be_replaced_occurs_once(self):
         edits = sorted(CRATES.glob("*/must-fail/*.edit"))
         self.assertIn(f"refuse {len(edits)} wrong bodies", (TOP / "README.md").read_text("utf-8"))
         for edit in edits:

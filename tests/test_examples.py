@@ -1,4 +1,4 @@
-"""The examples that map, change and look further into a file: what they tell of images that are known, and that they end on any."""
+"""The examples that map, change and look further into a file: their answers on known images, and that they end on any file."""
 import importlib.util
 import os
 import re
@@ -45,7 +45,7 @@ class Loader(Case):
         self.assert_resolves([(b"FRUIT.DLL", [b"Elder", 10, 11]), (b"fruit", [b"Apple"])], 0, [
             "FRUIT.DLL Elder: 0x180013050", "FRUIT.DLL #10: 0x180013010", "FRUIT.DLL #11: 0x180013020", "fruit Apple: 0x180013010"])
 
-    def test_what_is_not_there_is_told(self):
+    def test_what_is_not_there_is_reported(self):
         self.assert_resolves([(b"fruit.dll", [9, 15, b"Banana"]), (b"nuts.dll", [1])], 1, [
             "fruit.dll #9: not exported", "fruit.dll #15: not exported", "fruit.dll Banana: not exported", "nuts.dll #1: no such library"])
 
@@ -58,7 +58,7 @@ class Loader(Case):
         self.assert_resolves([(b"fruit.dll", [b"Cherry"])], 1, ["fruit.dll Cherry" + " -> other Pear -> fruit Cherry" * 4 + " -> too many forwarders"], other)
 
     def test_imports_of_samples(self):
-        """Of 64 and of 32 bits."""
+        """For 64 and for 32 bits."""
         exports = [(b"GetTickCount", 0x3010), (b"GetTickCount@0", 0x3020)]
         kernel = self.written("Kernel32.dll", images.library(b"KERNEL32.dll", exports, base=901))
         for name, wanted in (("imports_by_name_x64.dll", "GetTickCount: 0x180013010"), ("imports_by_ordinal_x64.dll", "#901: 0x180013010"),
@@ -91,7 +91,7 @@ class Changes(Case):
         self.assertIn(".text 0x3 of type 0x4: keep_it\n", told)
         self.assertRegex(told, r"(?m)^symbol \d+ in section 1 at 0x0: .text \(\d+ bytes\)$")
 
-    def test_damage_is_told(self):
+    def test_damage_is_reported(self):
         sound = b"skipped: 0 libraries, 0 imports and 0 exports\nimports that lead nowhere: 0\nsound\nimports as Windows maps: 1\nimports as goblin maps: 1\n"
         self.assertEqual(run([built("damage"), BY_NAME]), (0, sound, b""))
         told = run([built("damage"), self.written("cut.dll", BY_NAME.read_bytes()[:0x1E0])])[1].decode().splitlines()
@@ -124,7 +124,7 @@ class InPython(Case):
 
 
 class Readme(Case):
-    """The programs of the first page, which stand in a program that reads some.dll."""
+    """The programs of README.md, each inside a program that reads some.dll."""
 
     C = """#include "goblin_pe.h"
 #include <stdio.h>
@@ -172,7 +172,7 @@ int main(void)
 
 
 class Ends(Case):
-    """Within a second of the processor and ten megabytes, on each hostile file."""
+    """Each example ends within a second of processor time and ten megabytes of output, on each hostile file."""
 
     def files(self):
         wide = images.with_others()

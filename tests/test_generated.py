@@ -1,4 +1,4 @@
-"""What bindings/generate.py makes of the crates' declarations: it is up to date, and a form that it does not know is refused."""
+"""The files that bindings/generate.py makes are up to date, and it refuses a declaration of a form that it does not know."""
 import functools
 import importlib
 import sys

@@ -1,5 +1,5 @@
-"""Headers, data directories, sections and Terse Executables: what is read, refused and written of files whose every byte is
-known, by the package for Python."""
+"""Headers, data directories, sections and Terse Executables: how the package for Python reads, refuses and writes files whose every
+byte is known."""
 import ctypes
 import mmap
 import struct
@@ -13,17 +13,17 @@ from tests.images import DEFAULT_STUB, sample, with_parts
 from tests.programs import BY_NAME, CC, IMAGES, SAMPLES, need
 
 
-# The modes in which a row holds.
+# The modes for which a row holds.
 STRICT, PERMISSIVE = ("strict",), ("permissive",)
 BOTH = STRICT + PERMISSIVE
 
 # A small image for 32 bits.
 SAMPLE = sample()
 
-# Where its section table begins and ends.
+# The begin and the end of its section table.
 TABLE, TABLE_END = 0x138, 0x160
 
-# The sample with a section whose name stands elsewhere in the file: where that of the library is.
+# The sample with a section whose name is elsewhere in the file: at the name of the library.
 NAMED_ELSEWHERE = with_parts(SAMPLE, (TABLE, b"/640\0\0\0\0"))
 
 
@@ -32,10 +32,10 @@ def short_file(*parts):
     return with_parts(bytes(64), (0, b"MZ"), *parts)
 
 
-# A file whose PE signature stands at 4, in the DOS header.
+# A file whose PE signature is at 4, in the DOS header.
 SIGNATURE_AT_4 = short_file((4, b"PE"), (0x3C, b"\x04"))
 
-# What the headers of the programs of samples/ have alike, as another tool shows it.
+# The fields that the headers of the programs in samples/ share, as another tool shows them.
 PROGRAM_STUB = b"\x0E\x1F\xBA\x0E\x00\xB4\x09\xCD\x21\xB8\x01\x4C\xCD\x21This program cannot be run in DOS mode.$\0\0"
 PROGRAM_DOS = dict(signature=0x5A4D, bytes_on_last_page=120, pages_in_file=1, size_of_header_in_paragraphs=4,
                    file_address_of_relocation_table=64, pe_pointer=120)
@@ -45,8 +45,8 @@ PROGRAM_WINDOWS = dict(section_alignment=4096, file_alignment=512, major_operati
                        size_of_image=20480, size_of_headers=1024, subsystem=3, size_of_stack_reserve=1_048_576, size_of_stack_commit=4096,
                        size_of_heap_reserve=1_048_576, size_of_heap_commit=4096, number_of_rva_and_sizes=16)
 
-# Files, the modes, and the parts of their headers: the fields that are not zero, and of the data directories that are there, by
-# their indexes, the address and the size.
+# Files, the modes, and the parts of their headers: the fields that are not zero, and the address and the size of each data
+# directory, by its index.
 HEADERS = (
     ("a small image for 32 bits", SAMPLE, BOTH, dict(
         dos_header=dict(signature=0x5A4D, pe_pointer=0x40), stub=b"", rich_header=None,
@@ -80,8 +80,8 @@ REFUSED = (
     ("a signature in the DOS header", SIGNATURE_AT_4, STRICT, ("MALFORMED", "STUB_BEFORE_START", 4, 0)),
 )
 
-# Optional headers: the widths of the standard and of the Windows fields, and their values where the bytes of each kind go up from
-# 1 on, the highest byte of a field first. Only the magic and the number of directories are others.
+# Optional headers: the widths of the standard and of the Windows fields, and their values. The bytes of each kind go up from 1,
+# beginning at the highest byte of a field, except for the magic and the number of directories.
 FIELDS = (
     ("for 32 bits", (2, 1, 1, *[4] * 6), (*[4] * 3, *[2] * 6, *[4] * 4, 2, 2, *[4] * 6), dict(
         magic=0x10B, major_linker_version=0x03, minor_linker_version=0x04, size_of_code=0x0506_0708,
@@ -108,7 +108,7 @@ FIELDS = (
 
 
 def rising(widths):
-    """Fields of these widths, whose bytes go up from 1 on, the highest of each first: in the file it stands last."""
+    """Fields of these widths. Their bytes go up from 1, beginning at the highest byte of each field, which is last in the file."""
     fields, first = b"", 1
     for width in widths:
         fields += bytes(range(first, first + width))[::-1]
@@ -117,14 +117,14 @@ def rising(widths):
 
 
 def image(magic, fields, directories):
-    """An image of headers alone, whose optional header has these fields, but for the magic and sixteen as the number of data
-    directories, and these directories."""
+    """An image of headers alone, whose optional header has these fields and directories, but this magic, and sixteen as the number
+    of directories."""
     fields = with_parts(fields, (0, struct.pack("<H", magic)), (len(fields) - 4, struct.pack("<I", 16)))
     size = struct.pack("<H", len(fields + directories))
     return with_parts(bytes(0x58), (0, b"MZ"), (0x3C, b"\x40"), (0x40, b"PE"), (0x54, size)) + fields + directories
 
 
-# The data directories of a small program; images of both widths that have them, and one with the reserved directory alone.
+# The data directories of a small program, images of both widths that have them, and an image with the reserved directory alone.
 DIRECTORIES = with_parts(bytes(128), *((8 * index, struct.pack("<II", address, size)) for index, address, size in (
     (1, 14584, 160), (2, 24576, 18192), (3, 20480, 264), (5, 45056, 60), (6, 13160, 112), (10, 12304, 320), (12, 12624, 328))))
 NARROW, WIDE = image(0x10B, bytes(96), DIRECTORIES), image(0x20B, bytes(112), DIRECTORIES)
@@ -139,10 +139,10 @@ ENTRIES = (
     ("the reserved one", RESERVED, {15: (0, 0x0100_0000)}),
 )
 
-# The sample with two data directories, after which a byte stands that is not of them.
+# The sample with two data directories, and a byte after them that belongs to none.
 TWO_DIRECTORIES = with_parts(SAMPLE, (0xB4, b"\x02"), (0xC8, b"\xFF"))
 
-# Files, the mode in which they are read, and the headers that are written of them.
+# Files, the mode in which they are read, and their headers when they are written.
 WRITTEN = (
     ("as it was read", SAMPLE, STRICT, SAMPLE[:TABLE]),
     ("zeros for the directories past their count", TWO_DIRECTORIES, STRICT, TWO_DIRECTORIES[:0xC8].ljust(TABLE, b"\0")),
@@ -150,7 +150,7 @@ WRITTEN = (
     ("directories for 64 bits", WIDE, PERMISSIVE, WIDE),
 )
 
-# Magics and image bases that are put into the header of the sample, how much room there is, and why it is not written.
+# Magics and image bases for the header of the sample, how much room there is, and why the header is not written.
 UNWRITTEN = (
     ("a byte of room is missing", 0x10B, 0, TABLE - 1, ("TOO_BIG", None, 0, 0)),
     ("a field for 32 bits is too wide", 0x10B, 1 << 32, TABLE, ("MALFORMED", "FIELD_TOO_WIDE", 0, 0)),
@@ -159,7 +159,7 @@ UNWRITTEN = (
     ("both are tested where there is no room at all", 0x107, 1 << 32, 0, ("BAD_MAGIC", None, 0x107, 0)),
 )
 
-# Names in the records of sections, and what they say in both modes, where b"MZ" stands at 0 and b"twelve" at 12; or why they are
+# Names in section headers, and the names that they lead to in both modes, with b"MZ" at 0 and b"twelve" at 12; or why they are
 # refused.
 NAMES = (
     (b".rdata\0\0", b".rdata"),
@@ -174,7 +174,7 @@ REFUSED_NAMES = (
     (b"//-\0\0\0\0\0", "NAME_BASE64"),
 )
 
-# Offsets in a string table, and the names that say them.
+# Offsets in a string table, and the names that lead to them.
 OFFSETS = (
     (0, b"/0\0\0\0\0\0\0"),
     (9_999_999, b"/9999999"),
@@ -182,8 +182,8 @@ OFFSETS = (
     (68_719_476_735, b"////////"),
 )
 
-# Sections by their size in memory, and their size and offset in the file; the file; and their data: the bytes that the file has of
-# it, and how many zeros follow them.
+# Sections by their size in memory, and their size and offset in the file; the file; and their data: the bytes in the file, and
+# how many zeros follow them.
 ZEROS, NINE_AT_7 = bytes(16), with_parts(bytes(16), (7, b"\x09"))
 SECTION_DATA = (
     ("as much as in memory", (4, 4, 4), ZEROS, (bytes(4), 0)),
@@ -194,13 +194,13 @@ SECTION_DATA = (
 
 
 def terse(stripped_size):
-    """A Terse Executable of which so many bytes were stripped, with an entry point at 0x1010 and a section at 0x1000, whose data
-    begin at 0x200."""
+    """A Terse Executable from which a number of bytes was stripped. Its entry point is at 0x1010. Its section is at 0x1000, with
+    data from 0x200 on."""
     return with_parts(bytes(80), (0, b"VZ"), (4, b"\x01"), (6, struct.pack("<H", stripped_size)), (8, b"\x10\x10"), (0x35, b"\x10"),
                       (0x3D, b"\x02"))
 
 
-# Files, and the table for which each is refused in strict mode, and in permissive mode, which passes over tables and odd names.
+# Files, and the table for which strict mode refuses each, and permissive mode, which passes over tables and odd names.
 NO_IMPORTS, NO_EXPORTS, NO_RELOCATIONS = ((at, struct.pack("<2I", 0x9000, 0x28)) for at in (0xC0, 0xB8, 0xE0))
 REFUSED_TABLES = (
     ("none", SAMPLE, None, None),
@@ -210,12 +210,13 @@ REFUSED_TABLES = (
     ("the imports", with_parts(SAMPLE, NO_IMPORTS), "IMPORTS", None),
     ("the exports", with_parts(SAMPLE, NO_EXPORTS), "EXPORTS", None),
     ("the base relocations", with_parts(SAMPLE, NO_RELOCATIONS), "RELOCATIONS", None),
-    ("all tables, of which the imports are first", with_parts(SAMPLE, NO_RELOCATIONS, NO_EXPORTS, NO_IMPORTS), "IMPORTS", None),
+    ("all tables, the imports first", with_parts(SAMPLE, NO_RELOCATIONS, NO_EXPORTS, NO_IMPORTS), "IMPORTS", None),
     ("exports and base relocations", with_parts(SAMPLE, NO_RELOCATIONS, NO_EXPORTS), "EXPORTS", None),
 )
 
-# Files; why they are refused as a whole, in both modes; the parts of their headers that are refused, and why; and of what is there the machine, the magic, the indexes of the data directories, the names of the sections and how many are missing, and
-# how many imports and how many export addresses the walks of permissive mode give.
+# Files; why both modes refuse them; the parts of their headers that are refused, and why; and what the partial image has: the
+# machine, the magic, the indexes of the data directories, the names of the sections and how many are missing, and how many imports
+# and export addresses the walks of permissive mode give.
 ALL_PARTS = ("dos_header", "coff_header", "standard_fields", "windows_fields", "directories")
 CUT, PAST_END, ROM = ("TOO_BIG", None, 0, 0), ("BAD_OFFSET", None, 0, 0), ("BAD_MAGIC", None, 0x107, 0)
 NO_IMAGE, NO_NUMBER = ("MALFORMED", "DOS_MAGIC", 0x6F6E, 0), ("MALFORMED", "NAME_DECIMAL", 0, 0)
@@ -230,8 +231,8 @@ PARTS = (
      (0x14C, None, [], [b".rdata"], 0, 0, 0)),
     ("a section whose name is a slash and no number", with_parts(SAMPLE, (TABLE, b"/abc\0\0")), NO_NUMBER, {"section_names": NO_NUMBER},
      (0x14C, 0x10B, [0, 1], [b"/abc"], 0, 2, 2)),
-    # (eleven records lie between the table's place and the end of the file, of which the later ones are no sections)
-    ("nineteen sections, of which eleven are there", with_parts(SAMPLE, (0x46, b"\x13")), CUT, {"section_table": CUT},
+    # (Eleven headers fit between the table's place and the end of the file. The later ones are no sections.)
+    ("nineteen sections, eleven of them in the file", with_parts(SAMPLE, (0x46, b"\x13")), CUT, {"section_table": CUT},
      (0x14C, 0x10B, [0, 1], [b".rdata", *[None] * 10], 8, 2, 2)),
     ("a cut section table", SAMPLE[:TABLE_END - 1], CUT, {"section_table": CUT}, (0x14C, 0x10B, [0, 1], [], 1, 0, 0)),
     ("a header that is cut in its data directories", SAMPLE[:TABLE - 1], CUT, {"directories": CUT, "section_table": PAST_END},
@@ -246,7 +247,7 @@ PARTS = (
      (0, None, [], [], 0, 0, 0)),
 )
 
-# What reads a file, the file, and the sentence by which it is refused, as goblin says it, so that logs can be searched for it.
+# The call that reads a file, the file, and the error text, which is goblin's, so that logs can be searched for it.
 SENTENCES = [
     ("Image", with_parts(bytes(64), (0, b"MZ"), (0x3C, b"\x3C\xFF")), "cannot parse PE header signature (offset 0xff3c)"),
     ("te", terse(0x17), "Stripped size (0x17) is smaller than TE header size (0x28)"),
@@ -297,23 +298,23 @@ def header(file, mode):
 
 
 def written(image, room):
-    """Writes the header of an image into so many bytes of 0xAA: why that is refused, how many bytes it says are written, and what is
-    there afterwards."""
+    """Writes the header of an image into a buffer of 0xAA bytes. Returns why that is refused, how many bytes are written, and the
+    buffer."""
     out, size = ctypes.create_string_buffer(b"\xAA" * room, room + 1), ctypes.c_size_t(7)
     refused = refusal(lambda: test(calls().goblin_pe_write_header(ctypes.byref(image), out, room, ctypes.byref(size))))
     return refused, size.value, out.raw[:room]
 
 
-# The identifier of big objects, and that of objects that are compiled when they are linked, as they stand in a file.
+# The class identifiers of big objects, and of objects that are compiled when they are linked, as they are stored.
 BIG_OBJECT, LATE_OBJECT = (uuid.UUID(it).bytes_le for it in ("D1BAA1C7-BAEE-4BA9-AF20-FAF66AA4DCB8", "0CB3FE38-D9A5-4DAB-AC9B-D6B6222653C2"))
 
 
 def anonymous(version, identifier=b""):
-    """What import objects and big objects begin with."""
+    """The bytes with which import objects and big objects begin."""
     return struct.pack("<3H", 0, 0xFFFF, version) + bytes(6) + identifier
 
 
-# First bytes, and what a file with these is.
+# First bytes, and the kind of a file that begins with them.
 KINDS = (
     (b"", "UNKNOWN"), (b"M", "UNKNOWN"), (b"MZ", "IMAGE"), (b"VZ", "TE"), (b"ZM", "UNKNOWN"), (b"\x64\x86", "OBJECT"),
     (b"\x86\x64", "UNKNOWN"), (b"\0\0", "UNKNOWN"), (b"\x7FELF", "UNKNOWN"),
@@ -326,7 +327,7 @@ KINDS = (
 
 
 class Kinds(unittest.TestCase):
-    def test_a_file_is_told_by_its_first_bytes(self):
+    def test_a_kind_is_known_by_the_first_bytes(self):
         for data, wanted in KINDS:
             for rest in (b"",) if wanted == "UNKNOWN" else (b"", bytes(100)):
                 with self.subTest(data=data, rest=len(rest)):
@@ -346,13 +347,13 @@ class Headers(unittest.TestCase):
                 with self.subTest(name, mode=mode):
                     self.assertEqual(refusal(read, file, mode), wanted)
 
-    def test_some_refusals_are_told_by_sentences_of_goblin(self):
+    def test_some_refusals_have_the_texts_of_goblin(self):
         for reader, file, sentence in SENTENCES:
             with self.subTest(reader), self.assertRaises(package().PeError) as caught:
                 {"te": package().Image.te, "object": lambda it: next(package().Image.object(it).symbols())}.get(reader, package().Image)(file)
             self.assertEqual(str(caught.exception), sentence)
 
-    def test_the_fields_of_an_optional_header_stand_in_their_order(self):
+    def test_the_fields_of_an_optional_header_are_in_their_order(self):
         for name, standard_widths, windows_widths, standard, windows in FIELDS:
             with self.subTest(name):
                 file = image(standard["magic"], rising(standard_widths) + rising(windows_widths), bytes(128))
@@ -404,8 +405,8 @@ class Partial(unittest.TestCase):
             with self.subTest(sample_of.name):
                 self.assert_same(package().Image.partial(file), package().Image(file))
 
-    def test_of_damaged_files_it_says_what_a_read_says(self):
-        """If an image is read, the partial one is the same; if it is refused, that is the refusal."""
+    def test_a_partial_read_of_a_damaged_file_answers_as_a_read(self):
+        """If an image is read, the partial image is the same. If it is refused, the partial read has that refusal."""
         refused = 0
         for index, file in enumerate(hostile.files()):
             for mode in BOTH:
@@ -447,7 +448,7 @@ class Written(unittest.TestCase):
 
 
 class Sections(unittest.TestCase):
-    def test_a_name_says_where_it_stands_in_both_modes(self):
+    def test_a_name_leads_to_its_text_in_both_modes(self):
         for name, wanted in NAMES:
             for mode in BOTH:
                 with self.subTest(name=name, mode=mode):
@@ -465,17 +466,17 @@ class Sections(unittest.TestCase):
         self.assertEqual(refusal(read, file, "strict"), ("MALFORMED", "NAME_TEXT", 0, 0))
         self.assertEqual(read(file, "permissive").sections[0].name, b"/\xFF")
 
-    def test_a_name_is_made_to_say_an_offset(self):
+    def test_a_name_is_set_to_an_offset(self):
         section, = read(SAMPLE, "strict").sections
         for offset, wanted in OFFSETS:
             with self.subTest(offset=offset):
                 self.assertEqual(section.with_name_offset(offset).stored_name, wanted)
 
-    def test_a_name_says_the_offset_that_it_is_made_to_say(self):
+    def test_a_name_leads_to_the_offset_that_was_set(self):
         for offset, name in OFFSETS:
             with self.subTest(offset=offset), tempfile.TemporaryFile() as file:
                 file.write(with_parts(SAMPLE, (TABLE, name)))
-                file.seek(offset)  # (nothing is stored of what lies between)
+                file.seek(offset)  # (The file is sparse between them.)
                 file.write(b"MZ, or far away")
                 file.flush()
                 with mmap.mmap(file.fileno(), 0, access=mmap.ACCESS_READ) as data:
@@ -509,7 +510,7 @@ class TerseExecutables(unittest.TestCase):
         self.assertEqual((te.te_header.entry_point, te.te_header.reloc_dir), (0xF10, (0xFFFF_FF00, 0)))
         self.assertEqual([{name: it for name, it in nonzero(s).items() if name != "stored_name"} for s in te.sections], [dict(virtual_address=0xF00, pointer_to_raw_data=0x100)])
 
-    def test_a_header_of_which_too_little_was_stripped_is_refused(self):
+    def test_a_header_with_too_little_stripped_is_refused(self):
         for stripped_size in 0x17, 0x27:
             with self.subTest(stripped_size=stripped_size):
                 self.assertEqual(refusal(package().Image.te, terse(stripped_size)), ("MALFORMED", "STRIPPED_SIZE", stripped_size, 0))
@@ -519,7 +520,7 @@ class Places(unittest.TestCase):
     """Each field of the samples' headers is the number at the place that the specification names."""
 
     def assert_holds(self, record, form, data, place):
-        """The fields of a record are those of the format at a place; those of an array are one after the other."""
+        """The fields of a record are those at a place in the format. Those of an array follow one another."""
         flat = [it for field in record for it in (field if isinstance(field, tuple) else (field,))]
         self.assertEqual(flat, list(struct.unpack_from(form, data, place)))
 

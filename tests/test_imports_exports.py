@@ -24,19 +24,19 @@ def wide_sample():
 
 
 def moved_headers():
-    """The image with its headers from the PE signature on at 0x10, so that no stub can stand before them."""
+    """The image with its PE signature, and the headers after it, at 0x10. So there is no room for a stub."""
     return sample((0x10, sample()[0x40:0x200]), (0x3C, b"\x10"))
 
 
 def packed_sample(length):
-    """So many bytes of the image, whose address table and library's name stand before the lookup table at 0x240. It has no
+    """The first bytes of the image, with the address table and the library's name before the lookup table at 0x240. It has no
     exports."""
     record = struct.pack("<5I", 0x1040, 0, 0, 0x1034, 0x1028)
     return sample((0xB8, bytes(8)), (0x200, record), (0x228, b"\x90\x10\0\0\x07\0\0\x80\0\0\0\0a.dll"))[:length]
 
 
-# Its imports: the DLL, the name, the hint, the ordinal, the addresses in the import address table and of the name, and the indexes
-# of the library and of the entry.
+# Its imports: the DLL, the name, the hint, the ordinal, the RVAs of the slot in the import address table and of the name, and the
+# indexes of the library and of the entry.
 GO = (b"a.dll", b"Go", 5, None, 0x1060, 0x1090, 0, 0)
 SEVEN = (b"a.dll", None, None, 7, 0x1064, 0, 0, 1)
 # Its exports: the name, the ordinal, the hint, the address, that of the name, its file offset, and the forwarder.
@@ -48,7 +48,7 @@ FORWARDED = (b"a.dll", 2, 1, 0x10E0, 0x1080, 0x2E0, TO_12)
 IMPORTED = [
     ("the sample", sample(), [GO, SEVEN]),
     ("no text after the NUL of the library's name", sample((0x28A, b"\xFF")), [GO, SEVEN]),
-    ("no lookup table, so that the address table is read in its place", sample((0x200, b"\0\0")), [GO, SEVEN]),
+    ("no lookup table, so the address table is read instead", sample((0x200, b"\0\0")), [GO, SEVEN]),
     ("a lookup table at the directory, whose entry leads to its own bytes", sample((0x200, b"\0\x10")),
      [(b"a.dll", b"", 4096, None, 0x1060, 0x1000, 0, 0)]),
     ("a hint that no section maps", sample((0x240, b"\0\x90")), [SEVEN]),
@@ -56,15 +56,15 @@ IMPORTED = [
      [(b"a.dll", b"A" * 366, 5, None, 0x1060, 0x1090, 0, 0), SEVEN]),
     ("entries of eight bytes", wide_sample(), [(b"a.dll", None, None, 4240, 0x1060, 0, 0, 0)]),
 ]
-# A record of the sample's library whose address table no section maps, from the end of it on, and the sample's own record.
+# An import descriptor whose address table no section maps, from its end on, and the sample's own descriptor.
 TWO_RECORDS = struct.pack("<6I", 0x9000, 0x1040, 0, 0, 0x1080, 0x1060)
-# Files, why strict mode refuses their imports, and those in permissive mode.
+# Files, why strict mode refuses their imports, and the imports in permissive mode.
 REFUSED_IMPORTS = [
     ("a hint without a name", sample((0x240, b"\xFE\x10")), ("BAD_OFFSET", None, 0, 0), [(b"a.dll", b"", 0, None, 0x1060, 0x10FE, 0, 0), SEVEN]),
     ("a hint that is not whole", sample((0x240, b"\xFF\x10")), ("MALFORMED", "HINT_ENTRY", 0x2FF, 0), [SEVEN]),
     ("an address table that no section maps", sample((0x210, TWO_RECORDS)), ("MALFORMED", "UNMAPPED", 0x9000, 0),
      [(*GO[:6], 1, 0), (*SEVEN[:6], 1, 1)]),
-    ("the end after two entries, where the names would stand", packed_sample(0x248), ("MALFORMED", "HINT_ENTRY", 0x290, 0),
+    ("the end after two entries, before the names", packed_sample(0x248), ("MALFORMED", "HINT_ENTRY", 0x290, 0),
      [(b"a.dll", None, None, 7, 0x102C, 0, 0, 1)]),
     ("the end within the second entry", packed_sample(0x247), ("MALFORMED", "HINT_ENTRY", 0x290, 0), []),
 ]
@@ -80,48 +80,48 @@ EXPORTED = [
     ("an ordinal without an address", sample((0x2D8, b"\x02")), [FORWARDED]),
     ("a forwarder without a dot", sample((0x2E1, b"-")), [PLAIN]),
 ]
-# Files in which a table meets the end, the hints of their exports, and how many addresses there are. Of the twelve name
-# pointers that are there, three have ordinals without an address.
+# Files in which a table reaches the end, the hints of their exports, and how many addresses there are. Three of the twelve name
+# pointers have ordinals without an address.
 CUT_EXPORTS = [
     ("768 name pointers", sample((0x2B8, b"\0\x03")), [0, 1, 2, 3, 7, 8, 9, 10, 11], 2),
-    ("768 ordinals, of which four are there", sample((0x2B8, b"\0\x03"), (0x2C4, b"\xF8\x10")), [0, 1, 2, 3], 2),
+    ("768 ordinals, four of them in the file", sample((0x2B8, b"\0\x03"), (0x2C4, b"\xF8\x10")), [0, 1, 2, 3], 2),
     ("768 addresses", sample((0x2B4, b"\0\x03")), [0, 1], 14),
 ]
-# Files that are shorter than their export tables, by what they lack, and why they are refused.
+# Files that are shorter than their export tables, and why they are refused.
 SHORT_EXPORTS = [
     ("name pointers", sample((0x2B4, b"\x01\x03"), (0x2B8, b"\x01\x03")), ("TOO_SHORT", None, 769, 0)),
     ("address table entries", sample((0x2B4, b"\x01\x03")), ("TOO_SHORT", None, 769, 0)),
 ]
-# Texts, and the DLL, the name and the ordinal that they forward to; and texts that are no forwarders.
+# Texts, and the DLL, the name and the ordinal that they forward to. Then texts that are no forwarders.
 FORWARDERS = [
     (b"KERNEL32.HeapAlloc", (b"KERNEL32", b"HeapAlloc", None)), (b".x", (b"", b"x", None)), (b"a.b.#1", (b"a", b"b.#1", None)),
     (b"a.#12", (b"a", None, 12)), (b"a.#+7", (b"a", None, 7)),
 ]
 NO_FORWARDERS = [b"a.", b"a", b"", b"a.#4294967296", b"a.#"]
 
-# Texts, and what is told of them up to eight bytes: of a longer one the characters that begin within nine.
+# Texts, and their fronts with a limit of eight bytes: the characters that begin within nine bytes.
 UP_TO_8 = [
     (b"12345678", b"12345678"), (b"123456789", b"123456789"), (b"123456789A", b"123456789"), (b"1" * 5000, b"1" * 9),
     ("1234567\u00E9".encode(), "1234567\u00E9".encode()), ("12345678\u00E99".encode(), "12345678\u00E9".encode()),
     ("1234567\u20AC9".encode(), "1234567\u20AC".encode()), ("12345678\U0001D11E9".encode(), "12345678\U0001D11E".encode()),
     (b"123456789\xFF", b"123456789"), (b"123456789\x80", None), (b"12345678\xFF", None), (b"1234\xFF", None),
 ]
-# Texts of forwarders, and what these are up to eight bytes: of a longer one what follows its first dot is a name.
+# Texts of forwarders, and their values with a limit of eight bytes. In a longer one, a name follows the first dot.
 FORWARDERS_UP_TO_8 = [
     (b"KERNEL.a", (b"KERNEL", b"a", None)), (b"KERNEL.ab", (b"KERNEL", b"ab", None)), (b"KERNEL.abc", (b"KERNEL", b"ab", None)),
     (b"a.#00012", (b"a", None, 12)), (b"a.#0000012", (b"a", b"#000001", None)), (b"KERNEL32.HeapAlloc", (b"KERNEL32", b"", None)),
     (b"KERNEL64a.HeapAlloc", (b"KERNEL64a", b"", None)), (b"KERNEL64and", (b"KERNEL64a", b"", None)),
 ]
 
-# Files, and where the texts of their section, their imports and their exports lie, by their offsets and lengths: the name; the
-# DLL and the name; the name, and the DLL and the name that it forwards to. One that is absent lies at the front.
+# Files, and the offsets and lengths of the texts of their section (the name), their imports (the DLL and the name) and their
+# exports (the name, and the DLL and the name that it forwards to). An absent text has the offset 0.
 ABSENT = (0, 0)
 PLACES = [
     ("a forwarder by ordinal", sample(), [(0x138, 6)], [(0x280, 5), (0x292, 2), (0x280, 5), ABSENT],
      [(0x2F0, 1), ABSENT, ABSENT, (0x280, 5), (0x2E0, 1), ABSENT]),
     ("a forwarder by name", sample((0x2E0, b"b.gh\0")), [(0x138, 6)], [(0x280, 5), (0x292, 2), (0x280, 5), ABSENT],
      [(0x2F0, 1), ABSENT, ABSENT, (0x280, 5), (0x2E0, 1), (0x2E2, 2)]),
-    ("texts that are there, and empty",
+    ("empty texts",
      sample((0x138, b"/50\0\0\0"), (0x280, b"\0"), (0x292, b"\0"), (0x2E0, b".x\0\0\0"), (0x2F0, b"\0")), [(50, 0)],
      [(0x280, 0), (0x292, 0), (0x280, 0), ABSENT], [(0x2F0, 0), ABSENT, ABSENT, (0x280, 0), (0x2E0, 0), (0x2E1, 1)]),
 ]
@@ -130,16 +130,16 @@ TEXTS = {"sections": ["name"], "imports": ["dll", "name"], "exports": ["name", "
 # The export addresses of the sample.
 ADDRESSES = [(1, 0x1010, False), (2, 0x10E0, True)]
 
-# A hint that the end of the file cuts; three records of one library, of which no section maps the second's address table.
+# A hint that is cut by the end of the file. Three descriptors of one library; no section maps the address table of the second.
 CUT_HINT = (0x240, b"\xFF\x10")
 RECORD = struct.pack("<5I", 0x1040, 0, 0, 0x1080, 0x1060)
 THREE_RECORDS = [(0x214, RECORD), (0x224, b"\0\x90"), (0x228, RECORD)]
-# An import directory at file offset 0, also with an address table that no section maps, and with three hints: one that no
-# section maps, one that is not whole, and its own.
+# An import directory at file offset 0, also with an address table that no section maps, and with three hints: one that no section
+# maps, one that is cut, and its own.
 FRONT = images.directory_in_front()
 UNMAPPED_IN_FRONT = images.with_parts(FRONT, (0x10, struct.pack("<I", 0x9260)))
 THREE_IN_FRONT = images.with_parts(FRONT, (0x260, struct.pack("<4I", 0x9000, 0x12FF, 0x1290, 0)))
-# Files, and how many libraries and entries permissive mode skips, and how many entries both modes do, as both modes report.
+# Files, how many libraries and entries permissive mode skips, and how many entries both modes skip. Both modes report the same.
 SKIPPED = [
     ("an address table that no section maps", sample((0x210, b"\0\x90")), (1, 0, 0)),
     ("a hint that is not whole", sample(CUT_HINT), (0, 1, 0)),
@@ -150,11 +150,11 @@ SKIPPED = [
     ("a directory at file offset 0", FRONT, (1, 1, 0)),
     ("an ordinal in a directory at file offset 0", images.with_parts(FRONT, (0x260, struct.pack("<I", 1 << 31 | 7))), (1, 1, 0)),
     ("a directory at file offset 0, of a library whose address table cannot be read", UNMAPPED_IN_FRONT, (1, 0, 0)),
-    ("three hints in a directory at file offset 0, of which no section maps the first", THREE_IN_FRONT, (1, 2, 1)),
+    ("three hints in a directory at file offset 0, the first without a section that maps it", THREE_IN_FRONT, (1, 2, 1)),
     ("a directory without a record at file offset 0", images.with_parts(FRONT, (0x0C, bytes(4))), (0, 0, 0)),
     ("an address that no section maps", sample((0xC0, struct.pack("<I", 0x9000))), (0, 0, 0)),
 ]
-# Files of which one part is damaged, why strict mode refuses that, and how many libraries and entries are skipped.
+# Files with one damaged part, why strict mode refuses it, and how many libraries and entries are skipped.
 DAMAGED = [
     ("a section's name that is no text", sample((0x138, b"/\xFF\0\0\0\0\0\0")), "section_names", ("MALFORMED", "NAME_TEXT", 0, 0), (0, 0)),
     ("an address table that no section maps", sample((0x211, b"\x90")), "imports", ("MALFORMED", "UNMAPPED", 0x9060, 0), (1, 0)),
@@ -164,30 +164,30 @@ DAMAGED = [
     ("a stub that would begin after its end", moved_headers(), "dos_stub", ("MALFORMED", "STUB_BEFORE_START", 0x10, 0), (0, 0)),
 ]
 
-# Two sections that overlap, each with a library, an import and an export of its own. The import record at 0x1000 and the export
-# record at 0x1100 lead to addresses in both.
+# Two sections that overlap, each with a library, an import and an export of its own. The import descriptor at 0x1000 and the
+# export directory at 0x1100 lead to addresses in both.
 IN_BOTH = [
     (0x800, b"\x10\x12"), (0x80C, b"\x40\x12\0\0\x20\x12"), (0x90C, b"\x40\x12"), (0x914, b"\x01\0\0\0\x01"),
     (0x91C, b"\x80\x12\0\0\x84\x12\0\0\x88\x12"),
     (0x410, b"\x50\x12"), (0x420, b"\x0B"), (0x440, b"narrow"), (0x450, b"\x05\0f"), (0x480, b"\x90\x12\0\0\x40\x12"),
     (0xA10, b"\x50\x12"), (0xA20, b"\x16"), (0xA40, b"wide"), (0xA50, b"\x06\0g"), (0xA80, b"\xA0\x12\0\0\x40\x12"),
 ]
-# The sections, by their address, their size, their raw pointer, and whether that lies past the data where raw pointers are rounded:
-# the one that lies within the other, the one around it, one apart from both, and others above them.
+# The sections, by their address, their size, their raw pointer, and whether that lies past the data if raw pointers are rounded:
+# the inner one, the outer one, one apart from both, and others above them.
 NARROW = (0x1200, 0x200, 0x400, True)
 WIDE = (0x1000, 0x800, 0x800, True)
 APART = (0x1C00, 0x200, 0x200, False)
 ABOVE = [(0x2000 + 0x1000 * index, 0x200, 0x200, False) for index in range(98)]
-# What is found in each: where its part of the overlap begins in the file, the library's name, its first address, the import's
-# hint and name, and the export's address.
+# The values in each: the file offset of its part of the overlap, the library's name, its first address, the import's hint and
+# name, and the export's address.
 IN_NARROW = (0x400, b"narrow", 0x0B, 5, b"f", 0x1290)
 IN_WIDE = (0xA00, b"wide", 0x16, 6, b"g", 0x12A0)
-# Two sections in an order, and what is found.
+# The two sections in an order, and the values that are found.
 ORDERS = [
     ("the narrow one first", [NARROW, WIDE], IN_NARROW), ("the wide one first", [WIDE, NARROW], IN_WIDE),
     ("one apart after it", [WIDE, APART], IN_WIDE), ("one apart before it", [APART, WIDE], IN_WIDE),
 ]
-# The sections that stand before these two, and after them: none, or so many that there is an index.
+# The sections before these two, and after them: none, or as many as need an index.
 OTHERS = [("none", [], []), ("after", [], ABOVE), ("before", ABOVE[::-1], [])]
 
 
@@ -197,8 +197,8 @@ def setUpModule():
 
 
 def overlapping(sections, past):
-    """The file with these sections, whose records stand after their data. The raw pointers that may be rounded lie so many
-    bytes past the data."""
+    """The file with these sections, whose headers come after their data. The raw pointers that may be rounded lie `past` bytes
+    after the data."""
     records = b"".join(struct.pack("<8s4I16x", b"", size, address, size, pointer + past * may_be_rounded)
                        for address, size, pointer, may_be_rounded in sections)
     directories = struct.pack("<4I", 0x1100, 40, 0x1000, 40)
@@ -220,7 +220,7 @@ def image(data, **more):
 
 
 def inner(module):
-    """A module inside of the package."""
+    """A module of the package."""
     return sys.modules[f"{package().__name__}.{module}"]
 
 
@@ -230,7 +230,7 @@ class Read(unittest.TestCase):
         self.assertEqual(refusal(read, data), wanted)
 
     def assert_table(self, found, table, walk, wanted, state):
-        """A walk gives these rows, also where each takes a call."""
+        """A walk gives these rows, also with a call for each row."""
         self.assertEqual(found.table_state(package().Table[table]).name, state)
         for room in (256, 1):
             with mock.patch.multiple(inner("_walk"), _FIRST=room, _ROOM=room):
@@ -300,7 +300,7 @@ class Exports(Read):
 
 
 class LongNames(Read):
-    """Names up to a limit, which is eight bytes here."""
+    """Names with a limit, which is eight bytes here."""
 
     def images(self, file):
         return (image(file, permissive=it, longest_name=8) for it in MODES)
@@ -333,14 +333,14 @@ class LongNames(Read):
                     self.assertEqual([found.forwarder_at(it.rva) for it in found.export_addresses()], [wanted])
 
     def named(self, text, section=b"/4", symbol=struct.pack("<II", 0, 4)):
-        """An object and an image of one section and one symbol, whose names are these, and that text in the string table."""
+        """An object and an image with one section and one symbol of these names, and with this text in the string table."""
         tables = struct.pack("<8s10xI", symbol, len(text) + 5) + text + b"\0"
         file = sample((0x138, struct.pack("8s", section)))
         yield struct.pack("<HHIIIHH8s32x", 0x8664, 1, 0, 60, 1, 0, 0, section) + tables
         yield images.with_parts(file + tables, (file.index(b"PE\0\0") + 12, struct.pack("<II", len(file), 1)))
 
     def both(self, files, **more):
-        """An object and an image, read by these options."""
+        """An object and an image, read with these options."""
         of_object, of_image = files
         return package().Image.object(of_object, how(**more)), image(of_image, **more)
 
@@ -398,7 +398,7 @@ class LongNames(Read):
 
 
 class Forged(unittest.TestCase):
-    """Cursors of no walk: numbers at random."""
+    """Cursors that no walk gave: random numbers."""
 
     def setUp(self):
         self.random = random.Random(88)
@@ -417,7 +417,7 @@ class Forged(unittest.TestCase):
         return made
 
     def walked(self, image, word, begin, rooms):
-        """The first rows, and how the walk ended, in calls with room and steps as one pleases."""
+        """The first rows, and how the walk ended. Each call has its own room and steps."""
         walk = Walk(image, word, type(begin).from_buffer_copy(begin))
         for room, steps in rooms:
             before = bytes(walk.cursor), len(walk.rows)
@@ -438,12 +438,12 @@ class Forged(unittest.TestCase):
             whole = self.walked(found, word, begin, [(40, None)] * 4)
             parts = self.walked(found, word, begin,
                                 [(self.random.randrange(1, 40), self.random.choice((None, None, 7, 300))) for _ in range(300)])
-            if parts[1] is None:  # (its calls were not enough)
+            if parts[1] is None:  # (The number of calls was too small.)
                 parts, whole = parts[0], whole[0][:len(parts[0])]
             self.assertEqual(parts, whole, (word, bytes(begin).hex(), len(data), permissive))
 
     def given(self, found, kind, begin, steps):
-        """The first rows of a walk from there on, which goes on wherever its budget is used up, and why it ended."""
+        """The first rows of a walk from a cursor on, and why it ended. The walk goes on whenever its budget is used up."""
         budget, rows = package().Budget(), []
         walk = package().Walk(found, kind, type(begin).from_buffer_copy(begin), budget)
         for _ in range(100):
@@ -461,14 +461,14 @@ class Forged(unittest.TestCase):
         return rows, None
 
     def test_walks_of_an_image_from_anywhere(self):
-        """By the package: a walk that goes on after each few steps is the same."""
+        """In the package, a walk that is interrupted after every few steps gives the same rows."""
         kinds = [getattr(inner("_rows"), it) for it in ("IMPORTS", "LIBRARIES", "EXPORTS", "EXPORT_ADDRESSES", "BLOCKS")]
         for _ in range(1000):
             data, permissive = self.random.choice(self.files), self.random.random() < 0.5
             found, kind = image(data, permissive=permissive), self.random.choice(kinds)
             begin = self.forged(kind.cursor, len(data))
             whole, parts = (self.given(found, kind, begin, it) for it in (1 << 20, self.random.randrange(1, 60)))
-            if parts[1] is None:  # (it went on too seldom)
+            if parts[1] is None:  # (It was continued too few times.)
                 parts, whole = parts[0], whole[0][:len(parts[0])]
             self.assertEqual(parts, whole, (kind.table, bytes(begin).hex(), len(data), permissive))
 
@@ -514,7 +514,7 @@ class Damage(Read):
 
 class WholeFiles(Read):
     def places(self, data, word):
-        """Where the texts of all rows of a table lie."""
+        """The places of the texts of all rows of a table."""
         found, _ = image_of(data, options(mapping=package().Mapping.AS_STORED))
         walk, rows, steps = Walk(found, word), (getattr(records(), WALKS[word][0]) * 4)(), [None] if word in COUNTED else []
         fault = getattr(calls(), f"goblin_pe_next_{word}")(
@@ -544,7 +544,7 @@ class WholeFiles(Read):
         self.assertEqual(pe.image.forwarder_at(0x10E0), TO_12)
 
     def test_addresses_are_read_without_the_names(self):
-        """More name pointers are counted than the file has bytes: the exports are refused, and an ordinal is found all the same."""
+        """The directory counts more name pointers than the file has bytes: the exports are refused, but an ordinal is found."""
         data = sample((0x2B8, b"\x01\x03"))
         for permissive in MODES:
             found = image(data, permissive=permissive)
@@ -562,8 +562,8 @@ class WholeFiles(Read):
             next(more.export_addresses())
 
     def test_an_export_directory_that_passes_the_window_of_its_section(self):
-        """It begins 8 bytes before the window's end, and the next window stands elsewhere in the file: no address within the
-        record but its first leads to the record. Its ordinal base is 100."""
+        """It begins 8 bytes before the end of the window, and the next window is elsewhere in the file. So only the first RVA of
+        the record leads to the record. Its ordinal base is 100."""
         headers = bytearray(images.image_headers(0x200, 2, 0x10000, ((0, 0x1000, 40),)))
         struct.pack_into("<II", headers, 0x78, 1, 1)  # (the alignments)
         for index, section in enumerate(((8, 0x1000, 8, 0x200), (0x100, 0x1008, 0x80, 0x280))):
@@ -575,7 +575,7 @@ class WholeFiles(Read):
         self.assertEqual((pe.name, pe.export_directory.ordinal_base), (b"own", 100))
 
     def test_an_export_directory_that_is_not_read(self):
-        """A directory of zeros is read. One that no section maps is refused, and passed over in permissive mode."""
+        """A directory of zeros is read. One that no section maps is refused; permissive mode passes over it."""
         for exports, is_read in ((struct.pack("<2I", 0x1010, 40), True), (struct.pack("<2I", 0x9000, 40), False), (bytes(8), False)):
             found = image(sample((0xB8, exports), (0x210, bytes(0xF0))), permissive=True).export_directory()
             with self.subTest(exports):
@@ -584,7 +584,7 @@ class WholeFiles(Read):
         for ask in strict.export_directory, lambda: next(strict.export_addresses()):
             self.assertEqual(refusal(ask), ("MALFORMED", "UNMAPPED", 0x9000, 0))
 
-    def test_a_raw_pointer_that_is_no_multiple_of_512_is_rounded_where_that_is_asked_for(self):
+    def test_a_raw_pointer_that_is_no_multiple_of_512_is_rounded_if_that_is_asked_for(self):
         data = sample((0x14C, b"\x10"))
         for permissive in MODES:
             for mapping in "BY_FILE_ALIGNMENT", "AS_LOADED":
@@ -597,8 +597,8 @@ class WholeFiles(Read):
 
 
 class InTheHeaders(Read):
-    """Names and tables in the headers, which the Windows loader maps and goblin does not: what strict mode refuses by goblin's view
-    and what both modes list then, and what by the loader's."""
+    """Names and tables in the headers, which the Windows loader maps and goblin does not: what strict mode refuses and both modes
+    list in goblin's view and in the loader's."""
 
     def views(self, *changes):
         """The sample whose headers have 0x200 bytes, with these changes, in permissive mode in both views."""
@@ -627,8 +627,8 @@ class InTheHeaders(Read):
         self.assert_imports(image(data, mapping="AS_LOADED"), [GO, SEVEN])
 
     def test_a_library_without_a_lookup_table(self):
-        """Its record says 0 in its place, where no table is, though the headers are mapped there. More than 96 sections have an
-        index."""
+        """Its descriptor has 0 as the RVA of the table: no table is there, though the headers are mapped there. The result is the
+        same with an index, which more than 96 sections have."""
         data, _, loader = self.views((0x200, b"\0\0"))
         self.assert_imports(loader, [GO, SEVEN])
         self.assert_imports(image(data, mapping="AS_LOADED"), [GO, SEVEN])
@@ -658,7 +658,7 @@ class InTheHeaders(Read):
 
 
 class OverlappingSections(Read):
-    """Each reader takes what stands where find_offset says: in the first section that has the address."""
+    """Each reader reads at the place that find_offset gives: in the first section that has the RVA."""
 
     def test_sections_in_many_orders(self):
         for mapping in "AS_STORED", "BY_FILE_ALIGNMENT", "AS_LOADED":

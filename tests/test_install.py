@@ -1,5 +1,5 @@
-"""The library as its users install it: by pkg-config, as a crate in Rust, and as a package in Python. Programs in C over what is
-installed are in test_c."""
+"""The library as users install it: through pkg-config, as a crate in Rust, and as a package in Python. test_c has programs in C
+over the installed library."""
 import functools
 import pathlib
 import platform
@@ -13,7 +13,7 @@ from tests.bindings import BINDINGS, library
 from tests.programs import BY_NAME, CC, FLAGS, TOP, Case, beside, environment, need, run, succeed
 
 CARGO = ["cargo", "-q", "--offline", "--locked"]
-# What the package for Python lists, and what the example imports of the crate does.
+# What the package for Python lists of a sample, and what the crate's example `imports` does.
 LISTED = (0, beside(BY_NAME, "listing"), b"")
 IMPORTS = (0, b"%s      0 0x000020a8 KERNEL32.dll GetTickCount\n" % str(BY_NAME).encode(), b"")
 
@@ -28,10 +28,10 @@ def install(prefix, **more):
 
 
 class Library(Case):
-    """For programs in C, by pkg-config."""
+    """The library for programs in C, through pkg-config."""
 
     def test_a_program_over_the_shared_library(self):
-        """It asks for the library by the version of the interface."""
+        """It asks for the library by a name with the interface in it."""
         install(self.folder)
         words = succeed(["pkg-config", "--cflags", "--libs", "goblin_pe"], env=environment(PKG_CONFIG_PATH=f"{self.folder}/lib/pkgconfig"))
         succeed([CC, "-std=c99", *FLAGS, "-o", self.folder / "imports", self.folder / "share/doc/goblin-pe/examples/imports.c", *words.split()])
@@ -40,7 +40,7 @@ class Library(Case):
                          env=environment(LD_LIBRARY_PATH=f"{self.folder}/lib"))
 
     def test_folders_of_the_libraries(self):
-        """Below the prefix, with which they can be moved, or anywhere."""
+        """They are below the prefix, and move with it, or anywhere else."""
         for libdir, told in (("", "${prefix}/lib"), ("/usr/lib64", "${prefix}/lib64"), ("/else where/lib", "/else where/lib")):
             with self.subTest(libdir):
                 install("/usr", DESTDIR=str(self.folder), LIBDIR=libdir)
@@ -66,7 +66,7 @@ class Library(Case):
 
 
 class Crate(Case):
-    """What cargo packs, with the library that pkg-config tells of, with another one, or with none."""
+    """What cargo packs, with the library that pkg-config finds, with another one, or with none."""
 
     def setUp(self):
         need("cargo")
@@ -79,7 +79,7 @@ class Crate(Case):
         self.other.mkdir()
 
     def build(self, **more):
-        """Builds the example: what cargo answers."""
+        """Builds the example. Returns the answer of cargo."""
         return run([*CARGO, "build", "--example", "imports", "--manifest-path", self.manifest, "--target-dir", self.folder], env=environment(**more))
 
     def assert_lists_by(self, **more):
@@ -97,20 +97,20 @@ class Crate(Case):
         self.assert_lists_by(PKG_CONFIG_LIBDIR=str(self.other))
 
     def test_without_a_library(self):
-        """It is checked and documented, and where it is built, cargo says what is lacking."""
+        """cargo can check and document it. A build says what is missing."""
         env = environment(PKG_CONFIG_LIBDIR=str(self.other), CARGO_TARGET_DIR=str(self.folder))
         for words in (["check", "--all-targets"], ["doc", "--no-deps"]):
             succeed([*CARGO, *words, "--manifest-path", self.manifest], env=env)
         status, _, said = run(["cargo", *CARGO[2:], "build", "--manifest-path", self.manifest], env=env)
         self.assertNotEqual(status, 0)
         self.assertIn(b"run bindings/build", said)
-        # it is built as soon as there is one
+        # (It is built as soon as there is one.)
         (self.folder / "lib").mkdir()
         shutil.copy(library() / "libgoblin_pe.a", self.folder / "lib")
         self.assert_lists_by(PKG_CONFIG_LIBDIR=str(self.other))
 
     def test_for_another_target(self):
-        """What is beside the crate is this machine's, and not taken; what is named is."""
+        """The library beside the crate is for this machine, so it is not used. One that GOBLIN_PE_LIB names is."""
         succeed(["rustc", "--edition", "2024", "-o", self.folder / "build", self.manifest.with_name("build.rs")])
         (self.manifest.parent / "lib").mkdir()
         (self.manifest.parent / "lib/libgoblin_pe.a").touch()
@@ -160,7 +160,7 @@ def python():
 
 
 class Package(Case):
-    """In an environment of its own, with no variable of ours and no index of packages."""
+    """The package in an environment of its own, without variables of ours and without an index of packages."""
 
     def setUp(self):
         python()
@@ -177,7 +177,7 @@ class Package(Case):
         return made
 
     def installed(self, *what):
-        """The Python of a new environment, with the package installed, which has to list."""
+        """The Python of a new environment in which the package is installed. It must list a sample."""
         made = self.folder / "environment"
         succeed([python(), "-m", "venv", made])
         succeed([made / "bin/pip", "install", "-q", "--no-index", *what], cwd="/", env={})
@@ -208,7 +208,7 @@ class Package(Case):
     def test_the_folder_of_the_package(self):
         self.assert_is_from(self.installed(self.package), self.folder / "environment")
 
-    def test_the_folder_of_the_package_as_it_stands(self):
+    def test_the_folder_of_the_package_as_it_is(self):
         self.assert_is_from(self.installed("-e", self.package), self.package)
 
     def test_without_a_library(self):

@@ -1,4 +1,4 @@
-"""A header, a crate, a package and a library of two interfaces: none runs with another. One field makes another interface."""
+"""A header, a crate, a package and a library run together only if they have one interface. One field more makes another one."""
 import os
 import re
 import shutil
@@ -7,7 +7,7 @@ import sys
 from tests.bindings import BINDINGS, library
 from tests.programs import BY_NAME, CC, CRATES, FLAGS, TOP, Case, environment, need, run, succeed
 
-# What generate.py reads below bindings/, beside the crates' sources.
+# What generate.py reads in bindings/, besides the sources of the crates.
 READ = ("generate.py", "generator", "python/goblin_pe", "python/pyproject.toml", "rust/Cargo.toml", "rust/Cargo.lock", "rust/src", "c")
 HEADER = "c/goblin_pe.h"
 PROGRAM = b"""#include "goblin_pe.h"
@@ -21,16 +21,16 @@ def setUpModule():
 
 
 def sum_in(bindings):
-    """The sum that a header has, and the end of the shared library's name."""
+    """The checksum in a header, and the end of the shared library's name."""
     text = (bindings / HEADER).read_text("utf-8")
     return re.search(r"#define GOBLIN_PE_INTERFACE 0x(\w+)u\n", text)[1], re.search(r'#define GOBLIN_PE_SONAME "(.*)"\n', text)[1]
 
 
 class Changed(Case):
-    """What the generator makes of a copy of the crates, in which a record has one field more."""
+    """What the generator makes of a copy of the crates in which a record has one field more."""
 
     def changed(self, old, new, is_made_again=True):
-        """The folder bindings/ of a copy in which the text of one source is another, with what the generator makes of it."""
+        """The folder bindings/ of a copy in which one source is changed, with what the generator makes of it."""
         top = self.folder / "copy"
         for crate in CRATES.iterdir():
             shutil.copytree(crate / "src", top / "crates" / crate.name / "src", dirs_exist_ok=True)
@@ -50,13 +50,13 @@ class Changed(Case):
         return self.changed(r"(pub struct PeDamage \{\n(?s:.*?)\n)\}\n", r"\1    /// One more.\n    pub added: u64,\n}\n")
 
     def program(self, bindings, *linked):
-        """A program over a header: the compiler's status, and what it says."""
+        """Compiles a program over a header. Returns the status and the messages of the compiler."""
         source = self.written("program.c", PROGRAM)
         status, _, said = run([CC, "-std=c99", *FLAGS, "-I", bindings / "c", "-o", self.folder / "program", source, *linked])
         return status, said.decode()
 
     def stub(self, name, interface):
-        """A shared library under this name, and an archive beside it, which have the calls of our header, and this interface."""
+        """Makes a shared library of this name, and an archive, with the calls of our header and this interface."""
         text = (BINDINGS / HEADER).read_text("utf-8")
         names = set(re.findall(r"\b(goblin_pe_(?!interface)\w+)\(", text)) | {"goblin_pe_interface_" + interface}
         calls = "".join("int %s(void) { return 0; }\n" % it for it in names) + "unsigned goblin_pe_interface(void) { return 0x%su; }\n" % interface
@@ -67,7 +67,7 @@ class Changed(Case):
         return self.folder / "other" / name
 
     def test_a_layout_that_the_headers_do_not_have_is_not_built(self):
-        """Two fields are exchanged in the crate, and the interface's number stays."""
+        """Two fields are exchanged in the crate, and the number of the interface stays."""
         bindings = self.changed(r"(pub struct PeDamage \{\n)((?:    ///.*\n)+    pub .*\n)((?:    ///.*\n)+    pub .*\n)", r"\1\3\2", False)
         shutil.copy(BINDINGS / "build", bindings)
         (self.folder / "bin").mkdir()
@@ -76,7 +76,7 @@ class Changed(Case):
         self.assertEqual((status, (self.folder / "lib").exists()), (1, False))
         self.assertIn(b"run bindings/generate.py", said)
 
-    def test_what_is_said_of_a_field_is_no_part_of_the_interface(self):
+    def test_a_comment_on_a_field_is_no_part_of_the_interface(self):
         bindings = self.changed(r"(pub struct PeDamage \{\n)    /// ", r"\1    /// Otherwise: ")
         self.assertEqual(sum_in(bindings), sum_in(BINDINGS))
         self.assertNotEqual((bindings / HEADER).read_bytes(), (BINDINGS / HEADER).read_bytes())
@@ -93,12 +93,12 @@ class Changed(Case):
         bindings, other = self.with_a_field(), self.folder / "other"
         ours, theirs = sum_in(BINDINGS), sum_in(bindings)
         self.assertNotEqual(theirs, ours)
-        # the other header is not linked with our libraries
+        # A program over the other header can't be linked with our libraries.
         for linked in ([library() / "libgoblin_pe.a"], ["-L", library(), "-lgoblin_pe"]):
             status, said = self.program(bindings, *linked)
             self.assertNotEqual(status, 0)
             self.assertIn("goblin_pe_interface_" + theirs[0], said)
-        # and a program over ours does not find the other library, nor takes it by our name
+        # A program over ours does not find the other library, and refuses it under our name.
         status, said = self.program(BINDINGS, "-L", library(), "-lgoblin_pe")
         self.assertEqual((status, said), (0, ""))
         self.assertEqual(run([self.folder / "program"], env=environment(LD_LIBRARY_PATH=str(library())))[0], 0)

@@ -1,4 +1,4 @@
-"""A file of more than four gibibytes, whose import table lies past them."""
+"""A file of more than 4 GiB, whose import table lies past them."""
 import mmap
 import struct
 import unittest
@@ -7,7 +7,7 @@ from tests.bindings import package
 from tests.images import image_headers, put_section
 from tests.programs import CC, Case, need
 
-# Where the section stands in the file: at the last multiple of 512 that a record can say, and its tables past 4 GiB.
+# The raw pointer of the section: the last multiple of 512 that fits the field. Its tables lie past 4 GiB.
 POINTER, ADDRESS, TABLE = 0xFFFFFE00, 0x1000, 0x2000
 SIZE = (9 << 29) + 0x200
 
@@ -18,7 +18,7 @@ def setUpModule():
 
 class Large(Case):
     def setUp(self):
-        """A sparse file, which has no blocks for what is not written."""
+        """Makes a sparse file: what is not written takes no blocks."""
         super().setUp()
         entry = TABLE + 0x40
         tables = struct.pack("<5I", entry, 0, 0, entry + 0x40, entry) + bytes(20)

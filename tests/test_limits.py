@@ -1,5 +1,5 @@
-"""What a hostile file may cost: calls that take no memory of their own answer with little of it, and in a bounded time. The calls
-are those of C, so that no rows are made in Python."""
+"""What a hostile file may cost: calls answer in a bounded time, and with little memory if they take none. These are the calls for
+C, so no rows are made in Python."""
 import ctypes as c
 import os
 import struct
@@ -11,7 +11,7 @@ from tests import images
 from tests.bindings import COUNTED, WALKS, calls, image_of, library, options, records
 from tests.programs import TOP, need, run, with_memory
 
-# Kibibytes of address space, most of it for Python and the file.
+# The address space in KiB. Python and the file need most of it.
 ROOM = 400 << 10
 MIB = 1 << 20
 STEPS = 100000
@@ -19,12 +19,12 @@ IMPORTS, EXPORTS = (0, 0, 0x1000, 40), (0x1000, 40, 0, 0)
 
 
 def sections(count, name=b"/4"):
-    """The records of so many sections of one name."""
+    """The headers of `count` sections of one name."""
     return struct.pack("<8s8I", name, *[0] * 8) * count
 
 
 def object_of_one_name(size):
-    """An object, one half sections, the other half the one long name that all of them have."""
+    """An object: one half is section headers, the other half is the one long name that they all have."""
     count = min(size // 80, 65535)
     place = 20 + 40 * count
     header = struct.pack("<HHIIIHH", 0x8664, count, 0, place, 0, 0, 0)
@@ -32,7 +32,7 @@ def object_of_one_name(size):
 
 
 def image_of_one_name(size):
-    """The same of an image."""
+    """As object_of_one_name, but an image."""
     count = min(size // 80, 65535)
     headers = images.image_headers(0x148 + 40 * count, count, 0x1000, ())
     headers[0x148:] = sections(count)
@@ -41,13 +41,13 @@ def image_of_one_name(size):
 
 
 def te_of_one_name(size):
-    """A Terse Executable of 255 sections, all of one long name (its string table is the front of the file)."""
+    """A Terse Executable of 255 sections that have one long name. (Its string table is the front of the file.)"""
     front = struct.pack("<HHBBHIIQ4I", 0x5A56, 0x8664, 255, 0, 40, 0, 0, 0, 0, 0, 0, 0)
     return front + sections(255, b"/10240") + b"n" * (size - 40 - 40 * 255)
 
 
 def object_with_symbols(count):
-    """An object with so many symbols, each of a long name of its own."""
+    """An object with `count` symbols. Each has a long name of its own."""
     names = [b"a_name_that_stands_in_the_string_table_%020d\0" % i for i in range(count)]
     symbols = b"".join(struct.pack("<IIIhHBB", 0, 4 + len(names[0]) * i, 0, 1, 0, 2, 0) for i in range(count))
     strings = b"".join(names)
@@ -56,7 +56,7 @@ def object_with_symbols(count):
 
 
 def symbols_of_one_name(size):
-    """An object, one half symbols, the other half the one long name that all of them have."""
+    """An object: one half is symbols, the other half is the one long name that they all have."""
     count = size // 36
     strings = size - 20 - 18 * count
     symbols = struct.pack("<II10x", 0, 4) * count
@@ -64,7 +64,7 @@ def symbols_of_one_name(size):
 
 
 def in_one_section(directories, make, size):
-    """The small image of this size instead, with these directories and one section, which make has for an address and a size."""
+    """The small image with this size, these directories and one section, which `make` makes for an address and a size."""
     base, begin = 0x1000, 0x200
     data = make(base, size - begin)
     section = struct.pack("<4I", len(data), base, len(data), begin)
@@ -72,7 +72,7 @@ def in_one_section(directories, make, size):
 
 
 def imports_in_one_text(base, size, addresses=None):
-    """A library, the names of whose imports begin two bytes apart in one text, of characters that have two bytes."""
+    """A library whose imports have names that begin two bytes apart in one text of two-byte characters."""
     count = (size - 72) // 6
     table, text = base + 56, base + 56 + 4 * (count + 1)
     record = struct.pack("<5I", table, 0, 0, base + 40, addresses or table).ljust(40, b"\0") + b"a.dll".ljust(16, b"\0")
@@ -81,14 +81,14 @@ def imports_in_one_text(base, size, addresses=None):
 
 
 def imports_of_one_library(base, size):
-    """A library with as many imports as there is room for."""
+    """A library with as many imports as fit."""
     table = base + 56
     record = struct.pack("<5I", table, 0, 0, base + 40, table).ljust(40, b"\0") + b"a.dll".ljust(16, b"\0")
     return record + struct.pack("<I", 1 << 31) * ((size - 60) // 4) + bytes(4)
 
 
 def libraries_of_left_out_entries(base, size):
-    """Libraries that share one table, of whose entries none has a name that an address leads to."""
+    """Libraries that share one lookup table. No entry in it leads to a name."""
     libraries, entries = size // 40, size // 8
     table, name = base + 20 * libraries, base + size - 8
     record = struct.pack("<5I", table, 0, 0, name, table)
@@ -97,7 +97,7 @@ def libraries_of_left_out_entries(base, size):
 
 
 def libraries_of_no_address_table(base, size):
-    """Libraries that are left out, as the address table that they share goes on to the end of the file."""
+    """Libraries that are left out, because the address table that they share reaches the end of the file."""
     libraries = size // 40
     table = base + 20 * libraries
     record = struct.pack("<5I", table, 0, 0, base, table)
@@ -105,7 +105,7 @@ def libraries_of_no_address_table(base, size):
 
 
 def left_out_entries_of_one_long_name(base, size):
-    """A library of a long name, of whose entries none has a name that an address leads to."""
+    """A library with a long name. No entry of its lookup table leads to a name."""
     count = size // 2 // 4 - 11
     name = base + size // 2
     record = struct.pack("<5I", base + 40, 0, 0, name, base + 40).ljust(40, b"\0")
@@ -113,7 +113,7 @@ def left_out_entries_of_one_long_name(base, size):
 
 
 def exports_in_one_text(base, size, address=0x9000):
-    """Exports of one address, the names of which begin so, too."""
+    """Exports of one address, whose names begin two bytes apart in one text of two-byte characters."""
     count = (size - 56) // 8
     pointers, ordinals, text = base + 48, base + 48 + 4 * count, base + 48 + 6 * count
     record = struct.pack("<IIHHIIIIIII", 0, 0, 0, 0, text, 1, 1, count, base + 40, pointers, ordinals) + struct.pack("<II", address or text, 0)
@@ -121,14 +121,14 @@ def exports_in_one_text(base, size, address=0x9000):
 
 
 def dead_name_pointers(base, size):
-    """Name pointers whose ordinals lie past the address table, which has no entry."""
+    """Name pointers whose ordinals lie past the address table, which is empty."""
     count = (size - 40) // 6
     pointers, ordinals = base + 40, base + 40 + 4 * count
     return struct.pack("<IIHHIIIIIII", 0, 0, 0, 0, 0, 1, 0, count, 0, pointers, ordinals) + bytes(6 * count)
 
 
 def walked(word, most=1 << 20, longest=0, read="read_image", permissive=False, steps=None, room=256):
-    """A walk by calls that have so many steps together, to so many rows: the status that ends it, and how many rows there are."""
+    """A walk whose calls share one limit of steps, up to a number of rows: the last status, and the number of rows."""
     def walk(data):
         image, fault = image_of(data, options(permissive, longest), read)
         row, cursor = (getattr(records(), it) for it in WALKS[word])
@@ -153,10 +153,10 @@ def footprint(data):
     return calls().goblin_pe_read_footprint(c.byref(image), c.byref(found)).status, min(found.count, 1)
 
 
-# The status of a walk that has no steps left.
+# The status of a walk without steps.
 OUT = 7
-# A call, its file, the milliseconds of processor time that it may take, which are ten times what was measured, its status, and how
-# many rows it gives.
+# A call, its file, how many milliseconds of processor time it may take (ten times as many as measured), its status, and the number
+# of rows.
 ROWS = {
     "sections of an object, all of one long name": (
         walked("sections", read="read_object"), lambda: object_of_one_name(MIB), 4500, 0, 13107),

@@ -1,5 +1,5 @@
-"""The packages for machines without the prover, each installed and used where nothing of the repository is in reach; and
-bindings/package, which makes them of a commit alone, with a stand-in for the gate."""
+"""The packages for machines without the prover: each is installed and used without access to the repository. And bindings/package,
+which makes them of a commit alone; here a stand-in replaces the gate."""
 import functools
 import hashlib
 import os
@@ -16,7 +16,7 @@ from tests.bindings import BINDINGS, library
 from tests.programs import BY_NAME, CC, FLAGS, TOP, Case, environment, folder, need, run, succeed
 from tests.test_install import CARGO, LISTED, python
 
-# What stands before a command so that it finds an empty folder in the place of the repository.
+# The words before a command that make it find an empty folder in place of the repository.
 AWAY = ["unshare", "-rm", "sh", "-c", 'mount -t tmpfs none "$0" && cd / && exec "$@"', str(TOP)]
 
 
@@ -26,14 +26,14 @@ def setUpModule():
 
 @functools.cache
 def packed(name, bindings=BINDINGS, by=sys.executable):
-    """A folder with the packages of a folder's sources over the library, made once for each name."""
+    """The folder with the packages made of the sources in a folder, over the library. It is made once for each name."""
     made = folder() / name
     succeed([by, bindings / "packer.py", made, library(), "1700000000"], stdin=b"A text.\n", env=environment())
     return made
 
 
 def without_what_is_made(at, names):
-    """What of a folder of the repository is not copied."""
+    """The files of a folder of the repository that are not copied."""
     return {it for it in names if it in ("out", "target", "__pycache__") or pathlib.Path(at, it) == BINDINGS / "lib"}
 
 
@@ -44,12 +44,12 @@ def package(ending):
 
 @functools.cache
 def away():
-    """AWAY, or no words where the machine lets nobody hide a folder."""
+    """AWAY, or no words if the machine does not let us hide a folder."""
     return AWAY if shutil.which("unshare") and not run([*AWAY, "true"])[0] else []
 
 
 def status_of(package):
-    """What dpkg says of a package of this machine, as it keeps it for an installed one."""
+    """What dpkg keeps about an installed package of this machine."""
     words = "Package: ${Package}\\nStatus: install ok installed\\nArchitecture: ${Architecture}\\nVersion: ${Version}\\n"
     return succeed(["dpkg-query", "-W", "-f", words + "Maintainer: nobody\\nDescription: here\\n\\n", package])
 
@@ -63,17 +63,17 @@ class Packages(Case):
         self.assert_runs([*away(), *command, self.sample], LISTED, cwd="/", **how)
 
     def assert_lists_imports(self, program, **how):
-        """The example imports in C."""
+        """The example `imports` in C lists the imports."""
         self.assert_runs([*away(), program], (0, b"KERNEL32.dll 0 GetTickCount\n", b""), self.sample, cwd="/", **how)
 
     def unpacked(self):
-        """The tar, unpacked in the folder of the test."""
+        """Unpacks the tar in the folder of the test."""
         shutil.unpack_archive(package(".tar.gz"), self.folder)
         made, = self.folder.glob("goblin_pe-*")
         return made
 
     def assert_links(self, **where):
-        """The example, built as pkg-config tells, has to list over the shared library, and over the archive."""
+        """The example, built with the flags of pkg-config, lists over the shared library and over the archive."""
         example, = self.folder.rglob("examples/imports.c")
         shared, = (it.parent for it in self.folder.rglob("libgoblin_pe.so.*"))
         for flags, told, env in ([], [], {"LD_LIBRARY_PATH": str(shared)}), (["-static"], ["--static"], {}):
@@ -87,7 +87,7 @@ class Packages(Case):
         self.assertEqual(succeed([*away(), "ls", "-A", TOP]), "")
 
     def test_they_are_packed_again_to_the_byte(self):
-        """In this folder, by another Python, and in a copy of the repository."""
+        """They are packed in this folder, by another Python, and in a copy of the repository."""
         shutil.copytree(TOP, self.folder / "another", symlinks=True, ignore=without_what_is_made)
         folders = packed("packages"), packed("again", by=shutil.which("python3", path="/usr/bin") or sys.executable), packed("another", self.folder / "another/bindings")
         first, *others = ({it.name: it.read_bytes() for it in made.iterdir()} for made in folders)
@@ -96,8 +96,8 @@ class Packages(Case):
             self.assertEqual(sorted(other), sorted(first))
             self.assertEqual([name for name in first if other[name] != first[name]], [])
 
-    def test_each_file_is_told(self):
-        """But for the text itself and what lists it, and as the text says."""
+    def test_each_file_has_a_checksum(self):
+        """PROVED has the right checksum of every file except itself and what lists it."""
         need("dpkg-deb")
         unpacked, wheel, root = self.unpacked(), self.folder / "wheel", self.folder / "root"
         shutil.unpack_archive(package(".whl"), wheel, "zip")
@@ -139,7 +139,7 @@ class Packages(Case):
     def test_the_crate_of_the_tar(self):
         need("cargo")
         crate, user = self.unpacked() / "rust", self.folder / "user"
-        shutil.rmtree(crate.parent / "lib")  # it has the archive inside
+        shutil.rmtree(crate.parent / "lib")  # (It contains the archive.)
         succeed(["cargo", "new", "-q", "--vcs", "none", user])
         shutil.copy(crate / "examples/imports.rs", user / "src/main.rs")
         manifest, env = ["--manifest-path", user / "Cargo.toml"], environment(PKG_CONFIG_LIBDIR="/", CARGO_TARGET_DIR=str(self.folder / "target"))
@@ -149,7 +149,7 @@ class Packages(Case):
         self.assert_runs([*away(), self.folder / "target/debug/user", self.sample], (0, told, b""), cwd="/")
 
     def test_the_package_for_debian(self):
-        """Installed by dpkg into a root that has nothing but the C library of this machine, as dpkg sees it."""
+        """dpkg installs it into a root that has, for dpkg, only the C library of this machine."""
         need("dpkg", "dpkg-deb", "pkg-config")
         if not away():
             self.skipTest("no unshare that hides a folder, and lets dpkg install")
@@ -171,7 +171,7 @@ class Packages(Case):
             self.assertEqual(succeed(["dpkg-deb", "-f", made, "Architecture"]), "amd64\n")
 
     def test_the_package_for_debian_keeps_its_rules(self):
-        """Those who link with the library depend on this package, and its name is known once it is installed."""
+        """Programs that link with the library depend on this package, and ldconfig runs after its installation."""
         need("dpkg-deb")
         succeed(["dpkg-deb", "-e", package(".deb"), self.folder / "control"])
         shared, = (library().glob("libgoblin_pe.so.*"))
@@ -187,13 +187,13 @@ class Packages(Case):
 RT = """#!/bin/sh
 echo "$(dirname "$(dirname "$(readlink -f "$0")")")/START-HERE.md"
 """
-# What the gate says of a run that did all by itself.
+# The messages of a gate that kept nothing from earlier runs.
 GATE = ["rt: goblin_base proved", "rt: goblin_base: its tests are proved", "rt: goblin_pe proved",
         "rt: ok; handles allowed: none; must-fail edits: 2 refused; every proof and must-fail edit was done in this run", "9 passed, 0 failed"]
 
 
 class Releases(Case):
-    """bindings/package in a small repository of its own, with a gate and a build that stand in for those of an hour."""
+    """bindings/package in a small repository of its own. A short gate and a short build stand in for the real ones."""
 
     def setUp(self):
         need("git", "cargo")
@@ -220,7 +220,7 @@ class Releases(Case):
         return self.git("rev-parse", "HEAD")
 
     def package(self, *words, gate=lambda clone, env: (GATE, 0), **how):
-        """What is packed, by its name: without the day, the same whenever it is made."""
+        """The packed files by their names. On one day they are the same whenever they are made."""
         shutil.rmtree(self.out, ignore_errors=True)
         package = runpy.run_path(str(BINDINGS / "package"))
         build = lambda clone, env: pathlib.Path(shutil.copytree(self.made, clone / "bindings/lib"))
@@ -237,7 +237,7 @@ class Releases(Case):
         return text.read_text("utf-8")
 
     def spoil(self):
-        """Changes all that git tracks, adds files that would be packed, and has git see none of it."""
+        """Changes every tracked file, adds files that would be packed, and hides all of this from git."""
         for it in filter(None, self.git("ls-files", "-z").split("\0")):
             with (self.top / it).open("ab") as file:
                 file.write(b"\n# other\n")
@@ -293,7 +293,7 @@ class Releases(Case):
             with self.subTest(lines=lines, status=status):
                 self.assertIn("the gate", self.package(gate=lambda clone, env: (lines, status)))
 
-    def test_what_was_seen_is_told(self):
+    def test_the_text_says_what_was_seen(self):
         self.package()
         text = self.proved()
         for it in (self.git("rev-parse", "HEAD"), *GATE[3:], "3 of crates and of their tests, and 2 wrong bodies", "a kit for this test",

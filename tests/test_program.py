@@ -1,4 +1,4 @@
-"""The built program pe_list: listings, refusals, wrong uses, refused memory, and input and output that fail."""
+"""The built program pe_list: listings, refusals, wrong usage, refused memory, and input and output that fail."""
 import collections
 import itertools
 import os
@@ -16,7 +16,7 @@ USAGE = b"usage: pe_list [--permissive]\n"
 REFUSED = (1, b"", b"refused\n")
 NO_MEMORY = (1, b"", b"out of memory\n")
 SMALL = SAMPLES / "align16_x86.dll"
-# How many growths of memory a listing may have, and for how many bytes they may ask, in strict and in permissive mode.
+# How many growths of memory a listing may need, and how many bytes they may ask for, in strict and in permissive mode.
 MOST_ASKED = {
     "align16_x64.dll": ((18, 3207), (19, 3463)),
     "align16_x86.dll": ((18, 3191), (19, 3447)),
@@ -31,10 +31,10 @@ MOST_ASKED = {
     "program_x86.exe": ((16, 5327), (17, 5583)),
     "others": ((10478, 5894475), (11564, 6122377)),
 }
-STORED = CRATES / "pe_list/stdin"  # a small file whose every byte is known, and beside it what is listed of it
+STORED = CRATES / "pe_list/stdin"  # A small file whose every byte is known, and its listing.
 
-# The parts of that listing, and what a change of the file, bytes by their offsets, makes of them in strict and in permissive
-# mode: other parts, or a refusal.
+# The parts of that listing, and how a change of the file (bytes by their offsets) changes them in strict and in permissive mode:
+# other parts, or a refusal.
 LISTING = STORED.with_name("stdout").read_bytes()
 PARTS = dict(zip(("header", "section", "imports", "exports", "relocations"), re.split(rb"(?m)^(?=section|imports|exports|relocations)", LISTING)))
 NOTHING = {"imports": b"imports absent\n", "exports": b"exports absent\n"}
@@ -98,7 +98,7 @@ class Listings(Case):
     def test_blocks_and_words_are_counted(self):
         sizes = (0x234, 0x158, 0x1C, 0x28, 0xE8, 0x8C, 0xC)
         data = bytearray(STORED.read_bytes()) + b"".join(struct.pack("<II", 0, it) + bytes(it - 8) for it in sizes)
-        struct.pack_into("<I", data, 0x148, 0x650)  # (the section's data goes on over them)
+        struct.pack_into("<I", data, 0x148, 0x650)  # (The data of the section covers them.)
         struct.pack_into("<II", data, 0xE0, 0x1100, 1360)
         status, out, _ = run([PE_LIST], data)
         words = [int(it) for it in re.findall(rb"(?m)^block .*words=(\d+)$", out)]
@@ -118,8 +118,8 @@ class Listings(Case):
                     self.assert_runs([PE_LIST, *words], REFUSED, signature + data)
 
     def test_a_sample_cut_at_each_length(self):
-        """Without its whole section table it is refused. After that, permissive mode lists its header and its sections,
-        whatever became of its tables, and strict mode refuses the file or lists as much."""
+        """It is refused without its whole section table. If it is longer, permissive mode lists its header and its sections, even
+        if its tables are cut, and strict mode refuses the file or lists the same."""
         whole = SMALL.read_bytes()
         pe = struct.unpack_from("<I", whole, 60)[0]
         sections, optional_header = struct.unpack_from("<H", whole, pe + 6)[0], struct.unpack_from("<H", whole, pe + 20)[0]
@@ -141,13 +141,13 @@ class Listings(Case):
                             ("the mode twice", ["--permissive", "--permissive"]),
                             ("a word after the mode", ["--permissive", "x"])):
             with self.subTest(name):
-                self.assert_runs([PE_LIST, *words], (2, b"", USAGE), TOP)  # (reading a folder would fail)
+                self.assert_runs([PE_LIST, *words], (2, b"", USAGE), TOP)  # (A read of a folder would fail.)
 
 
 class Memory(Case):
     def assert_each_growth(self, words, wanted, stdin):
-        """Where a growth is refused nothing is listed. Where none is, all is listed: a `run` that says that memory is refused,
-        whatever the allocator says, meets its contract, and fails here."""
+        """If a growth is refused, nothing is listed. If none is, everything is listed: a `run` that always reports refused memory
+        meets its contract, and fails here."""
         self.assertEqual(set(self.each_growth([PE_LIST, *words], wanted, stdin)), {b""})
 
     def test_each_growth_is_refused(self):
@@ -160,7 +160,7 @@ class Memory(Case):
                     self.assert_each_growth(words, wanted, sample)
 
     def asked(self, words, file):
-        """How many growths of memory a run has, and how many bytes they ask for."""
+        """The number of a run's growths of memory, and of the bytes that they ask for."""
         with tempfile.TemporaryFile() as counted:
             preload = {"LD_PRELOAD": str(preloaded("refuse_growth")), "COUNTED": str(counted.fileno())}
             run([PE_LIST, *words], file, env={**os.environ, **preload}, pass_fds=[counted.fileno()])
@@ -168,7 +168,7 @@ class Memory(Case):
             return tuple(map(int, counted.read().split()))
 
     def test_no_file_asks_for_more_memory(self):
-        """Nor asks more often than MOST_ASKED says: each sample, and some 400 damaged or misleading files together."""
+        """MOST_ASKED is the limit, for each sample, and for some 400 damaged or misleading files together."""
         for sample in IMAGES:
             for words, most in zip(BOTH_MODES, MOST_ASKED[sample.name]):
                 with self.subTest(sample=sample.name, words=words):
@@ -183,7 +183,7 @@ class Memory(Case):
         self.assertTrue(asked[0] <= most[0] and asked[1] <= most[1], f"{asked}, and at most {most} are allowed")
 
     def test_a_large_image(self):
-        """It is listed, and refused where memory is short, be it to read the image or to list it."""
+        """It is listed. It is refused if memory is short, for reading the image or for listing it."""
         image = images.large_image(blocks=100000)
         with self.subTest("ample memory"):
             self.assert_counts(image, {"import": 96000, "export": 60000, "block": 100000}, lines=256006)
@@ -210,8 +210,8 @@ class Memory(Case):
 
 class Time(Case):
     def test_addresses_are_looked_up_by_an_index(self):
-        """Twice the sections, and twice the addresses, take no more than three times as long. A machine that is busy is
-        asked up to three times. A walk over the sections for each address takes four times."""
+        """Twice as many sections and addresses take at most three times as long. (A walk over the sections for each address would
+        take four times as long.) A busy machine has three attempts."""
         one, two = (self.written(f"{size}.dll", images.hostile_image(size << 20)) for size in (1, 2))
         for _ in range(3):
             least = [min(milliseconds([PE_LIST], image) for _ in range(9)) for image in (one, two)]
@@ -230,16 +230,16 @@ class Faults(Case):
         self.assert_runs(["sh", "-c", 'exec "$0" > /dev/full', PE_LIST], (1, b"", b"write failed\n"), SMALL)
 
     def assert_calls(self, calls, wanted, file, **how):
-        """Lists the stored file by reads (file 0) or writes (file 1) that move STEP bytes each. Of as many calls the one
-        that is FAILING, if any, is the last: none follows it, nor the read that meets the end."""
-        with tempfile.TemporaryFile() as told:
-            preload = {"LD_PRELOAD": preloaded("fail_call"), "FILE": file, "TOLD": told.fileno(), **how}
+        """Lists the stored file by reads (file 0) or writes (file 1) of STEP bytes each. The call number FAILING fails, if it is
+        given. No call follows it, and none follows the read that meets the end."""
+        with tempfile.TemporaryFile() as count:
+            preload = {"LD_PRELOAD": preloaded("fail_call"), "FILE": file, "COUNT": count.fileno(), **how}
             env = {**os.environ, **{name: str(it) for name, it in preload.items()}}
-            self.assert_runs([PE_LIST], wanted, STORED, env=env, pass_fds=[told.fileno()])
-            self.assertEqual(os.fstat(told.fileno()).st_size, calls)
+            self.assert_runs([PE_LIST], wanted, STORED, env=env, pass_fds=[count.fileno()])
+            self.assertEqual(os.fstat(count.fileno()).st_size, calls)
 
     def test_no_read_follows_a_failed_one_or_the_end(self):
-        """Nothing is listed where one fails."""
+        """If one fails, nothing is listed."""
         for step, reads in (96, 9), (767, 3), (1 << 20, 2):
             for failing in range(reads + 1):
                 with self.subTest(step=step, failing=failing):
@@ -247,7 +247,7 @@ class Faults(Case):
                     self.assert_calls(failing or reads, wanted, 0, STEP=step, FAILING=failing)
 
     def test_no_write_follows_a_failed_one(self):
-        """What went out before is the front of the listing. A write that takes nothing has failed."""
+        """The front of the listing was written before. A write of no bytes counts as failed."""
         for step, writes in (50, 9), (1 << 20, 1):
             for failing, answer in itertools.product(range(writes + 1), (-1, 0)):
                 with self.subTest(step=step, failing=failing, answer=answer):

@@ -18,7 +18,7 @@ from tests.bindings import BINDINGS, library, package
 from tests.programs import (BY_NAME, CC, IMAGES, OBJECTS, SAMPLES, TERSE, Case, beside, environment, modes,
                             need, run, succeed, with_memory)
 
-# A program in Python whose types are right.
+# A program in Python without a wrong type.
 TYPED = b"""from typing import List, Optional
 from goblin_pe import Budget, ErrorKind, Image, Options, Pe, PeError, Table, TableState
 
@@ -40,7 +40,7 @@ def setUpModule():
 
 
 def triaged_images():
-    """The samples, and one with a Rich header, where pefile looks for it, and an overlay."""
+    """The samples, and one with an overlay and a Rich header at the place where pefile looks for it."""
     data, size = BY_NAME.read_bytes(), 0x400
     signature = data.index(b"PE\0\0")
     moved = bytearray(data[:signature] + bytes(0x80 - signature) + data[signature: size - (0x80 - signature)] + data[size:])
@@ -62,7 +62,7 @@ class Python(Case):
         succeed([sys.executable, "-X", "dev", "-m", "unittest", "-q", "test_goblin_pe"], env=self.env)
 
     def test_the_programs_of_its_readme(self):
-        """They print what stands below them; on hostile files they end, too."""
+        """They print the output that is below them in the text. On hostile files they end, too."""
         text = (BINDINGS / "python/README.md").read_text("utf-8")
         program, wanted = ("".join(re.findall(r"(?s)```%s\n(.*?)```" % it, text)) for it in ("python", "text"))
         files = [(data, data) for data in hostile.files(1)]
@@ -76,7 +76,7 @@ class Python(Case):
                     self.assertEqual(out.decode(), wanted)
 
     def test_examples_end_within_a_second_and_ten_megabytes(self):
-        """On each hostile file, in time of the processor. Each error is a line."""
+        """This holds on each hostile file, in processor time. Each error is a line."""
         examples, file = BINDINGS / "python/examples", self.folder / "some.dll"
         large = images.shared_image(3000, 50000), images.own_tables(1609)
         for index, data in enumerate((*large, *hostile.files(1))):
@@ -128,7 +128,7 @@ class Python(Case):
                 self.assertEqual(run(command, env=self.env), (1, b"", b"write failed: %s\n" % reason))
 
     def test_what_is_refused_memory_has_a_line(self):
-        """A file with more bytes than there is memory for."""
+        """The file has more bytes than there is memory."""
         with open(self.folder / "large.dll", "wb") as file:
             file.truncate(1 << 32)
         words = with_memory(1000000, [sys.executable, "-m", "goblin_pe"])
@@ -146,7 +146,7 @@ class Python(Case):
             self.assertEqual(told.read(1000), b"\r1 of 2 files\r2 of 2 files\r\n")
 
     def test_an_interrupt_ends_it_at_once(self):
-        """In the midst of reads that take much longer."""
+        """The reads that it ends would take much longer."""
         image = self.written("hostile.dll", images.shared_image(libraries=60000, functions=50000))
         words = [sys.executable, "-m", "goblin_pe", "--json", "--steps", "1000000000", image]
         with subprocess.Popen(with_memory(8000000, words), stdout=subprocess.PIPE, stderr=subprocess.PIPE, env=self.env) as it:
@@ -155,15 +155,15 @@ class Python(Case):
             self.assertEqual((it.wait(1), *it.communicate()), (-signal.SIGINT, b"", b""))
 
     def triaged(self, files):
-        """What the example tells of files, by their names."""
+        """The answers of the example, by the names of the files."""
         for name, data in files.items():
             self.written(name, data)
         lines = succeed([sys.executable, BINDINGS / "python/examples/triage.py", self.folder], env=self.env).splitlines()
         return {it["file"]: it for it in map(json.loads, lines)}
 
     def test_what_packers_hide_is_triaged(self):
-        """An import whose name is in the headers; more entries that lead nowhere than there are steps; an overlay behind a section
-        without a place, and none where the file cuts a section."""
+        """It finds an import whose name is in the headers, reports that steps ran out, and finds the overlay after a section
+        without a place. It finds none if the file cuts a section."""
         data, in_headers = BY_NAME.read_bytes(), images.sample((0x94, b"\0\2\0\0"), (0x240, b"\xA0\1\0\0"), (0x1A0, b"\0\0VirtualAlloc\0"))
         told = self.triaged({"headers": in_headers, "many": images.rounded_to_dead_entries(1100000),
                              "behind": images.without_a_place(data), "cut": data[:-16]})
@@ -171,16 +171,16 @@ class Python(Case):
         self.assertEqual((told["behind"]["overlay"], told["cut"]["overlay"]), (len(data) - 0x200, None))
 
     def test_images_are_triaged_as_by_pefile(self):
-        """By the example, beside what pefile 2023.2.7 tells of the same images."""
+        """The answers of the example are those of pefile 2023.2.7 on the same images."""
         told = self.triaged(triaged_images())
-        for name, wanted in json.loads(pathlib.Path(__file__).with_name("told_by_pefile.json").read_text("utf-8")).items():
+        for name, wanted in json.loads(pathlib.Path(__file__).with_name("pefile_answers.json").read_text("utf-8")).items():
             with self.subTest(name):
                 found = {**told[name], "sections": [{key: it[key] for key in ("name", "entropy", "md5")} for it in told[name]["sections"]]}
                 del wanted["image_base"]
                 self.assertEqual({key: found[key] for key in wanted}, {**wanted, "imphash": wanted["imphash"] or None})
 
     def test_its_own_tests_by_other_pythons(self):
-        """The oldest that the package is for, one in the middle, and the newest of the machine."""
+        """The Pythons are the oldest that the package supports, one in the middle, and the newest of the machine."""
         oldest = int(re.search(r'requires-python = ">=3\.(\d+)"', (BINDINGS / "python/pyproject.toml").read_text("utf-8"))[1])
         found = {}
         for python in (*pathlib.Path.home().glob(".pyenv/versions/*/bin/python3"), *map(shutil.which, map("python3.{}".format, range(9, 20)))):

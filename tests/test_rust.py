@@ -10,7 +10,7 @@ from tests import hostile
 from tests.bindings import BINDINGS, library
 from tests.programs import SAMPLES, Case, environment, folder, need, run, succeed
 
-# What runs all examples of the crate's documentation on files, and names those that panic.
+# A program that runs all examples of the crate's documentation on files, and names those that panic.
 HOSTILE = """#![allow(warnings)]
 static FILE: std::sync::Mutex<Vec<u8>> = std::sync::Mutex::new(Vec::new());
 
@@ -39,7 +39,7 @@ def setUpModule():
 
 
 def documented_examples():
-    """The examples of the crate's documentation, by where they stand, each as the body of a function."""
+    """The examples of the crate's documentation, by their places, each as the body of a function."""
     found = {}
     for path in sorted((BINDINGS / "rust/src").glob("*.rs")):
         lines = [re.sub(r"^ *//[/!] ?", "", it) if re.match(" *//[/!]", it) else "" for it in path.read_text("utf-8").splitlines()]
@@ -58,7 +58,7 @@ class Rust(Case):
             GOBLIN_PE_LIB=str(library()), GOBLIN_PE_SAMPLES=str(SAMPLES), CARGO_TARGET_DIR=str(folder() / "rust")))
 
     def test_the_crate(self):
-        """Its own tests, and its documents' programs."""
+        """Its own tests and the programs of its documents pass."""
         self.cargo("test")
 
     def test_clippy_warns_of_nothing(self):
@@ -71,7 +71,7 @@ class Rust(Case):
         self.cargo("rustdoc", "--", "-D", "warnings")
 
     def test_ten_idioms_of_a_newcomer(self):
-        """In the crate of a user, by the edition before the crate's own."""
+        """They are in the crate of a user, in the edition before the crate's own."""
         need("cargo")
         user, env = self.folder / "user", environment(
             GOBLIN_PE_LIB=str(library()), GOBLIN_PE_SAMPLES=str(SAMPLES), CARGO_TARGET_DIR=str(folder() / "rust"))
@@ -83,7 +83,7 @@ class Rust(Case):
         self.assertIn("test result: ok. 10 passed", told)
 
     def test_no_documented_example_panics_on_a_hostile_file(self):
-        """In a build that tests sums for overflows."""
+        """The build checks sums for overflow."""
         need("cargo")
         examples = documented_examples()
         self.assertGreater(len(examples), 15)

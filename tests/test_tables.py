@@ -11,7 +11,7 @@ from tests.programs import BY_NAME, CC, need
 # The parts of a small file with a Rich header, by their offsets: one entry under the key 1, before a signature.
 SMALL = [(0, b"MZ"), (0x3C, b"\x60"), (0x40, b"\x45\x61\x6E\x53\x01\0\0\0\x01\0\0\0\x01\0\0\0"),
          (0x50, b"\x03\0\x03\0\x05\0\0\0Rich\x01\0\0\0"), (0x60, b"PE\0\0")]
-# What makes its first marker stand after the second.
+# The change that puts its first marker after the second.
 TURNED = [(0x40, b"\x44"), (0x3C, b"\x64"), (0x60, b"\x45\x61\x6E\x53PE\0\0")]
 # A larger one after the usual stub: its key, and its entries by build, product and use count.
 KEY = 0xE2352D37
@@ -20,7 +20,7 @@ ENTRIES = [(25203, 260, 10), (25203, 259, 5), (25203, 261, 127), (25305, 259, 9)
 LARGE = [(0, b"MZ"), (0x3C, b"\xF8"), (0x40, images.DEFAULT_STUB), (0x80, b"\x73\x4C\x5B\xB1" + struct.pack("<3I", KEY, KEY, KEY)),
          (0x90, b"".join(struct.pack("<II", (product << 16 | build) ^ KEY, count ^ KEY) for build, product, count in ENTRIES)),
          (0xE0, b"Rich" + struct.pack("<I", KEY)), (0xF8, b"PE\0\0")]
-# The parts of a file; its Rich header's key, size of padding, and offsets of the markers; its entries; and the errors of what is left.
+# The parts of a file; the key, the size of the padding and the offsets of the markers of its Rich header; its entries; and the errors for the rest.
 RICH = [
     ("one entry", SMALL, (1, 12, 0x40, 0x58), [(2, 3, 4)], []),
     ("ten entries", LARGE, (KEY, 12, 0x80, 0xE0), ENTRIES, []),
@@ -56,24 +56,24 @@ SYMBOLS = [
     (6, 0, 0, 2, 0, b"__imp_GetTickCount"),
     (7, 0, -2, 103, 1, b".file"),
 ]
-# What stands in the eight bytes of a symbol's name, its string table, and its name: the number that is stored there counts the
-# four bytes of the table's length.
+# The eight bytes of a symbol's name, its string table, and its name. A stored offset counts the four bytes of the table's
+# length.
 NAMES = [
     ("a number below four", b"\0\0\0\0\x03\0\0\0", b"\x0C\0\0\0abc\0def\0", None),
     ("the first text", b"\0\0\0\0\x04\0\0\0", b"\x0C\0\0\0abc\0def\0", b"abc"),
-    ("a text at 4, whatever stands before the number", b"\0ABC\x08\0\0\0", b"\x0C\0\0\0abc\0def\0", b"def"),
+    ("a text at 4, with other bytes before the number", b"\0ABC\x08\0\0\0", b"\x0C\0\0\0abc\0def\0", b"def"),
     ("the first text of a table that has no bytes", b"\0\0\0\0\x04\0\0\0", b"\x04\0\0\0", None),
 ]
-# The bytes of a string table that nothing has tested, an offset in it, and the name there.
+# The bytes of a string table that was not tested, an offset in it, and the name there.
 UNTESTED = [
-    ("a text before bytes that are none", b"abc\0\xFF", 0, b"abc"),
+    ("a text before bytes that are no text", b"abc\0\xFF", 0, b"abc"),
     ("bytes that are no text", b"abc\0\xFF", 4, None),
     ("the middle of a character", b"\xC3\xA9\0", 1, None),
     ("a NUL", b"ab\0\0", 3, b""),
     ("the end, after a text without a NUL", b"ab", 2, b""),
     ("the end, after a NUL", b"ab\0", 3, None),
 ]
-# How many auxiliary records the first symbol says it has, how many records there are, and the indexes of the symbols.
+# How many auxiliary records the first symbol claims, how many records there are, and the indexes of the symbols.
 INDEXES = [(1, 3, [0, 2]), (0xFF, 1, [0])]
 
 # The relocations of a section of a small object that a compiler made: as stored, and their addresses and the indexes of their
@@ -88,7 +88,7 @@ RELOCATIONS = [(0x3, 18), (0xF, 19), (0x26, 21), (0x36, 23), (0x43, 18), (0x4F, 
 LIBRARY = b"\0\x10\0\0\x14\0\0\0\x01\x30\x0B\x30\x22\x30\x31\x30\x3B\x30\0\0\0\x30\0\0\x10\0\0\0\0\x30\x04\x30\x08\x30\0\0"
 BASE_RELOCATIONS = [[(3, 0x1001), (3, 0x100B), (3, 0x1022), (3, 0x1031), (3, 0x103B), (0, 0x1000)],
                     [(3, 0x3000), (3, 0x3004), (3, 0x3008), (0, 0x3000)]]
-# The bytes of a directory; the blocks in it, by address, size and words; and why what is left is refused.
+# The bytes of a directory; its blocks, by address, size and words; and why the rest is refused.
 BLOCKS = [
     ("no words and no byte after them", b"\0\x10\0\0\x08\0\0\0", [], ("MALFORMED", "BLOCK_RANGE", 8, 0)),
     ("no words before another block", b"\0\x10\0\0\x08\0\0\0\0\x20\0\0\x0C\0\0\0\x03\x30\0\0",
@@ -97,8 +97,8 @@ BLOCKS = [
     ("a word, and a byte that is no word", b"\0\0\0\0\x0B\0\0\0\x01\0\x02", [(0, 11, (1,))], None),
 ]
 
-# Sections by their address, their size in memory, and their data's size and offset in the file. The window of the wide one holds
-# that of the narrow one; two have the same window.
+# Sections by their address, their size in memory, and the size and the offset of their data in the file. The window of the wide
+# one contains that of the narrow one; two have the same window.
 NARROW = (0x1200, 0x200, 0x200, 0x400)
 WIDE = (0x1000, 0x800, 0x800, 0x800)
 LOW = (0x1000, 0x200, 0x200, 0x400)
@@ -140,7 +140,7 @@ OFFSETS = [
     ([HIGH, LOW], 0x200, STORED, 0x1010, 0x810),
     ([], 0x200, STORED, 0, None),
 ]
-# Sections, the mapping, an offset, its address, and the index of the section that this lies in.
+# Sections, the mapping, an offset, its address, and the index of the section in which the address lies.
 ADDRESSES = [
     ([LESS_DATA_THAN_MEMORY], STORED, 0x1FF, None, None),
     ([LESS_DATA_THAN_MEMORY], STORED, 0x200, 0x1000, 0),
@@ -157,8 +157,8 @@ ADDRESSES = [
     ([WIDE], IDENTITY, 0x1100, 0x1100, None),
     ([WIDE], IDENTITY, 0x5000, 0x5000, None),
 ]
-# Sections whose data begins at the file's end, where it has six bytes: one with zeros after them, one with more data than memory, one
-# without a virtual size, one without data, and one whose data is not there. An address, a size, and what a loader sees: bytes of the
+# Sections whose data begins six bytes before the end of the file: one with zeros after them, one with more data than memory, one
+# without a virtual size, one without data, and one whose data is missing. An address, a size, and what a loader sees: bytes of the
 # file and a number of zeros.
 IN_MEMORY = [(0x1000, 16, 6, 0x210), (0x2000, 4, 6, 0x210), (0x3000, 0, 6, 0x210), (0x4000, 8, 0, 0), (0x5000, 8, 8, 0x210)]
 SEEN = [
@@ -167,21 +167,21 @@ SEEN = [
     (0x2000, 4, (b"stor", 0)), (0x2004, 3, (b"ed", 1)), (0x3000, 6, (b"stored", 0)), (0x3000, 7, (b"stored", 1)),
     (0x4000, 8, (b"", 8)), (0x4000, 9, None), (0x5000, 6, (b"stored", 0)), (0x5000, 7, None), (0x5000, 8, None),
 ]
-# The first bytes that are seen there, of which fewer may be there: where the memory of the section ends, or the file.
+# The first bytes that are seen there. There may be fewer, because the memory of the section or the file ends.
 AVAILABLE = [
     (0x1000, 3, (b"sto", 0)), (0x1000, 99, (b"stored", 93)), (0x1004, 0x1FC, (b"ed", 0x1FA)), (0x1006, 4, (b"", 4)),
     (0x11FF, 2, (b"", 1)), (0x1000, 0, (b"", 0)), (0x1200, 1, None), (0xFFF, 2, None), (0x2000, 4, (b"stor", 0)),
     (0x3000, 2 ** 64 - 1, (b"stored", 0x1FA)), (0x4000, 99, (b"", 8)), (0x5000, 8, (b"stored", 0)), (0x5007, 1, (b"", 0)),
 ]
-# Where addresses of such sections and of 0x200 bytes of headers lie, and in which section: among the zeros are those of the windows
-# that the file does not have, and no place is after a section's memory.
+# The regions and sections of addresses in such sections and in 0x200 bytes of headers. Windows that the file lacks count as zeros.
+# No region is after a section's memory.
 REGIONS = [
     (0, "HEADERS", None), (0x1FF, "HEADERS", None), (0x200, "UNMAPPED", None), (0xFFF, "UNMAPPED", None), (0x1000, "RAW_DATA", 0),
     (0x1005, "RAW_DATA", 0), (0x1006, "ZEROS", 0), (0x100F, "ZEROS", 0), (0x11FF, "ZEROS", 0), (0x1200, "UNMAPPED", None),
     (0x3005, "RAW_DATA", 2), (0x3006, "ZEROS", 2), (0x4000, "ZEROS", 3), (0x5007, "RAW_DATA", 4), (2 ** 64 - 1, "UNMAPPED", None),
 ]
-# Of a section the virtual size, the raw size, the raw pointer and the flags; and its data in a file of 0x300 bytes: how many bytes it
-# has from where on, how many zeros follow, and how many bytes the file lacks.
+# The virtual size, the raw size, the raw pointer and the flags of a section; and its data in a file of 0x300 bytes: the offset and
+# the number of its bytes, how many zeros follow, and how many bytes the file lacks.
 DATA = [
     ("uninitialized data of an object", (0, 400000, 0, 0xC0000080), (0, 0, 400000, 0)),
     ("uninitialized data of an image", (0x80, 0, 0, 0xC0000080), (0, 0, 0x80, 0)),
@@ -194,7 +194,7 @@ DATA = [
     ("data that begins too late", (0x180, 0x10, 0x400, 0), (0x300, 0, 0, 0x10)),
     ("no data that begins too late", (0x80, 0, 0x400, 0), (0x300, 0, 0x80, 0)),
 ]
-# Bytes at the end of a file, at the address 0x1000 of a section of 16 bytes; an address; a size; and the text and so many bytes there.
+# Bytes at the end of a file, at the address 0x1000 of a section of 16 bytes; an address; a size; and the text and the bytes there.
 CONTENTS = [
     (b"one\0two", 0x1000, 3, b"one", b"one"),
     (b"one\0two", 0x1004, 3, b"two", b"two"),
@@ -221,17 +221,17 @@ def image(data, mapping="AS_STORED"):
 
 
 def signed(parts):
-    """An image of these parts, which ends with a COFF header of zeros after its signature: it has no sections."""
+    """An image of these parts. It ends with a COFF header of zeros after its signature, so it has no sections."""
     return images.with_parts(b"", *parts) + bytes(20)
 
 
 def object_of(records, strings):
-    """An object without sections that has these records of symbols and this string table."""
+    """An object without sections, with these symbol records and this string table."""
     return struct.pack("<HHIIIHH", 0x8664, 0, 0, 20, len(records) // 18, 0, 0) + records + strings
 
 
 def symbols_of(records, strings):
-    """The symbols of an object that has these records and this string table."""
+    """The symbols of an object with these records and this string table."""
     return list(package().Image.object(object_of(records, strings)).symbols())
 
 
@@ -241,7 +241,7 @@ def symbol_record(name=bytes(8), auxiliary=0):
 
 
 def relocated(records):
-    """An object of one section, which has these relocations."""
+    """An object of one section, with these relocations."""
     headers = struct.pack("<HHIIIHH8sIIIIIIHHI", 0x8664, 1, 0, 0, 0, 0, 0, b".text", 0, 0, 0, 0, 60, 0, len(records) // 10, 0, 0)
     return headers + records
 
@@ -256,17 +256,17 @@ def with_sections(sections, alignment=0x200):
 
 
 def with_blocks(directory):
-    """An image without sections, which ends with these base relocations, at an address that is their offset."""
+    """An image without sections. It ends with these base relocations, whose address is their offset."""
     return images.image_headers(0x148, 0, 0x1000, ((5, 0x148, len(directory)),)) + directory
 
 
 def available(memory):
-    """The first bytes that a loader sees, and how many zeros follow; None if it maps nothing there."""
+    """The first bytes that a loader sees, and how many zeros follow. None if it maps nothing there."""
     return None if memory.region == package().Region.UNMAPPED else (memory.data, memory.zeros)
 
 
 def seen(memory):
-    """The same; None also if some of what was asked for is missing."""
+    """As available, but None also if something that was asked for is missing."""
     return None if memory.missing else available(memory)
 
 
@@ -308,7 +308,7 @@ class Tables(unittest.TestCase):
                 self.assertEqual([it.name for it in symbols_of(symbol_record(stored), strings)], [wanted])
 
     def test_a_name_is_tested_where_it_lies(self):
-        """One that is not there lies at the front of the file; an empty one that is there has its own place."""
+        """An absent name is at the front of the file. An empty name has its own place."""
         for name, strings, offset, wanted in UNTESTED:
             with self.subTest(name):
                 table = struct.pack("<I", 4 + len(strings)) + strings
@@ -323,7 +323,7 @@ class Tables(unittest.TestCase):
                 self.assertEqual((found.string_at(offset + 4), found.string_at(3)), (wanted, None))
         self.assertEqual(package().Image.object(bytes(20)).string_at(4), None)
 
-    def test_symbols_are_read_where_a_name_is_no_text(self):
+    def test_symbols_are_read_if_a_name_is_no_text(self):
         symbols = symbol_record(struct.pack("<II", 0, 4)) + symbol_record(struct.pack("<II", 0, 9)) + symbol_record(b"short")
         file = object_of(symbols, b"\x0E\0\0\0d\xE9j\xE0\0last\0")
         self.assertEqual([(it.index, it.name) for it in package().Image.object(file).symbols()], [(0, None), (1, b"last"), (2, b"short")])
@@ -331,7 +331,7 @@ class Tables(unittest.TestCase):
             self.assertEqual(refusal(list, package().Image.object(file[:-cut]).symbols()), wanted)
 
     def test_an_image_has_symbols_and_texts_as_an_object_has(self):
-        """Also where a name is no text."""
+        """They have them even if a name is no text."""
         data, strings = BY_NAME.read_bytes(), b"\x0E\0\0\0d\xE9j\xE0\0last\0"
         symbols = symbol_record(struct.pack("<II", 0, 4)) + symbol_record(struct.pack("<II", 0, 9))
         file = images.with_parts(data + symbols + strings, (data.index(b"PE\0\0") + 12, struct.pack("<II", len(data), 2)))
@@ -358,7 +358,7 @@ class Tables(unittest.TestCase):
         found = package().Image.object(relocated(RELOCATION_RECORDS))
         self.assertEqual(list(found.sections[0].relocations(found)), [(address, symbol, 4) for address, symbol in RELOCATIONS])
 
-    def test_a_walk_gives_all_relocations_where_the_first_record_has_their_number(self):
+    def test_a_walk_gives_all_relocations_if_the_first_record_has_their_number(self):
         flag = 0x01000000  # (IMAGE_SCN_LNK_NRELOC_OVFL)
         row = struct.Struct("<IIH")
         for count in (0x10000, 0x10001, 0x20000):
@@ -379,7 +379,7 @@ class Tables(unittest.TestCase):
             self.assertEqual(refusal(list, section._replace(number_of_relocations=1).relocations(found)), (wanted, None, 0, 0))
 
     def test_the_base_relocations_of_a_library_are_those_that_another_tool_shows(self):
-        """By the package, and by C."""
+        """They are those of the package, and of the calls for C."""
         headers = images.image_headers(0x200, 1, 0x5000, ((5, 0x4000, len(LIBRARY)),))
         images.put_section(headers, 0x148, b".reloc", LIBRARY, 0x4000, 0x200)
         pe = package().Pe(headers + LIBRARY, how("AS_STORED"))
@@ -451,8 +451,8 @@ class Tables(unittest.TestCase):
         self.assertEqual(found.memory_at(0x1000, 16), (b"", 16, 0, 0, package().Region.ZEROS))
         self.assertEqual(found.memory_at(0x2000, 16)[:3], (b"stored\0\0", 8, 0))
 
-    def test_what_is_seen_at_an_address_is_what_stands_at_its_offset(self):
-        """Also up to the end of data whose raw pointer, 0x10, is rounded down, as packers make it; a loader sees the headers, too."""
+    def test_an_address_shows_the_bytes_at_its_offset(self):
+        """So it is up to the end of data whose raw pointer, 0x10, is rounded down, as packers make it. A loader sees the headers, too."""
         file = with_sections([(0x1000, 0x1000, 0x3F0, 0x10)])
         struct.pack_into("<I", file, 0x94, 0x200)  # (size_of_headers)
         file += bytes(range(1, 101)) * 7
@@ -473,7 +473,7 @@ class Tables(unittest.TestCase):
                 self.assertEqual(found.memory_at(0x13FC, 8)[:3], (b"last", 4, 0))
                 self.assertEqual(found.sections[0].data(found)[:3], (file, 0x1000 - len(file), 0))
 
-    def test_what_stands_at_an_address(self):
+    def test_the_text_and_the_bytes_at_an_address(self):
         for data, rva, size, text, wanted in CONTENTS:
             with self.subTest(data=data, rva=hex(rva), size=size):
                 found = image(with_sections([(0x1000, 16, 16, 0x170)]) + data)

@@ -1,4 +1,4 @@
-"""Walks over one image: however the calls cut them, by room or by steps, they give the same rows and take the same steps."""
+"""Walks over one image give the same rows and take the same steps, whatever room and steps their calls have."""
 import ctypes as c
 import itertools
 import os
@@ -10,7 +10,7 @@ from tests import hostile, images
 from tests.bindings import COUNTED, WALKS, Walk, calls, image_of, library, options, records
 from tests.programs import BY_NAME, CC, IMAGES, OBJECTS, TERSE, need
 
-STEPS, KIND = 7, 8  # (the status of a walk without steps, and of a call for another kind of file)
+STEPS, KIND = 7, 8  # The status of a walk without steps, and of a call for another kind of file.
 READS = ("read_image", "read_partial_image", "read_object", "read_te")
 
 
@@ -20,12 +20,12 @@ def setUpModule():
 
 
 def files():
-    """Files of all kinds, most of them damaged."""
+    """Files of all kinds. Most are damaged."""
     return [*(it.read_bytes() for it in IMAGES), *hostile.files(2)]
 
 
 def real_files(most=200):
-    """Images that the machine has, of at most two megabytes, each once: those of its Pythons, Wine, Mono and the like."""
+    """Images of at most two megabytes that the machine has, each once: those of its Pythons, Wine, Mono and the like."""
     found = set()
     for top in (pathlib.Path.home(), "/usr/lib", "/usr/share", "/boot", "/opt"):
         for at, folders, names in os.walk(top):
@@ -40,7 +40,7 @@ def real_files(most=200):
 
 
 def opened(data):
-    """The image of a file in each mode, where it is read."""
+    """The image of a file in each mode that reads it."""
     for permissive in (False, True):
         image, fault = image_of(data, options(permissive))
         if not fault.status:
@@ -48,7 +48,7 @@ def opened(data):
 
 
 def slots(image):
-    """More than a look at one address table takes: all of the file may be one."""
+    """More steps than a look at one address table takes. (It may be the whole file.)"""
     return image.bytes.length // 4 + 1
 
 
@@ -63,7 +63,7 @@ class Walks(unittest.TestCase):
                             self.assertEqual(Walk(image, word).walk(room), wanted)
 
     def test_rows_and_steps_by_any_limit_are_those_of_one_call(self):
-        """Steps in sum, but what is looked at of an address table after them; and one limit is passed by no more than that."""
+        """The steps add up to the same, except that those beyond a limit, in an address table, are not counted."""
         for index, data in enumerate(files()):
             for permissive, image in opened(data):
                 for word, each in itertools.product(COUNTED, (1, 2, 3, 10, 1000)):
@@ -74,7 +74,7 @@ class Walks(unittest.TestCase):
                         self.assertTrue(cut_taken == taken or word == "imports" and cut_taken < taken)
 
     def cut(self, image, word, each):
-        """A walk by calls of so many steps: its rows, why they end, and how many steps were taken."""
+        """A walk by calls with a limit of steps: its rows, why it ends, and how many steps it took."""
         walk, steps, taken = Walk(image, word), c.c_size_t(0), 0
         for _ in range(1 << 20):
             before = bytes(walk.cursor), len(walk.rows)
@@ -84,13 +84,13 @@ class Walks(unittest.TestCase):
             taken += each - steps.value
             if fault.status == STEPS:
                 self.assertEqual((bytes(walk.cursor), len(walk.rows)), before)
-                each += slots(image)  # (an address table is looked at in one go)
+                each += slots(image)  # (A call looks at an address table in one go.)
             elif walk.batch.is_done:
                 return walk.rows, (fault.status, fault.cause), taken
         raise AssertionError(f"{word} have no end")
 
     def test_a_limit_is_passed_by_no_more_than_an_address_table(self):
-        """A call without a limit, which gives the same rows, takes no more steps than that."""
+        """A call without a limit that gives the same rows takes no more steps than that."""
         for index, data in enumerate(files()):
             for permissive, image in opened(data):
                 for word, limit in itertools.product(COUNTED, (1, 2, 5, 20, 100)):
@@ -132,7 +132,7 @@ class Walks(unittest.TestCase):
                     break
 
     def test_libraries_and_their_imports_give_each_import_once(self):
-        """With steps that both walks share. Also of real files, if the machine has any."""
+        """Both walks share their steps. Real files are walked, too, if the machine has any."""
         for index, data in enumerate((*files(), *real_files())):
             for permissive, image in opened(data):
                 wanted, why = Walk(image, "imports").walk(1 << 12)
@@ -168,7 +168,7 @@ class Walks(unittest.TestCase):
                     walk.call(3)
 
     def test_a_cursor_of_another_image_harms_nothing(self):
-        """It gives rows or a fault, by any room."""
+        """It gives rows or a fault, whatever the room."""
         opened_files = [image for data in files()[:30] for _, image in opened(data)]
         for (one, other), word in itertools.product(itertools.permutations(opened_files[::4], 2), WALKS):
             walk = Walk(one, word)
@@ -197,7 +197,7 @@ class Walks(unittest.TestCase):
                 self.look_up(made, digits)
 
     def look_up(self, image, digits):
-        """The look-ups by some addresses."""
+        """Looks up some addresses."""
         found, text, memory = c.c_size_t(), records().Slice(), records().Memory()
         for rva in (0, 0x1000, 0x2000, digits.randrange(1 << 33), (1 << 64) - 1):
             calls().goblin_pe_find_offset(c.byref(image), rva, c.byref(found))
@@ -207,7 +207,7 @@ class Walks(unittest.TestCase):
             self.assertLessEqual(memory.bytes.length + memory.zeros + memory.missing, 16)
 
     def test_each_call_takes_an_image_of_any_kind(self):
-        """Also one that is filled in part: each answers, and the calls whose answer says so refuse a wrong kind."""
+        """The image may be partial. Each call answers, and some refuse an image of another kind."""
         for data in [*(it.read_bytes() for it in (*OBJECTS, *TERSE, BY_NAME)), b"", b"MZ", bytes(64)]:
             for read in READS:
                 image, _ = image_of(data, options(True), read)
@@ -217,7 +217,7 @@ class Walks(unittest.TestCase):
                 self.call_others(image)
 
     def call_others(self, image):
-        """The calls that are no walk and no look-up."""
+        """Makes the other calls: those that neither walk nor look up."""
         r, lib, at = records(), calls(), c.byref(image)
         damage, footprint, steps = r.Damage(), r.Footprint(), c.c_size_t(1000)
         is_image = image.kind == 1

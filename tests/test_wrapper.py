@@ -1,4 +1,4 @@
-"""The scripts ./pe_list and ./test that users call, with a toolchain that answers what it is told."""
+"""The scripts ./pe_list and ./test that users call, with a toolchain whose answers are set by the tests."""
 import os
 import shutil
 import sys
@@ -20,7 +20,7 @@ NOT_PROVED = "pe_list: not proved: ./pe_list --prove proves and builds the progr
 
 
 class Copy(Case):
-    """A copy of the repository in which nothing is built, and a toolchain that notes what it was called for."""
+    """A copy of the repository in which nothing is built, and a toolchain that records its calls."""
 
     def setUp(self):
         super().setUp()
@@ -34,7 +34,7 @@ class Copy(Case):
                     "HERE": str(self.folder), "PROGRAM": str(PE_LIST)}
 
     def called(self):
-        """What the toolchain was called for since this was asked last."""
+        """The calls of the toolchain since the last question."""
         file = self.folder / "called"
         said = file.read_text("utf-8").splitlines() if file.exists() else []
         file.unlink(missing_ok=True)
@@ -47,7 +47,7 @@ class Lists(Copy):
         build_pe_list()
 
     def assert_calls(self, status, out, said, *words, stdin=SAMPLE, **more):
-        """A call of the script: its status, its output, and what it says. It leaves no temporary file."""
+        """The script ends with this status, output and standard error, and leaves no temporary file."""
         self.assert_runs([self.folder / "pe_list", *words], (status, out, said.encode()), stdin, env={**self.env, **more})
         self.assertEqual(os.listdir(self.folder / "temporary"), [])
 
@@ -77,7 +77,7 @@ class Lists(Copy):
 
     def test_no_answer(self):
         self.written("tried", b"")
-        self.assert_calls(1, b"", "pe_list: no answer by the program as it is, unproved: run=ended status=none runners=1 proved=no. "
+        self.assert_calls(1, b"", "pe_list: the unproved program gave no answer: run=ended status=none runners=1 proved=no. "
                           "./pe_list --prove proves and builds it\n", RT_STATUS="none")
 
     def test_a_proof_that_fails(self):
@@ -94,7 +94,7 @@ class Lists(Copy):
 
 
 class Gate(Copy):
-    """./test, with a Python that runs no tests."""
+    """./test with a Python that runs no tests."""
 
     def setUp(self):
         super().setUp()
@@ -109,12 +109,12 @@ class Gate(Copy):
         return status, (out + said).decode().splitlines()[-1], self.called()
 
     def test_what_was_built_before_is_removed(self):
-        """But for kept proofs, which the gate sets aside."""
+        """Kept proofs stay, because the gate sets them aside."""
         self.assertEqual(self.gate(), (0, "7 passed, 0 failed", ["-m tests.unproved", "ci", "incremental", "-m tests"]))
         self.assertEqual(self.gate("--anew")[2], ["-m tests.unproved", "help", "ci --anew", "incremental", "-m tests"])
 
     def test_a_folder_that_is_a_link(self):
-        """The link goes, and what it leads to stays."""
+        """The link is removed, and its target stays."""
         shutil.move(self.folder / "crates/pe_list/out", self.folder / "other")
         (self.folder / "crates/pe_list/out").symlink_to(self.folder / "other")
         self.gate()

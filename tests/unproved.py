@@ -1,5 +1,7 @@
-"""Runs each crate's tests and the samples' listings before any proof, under the toolchain's checker of memory, and the tests
-that need nothing built: python3 -m tests.unproved. The last line says how many passed and failed."""
+"""Runs the tests that need no proof: python3 -m tests.unproved
+
+These are each crate's tests and the samples' listings, under the toolchain's checker of memory, and the modules of tests/ that need no
+library. The last line says how many passed and failed."""
 import concurrent.futures
 import os
 import pathlib
@@ -14,13 +16,13 @@ from tests.programs import CRATES, IMAGES, TOP, modes
 
 
 def tried(crate, *words):
-    """What `rt try` says of the crate, and its status."""
+    """The output of `rt try` on the crate, and its status."""
     it = subprocess.run(["rt", "try", *words], cwd=crate, stdout=subprocess.PIPE, stderr=subprocess.STDOUT, check=False, text=True)
     return it.stdout, it.returncode
 
 
 def tests_of(crate):
-    """Runs a crate's tests: how many passed and failed, and what is said where one failed."""
+    """Runs a crate's tests. Returns how many passed and failed, and the messages if one failed."""
     said, status = tried(crate, "--test")
     found = re.search(r"(?m)^test result: \w+\. (\d+) passed; (\d+) failed;", said)
     passed, failed = map(int, found.groups()) if found else (0, 0)
@@ -30,7 +32,7 @@ def tests_of(crate):
 
 
 def listings():
-    """Lists each image in both modes, and a text that is refused: how many went as wanted and did not, and what is said."""
+    """Lists each image in both modes, and a text, which is refused. Returns how many passed and failed, and the messages."""
     cases = {"refused": (TOP / "LICENSE", [], b"", 1)}
     for image in IMAGES:
         for words, wanted in modes(image):

@@ -1,5 +1,6 @@
-/* Does the same so often: repeat read|imports|exports|each_import|each_export FILE TIMES reads an image and walks over
-   its sections, or walks over its imports or its exports, in batches of 64 or of one. It prints how many rows one pass has. */
+/* Makes the same calls TIMES times: repeat read|imports|exports|each_import|each_export FILE TIMES
+   It reads an image and walks over its sections, its imports or its exports. The batches have 64 rows, or one row for
+   each_import and each_export. It prints how many rows one pass has. */
 #include "goblin_pe.h"
 
 #include <stdio.h>
@@ -28,7 +29,7 @@ static bool is_read(void)
     return goblin_pe_read_image(bytes, length, NULL, &image).status == GOBLIN_PE_STATUS_OK;
 }
 
-/* A walk over a table: whether it comes to its end. */
+/* Walks over a table. Returns whether the walk came to its end. */
 #define WALK(name, row, kind, next, ...) \
     static bool name(size_t *count, size_t room) \
     { \

@@ -1,4 +1,4 @@
-//! Reads files that lie in memory by this library and by goblin, in turn, for `tools/benchmark`:
+//! Reads files in memory with this library and with goblin, in turn, for `tools/benchmark`:
 //! beside_goblin ROUNDS FILE..
 mod measure;
 
@@ -7,7 +7,7 @@ use goblin_pe::{Budget, Mapping, Options, Pe};
 use std::error::Error;
 use std::hint::black_box;
 
-// How many sections, imports and exports a file has by this library, each name looked at.
+// How many sections, imports and exports this library finds. Each name is looked at.
 fn ours(bytes: &[u8]) -> Option<[usize; 3]> {
     let options = Options::default().with_mapping(Mapping::AsStored);
     let pe = Pe::read(bytes, options, &mut Budget::unlimited()).ok()?;
@@ -23,7 +23,7 @@ fn ours(bytes: &[u8]) -> Option<[usize; 3]> {
     Some([pe.sections.len(), pe.imports.len(), pe.exports.len()])
 }
 
-// The same by goblin.
+// How many goblin finds.
 fn goblins(bytes: &[u8]) -> Option<[usize; 3]> {
     let pe = PE::parse(bytes).ok()?;
     for section in &pe.sections {

@@ -5,7 +5,7 @@ use std::{fs, io};
 
 const TURNS: usize = 21;
 
-// What the C library tells of a process: two times in seconds and microseconds, and counts.
+// What the C library reports about a process: two times in seconds and microseconds, and counts.
 #[repr(C)]
 #[derive(Default)]
 struct Usage {
@@ -28,7 +28,7 @@ fn used() -> (i64, i64) {
     (time, usage.page_faults)
 }
 
-// The time in milliseconds and the page faults of one read of all files, of so many.
+// The time in milliseconds and the page faults of one read of all files: the mean of `rounds` reads.
 fn measure<F, T>(files: &[F], rounds: usize, read: impl Fn(&F) -> Option<T>) -> (f64, f64) {
     let before = used();
     for _ in 0..rounds {
@@ -50,11 +50,11 @@ fn median(turns: impl Iterator<Item = f64>) -> f64 {
 // A file with its path.
 type Named = (String, Vec<u8>);
 
-/// What the words of a call ask for, `ROUNDS FILE..`: how often to read, and the files.
+/// The arguments `ROUNDS FILE..`: how often to read, and the files.
 pub fn asked() -> Result<(usize, Vec<Named>), Box<dyn Error>> {
     let words: Vec<String> = std::env::args().skip(1).collect();
     let [rounds, paths @ ..] = words.as_slice() else {
-        return Err("the words are ROUNDS FILE..".into());
+        return Err("usage: ROUNDS FILE..".into());
     };
     let files = paths.iter().map(|it| Ok((it.clone(), fs::read(it)?)));
     Ok((rounds.parse()?, files.collect::<io::Result<_>>()?))
@@ -70,7 +70,7 @@ pub fn alike<T: PartialEq>(
         .into_iter()
         .partition(|(_, file)| ours(file) == theirs(file));
     for (path, _) in others {
-        println!("{path} is left out: the two count otherwise");
+        println!("{path} is left out: the two readers count differently");
     }
     alike.into_iter().map(|(_, file)| file).collect()
 }

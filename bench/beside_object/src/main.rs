@@ -1,8 +1,8 @@
-//! Reads files that lie in memory by this library and by the crate object, in turn, for `tools/benchmark`:
-//! beside_object ROUNDS FILE.., where the files are images or objects.
+//! Reads files in memory with this library and with the crate object, in turn, for `tools/benchmark`:
+//! beside_object ROUNDS FILE.. The files are images or objects.
 //!
-//! object's own lists lack the imports by ordinal and the exports that are forwarded. So the rows that it reads are
-//! put into lists here, and without lists they are compared with the walks over this library's image.
+//! object's own lists lack the imports by ordinal and the exports that are forwarded. So its rows are put into lists
+//! here. Without lists, its rows are compared with the walks over this library's image.
 #[path = "../../beside_goblin/src/measure.rs"]
 mod measure;
 
@@ -14,7 +14,7 @@ use object::{LittleEndian, Object, ObjectSection, ObjectSymbol};
 use std::error::Error;
 use std::hint::black_box;
 
-// How many sections, imports, exports and blocks of base relocations a file has by this library's lists.
+// How many sections, imports, exports and blocks of base relocations are in this library's lists.
 fn our_lists(bytes: &[u8]) -> Option<[usize; 4]> {
     let pe = Pe::parse(bytes).ok()?;
     for section in &pe.sections {
@@ -30,7 +30,7 @@ fn our_lists(bytes: &[u8]) -> Option<[usize; 4]> {
     Some([pe.sections.len(), imports, exports, pe.relocation_blocks.len()])
 }
 
-// How many imports, exports and blocks of base relocations a file has by this library's walks.
+// How many imports, exports and blocks of base relocations this library's walks give.
 fn our_walks(bytes: &[u8]) -> Option<[usize; 3]> {
     let image = Image::parse(bytes).ok()?;
     let mut counts = [0; 3];
@@ -49,7 +49,7 @@ fn our_walks(bytes: &[u8]) -> Option<[usize; 3]> {
     Some(counts)
 }
 
-// Reads each import, with its library, by object.
+// Reads each import, with its library, with object.
 fn imports_of<'a, H: ImageNtHeaders>(
     file: &PeFile<'a, H>,
     mut with: impl FnMut((&'a [u8], Import<'a>)),
@@ -71,7 +71,7 @@ fn imports_of<'a, H: ImageNtHeaders>(
     Ok(())
 }
 
-// Reads each export that has a name by object.
+// Reads each export that has a name with object.
 fn exports_of<'a, H: ImageNtHeaders>(
     file: &PeFile<'a, H>,
     mut with: impl FnMut((&'a [u8], ExportTarget<'a>)),
@@ -86,7 +86,7 @@ fn exports_of<'a, H: ImageNtHeaders>(
     Ok(())
 }
 
-// Reads each block of base relocations, by its address and size, by object.
+// Reads the address and the size of each block of base relocations with object.
 fn blocks_of<H: ImageNtHeaders>(
     file: &PeFile<'_, H>,
     bytes: &[u8],
@@ -102,7 +102,7 @@ fn blocks_of<H: ImageNtHeaders>(
     Ok(())
 }
 
-// The counts of `our_lists` by object, with a list of each.
+// The counts of `our_lists` with object, which makes a list of each.
 fn lists<H: ImageNtHeaders>(bytes: &[u8]) -> object::Result<[usize; 4]> {
     let file = PeFile::<H>::parse(bytes)?;
     let (mut imports, mut exports, mut blocks) = (Vec::new(), Vec::new(), Vec::new());
@@ -117,7 +117,7 @@ fn lists<H: ImageNtHeaders>(bytes: &[u8]) -> object::Result<[usize; 4]> {
     Ok([sections, imports.len(), exports.len(), blocks.len()])
 }
 
-// The counts of `our_walks` by object, without lists.
+// The counts of `our_walks` with object, without lists.
 fn walks<H: ImageNtHeaders>(bytes: &[u8]) -> object::Result<[usize; 3]> {
     let file = PeFile::<H>::parse(bytes)?;
     let mut counts = [0; 3];
@@ -156,7 +156,7 @@ fn object_walks(bytes: &[u8]) -> Option<[usize; 3]> {
     }
 }
 
-// How many symbols an object has by this library.
+// How many symbols this library finds in an object.
 fn our_symbols(bytes: &[u8]) -> Option<usize> {
     let object = Image::read_object(bytes, Options::default()).ok()?;
     let mut count = 0;
@@ -168,7 +168,7 @@ fn our_symbols(bytes: &[u8]) -> Option<usize> {
     Some(count)
 }
 
-// How many relocations its sections have by this library.
+// How many relocations this library finds in its sections.
 fn our_relocations(bytes: &[u8]) -> Option<usize> {
     let object = Image::read_object(bytes, Options::default()).ok()?;
     let mut count = 0;
@@ -181,7 +181,7 @@ fn our_relocations(bytes: &[u8]) -> Option<usize> {
     Some(count)
 }
 
-// The count of `our_symbols` by object.
+// The count of `our_symbols` with object.
 fn object_symbols(bytes: &[u8]) -> Option<usize> {
     let file = CoffFile::<&[u8]>::parse(bytes).ok()?;
     let mut count = 0;
@@ -192,7 +192,7 @@ fn object_symbols(bytes: &[u8]) -> Option<usize> {
     Some(count)
 }
 
-// The count of `our_relocations` by object.
+// The count of `our_relocations` with object.
 fn object_relocations(bytes: &[u8]) -> Option<usize> {
     let file = CoffFile::<&[u8]>::parse(bytes).ok()?;
     let mut count = 0;
@@ -207,7 +207,7 @@ fn object_relocations(bytes: &[u8]) -> Option<usize> {
 
 type Reader<T> = fn(&[u8]) -> Option<T>;
 
-// Compares two readers of the files in which they count the same.
+// Compares two readers on the files in which they count the same.
 fn compare<T: PartialEq>(
     title: &str,
     rounds: usize,

@@ -1,11 +1,10 @@
-//! Reads changed samples by this library and by goblin in one process, and compares what the two say of sections,
-//! imports and exports: differ COUNT FILE..
+//! Reads changed samples with this library and with goblin in one process, and compares their sections, imports and
+//! exports: differ COUNT FILE..
 //!
-//! goblin is Debian's, 0.2.1. Its rules are older than those of 0.10.7, after which this library is made, so the two
-//! are compared where they speak of the same. It has no reader of base relocations: bench/beside_objdump.py
-//! compares those with objdump's. Each file has one table, that of its imports or that of its exports. All else that
-//! differs is counted by the name of what is known to differ ([`Known`]), and what has no name is shown: then the
-//! status is 1.
+//! goblin is Debian's, 0.2.1. Its rules are older than those of 0.10.7, which this library follows, so only what both
+//! read is compared. It has no reader of base relocations: bench/beside_objdump.py compares those with objdump's. Each
+//! file has one table, that of its imports or that of its exports. A known difference is counted by its name
+//! ([`Known`]). Any other difference is shown, and then the status is 1.
 use goblin::pe::export::{ExportDirectoryTable, Reexport};
 use goblin::pe::{PE, header::Header, utils};
 use goblin_pe::{
@@ -34,24 +33,24 @@ macro_rules! section_line {
     };
 }
 
-/// What is known to differ, and where docs/DIFFERENCES.md or the version of goblin says so.
+/// The known differences, from docs/DIFFERENCES.md or from the version of goblin.
 #[derive(Clone, Copy, Debug, PartialEq, Eq, PartialOrd, Ord)]
 enum Known {
     /// goblin 0.2.1 looks at no signature.
     Signature,
     /// goblin 0.2.1 reads neither the DOS stub nor the Rich header.
     Stub,
-    /// goblin 0.2.1 takes other windows of sections, so that other addresses have a file offset.
+    /// goblin 0.2.1 has other windows of sections, so other addresses have a file offset.
     Window,
-    /// goblin ends an import directory at a record of zeros, 0.10.7 and this library at one whose name or address
-    /// table is at address 0.
+    /// goblin 0.2.1 ends an import directory at a record of zeros. 0.10.7 and this library end it at a record whose
+    /// name or address table is at address 0.
     LastRecord,
-    /// goblin 0.2.1 refuses a section whose name leads past the string table, 0.10.7 and this library give it no
+    /// goblin 0.2.1 refuses a section whose name leads past the string table. 0.10.7 and this library give it no
     /// other name.
     SectionName,
-    /// goblin would end the process: a growth that finds no memory.
+    /// goblin would end the process, because a growth finds no memory.
     Growth,
-    /// goblin ends the process: a sum that wraps, an index past the end.
+    /// goblin ends the process, because a sum wraps or an index is past the end.
     Panic,
 }
 
@@ -104,7 +103,7 @@ fn in_pages(image: &[u8]) -> Option<Vec<u8>> {
     Some(made)
 }
 
-/// Where the data directories of a file stand, if it has any.
+/// The offset of the data directories of a file, if it has any.
 fn directories(file: &[u8]) -> Option<usize> {
     let optional = number(file, 0x3C, 4)?.checked_add(24)?;
     match number(file, optional, 2)? {
@@ -114,7 +113,7 @@ fn directories(file: &[u8]) -> Option<usize> {
     }
 }
 
-/// The file with some of its bytes changed, where there is something, and one table alone.
+/// The file with one table alone, and some of its bytes changed where it has something.
 fn changed(random: &mut Random, image: &[u8], places: &[usize], table: DirectoryType) -> Vec<u8> {
     let mut file = image.to_vec();
     for _ in 0..random.below(8) {
@@ -123,7 +122,7 @@ fn changed(random: &mut Random, image: &[u8], places: &[usize], table: Directory
             0 => file[at] = random.below(256) as u8,
             1 => file[at] ^= 1 << random.below(8),
             2 => file[at] = file[at].wrapping_add(1),
-            // a number in decimal, as forwarders have it
+            // (a number in decimal, as in forwarders)
             3 => {
                 let text = format!("{}\0", random.below(100_000));
                 let end = file.len().min(at + text.len());
@@ -146,16 +145,16 @@ fn changed(random: &mut Random, image: &[u8], places: &[usize], table: Directory
     file
 }
 
-/// What is said of a file, a line each.
+/// The answers about a file, a line each.
 type Said = Vec<String>;
 
-/// What this library says, and the file offset of the import directory; or the refusal.
+/// The answers of this library, and the file offset of the import directory; or the refusal.
 fn ours(file: &[u8]) -> Result<(Said, Option<usize>), goblin_pe::Error> {
     let options = Options::default().with_mapping(Mapping::ByFileAlignment);
     let pe = Pe::read(file, options, &mut Budget::unlimited())?;
     let lines = pe.sections.iter().map(|s| section_line!(s.name.0, s));
     let mut said: Said = lines.collect();
-    // goblin counts the entries that were kept, this library those of the file
+    // goblin counts the entries that were kept, this library those in the file.
     let (mut library, mut kept) = (None, 0);
     let size = if pe.image.is_64() { 8 } else { 4 };
     for x in &pe.imports {
@@ -164,7 +163,7 @@ fn ours(file: &[u8]) -> Result<(Said, Option<usize>), goblin_pe::Error> {
         let table = x.iat_rva.wrapping_sub((x.thunk_index * size) as u32);
         said.push(import_line(x, table as usize + kept * size, size));
     }
-    // goblin 0.2.1 leaves out what has no file offset
+    // goblin 0.2.1 leaves out what has no file offset.
     for x in pe.exports.iter().filter(|x| x.offset.is_some()) {
         let forwarder = x.forwarder.map(|it| it.to_string());
         said.push(format!(
@@ -211,7 +210,7 @@ fn asks_for_too_much(file: &[u8]) -> Option<bool> {
     Some(most as usize > file.len())
 }
 
-/// What goblin says, or its refusal; or in what way it would have ended the process.
+/// The answers of goblin, or its refusal, or how it would have ended the process.
 fn goblins(file: &[u8]) -> Result<Result<Said, String>, Known> {
     let read = catch_unwind(AssertUnwindSafe(|| match asks_for_too_much(file) {
         Some(true) => Err(Known::Growth),
@@ -253,7 +252,7 @@ fn goblins(file: &[u8]) -> Result<Result<Said, String>, Known> {
                 forwarder
             ));
         }
-        // goblin passes over export data that is refused
+        // goblin passes over export data that is refused.
         let has_exports = pe
             .header
             .optional_header
@@ -299,8 +298,8 @@ fn has_other_windows(file: &[u8]) -> Option<bool> {
     Some(false)
 }
 
-/// Whether the import directory at an offset ends at a record whose name or address table is at address 0, and which is
-/// no record of zeros.
+/// Whether the import directory at an offset ends at a record that is not all zeros, and whose name or address table is at
+/// address 0.
 fn ends_before_zeros(file: &[u8], mut at: usize) -> bool {
     while let Some(record) = file.get(at..at + 20) {
         let is_zero = |it: usize| record[it..it + 4] == [0; 4];
@@ -312,7 +311,7 @@ fn ends_before_zeros(file: &[u8], mut at: usize) -> bool {
     false
 }
 
-/// Whether this library says of some section that its name begins with a slash: it leads to no text.
+/// Whether some section has a name with a slash at its front in this library, because it leads to no text.
 fn has_lost_name(said: &Said) -> bool {
     let slash = format!("section [{}, ", b'/');
     said.iter().any(|line| line.starts_with(&slash))
@@ -332,7 +331,7 @@ fn known_refusal(error: &goblin_pe::Error) -> Option<Known> {
     }
 }
 
-/// How the two reads of a file stand to each other.
+/// The result of the comparison of the two reads of a file.
 enum Verdict {
     BothRead,
     BothRefused,
