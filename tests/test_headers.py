@@ -156,7 +156,7 @@ UNWRITTEN = (
     ("a field for 32 bits is too wide", 0x10B, 1 << 32, TABLE, ("MALFORMED", "FIELD_TOO_WIDE", 0, 0)),
     ("width is tested before room", 0x10B, 1 << 32, 1, ("MALFORMED", "FIELD_TOO_WIDE", 0, 0)),
     ("magic is tested before both", 0x107, 1 << 32, 1, ("BAD_MAGIC", None, 0x107, 0)),
-    ("both are tested where there is no room at all", 0x107, 1 << 32, 0, ("BAD_MAGIC", None, 0x107, 0)),
+    ("both are tested if there is no room at all", 0x107, 1 << 32, 0, ("BAD_MAGIC", None, 0x107, 0)),
 )
 
 # Names in section headers, and the names that they lead to in both modes, with b"MZ" at 0 and b"twelve" at 12; or why they are

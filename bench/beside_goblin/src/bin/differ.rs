@@ -113,7 +113,7 @@ fn directories(file: &[u8]) -> Option<usize> {
     }
 }
 
-/// The file with one table alone, and some of its bytes changed where it has something.
+/// The file with one table alone, and some of its bytes changed, in parts that are not empty.
 fn changed(random: &mut Random, image: &[u8], places: &[usize], table: DirectoryType) -> Vec<u8> {
     let mut file = image.to_vec();
     for _ in 0..random.below(8) {
