@@ -45,10 +45,10 @@ def build_for_all():
 def tested(name):
     """Runs a module's tests. Returns their output, how many passed and failed, and what was skipped."""
     began, result = time.time(), Counts()
-    with contextlib.redirect_stdout(io.StringIO()) as told:
+    with contextlib.redirect_stdout(io.StringIO()) as printed:
         unittest.defaultTestLoader.loadTestsFromName(name).run(result)
     broken = result.failures + result.errors
-    said = told.getvalue() + "".join(f"FAILED: {case}\n{trace}\n" for case, trace in broken)
+    said = printed.getvalue() + "".join(f"FAILED: {case}\n{trace}\n" for case, trace in broken)
     said += f"{name}: {result.passed} passed, {len(broken)} failed, {time.time() - began:.0f} seconds"
     return said, result.passed, len(broken), [f"skipped: {case}: {reason}" for case, reason in result.skipped]
 

@@ -41,5 +41,5 @@ class Beside(Case):
         by_ordinal = (SAMPLES / "imports_by_ordinal_x64.dll").read_bytes().replace(b"KERNEL32.dll", b"WS2_32.dll\0\0")
         named = by_ordinal.replace((1 << 63 | 901).to_bytes(8, "little"), (1 << 63 | 115).to_bytes(8, "little"))
         files = [self.written(name, data) for name, data in {**triaged_images(), "named.dll": named}.items()]
-        told = self.python("beside_pefile", *files, path=os.path.dirname(found.origin))
-        self.assertEqual(told, f"{len(files)} of {len(files)} files are alike\n")
+        printed = self.python("beside_pefile", *files, path=os.path.dirname(found.origin))
+        self.assertEqual(printed, f"{len(files)} of {len(files)} files are alike\n")

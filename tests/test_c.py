@@ -160,8 +160,8 @@ class Installed(Case):
             example, program = self.folder / "usr/share/doc/goblin-pe/examples/imports.c", self.folder / "imports"
             for static in ["-static"], *([[]] if list((self.folder / libraries).glob("*.so.*")) else []):
                 succeed([CC, "-std=c99", *FLAGS, *static, "-o", program, example, *words.split()])
-                told = run([program], BY_NAME, env=environment(LD_LIBRARY_PATH=f"{self.folder}/{libraries}"))
-                self.assertEqual(told, (0, b"KERNEL32.dll 0 GetTickCount\n", b""))
+                printed = run([program], BY_NAME, env=environment(LD_LIBRARY_PATH=f"{self.folder}/{libraries}"))
+                self.assertEqual(printed, (0, b"KERNEL32.dll 0 GetTickCount\n", b""))
         for it in (self.folder / "usr").rglob("*"):
             self.assertEqual(it.stat().st_mode & 0o777, 0o755 if it.is_dir() else 0o644, it)
         for prefix, libdir in (("usr", "/usr/lib"), ("/usr", "lib64")):

@@ -38,8 +38,8 @@ class Loader(Case):
     def assert_resolves(self, imports, status, wanted, *others):
         image = self.written("image.exe", images.importer(imports, relocated=3))
         found, out, said = run([built("loader"), image, self.library, *others])
-        told = out.decode().splitlines()
-        self.assertEqual((found, said, told[told.index("3 base relocations") + 1:]), (status, b"", wanted))
+        printed = out.decode().splitlines()
+        self.assertEqual((found, said, printed[printed.index("3 base relocations") + 1:]), (status, b"", wanted))
 
     def test_imports_by_name_and_by_ordinal(self):
         self.assert_resolves([(b"FRUIT.DLL", [b"Elder", 10, 11]), (b"fruit", [b"Apple"])], 0, [
@@ -87,16 +87,16 @@ class Changes(Case):
         self.assertEqual(run([built("patch"), TERSE[0], "7", ".text", ".code", self.folder / "to"])[0], 1)
 
     def test_an_object(self):
-        told = succeed([built("object"), SAMPLES / "object_x64.obj"])
-        self.assertIn(".text 0x3 of type 0x4: keep_it\n", told)
-        self.assertRegex(told, r"(?m)^symbol \d+ in section 1 at 0x0: .text \(\d+ bytes\)$")
+        printed = succeed([built("object"), SAMPLES / "object_x64.obj"])
+        self.assertIn(".text 0x3 of type 0x4: keep_it\n", printed)
+        self.assertRegex(printed, r"(?m)^symbol \d+ in section 1 at 0x0: .text \(\d+ bytes\)$")
 
     def test_damage_is_reported(self):
         sound = b"skipped: 0 libraries, 0 imports and 0 exports\nimports that lead nowhere: 0\nsound\nimports as Windows maps: 1\nimports as goblin maps: 1\n"
         self.assertEqual(run([built("damage"), BY_NAME]), (0, sound, b""))
-        told = run([built("damage"), self.written("cut.dll", BY_NAME.read_bytes()[:0x1E0])])[1].decode().splitlines()
-        self.assertEqual(told[0], "refused: there are not enough bytes, or not enough room")
-        self.assertTrue(told[1].startswith("section table: "), told)
+        printed = run([built("damage"), self.written("cut.dll", BY_NAME.read_bytes()[:0x1E0])])[1].decode().splitlines()
+        self.assertEqual(printed[0], "refused: there are not enough bytes, or not enough room")
+        self.assertTrue(printed[1].startswith("section table: "), printed)
 
 
 class InPython(Case):
@@ -167,8 +167,8 @@ int main(void)
         (self.folder / "src").mkdir()
         self.written("src/main.rs", (self.RUST % self.program("rust")).encode())
         self.written("Cargo.toml", b'[package]\nname = "readme"\nedition = "2024"\n[dependencies]\ngoblin_pe.path = "%s"\n[workspace]\n' % str(BINDINGS / "rust").encode())
-        told = succeed(["cargo", "-q", "--offline", "run"], cwd=self.folder, env=environment(GOBLIN_PE_LIB=str(library()), CARGO_TARGET_DIR=str(folder() / "rust")))
-        self.assertEqual(told, "GetTickCount from KERNEL32.dll\n")
+        printed = succeed(["cargo", "-q", "--offline", "run"], cwd=self.folder, env=environment(GOBLIN_PE_LIB=str(library()), CARGO_TARGET_DIR=str(folder() / "rust")))
+        self.assertEqual(printed, "GetTickCount from KERNEL32.dll\n")
 
 
 class Ends(Case):

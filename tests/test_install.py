@@ -41,11 +41,11 @@ class Library(Case):
 
     def test_folders_of_the_libraries(self):
         """They are below the prefix, and move with it, or anywhere else."""
-        for libdir, told in (("", "${prefix}/lib"), ("/usr/lib64", "${prefix}/lib64"), ("/else where/lib", "/else where/lib")):
+        for libdir, wanted in (("", "${prefix}/lib"), ("/usr/lib64", "${prefix}/lib64"), ("/else where/lib", "/else where/lib")):
             with self.subTest(libdir):
                 install("/usr", DESTDIR=str(self.folder), LIBDIR=libdir)
                 libraries = self.folder / (libdir or "/usr/lib")[1:]
-                self.assertIn(f"prefix=/usr\nlibdir={told}\n", (libraries / "pkgconfig/goblin_pe.pc").read_text("ascii"))
+                self.assertIn(f"prefix=/usr\nlibdir={wanted}\n", (libraries / "pkgconfig/goblin_pe.pc").read_text("ascii"))
                 self.assertEqual((libraries / "libgoblin_pe.so").read_bytes(), (library() / "libgoblin_pe.so").read_bytes())
 
     def test_all_packages_have_one_version(self):
@@ -120,8 +120,8 @@ class Crate(Case):
                                         ("aarch64-unknown-linux-gnu", {}, False), ("x86_64-pc-windows-msvc", {}, False),
                                         ("aarch64-unknown-linux-gnu", {"GOBLIN_PE_LIB": lib}, True)):
             with self.subTest(target=target, named=named):
-                told = succeed([self.folder / "build"], env=environment(TARGET=target, **here, **named))
-                self.assertEqual((f"link-search=native={lib}" in told, f"libgoblin_pe for {target} is not there" in told), (is_found, not is_found))
+                printed = succeed([self.folder / "build"], env=environment(TARGET=target, **here, **named))
+                self.assertEqual((f"link-search=native={lib}" in printed, f"libgoblin_pe for {target} is not there" in printed), (is_found, not is_found))
 
     def test_in_a_workspace_of_its_user(self):
         shutil.copytree(self.manifest.parent, self.folder / "user/goblin_pe")
@@ -194,8 +194,8 @@ class Package(Case):
         self.assertRegex(wheel.name, f"^goblin_pe-.*-cp39-abi3-manylinux_2_\\d+_{platform.machine()}\\.whl$")
         it = self.installed(wheel)
         names = ("Requires-Python", "Author", "Summary", "License-Expression")
-        told = succeed([it, "-c", f"import importlib.metadata as m; [print(m.metadata('goblin_pe')[it]) for it in {names}]"], cwd="/", env={})
-        self.assertEqual(told, ">=3.9\nThe Gundiwootz developers\nReads PE images, COFF objects and TE files that can't be trusted\nMIT\n")
+        printed = succeed([it, "-c", f"import importlib.metadata as m; [print(m.metadata('goblin_pe')[it]) for it in {names}]"], cwd="/", env={})
+        self.assertEqual(printed, ">=3.9\nThe Gundiwootz developers\nReads PE images, COFF objects and TE files that can't be trusted\nMIT\n")
         with zipfile.ZipFile(wheel) as file:
             text, = (file.read(it) for it in file.namelist() if it.endswith(".dist-info/licenses/LICENSE"))
         self.assertEqual(text, (TOP / "LICENSE").read_bytes())

@@ -76,8 +76,8 @@ class Packages(Case):
         """The example, built with the flags of pkg-config, lists over the shared library and over the archive."""
         example, = self.folder.rglob("examples/imports.c")
         shared, = (it.parent for it in self.folder.rglob("libgoblin_pe.so.*"))
-        for flags, told, env in ([], [], {"LD_LIBRARY_PATH": str(shared)}), (["-static"], ["--static"], {}):
-            words = succeed([*away(), "pkg-config", "--cflags", "--libs", *told, "goblin_pe"], env=environment(**where)).split()
+        for flags, static, env in ([], [], {"LD_LIBRARY_PATH": str(shared)}), (["-static"], ["--static"], {}):
+            words = succeed([*away(), "pkg-config", "--cflags", "--libs", *static, "goblin_pe"], env=environment(**where)).split()
             succeed([*away(), CC, "-std=c99", *FLAGS, *flags, "-o", self.folder / "imports", example, *words])
             self.assert_lists_imports(self.folder / "imports", env=env)
 
@@ -145,8 +145,8 @@ class Packages(Case):
         manifest, env = ["--manifest-path", user / "Cargo.toml"], environment(PKG_CONFIG_LIBDIR="/", CARGO_TARGET_DIR=str(self.folder / "target"))
         succeed([*away(), "cargo", "add", "-q", "--offline", *manifest, "--path", crate], env=env)
         succeed([*away(), *CARGO[:-1], "build", *manifest], env=env)
-        told = b"%s      0 0x000020a8 KERNEL32.dll GetTickCount\n" % str(self.sample).encode()
-        self.assert_runs([*away(), self.folder / "target/debug/user", self.sample], (0, told, b""), cwd="/")
+        printed = b"%s      0 0x000020a8 KERNEL32.dll GetTickCount\n" % str(self.sample).encode()
+        self.assert_runs([*away(), self.folder / "target/debug/user", self.sample], (0, printed, b""), cwd="/")
 
     def test_the_package_for_debian(self):
         """dpkg installs it into a root that has, for dpkg, only the C library of this machine."""
@@ -163,9 +163,9 @@ class Packages(Case):
         libraries = root / f"usr/lib/{platform.machine()}-linux-gnu"
         self.assert_links(PKG_CONFIG_LIBDIR=str(libraries / "pkgconfig"), PKG_CONFIG_SYSROOT_DIR=str(root))
         modules = root / "usr/lib/python3/dist-packages"
-        told = succeed([python(), "-c", "import importlib.metadata as m; print(m.metadata('goblin_pe')['License-Expression'])"],
-                       env={"PYTHONPATH": str(modules)})
-        self.assertEqual(told, "MIT\n")
+        printed = succeed([python(), "-c", "import importlib.metadata as m; print(m.metadata('goblin_pe')['License-Expression'])"],
+                          env={"PYTHONPATH": str(modules)})
+        self.assertEqual(printed, "MIT\n")
         self.assert_is_listed_by(python(), "-B", "-m", "goblin_pe", env={"PYTHONPATH": str(modules)})
         if platform.machine() == "x86_64":
             self.assertEqual(succeed(["dpkg-deb", "-f", made, "Architecture"]), "amd64\n")

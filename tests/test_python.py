@@ -140,10 +140,10 @@ class Python(Case):
 
     def test_a_terminal_shows_how_far_it_is(self):
         terminal, end = pty.openpty()
-        with os.fdopen(terminal, "rb", buffering=0) as told, os.fdopen(end, "wb") as end:
+        with os.fdopen(terminal, "rb", buffering=0) as printed, os.fdopen(end, "wb") as end:
             command = [sys.executable, "-m", "goblin_pe", "--json", BY_NAME, BY_NAME]
             subprocess.run(command, stdout=subprocess.DEVNULL, stderr=end, env=self.env, check=True)
-            self.assertEqual(told.read(1000), b"\r1 of 2 files\r2 of 2 files\r\n")
+            self.assertEqual(printed.read(1000), b"\r1 of 2 files\r2 of 2 files\r\n")
 
     def test_an_interrupt_ends_it_at_once(self):
         """The reads that it ends would take much longer."""
@@ -165,17 +165,17 @@ class Python(Case):
         """It finds an import whose name is in the headers, reports that steps ran out, and finds the overlay after a section
         without a place. It finds none if the file cuts a section."""
         data, in_headers = BY_NAME.read_bytes(), images.sample((0x94, b"\0\2\0\0"), (0x240, b"\xA0\1\0\0"), (0x1A0, b"\0\0VirtualAlloc\0"))
-        told = self.triaged({"headers": in_headers, "many": images.rounded_to_dead_entries(1100000),
-                             "behind": images.without_a_place(data), "cut": data[:-16]})
-        self.assertEqual((told["headers"]["in_headers"], told["many"]["cut_off"]), (["a.dll VirtualAlloc"], True))
-        self.assertEqual((told["behind"]["overlay"], told["cut"]["overlay"]), (len(data) - 0x200, None))
+        printed = self.triaged({"headers": in_headers, "many": images.rounded_to_dead_entries(1100000),
+                                "behind": images.without_a_place(data), "cut": data[:-16]})
+        self.assertEqual((printed["headers"]["in_headers"], printed["many"]["cut_off"]), (["a.dll VirtualAlloc"], True))
+        self.assertEqual((printed["behind"]["overlay"], printed["cut"]["overlay"]), (len(data) - 0x200, None))
 
     def test_images_are_triaged_as_by_pefile(self):
         """The answers of the example are those of pefile 2023.2.7 on the same images."""
-        told = self.triaged(triaged_images())
+        printed = self.triaged(triaged_images())
         for name, wanted in json.loads(pathlib.Path(__file__).with_name("pefile_answers.json").read_text("utf-8")).items():
             with self.subTest(name):
-                found = {**told[name], "sections": [{key: it[key] for key in ("name", "entropy", "md5")} for it in told[name]["sections"]]}
+                found = {**printed[name], "sections": [{key: it[key] for key in ("name", "entropy", "md5")} for it in printed[name]["sections"]]}
                 del wanted["image_base"]
                 self.assertEqual({key: found[key] for key in wanted}, {**wanted, "imphash": wanted["imphash"] or None})
 

@@ -79,8 +79,8 @@ class Rust(Case):
         succeed(["cargo", "add", "-q", "--offline", "--manifest-path", user / "Cargo.toml", "--path", BINDINGS / "rust"], env=env)
         (user / "tests").mkdir()
         shutil.copy(BINDINGS / "rust/tests/newcomer.rs", user / "tests")
-        told = succeed(["cargo", "test", "-q", "--offline", "--manifest-path", user / "Cargo.toml", "--test", "newcomer"], env=env)
-        self.assertIn("test result: ok. 10 passed", told)
+        printed = succeed(["cargo", "test", "-q", "--offline", "--manifest-path", user / "Cargo.toml", "--test", "newcomer"], env=env)
+        self.assertIn("test result: ok. 10 passed", printed)
 
     def test_no_documented_example_panics_on_a_hostile_file(self):
         """The build checks sums for overflow."""
