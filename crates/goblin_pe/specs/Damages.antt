@@ -19,7 +19,7 @@ use Rattle.goblin_pe_import.specs.added.LeftOut.{entries_left_out, libraries_lef
 use Rattle.goblin_pe_import.specs.added.LeftOut.{unmapped_entries}
 use Rattle.goblin_pe_export.specs.ExportReadings.{numbered_read}
 use Rattle.goblin_pe_export.specs.ExportRecords.{ExportTables, NumberedExport}
-use Rattle.goblin_pe_export.specs.LeftOutExports.{pointers_left_out}
+use Rattle.goblin_pe_export.specs.added.LeftOutExports.{pointers_left_out}
 use Rattle.goblin_pe.specs.declared.whole.damage.Damage.{Damage}
 use Rattle.goblin_pe.specs.Modes.{in_mode}
 use Rattle.goblin_pe.specs.Whole.{TablePlaces, directory_at, entry_format, export_part, import_list, layout}

@@ -7,11 +7,11 @@ use Rattle.goblin_pe_sect.specs.declared.options.ParseOptions.{ParseOptions}
 use Rattle.goblin_pe_sect.specs.declared.options.View.{View}
 use Rattle.goblin_pe_head.specs.declared.header.pe_header.Header.{Header}
 use Rattle.goblin_pe_sect.specs.Addresses.{MapOfAddresses, map_in, map_of}
-use Rattle.goblin_pe_export.specs.declared.export.exports.Exports.{Exports}
-use Rattle.goblin_pe_export.specs.ExportReadings.{export_addresses}
+use Rattle.goblin_pe_export.specs.declared.added.exports.Exports.{Exports}
+use Rattle.goblin_pe_export.specs.added.ExportAddresses.{export_addresses}
 use Rattle.goblin_pe_export.specs.ExportRecords.{ExportTables, NumberedExport}
-use Rattle.goblin_pe_export.specs.ExportWalks.{AreExportsOver, exports_left, exports_position}
-use Rattle.goblin_pe_export.specs.ExportWalks.{walked_tables}
+use Rattle.goblin_pe_export.specs.added.ExportWalks.{AreExportsOver, exports_left, exports_position}
+use Rattle.goblin_pe_export.specs.added.ExportWalks.{walked_tables}
 use Rattle.goblin_pe_import.specs.ImportLookup.{entries_32, entries_64}
 use Rattle.goblin_pe_import.specs.Imports.{NumberedImport}
 use Rattle.goblin_pe_import.specs.added.ImportWalks.{IsImportsCause, imports_bound, imports_left}

@@ -70,7 +70,5 @@ pub use Rattle.goblin_pe_import.specs.LookupReadings
 pub use Rattle.goblin_pe_export.specs.ExportReadings
 pub use Rattle.goblin_pe_export.specs.ExportRecords
 pub use Rattle.goblin_pe_export.specs.Exports
-pub use Rattle.goblin_pe_export.specs.ExportWalks
 pub use Rattle.goblin_pe_export.specs.ForwarderLaws
 pub use Rattle.goblin_pe_export.specs.Forwarders
-pub use Rattle.goblin_pe_export.specs.LeftOutExports

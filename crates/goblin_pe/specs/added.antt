@@ -6,3 +6,6 @@ pub use Rattle.goblin_pe_import.specs.added.ImportWalks
 pub use Rattle.goblin_pe_import.specs.added.LeftOut
 pub use Rattle.goblin_pe_import.specs.added.Libraries
 pub use Rattle.goblin_pe_import.specs.added.StepsAhead
+pub use Rattle.goblin_pe_export.specs.added.ExportWalks
+pub use Rattle.goblin_pe_export.specs.added.LeftOutExports
+pub use Rattle.goblin_pe_export.specs.added.ExportAddresses

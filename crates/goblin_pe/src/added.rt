@@ -1,5 +1,6 @@
 //! What goblin does not have, from this crate and from those below.
 
+pub use goblin_pe_export::added::{Exports, WalkedExport, footprint_exports};
 pub use goblin_pe_head::added::{
     HeaderParts, footprint_header, section_records_at, unnamed_records,
 };

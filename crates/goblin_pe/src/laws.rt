@@ -32,7 +32,7 @@ mod parts;
 mod whole;
 
 pub use footprint::{footprint_whole, mark_whole};
-pub use goblin_pe_export::laws::{ExportRead, footprint_exports, twin_exports};
+pub use goblin_pe_export::laws::{ExportRead, twin_exports};
 pub use goblin_pe_import::laws::{footprint_imports, twin_imports, twin_lookup};
 pub use header::twin_header;
 pub use key::FileKey;

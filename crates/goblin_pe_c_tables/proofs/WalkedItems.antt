@@ -25,11 +25,12 @@ use Rattle.goblin_pe_import.specs.declared.added.imports.ImportCursor.{ImportCur
 use Rattle.goblin_pe_import.proofs.added.ImportsValue.{imports-value}
 use Rattle.goblin_pe_import.proofs.added.ImportsWalk.{imports-once}
 use Rattle.goblin_pe_import.proofs.LibraryIndexes.{unnumbered}
-use Rattle.goblin_pe_export.specs.ExportReadings.{export_addresses, export_data, numbered_read, without_names}
+use Rattle.goblin_pe_export.specs.added.ExportAddresses.{export_addresses, without_names}
+use Rattle.goblin_pe_export.specs.ExportReadings.{export_data, numbered_read}
 use Rattle.goblin_pe_export.specs.ExportRecords.{ExportTables, NumberedExport}
-use Rattle.goblin_pe_export.specs.ExportWalks.{numbered_from}
-use Rattle.goblin_pe_export.proofs.ExportAddresses.{repeats_addresses}
-use Rattle.goblin_pe_export.proofs.ExportWalk.{read_walked}
+use Rattle.goblin_pe_export.specs.added.ExportWalks.{numbered_from}
+use Rattle.goblin_pe_export.proofs.added.ExportAddresses.{repeats_addresses}
+use Rattle.goblin_pe_export.proofs.added.ExportWalk.{read_walked}
 use Rattle.goblin_pe.specs.LayoutCursors.{begin_in, import_begin}
 use Rattle.goblin_pe.specs.Layouts.{address_part}
 use Rattle.goblin_pe.specs.Whole.{IfRead, NumberedTables, TablePlaces, collected_tables, directory_at, entry_format, export_part, imports_in, layout, addressing_by, mapped_in, numbered_data_part, part_at, part_map, part_of, places_in, sections_after, table_parts, tables_with}

@@ -11,8 +11,8 @@ use Rattle.goblin_pe_import.specs.ImportLookup.{entries_32, entries_64}
 use Rattle.goblin_pe_import.specs.declared.added.imports.ImportCursor.{ImportCursor}
 use Rattle.goblin_pe.specs.Addresses.{MapOfAddresses}
 use Rattle.goblin_pe.specs.ExportRecords.{ExportTables}
-use Rattle.goblin_pe.specs.ExportWalks.{NumberedExport, exports_left, numbered_from}
-use Rattle.goblin_pe_export.specs.declared.export.exports.Exports.{Exports}
+use Rattle.goblin_pe.specs.added.ExportWalks.{NumberedExport, exports_left, numbered_from}
+use Rattle.goblin_pe_export.specs.declared.added.exports.Exports.{Exports}
 use Rattle.goblin_pe.specs.Imports.{NumberedImport}
 use Rattle.goblin_pe.specs.LayoutCursors.{IsFileCursorCause, IsImportWalk, file_cursor_left}
 use Rattle.goblin_pe.specs.LayoutCursors.{file_ahead, file_cursor_ahead, import_begin}

@@ -1,12 +1,13 @@
 //! The records of exports.
 
 ghost use Rattle.std.specs.Prelude.{◌≡◌, None, Some};
-ghost use Rattle.goblin_pe_export.specs.ExportWalks.{walked_export};
+ghost use Rattle.goblin_pe_export.specs.added.ExportWalks.{walked_export};
 ghost use Rattle.goblin_pe_export.specs.Forwarders.{forwarder_value};
 ghost use Rattle.goblin_pe_c_tables.specs.Exports.{export_said, export_view, said_without_forwarder};
 
 use crate::forwarder::{PeForwarder, forwarder_record, no_forwarder};
-use goblin_pe::export::{Reexport, WalkedExport};
+use goblin_pe::added::WalkedExport;
+use goblin_pe::export::Reexport;
 
 /// An export that has a name pointer.
 #[repr(C)]

@@ -4,7 +4,7 @@ ghost use Rattle.std.specs.Prelude.{◌≡◌, MatchResult};
 ghost use Rattle.std.specs.Prelude.{slice_get};
 ghost use Rattle.goblin_pe_sect.specs.Addresses.{map_of};
 ghost use Rattle.goblin_pe_export.specs.ExportRecords.{rva_of};
-ghost use Rattle.goblin_pe_export.specs.ExportWalks.{walked_tables};
+ghost use Rattle.goblin_pe_export.specs.added.ExportWalks.{walked_tables};
 ghost use Rattle.goblin_pe.specs.Layouts.{layout_bytes, layout_map, layout_places};
 ghost use Rattle.goblin_pe_c_tables.specs.Batches.{AddressBatch, GivesAddresses, GivesBatch};
 ghost use Rattle.goblin_pe_c_tables.specs.Batches.{IsAddressBatchFault, IsAddressesFault, SaysDirectory};
@@ -15,7 +15,8 @@ ghost use Rattle.goblin_pe_c_tables.specs.ExportDirectories.{is_forwarder, no_ex
 
 use crate::batch::{Batched, at_room};
 use crate::places::layout_of;
-use goblin_pe::export::{ExportAddressTableEntry, ExportDirectoryTable, Exports};
+use goblin_pe::added::Exports;
+use goblin_pe::export::{ExportAddressTableEntry, ExportDirectoryTable};
 use goblin_pe::{Layout, Part, Result, ResultOf};
 use goblin_pe_c_headers::batch::PeBatch;
 use goblin_pe_c_headers::image::PeImage;

@@ -1,7 +1,6 @@
 -- The exports: the export directory, its tables, and a row for each name pointer, over a map of
 -- addresses to file offsets.
-use Rattle.std.specs.Prelude.{◌≡◌, ℕ, ◌==◌, if◌then◌else◌, nat_le, List, [], length, map, slice_get}
-use Rattle.std.specs.Prelude.{IfSome}
+use Rattle.std.specs.Prelude.{ℕ, ◌==◌, if◌then◌else◌, nat_le, List, [], length, map, slice_get}
 use Rattle.std.specs.Prelude.{Option, Some, None}
 use Rattle.goblin_base.specs.declared.endian.Endian.TheVariants.{Little}
 use Rattle.goblin_base.specs.declared.error.CauseOf.TheVariants.{ExportTable}
@@ -72,38 +71,6 @@ fitting_addresses t =
     needs_by (if nat_le t.address_table_entries n then Some t else None) (IsAddressCountFault n t)
     (address_count-not_memory n t))
 
--- what a record leads to, without the tables of the names: the library's name and the address table
-unfoldable pub address_tables : Addressing → DataDirectory → ExportDirectoryTable
-    → Reading ExportTables
-address_tables addressing d t =
-    mapped (λ parts. record {
-      name = parts.0;
-      export_directory_table = t;
-      export_name_pointer_table = [];
-      export_ordinal_table = [];
-      export_address_table = parts.1;
-    })
-    (or_none (name_at addressing t.name_rva)
-    beside counted_if (addresses d) t.address_table_entries (addressing.offset t.export_address_table_rva))
-
--- what the record at a directory's address leads to, without the tables of the names, whatever it
--- says about these; a loader finds an export by its ordinal without them
-unfoldable pub export_addresses : Addressing → DataDirectory → Reading ExportTables
-export_addresses addressing d =
-    at_address addressing.offset d.virtual_address
-    (λ p. export_record_at p >>= λ t. fitting_addresses t >>= address_tables addressing d)
-
--- tables without those of the names
-abbrev pub without_names : ExportTables → ExportTables
-without_names tables =
-    record tables { export_name_pointer_table = []; export_ordinal_table = [] }
-
--- If the export data is read, its addresses are these.
-abbrev pub RepeatsAddresses : Addressing → DataDirectory → List ℕ → Type 0
-RepeatsAddresses addressing d bytes =
-    IfSome ((export_data addressing d).value bytes)
-    (λ tables. (export_addresses addressing d).value bytes ≡ Some (without_names tables))
-
 -- ---- the exports
 
 -- What an entry refers to in another library: nothing if it is not a forwarder, else what the
@@ -167,3 +134,7 @@ numbered_read addressing d =
 unfoldable pub export_read : Addressing → DataDirectory
     → Reading (ExportTables × List ExportRow)
 export_read addressing d = mapped read_rows (numbered_read addressing d)
+
+-- the export of the name pointer at index x, if it has one
+abbrev pub numbered_export : Addressing → List ℕ → ExportTables → ℕ → Option NumberedExport
+numbered_export addressing bytes tables x = (numbered_row addressing tables x).value bytes

@@ -1,7 +1,6 @@
 pub mod ExportReadings
 pub mod ExportRecords
-pub mod ExportWalks
 pub mod Exports
 pub mod ForwarderLaws
 pub mod Forwarders
-pub mod LeftOutExports
+pub mod added

@@ -5,8 +5,8 @@
 //! export. That entry is the index of the export's address in the address table. An address inside
 //! the directory is that of a forwarder's text.
 
-ghost use Rattle.std.specs.Prelude.{◌≡◌, ◌/◌};
-ghost use Rattle.std.specs.Prelude.{IfSome, IsOk, MatchOption, None};
+ghost use Rattle.std.specs.Prelude.{◌≡◌};
+ghost use Rattle.std.specs.Prelude.{IsOk, MatchOption, None};
 ghost use Rattle.std.specs.Prelude.{Option, Some, length, option_and_then, option_map};
 ghost use Rattle.goblin_base.specs.Answers.{GivesOrMemory};
 ghost use Rattle.goblin_base.specs.Reading.{ReadsOrMemory};
@@ -14,7 +14,7 @@ ghost use Rattle.goblin_pe_sect.specs.Options.{default_options};
 ghost use Rattle.goblin_pe_sect.specs.Addresses.{map_by, map_of};
 ghost use Rattle.goblin_pe_export.specs.ExportReadings as reading;
 ghost use Rattle.goblin_pe_export.specs.ExportRecords.{numbered_by};
-ghost use Rattle.goblin_pe_export.specs.ExportWalks.{numbered_export};
+ghost use Rattle.goblin_pe_export.specs.ExportReadings.{numbered_export};
 ghost use Rattle.goblin_pe_export.specs.Exports.{export_data, export_row};
 ghost use Rattle.goblin_pe_export.specs.Exports.{exports, rva_of};
 ghost use Rattle.goblin_pe_export.specs.Forwarders.{forwarder_value, forwarder_within};
@@ -22,19 +22,17 @@ ghost use Rattle.readings.specs.Reads.{text_within};
 ghost use Rattle.goblin_pe_sect.specs.Addresses.{Addressing};
 
 use goblin_base::room::make_room;
-use goblin_base::{Result, pread_plain_str, pread_str_within};
+use goblin_base::{Result, pread_str_within};
 use goblin_pe_sect::address_map::{AddressMap, Finder};
 use goblin_pe_sect::{DataDirectory, ParseOptions, SectionTable};
 use std::alloc::Global;
 use std::marker::Model;
 
-mod entries;
-mod exports;
+pub(crate) mod entries;
 mod forwarder;
-mod tables;
+pub(crate) mod tables;
 
 pub(crate) use entries::{Entries, TablesInFile};
-pub use exports::{Exports, WalkedExport};
 pub use forwarder::Reexport;
 pub(crate) use tables::{SIZEOF_NAME_POINTER, SIZEOF_ORDINAL, room, test_counts};
 pub use tables::{
@@ -45,7 +43,7 @@ pub use tables::{
 // The text at an offset, cut at a limit if there is one. `None` if there is no offset, or no text
 // there.
 #[inline(always)]
-fn text_at(bytes: &[u8], offset: Option<usize>, longest: Option<u32>) -> Option<&str>
+pub(crate) fn text_at(bytes: &[u8], offset: Option<usize>, longest: Option<u32>) -> Option<&str>
     ensures { option_map (λ s. s.now) result
         ≡ option_and_then (λ p. (text_within longest p).value bytes.now) offset }
 {
@@ -55,7 +53,11 @@ fn text_at(bytes: &[u8], offset: Option<usize>, longest: Option<u32>) -> Option<
 // The forwarder at an offset, its text cut at a limit if there is one. `None` if there is no
 // offset, or no forwarder there.
 #[inline(always)]
-fn forwarder_at(bytes: &[u8], offset: Option<usize>, longest: Option<u32>) -> Option<Reexport<'_>>
+pub(crate) fn forwarder_at(
+    bytes: &[u8],
+    offset: Option<usize>,
+    longest: Option<u32>,
+) -> Option<Reexport<'_>>
     ensures { option_map forwarder_value result
         ≡ option_and_then (λ p. (forwarder_within longest p).value bytes.now) offset }
 {
@@ -305,48 +307,12 @@ impl<'a> Export<'a> {
         })
     }
 
-    // The same for a plain export: it is not a forwarder, its RVA and its name lie among those that
-    // the finder keeps, and its name is ASCII. `None` says nothing about the export.
-    #[inline(always)]
-    #[tactic(auto, unfolding(crate::specs::ExportReadings::row_of, goblin_pe_sect::specs::AddressReadings::name_at))]
-    fn plain_of_address(
-        bytes: &'a [u8],
-        pointer: u32,
-        address: ExportAddressTableEntry,
-        finder: &Finder<'_>,
-    ) -> Option<Export<'a>>
-        ensures value { let m = map_of finder.now in
-            IfSome result
-            (λ x. (reading.row_of m.addressing pointer address).value bytes.now ≡ Some x) }
-        ensures plain { IfSome result (λ x. x.reexport ≡ None) }
-    {
-        let ExportAddressTableEntry::ExportRVA(rva) = address else {
-            return None;
-        };
-        let Some(offset) = finder.near_offset(rva) else {
-            return None;
-        };
-        let Some(place) = finder.near_name_offset(pointer) else {
-            return None;
-        };
-        let Some(name) = pread_plain_str(bytes, place) else {
-            return None;
-        };
-        Some(Export {
-            name: Some(name),
-            offset: Some(offset),
-            rva: rva as usize,
-            size: 0,
-            reexport: None,
-        })
-    }
-
     // The export of the name pointer at an index, after that pointer and its entry of the ordinal
     // table. `None` if there is no name pointer, if it has no ordinal, if the ordinal has no
     // address, or if the export is a forwarder that cannot be read.
     #[inline(always)]
     #[tactic(auto, unfolding(crate::specs::ExportReadings::export_row, crate::specs::ExportReadings::numbered_row))]
-    fn of_pointer<T: Entries>(
+    pub(crate) fn of_pointer<T: Entries>(
         bytes: &'a [u8],
         tables: &T,
         index: usize,

@@ -3,5 +3,6 @@
 //! `export`.
 #![tactic(auto)]
 
+pub mod added;
 pub mod export;
 pub mod laws;

@@ -29,15 +29,14 @@ ghost use Rattle.goblin_pe.specs.Layouts.{IsExportWalk, IsFileImportsCause, IsLa
 ghost use Rattle.goblin_pe.specs.Layouts.{file_imports_left, layout_bytes};
 ghost use Rattle.goblin_pe.specs.Layouts.{layout_map, layout_places, layout_sections};
 ghost use Rattle.goblin_pe.specs.Layouts.{address_part, walked_exports};
-ghost use Rattle.goblin_pe_export.specs.ExportWalks.{walked_tables};
+ghost use Rattle.goblin_pe_export.specs.added.ExportWalks.{walked_tables};
 ghost use Rattle.goblin_pe.specs.TakenMemory.{TakesIndex};
 ghost use Rattle.goblin_pe.specs.Whole.{IfRead, entry_format, export_part};
 ghost use Rattle.goblin_pe.specs.Whole.{import_list};
 ghost use Rattle.goblin_pe.specs.Whole.{part_map, relocation_part, section_table_offset};
 ghost use Rattle.goblin_pe.specs.Whole.{places_in, sections_after, table_places};
 
-use crate::added::{ImportCursor, Imports, LeftOut};
-use crate::export::Exports;
+use crate::added::{Exports, ImportCursor, Imports, LeftOut};
 use crate::whole::places::{
     EXPORT_TABLE, IMPORT_TABLE, Places, file_alignment, part_of, size_of_headers,
 };
@@ -401,7 +400,7 @@ impl<'a> Layout<'a> {
     /// directory.
     ///
     /// # Errors
-    /// In strict mode as [`Exports::of`](crate::export::Exports::of).
+    /// In strict mode as [`Exports::of`](crate::added::Exports::of).
     #[inline(always)]
     pub fn exports<'m>(&'m self) -> Result<Part<Exports<'a, 'm>>>
         ensures value { Reads (part_map walked_exports) result
@@ -437,7 +436,7 @@ impl<'a> Layout<'a> {
     /// because of the number of their name pointers, this call reads the addresses all the same.
     ///
     /// # Errors
-    /// In strict mode as [`Exports::addresses_of`](crate::export::Exports::addresses_of).
+    /// In strict mode as [`Exports::addresses_of`](crate::added::Exports::addresses_of).
     #[tactic(auto, unfolding(crate::specs::Layouts::address_part))]
     pub fn export_addresses<'m>(&'m self) -> Result<Part<Exports<'a, 'm>>>
         ensures value { Reads (part_map walked_tables) result

@@ -12,7 +12,7 @@ ghost use Rattle.goblin_pe.specs.Whole.{relocation_part, table_parts};
 use crate::whole::Layout;
 use crate::whole::places::{BASE_RELOCATION_TABLE, EXPORT_TABLE, IMPORT_TABLE};
 use goblin_base::footprint::{Marks, add_slice};
-use goblin_pe_export::laws::add_exports;
+use goblin_pe_export::added::add_exports;
 use goblin_pe_import::laws::add_imports;
 
 impl Layout<'_> {

@@ -12,7 +12,7 @@ ghost use Rattle.goblin_pe_export.specs.ExportRecords.{ExportTables, tables_in};
 use crate::export::tables::{
     ExportAddressTable, ExportAddressTableEntry, ExportDirectoryTable, ExportNamePointerTable,
     ExportOrdinalTable, SIZEOF_EXPORT_ADDRESS_TABLE_ENTRY, SIZEOF_NAME_POINTER, SIZEOF_ORDINAL,
-    test_address_count, test_counts, whole_entries,
+    test_counts, whole_entries,
 };
 use crate::export::{ExportData, text_at};
 use goblin_base::{Cause, Endian, Error, Result, ResultOf, field_u16, field_u32};
@@ -67,12 +67,12 @@ impl<'a> Entries for ExportData<'a> {
 #[derive(Copy, Clone)]
 pub(crate) struct TablesInFile<'a> {
     // The library's own name, if there is a text at its address.
-    pub(super) name: Option<&'a str>,
-    pub(super) export_directory_table: ExportDirectoryTable,
-    directory: DataDirectory,
-    name_pointers: &'a [u8],
-    ordinals: &'a [u8],
-    addresses: &'a [u8],
+    pub(crate) name: Option<&'a str>,
+    pub(crate) export_directory_table: ExportDirectoryTable,
+    pub(crate) directory: DataDirectory,
+    pub(crate) name_pointers: &'a [u8],
+    pub(crate) ordinals: &'a [u8],
+    pub(crate) addresses: &'a [u8],
 }
 
 impl<'a> TablesInFile<'a> {
@@ -135,63 +135,8 @@ impl<'a> TablesInFile<'a> {
         Ok(TablesInFile::of_record(bytes, table, directory, finder))
     }
 
-    // What a record leads to, without the tables of the names.
-    #[tactic(auto, unfolding(crate::specs::ExportReadings::address_tables, goblin_pe_sect::specs::AddressReadings::name_at), using(crate::proofs::WholeEntries::counted_is, crate::proofs::WholeEntries::entry_count, crate::proofs::WholeEntries::no_names))]
-    fn addresses_of_record(
-        bytes: &'a [u8],
-        table: ExportDirectoryTable,
-        directory: DataDirectory,
-        finder: &mut Finder<'_>,
-    ) -> TablesInFile<'a>
-        ensures value { let m = map_of finder.old in
-            let tables = reading.address_tables m.addressing directory table in
-            tables.value bytes.now ≡ Some (tables_in result) }
-        ensures same { finder.new ≡ finder.old }
-    {
-        let addresses = finder.offset_of(table.export_address_table_rva);
-        TablesInFile {
-            name: text_at(
-                bytes,
-                finder.offset_of_name(table.name_rva),
-                finder.longest_name(),
-            ),
-            export_directory_table: table,
-            directory,
-            name_pointers: &[],
-            ordinals: &[],
-            addresses: whole_entries(
-                bytes,
-                addresses,
-                SIZEOF_EXPORT_ADDRESS_TABLE_ENTRY,
-                table.address_table_entries,
-            ),
-        }
-    }
-
-    // What the record at the directory's RVA leads to, without the tables of the names. A record
-    // whose count of addresses does not fit the file is refused; the count of name pointers does
-    // not matter.
-    #[tactic(auto, unfolding(crate::specs::ExportReadings::export_addresses))]
-    pub(crate) fn find_addresses(
-        bytes: &'a [u8],
-        directory: DataDirectory,
-        finder: &mut Finder<'_>,
-    ) -> Result<TablesInFile<'a>>
-        ensures value { let m = map_of finder.old in
-            Reads tables_in result (reading.export_addresses m.addressing directory) bytes.now }
-        ensures same { finder.new ≡ finder.old }
-    {
-        let Some(offset) = finder.offset_of(directory.virtual_address) else {
-            let rva = directory.virtual_address as usize;
-            return Err(Error::Malformed(Cause::Unmapped(rva)));
-        };
-        let table = ExportDirectoryTable::parse(bytes, offset)?;
-        test_address_count(bytes, &table)?;
-        Ok(TablesInFile::addresses_of_record(bytes, table, directory, finder))
-    }
-
     // The name pointers, copied into memory.
-    pub(super) fn name_pointers(&self, alloc: Global) -> Result<ExportNamePointerTable>
+    pub(crate) fn name_pointers(&self, alloc: Global) -> Result<ExportNamePointerTable>
         ensures { let entries = (tables_in self.now).export_name_pointer_table in
             GivesOrMemory (λ t. t) result entries }
     {
@@ -200,7 +145,7 @@ impl<'a> TablesInFile<'a> {
 
     // The ordinals, copied into memory.
     #[tactic(auto, using(crate::proofs::WholeEntries::entry_count))]
-    pub(super) fn ordinals(&self, alloc: Global) -> Result<ExportOrdinalTable>
+    pub(crate) fn ordinals(&self, alloc: Global) -> Result<ExportOrdinalTable>
         ensures { let entries = (tables_in self.now).export_ordinal_table in
             GivesOrMemory (λ t. t) result entries }
     {
@@ -210,7 +155,7 @@ impl<'a> TablesInFile<'a> {
 
     // How many addresses there are.
     #[tactic(auto, using(crate::proofs::WholeEntries::entry_count))]
-    pub(super) fn address_count(&self) -> usize
+    pub(crate) fn address_count(&self) -> usize
         ensures value { result ≡ length (tables_in self.now).export_address_table }
         ensures few { result < 2 ^ 61 }
     {
@@ -218,7 +163,7 @@ impl<'a> TablesInFile<'a> {
     }
 
     // The addresses, copied into memory.
-    pub(super) fn addresses(&self, alloc: Global) -> Result<ExportAddressTable>
+    pub(crate) fn addresses(&self, alloc: Global) -> Result<ExportAddressTable>
         ensures { let entries = (tables_in self.now).export_address_table in
             GivesOrMemory (λ t. t) result entries }
     {

@@ -174,7 +174,7 @@ impl ExportAddressTableEntry {
     // The entry for an address: a forwarder if the address lies in the export directory, else an
     // export.
     #[tactic(auto, unfolding(crate::specs::ExportRecords::address_entry))]
-    pub(super) fn of_rva(directory: DataDirectory, rva: u32) -> ExportAddressTableEntry
+    pub(crate) fn of_rva(directory: DataDirectory, rva: u32) -> ExportAddressTableEntry
         ensures { result ≡ address_entry directory rva }
     {
         let begin = directory.virtual_address as usize;
@@ -190,7 +190,7 @@ impl ExportAddressTableEntry {
 // The bytes of a table of `count` entries of `width` bytes, up to the first incomplete entry.
 // Without an offset there are none.
 #[tactic(auto, using(crate::proofs::WholeEntries::entries_inside))]
-pub(super) fn whole_entries(bytes: &[u8], offset: Option<usize>, width: usize, count: u32) -> &[u8]
+pub(crate) fn whole_entries(bytes: &[u8], offset: Option<usize>, width: usize, count: u32) -> &[u8]
     requires { 0 < width }
     ensures value { result.now ≡ table_bytes width count bytes.now offset }
     ensures none { count ≡ 0 → length result.now ≡ 0 }

@@ -1,8 +1,7 @@
 //! The plain steps of walks give what is plain, which their contracts leave open.
 
 use fixture::sample::{put, sample};
-use goblin_pe::added::{Imports, WalkedImport};
-use goblin_pe::export::Exports;
+use goblin_pe::added::{Exports, Imports, WalkedImport};
 use goblin_pe::header::Header;
 use goblin_pe::import::SyntheticImportLookupTableEntry;
 use goblin_pe::options::ParseOptions;

@@ -1,6 +1,6 @@
 use Rattle.std.proofs.Common.{◌∙◌, ◌+◌, Some, ap, arith, sym}
 use Rattle.std.proofs.lemmas.Option.{slice_get_past}
-use Rattle.goblin_pe_export.specs.ExportWalks.{walked_tables}
+use Rattle.goblin_pe_export.specs.added.ExportWalks.{walked_tables}
 use Rattle.goblin_pe_sect.specs.Addresses.{map_of}
 use Rattle.goblin_pe_export.specs.declared.export.tables.ExportDirectoryTable.{ExportDirectoryTable}
 use Rattle.goblin_pe_c_tables.specs.ExportDirectories.{address_said}

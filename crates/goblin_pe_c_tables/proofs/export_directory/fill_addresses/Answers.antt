@@ -2,7 +2,7 @@ use Rattle.std.proofs.Common.{arith, rules, subst}
 use Rattle.goblin_pe_sect.specs.declared.address_map.AddressMap.{AddressMap}
 use Rattle.goblin_pe_c_headers.specs.Onward.{GivesOnward}
 use Rattle.goblin_pe_c_tables.specs.Batches.{AddressBatch}
-use Rattle.goblin_pe_export.specs.ExportWalks.{walked_tables}
+use Rattle.goblin_pe_export.specs.added.ExportWalks.{walked_tables}
 use Rattle.goblin_pe_sect.specs.Addresses.{map_of}
 use Rattle.goblin_pe_c_tables.specs.ExportDirectories.{addresses_said}
 use Rattle.goblin_pe_c_tables.proofs.AddressBatches.{length-addresses, onward-none}

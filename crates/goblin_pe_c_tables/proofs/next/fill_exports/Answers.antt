@@ -1,6 +1,6 @@
 use Rattle.std.proofs.Common.{arith, subst, sym}
 use Rattle.std.proofs.lemmas.List.{length-set}
-use Rattle.goblin_pe_export.specs.declared.export.exports.Exports.{Exports}
+use Rattle.goblin_pe_export.specs.declared.added.exports.Exports.{Exports}
 use Rattle.goblin_pe_c_tables.proofs.ExportBatches.{AtExports, exports-ended, exports-filled, exports-full, exports-more, exports-start, exports-through}
 use Rattle.goblin_pe_c_tables.proofs.next.fill_exports.Goals as goal
 

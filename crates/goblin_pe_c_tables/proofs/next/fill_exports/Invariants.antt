@@ -1,6 +1,6 @@
 -- The records hold the exports that have come so far.
 use Rattle.std.proofs.Common.{◌+◌, ◌-◌, ◌<◌, ◌≤◌, length}
-use Rattle.goblin_pe_export.specs.ExportWalks.{exports_position}
+use Rattle.goblin_pe_export.specs.added.ExportWalks.{exports_position}
 use Rattle.goblin_pe_c_tables.proofs.ExportBatches.{AtExports}
 use Rattle.goblin_pe_c_tables.proofs.next.fill_exports.Given as goal
 

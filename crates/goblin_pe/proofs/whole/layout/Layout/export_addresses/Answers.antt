@@ -2,8 +2,8 @@ use Rattle.std.proofs.Common.{◌∙◌, subst, sym}
 use Rattle.goblin_pe_sect.specs.declared.options.ParseOptions.{ParseOptions}
 use Rattle.goblin_pe_sect.specs.Options.{is_strict}
 use Rattle.goblin_pe_sect.specs.Addresses.{reads_strictly}
-use Rattle.goblin_pe_export.specs.ExportReadings.{export_addresses}
-use Rattle.goblin_pe_export.specs.ExportWalks.{walked_tables}
+use Rattle.goblin_pe_export.specs.added.ExportAddresses.{export_addresses}
+use Rattle.goblin_pe_export.specs.added.ExportWalks.{walked_tables}
 use Rattle.goblin_pe.specs.Layouts.{IsExportWalk, address_part, layout_bytes, layout_map}
 use Rattle.goblin_pe.specs.Whole.{BecomesPart}
 use Rattle.goblin_pe.proofs.Parts.{becomes_kept, becomes_read, kept_both}

@@ -1,0 +1,4 @@
+pub mod ExportAddresses
+pub mod ExportRanges
+pub mod ExportWalk
+pub mod LeftOutExports

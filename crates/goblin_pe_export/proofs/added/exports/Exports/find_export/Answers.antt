@@ -1,0 +1,22 @@
+use Rattle.std.proofs.Common.{◌≡◌, Bool, true, false, cond, List, ◌∷◌, Some, refl, sym, ◌∙◌, find}
+use Rattle.std.proofs.lemmas.Fn.{says_at}
+use Rattle.goblin_pe_export.specs.added.ExportWalks.{NumberedExport, exports_left, walked_export}
+use Rattle.goblin_pe_export.proofs.added.exports.Exports.find_export.Goals as goal
+
+-- the first export, or what is found among the others, by what the test says of it
+found-first : (p : NumberedExport → Bool) (x : NumberedExport) (all rest : List NumberedExport) (b : Bool) → b ≡ p x → all ≡ x ∷ rest
+    → find p all ≡ cond b (Some x) (find p rest)
+found-first p x all rest b is begins = rw (is, begins) refl
+
+pub exports-preserved : goal.exports-preserved
+exports-preserved g c = λ p is.
+    c.exports.invariant p is
+    ∙ found-first p (walked_export c.in-Some.export) (exports_left c.exports.export-iterator) (exports_left c.next.new.self) false
+    (is c.in-Some.export false (says_at g.F.Fn c.if-test.ensures refl)) c.in-Some.ensures.steps.0
+
+pub returns-then-test : goal.returns-then-test
+returns-then-test g c = λ p is.
+    sym
+    (c.exports.invariant p is
+    ∙ found-first p (walked_export c.in-Some.export) (exports_left c.exports.export-iterator) (exports_left c.next.new.self) true
+    (is c.in-Some.export true (says_at g.F.Fn c.if-test.ensures refl)) c.in-Some.ensures.steps.0)

@@ -1,0 +1,3 @@
+pub mod ExportWalks
+pub mod LeftOutExports
+pub mod ExportAddresses
